@@ -10,3 +10,4 @@ pub mod PutterWhole
 pub mod Steps
 pub mod TakerCalls
 pub mod TakerWhole
+pub mod TakesAll

@@ -133,14 +133,26 @@ take_seen {O} e F h = subst (λ (z : TakerState O). F z.end z.oracle) e h
 pub taking_seen : {O : Type 0} {a s : TakerState O} → a ≡ s → a.taking ≡ s.taking
 taking_seen {O} e = ap (λ (z : TakerState O). z.taking) e
 
-module _ {O : Type 0} (o : O) (e : RingEnd) (m : ConsumerState) (n : ℕ) (s : TakerState O) (view : record { end = e; taking = is_taking m; wanted = m.wanted; start = without_last n e.list; oracle = o } ≡ s)
-    (was : IsMachine consuming e m (whole_take (is_taking m) e.list (without_last n e.list)) × IsMarked n e.list (longest_while m.shape (is_taking m) m.wanted)) (now : ConsumerState)
-    (begins : (calls : Takes) (made : List Made) → ConsumerStands m calls made → CallBegins consuming m now calls made (wants_next (is_taking m) m.wanted)) where
-  pub wanted_is : wants_next (is_taking m) m.wanted ≡ wants_next s.taking s.wanted
-  wanted_is = ap (λ (z : TakerState O). wants_next z.taking z.wanted) view
+-- a take of at most so many items begins, or goes on
+abbrev pub Begins : ConsumerState → ConsumerState → ℕ → Type 0
+Begins m now wanted = (calls : Takes) (made : List Made) → ConsumerStands m calls made → CallBegins consuming m now calls made wanted
 
+-- by how many it wants as it is seen
+pub begins_seen :
+    {O : Type 0} {a s : TakerState O} → a ≡ s → (m now : ConsumerState) (most wanted : ℕ) → wants_next s.taking s.wanted most ≡ wanted →
+    Begins m now (wants_next a.taking a.wanted most) → Begins m now wanted
+begins_seen {O} e m now most wanted is = subst (Begins m now) (ap (λ (z : TakerState O). wants_next z.taking z.wanted most) e ∙ is)
+
+-- a take that is under way wants as many as one that begins now
+pub wants_same : (taking : Bool) (wanted most : ℕ) → (taking ≡ true → wanted ≡ most) → wants_next taking wanted most ≡ most
+wants_same false wanted most same = refl
+wants_same true wanted most same = same refl
+
+module _ {O : Type 0} (o : O) (e : RingEnd) (m : ConsumerState) (n : ℕ) (s : TakerState O) (view : record { end = e; taking = is_taking m; wanted = m.wanted; start = without_last n e.list; oracle = o } ≡ s)
+    (was : IsMachine consuming e m (whole_take (is_taking m) e.list (without_last n e.list)) × IsMarked n e.list (longest_while m.shape (is_taking m) m.wanted)) (wanted : ℕ) (now : ConsumerState)
+    (begins : Begins m now wanted) where
   -- a take that is begun, or goes on
-  abbrev pub take_begun : Begun consuming (wants_next s.taking s.wanted)
+  abbrev pub take_begun : Begun consuming wanted
   take_begun = record {
     seen = s.end;
     whole = takes_whole s;
@@ -151,11 +163,11 @@ module _ {O : Type 0} (o : O) (e : RingEnd) (m : ConsumerState) (n : ℕ) (s : T
     whole_is = ap (λ (z : TakerState O). takes_whole z) view;
     was = was;
     now = now;
-    begins = subst (CallBegins consuming m now was.0.calls was.0.made) wanted_is (begins was.0.calls was.0.made was.0.at.stands);
+    begins = begins was.0.calls was.0.made was.0.at.stands;
   }
 
   -- and one step of it
-  abbrev pub take_step : (e' : RingEnd) (m' : ConsumerState) → (is_taking now ≡ false → (m' ≡ now) × (e' ≡ e)) → ((calls : Takes) (made : List Made) → MachineAt consuming e now calls made → is_taking now ≡ true → MachineStep consuming e now e' m' calls) → Step consuming (wants_next s.taking s.wanted)
+  abbrev pub take_step : (e' : RingEnd) (m' : ConsumerState) → (is_taking now ≡ false → (m' ≡ now) × (e' ≡ e)) → ((calls : Takes) (made : List Made) → MachineAt consuming e now calls made → is_taking now ≡ true → MachineStep consuming e now e' m' calls) → Step consuming wanted
   take_step e' m' rests steps = record { begun = take_begun; e = e'; m = m'; rests = rests; steps = λ at is. steps was.0.calls was.0.made at is.0 }
 
 -- ---- the clauses of a step

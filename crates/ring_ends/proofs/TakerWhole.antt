@@ -15,10 +15,10 @@ use Rattle.ring_core.specs.Takes.{Takes, AreTakes}
 use Rattle.ring_core.specs.ConsumerState.{ConsumerState, IsConsumerButScan, IsConsumerButWord, consumer_due_at, due_take, is_taking, takes_at}
 use Rattle.ring_core.specs.ConsumerCalls.{ConsumerStands, IsReplyToTake, reply_at_end}
 use Rattle.ring_seats.specs.Ring.{RingEnd}
-use Rattle.ring_ends.specs.Ends.{HasTakes, HasTaken, HasTakenOf, TakeAdds, TakerState, wants_next, whole_take}
-use Rattle.ring_ends.specs.Machines.{IsMachine, IsMarked, MachineEnded, CallBegins, consuming, longest_while, without_last}
+use Rattle.ring_ends.specs.Ends.{HasTakes, HasTakenOf, TakeAdds, TakerState, whole_take}
+use Rattle.ring_ends.specs.Machines.{IsMachine, IsMarked, MachineEnded, consuming, longest_while, without_last}
 use Rattle.ring_ends.proofs.MachineWhole.{Ended, More, Refused, Whole, ending, list_there, more_there, over_list, shape_whole, writes_left}
-use Rattle.ring_ends.proofs.TakerCalls.{over_adds, over_reply, take_begun, take_laws}
+use Rattle.ring_ends.proofs.TakerCalls.{Begins, over_adds, over_reply, take_begun, take_laws}
 
 -- a take is under way at a stage
 pub taking_at : (m : ConsumerState) (st : Stage) → m.stage ≡ st → takes_at st ≡ true → is_taking m ≡ true
@@ -38,13 +38,13 @@ more_word p q r w e f = f ∙ ap (λ (x : ConsumerState). record x { word = w })
 -- ---- a whole take
 
 module _ {O : Type 0} (o : O) (e : RingEnd) (m : ConsumerState) (n : ℕ) (s : TakerState O) (view : record { end = e; taking = is_taking m; wanted = m.wanted; start = without_last n e.list; oracle = o } ≡ s)
-    (was : IsMachine consuming e m (whole_take (is_taking m) e.list (without_last n e.list)) × IsMarked n e.list (longest_while m.shape (is_taking m) m.wanted)) (idle : s.taking ≡ false) (now : ConsumerState) (begins : (calls : Takes) (made : List Made) → ConsumerStands m calls made → CallBegins consuming m now calls made (wants_next (is_taking m) m.wanted)) where
+    (was : IsMachine consuming e m (whole_take (is_taking m) e.list (without_last n e.list)) × IsMarked n e.list (longest_while m.shape (is_taking m) m.wanted)) (idle : s.taking ≡ false) (wanted : ℕ) (now : ConsumerState) (begins : Begins m now wanted) where
   pub idle_there : is_taking m ≡ false
   idle_there = ap (λ (z : TakerState O). z.taking) view ∙ idle
 
   -- a take, and what its accesses came to
-  abbrev pub take_whole : (e' : RingEnd) (m' : ConsumerState) {before after : ℕ → Bool} → MachineEnded consuming e now e' m' before after → Whole consuming (wants_next s.taking s.wanted)
-  take_whole e' m' {before} {after} ended = record { begun = take_begun o e m n s view was now begins; idle = idle_there; e = e'; m = m'; old = before; now = after; ended = ended }
+  abbrev pub take_whole : (e' : RingEnd) (m' : ConsumerState) {before after : ℕ → Bool} → MachineEnded consuming e now e' m' before after → Whole consuming wanted
+  take_whole e' m' {before} {after} ended = record { begun = take_begun o e m n s view was wanted now begins; idle = idle_there; e = e'; m = m'; old = before; now = after; ended = ended }
 
 -- a take was answered, and this is what it added
 pub take_ended : (wanted : ℕ) (w : Whole consuming wanted) → (x : replies.TakeReply) × (w.m.reply ≡ Some x) × HasTakenOf w.e.ring.shape wanted w.begun.seen.list w.e.list x
@@ -64,10 +64,3 @@ take_ended wanted w = by (ending consuming take_laws w)
       refused.1,
       record { calls = w.begun.was.0.calls; before_is = before_is; adds = subst (λ (t : Bool). TakeAdds t w.e.ring.shape wanted w.begun.was.0.calls reply.Closed w.begun.seen.list w.e.list) (sym refused.0) (refl, ap (λ (x : RingEnd). x.list) same_end) },
     )
-
--- and of a take of one
-pub take_ended_one :
-    (wanted : ℕ) → wanted ≡ 1 → (w : Whole consuming wanted) → (x : replies.TakeReply) × (w.m.reply ≡ Some x) × HasTaken w.e.ring.shape w.begun.seen.list w.e.list x
-take_ended_one wanted one w =
-    let (x, is, taken) = take_ended wanted w in
-    (x, is, subst (λ n. HasTakenOf w.e.ring.shape n w.begun.seen.list w.e.list x) one taken)

@@ -1,5 +1,5 @@
 -- The two ends of a ring: what they are seen as, and what their calls add to their lists.
-use Rattle.std.specs.Prelude.{◌≡◌, ℕ, Bool, true, false, Option, Some, None, List, [], ◌∷◌}
+use Rattle.std.specs.Prelude.{◌≡◌, ℕ, Bool, true, false, Option, Some, None, List, [], ◌∷◌, take}
 use Rattle.bits_core.specs.declared.shapes.Shape.{Shape}
 use Rattle.bits_core.specs.declared.events.Side.TheVariants.{P, C}
 use Rattle.bits_core.specs.declared.events.Event.{Event}
@@ -9,6 +9,8 @@ use Rattle.ring_core.specs.declared.producers.BatchReply as batch_replies
 use Rattle.ring_core.specs.declared.producers.BatchReply.TheVariants as batch_reply
 use Rattle.ring_core.specs.declared.consumers.TakeReply as take_replies
 use Rattle.ring_core.specs.declared.consumers.TakeReply.TheVariants as take_reply
+use Rattle.ring_core.specs.declared.consumers.TakeBatchReply as take_batch_replies
+use Rattle.ring_core.specs.declared.consumers.TakeBatchReply.TheVariants as take_batch_reply
 use Rattle.ring_core.specs.Puts.{Put, Puts, put_program}
 use Rattle.ring_core.specs.Takes.{Takes, take_program}
 use Rattle.ring_core.specs.ProducerState as producer
@@ -16,6 +18,7 @@ use Rattle.ring_core.specs.ProducerCalls as puts
 use Rattle.ring_core.specs.ConsumerCalls as takes
 use Rattle.ring_seats.specs.Ring.{RingEnd}
 pub use Rattle.ring_seats.specs.Calls.{HasPuts, HasTakes, IsTakeReply}
+pub use Rattle.ring_seats.specs.CounterEnds.{number_brought}
 
 -- ---- the producer's end
 
@@ -81,10 +84,10 @@ pub record TakerState (O : Type 0) : Type 0 where
   pub start : List Event
   pub oracle : O
 
--- the most items that a take wants which is under way, or which is begun now as a take of one
-abbrev pub wants_next : Bool → ℕ → ℕ
-wants_next false wanted = 1
-wants_next true wanted = wanted
+-- the most items that a take wants which is under way, or which is begun now as a take of at most so many
+abbrev pub wants_next : Bool → (wanted most : ℕ) → ℕ
+wants_next false wanted most = most
+wants_next true wanted most = wanted
 
 abbrev pub whole_take : Bool → List Event → List Event → List Event
 whole_take false list start = list
@@ -115,3 +118,20 @@ pub record HasTakenOf (shape : Shape) (wanted : ℕ) (before after : List Event)
 -- a take of one
 abbrev pub HasTaken : Shape → List Event → List Event → take_replies.TakeReply → Type 0
 HasTaken shape = HasTakenOf shape 1
+
+-- what the last of these takes was answered, by how many items it took, and these are in the first places
+abbrev pub IsTakeAllReply : Takes → take_batch_replies.TakeBatchReply → List ℕ → Type 0
+IsTakeAllReply calls reply into =
+    takes.IsBatchReplyToTake calls false (Some reply) × (take (number_brought reply) into ≡ takes.items_at_end calls.end calls.takes)
+
+-- A take of several added exactly its phrase, and this is the phrase's reply, with the items that it took. Once one was told that the
+-- ring is closed it is answered so and adds nothing.
+abbrev pub TakeAllAdds : Bool → Shape → ℕ → Takes → take_batch_replies.TakeBatchReply → List ℕ → List Event → List Event → Type 0
+TakeAllAdds true shape wanted calls reply into before after = (reply ≡ take_batch_reply.Closed) × (after ≡ before)
+TakeAllAdds false shape wanted calls reply into before after =
+    (more : Takes) × takes.HasTakeMore shape wanted calls more × IsTakeAllReply more reply into × HasTakes shape after more
+
+pub record HasTakenAll (shape : Shape) (wanted : ℕ) (before after : List Event) (reply : take_batch_replies.TakeBatchReply) (into : List ℕ) : Type 0 where
+  pub calls : Takes
+  pub before_is : HasTakes shape before calls
+  pub adds : TakeAllAdds (takes.ends_closed calls.end) shape wanted calls reply into before after

@@ -4,8 +4,8 @@ use crate::ends::TakeEnd;
 use crate::meetings::is_closed_reply;
 use crate::rings::Pad;
 use bits_core::Shape;
-use ring_core::TakeReply;
-use ring_seats::{Counting, Stepper, take_open};
+use ring_core::{TakeBatchReply, TakeReply};
+use ring_seats::{Counting, Stepper, take_all_open, take_open};
 use std::marker::Model;
 
 /// The consumer's end of a counter ring. No take of it is ever under way.
@@ -50,6 +50,15 @@ impl<'a> TakeEnd for CounterTaker<'a> {
         }
         let reply = take_open(&mut self.stepper, &mut self.count, &mut self.cell);
         self.told = is_closed_reply(Some(reply));
+        reply
+    }
+
+    fn take_all(&mut self, into: &mut [u64]) -> TakeBatchReply {
+        if self.told {
+            return TakeBatchReply::Closed;
+        }
+        let reply = take_all_open(&mut self.stepper, into, &mut self.count, &mut self.cell);
+        self.told = matches!(reply, TakeBatchReply::Closed);
         reply
     }
 }

@@ -5,7 +5,7 @@ use crate::putters::Putter;
 use crate::rings::FlickerRing;
 use crate::takers::Taker;
 use bits_core::{Oracle, Shape};
-use ring_core::{BatchReply, PutReply, TakeReply};
+use ring_core::{BatchReply, PutReply, TakeBatchReply, TakeReply};
 use std::alloc::{Allocator, Global};
 
 /// An end that puts. Its meaning is the list of its events: each call adds exactly its own accesses, and answers what
@@ -72,11 +72,12 @@ pub trait PutEnd {
 ///
 /// In use: `uses::two_threads::take_each`.
 pub trait TakeEnd {
-    ghost use Rattle.std.specs.Prelude.{◌≡◌};
+    ghost use Rattle.std.specs.Prelude.{◌≡◌, ◌≤◌, length, drop};
+    ghost use Rattle.ring_core.specs.Counts.{take_batch_of};
     ghost use Rattle.ring_seats.specs.Ring.{RingEnd};
     ghost use Rattle.ring_seats.specs.Steppers.{IsSameEnd, StandsAs};
     ghost use Rattle.bits_core.specs.declared.events.Side.TheVariants.{C};
-    ghost use Rattle.ring_ends.specs.Ends.{HasTaken};
+    ghost use Rattle.ring_ends.specs.Ends.{HasTaken, HasTakenAll, number_brought};
 
     ghost end: { Self → RingEnd };
 
@@ -101,6 +102,23 @@ pub trait TakeEnd {
         ensures same { IsSameEnd (end self.old) (end self.new) }
         ensures lawful { StandsAs C (end self.new) }
         ensures phrase { HasTaken (end self.new).ring.shape (end self.old).list (end self.new).list result }
+        ensures answered { answered self.old self.new };
+
+    /// Takes the next items under one count write: those that a scan of the producer's count shows, from the first on, at
+    /// most as many as there are places. `Taken` with their number, and they are in the first places, in order; `Empty` and
+    /// `Closed` as for [`take`](Self::take), and then none is. The other places stay as they were. There are 1 to as many
+    /// places as the shape's take batch.
+    fn take_all(&mut self, into: &mut [u64]) -> TakeBatchReply
+        requires idle { idle self.old }
+        requires some { 1 ≤ length into.old }
+        requires few { length into.old ≤ take_batch_of (end self.old).ring.shape }
+        ensures idle { idle self.new }
+        ensures same { IsSameEnd (end self.old) (end self.new) }
+        ensures lawful { StandsAs C (end self.new) }
+        ensures phrase { HasTakenAll (end self.new).ring.shape (length into.old) (end self.old).list (end self.new).list result into.new }
+        ensures within { number_brought result ≤ length into.old }
+        ensures long { length into.new ≡ length into.old }
+        ensures others { drop (number_brought result) into.new ≡ drop (number_brought result) into.old }
         ensures answered { answered self.old self.new };
 }
 

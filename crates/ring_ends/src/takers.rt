@@ -1,31 +1,32 @@
 //! The consumer's end.
-ghost use Rattle.std.specs.Prelude.{◌≡◌, ◌≢◌, ◌⊎◌, ℕ, ◌+◌, ◌*◌, ◌<◌, ◌≤◌, true, false, Some, None, List, [], ◌∷◌, ◌++◌, length, IfSome, IfNone};
+ghost use Rattle.std.specs.Prelude.{◌≡◌, ◌≢◌, ◌⊎◌, ℕ, ◌+◌, ◌*◌, ◌<◌, ◌≤◌, true, false, Some, None, List, [], ◌∷◌, ◌++◌, length, take, drop, IfSome, IfNone};
 ghost use Rattle.bits_core.specs.declared.events.Event.{Event};
 ghost use Rattle.bits_core.specs.Made.{Made};
 ghost use Rattle.ring_core.specs.declared.consumers.TakeReply.TheVariants.{Closed};
-ghost use Rattle.bits_core.specs.Shape.{take_batch_of};
+ghost use Rattle.ring_core.specs.declared.consumers.TakeBatchReply.TheVariants as batch_reply;
+ghost use Rattle.ring_core.specs.Counts.{take_batch_of};
 ghost use Rattle.ring_core.specs.Lengths.{longest_taking};
 ghost use Rattle.ring_core.specs.Takes.{Takes};
 ghost use Rattle.ring_core.specs.ConsumerState.{due_take, is_taking};
-ghost use Rattle.ring_core.specs.ConsumerCalls.{ConsumerStands};
+ghost use Rattle.ring_core.specs.ConsumerCalls.{ConsumerStands, take_batch_reply};
 ghost use Rattle.ring_seats.specs.Steppers.{AreAnswered, Grows, IsAskedOnce, IsSameEnd, StandsAs};
 ghost use Rattle.bits_core.specs.declared.events.Side.TheVariants.{C};
-ghost use Rattle.ring_ends.specs.Ends.{HasTakenOf, HasTakePart, wants_next, whole_take, takes_whole};
+ghost use Rattle.ring_ends.specs.Ends.{HasTakenAll, HasTakenOf, HasTakePart, number_brought, wants_next, whole_take, takes_whole};
 ghost use Rattle.ring_ends.specs.Machines.{CallBegins, MachineAt, MachineBusy, MachineEnded, MachineReady, MachineStep, MachineWent, consuming};
 
 use crate::ends::TakeEnd;
 use crate::rings::Pad;
 use bits_core::{Oracle, Shape};
-use ring_core::{Consumer, TakeReply};
+use ring_core::{Consumer, TakeBatchReply, TakeReply};
 use ring_seats::laws::laws_below;
 use ring_seats::{Flickering, Stepper};
 use std::marker::Model;
 
-/// The consumer's end of a ring. Its call `take` is that of [`TakeEnd`](crate::TakeEnd); the step call here makes one
-/// atomic step of it.
+/// The consumer's end of a ring. Its calls `take` and `take_all` are those of [`TakeEnd`](crate::TakeEnd); the step calls
+/// here make one atomic step each of such a call.
 ///
 /// To a contract it is its list of events, what it knows, and whether a take is under way with the list where that
-/// began. It takes no memory and waits for nobody.
+/// began and how many items it wants. It takes no memory and waits for nobody.
 ///
 /// In use: `uses::steps::step_taker`.
 #[derive(Drop)]
@@ -198,11 +199,49 @@ fn steps_behind(steps: u64, machine: &Consumer) -> u64
 fn begin_take(machine: &mut Consumer)
     requires stands { (calls : Takes) × (made : List Made) × ConsumerStands machine.old calls made }
     ensures few { is_taking machine.old ≡ true → machine.old.wanted ≤ take_batch_of machine.old.shape }
-    ensures begins { (calls : Takes) (made : List Made) → ConsumerStands machine.old calls made → CallBegins consuming machine.old machine.new calls made (wants_next (is_taking machine.old) machine.old.wanted) }
+    ensures begins { (calls : Takes) (made : List Made) → ConsumerStands machine.old calls made → CallBegins consuming machine.old machine.new calls made (wants_next (is_taking machine.old) machine.old.wanted 1) }
 {
     if machine.next().is_none() {
         machine.take();
     }
+}
+
+// Begins a take of at most so many items where none is under way.
+#[inline(always)]
+fn begin_take_all(machine: &mut Consumer, most: u64)
+    requires stands { (calls : Takes) × (made : List Made) × ConsumerStands machine.old calls made }
+    requires some { 1 ≤ most }
+    requires few { most ≤ take_batch_of machine.old.shape }
+    ensures few { is_taking machine.old ≡ true → machine.old.wanted ≤ take_batch_of machine.old.shape }
+    ensures begins { (calls : Takes) (made : List Made) → ConsumerStands machine.old calls made → CallBegins consuming machine.old machine.new calls made (wants_next (is_taking machine.old) machine.old.wanted most) }
+{
+    if machine.next().is_none() {
+        machine.take_all(most);
+    }
+}
+
+// Puts the items into the first places.
+fn put_first(items: &[u64], into: &mut [u64])
+    requires room { length items.now ≤ length into.old }
+    ensures long { length into.new ≡ length into.old }
+    ensures first { take (length items.now) into.new ≡ items.now }
+    ensures others { drop (length items.now) into.new ≡ drop (length items.now) into.old }
+{
+    into[..items.len()].copy_from_slice(items);
+}
+
+// What the last take was answered, with its items in the first places. During a take none, and the places stay as they were.
+fn bring(machine: &Consumer, into: &mut [u64]) -> Option<TakeBatchReply>
+    requires { IfSome (take_batch_reply machine.now.reply machine.now.items) (λ _. length machine.now.items ≤ length into.old) }
+    ensures told { result ≡ take_batch_reply machine.now.reply machine.now.items }
+    ensures long { length into.new ≡ length into.old }
+    ensures none { IfNone result (into.new ≡ into.old) }
+    ensures first { IfSome result (λ _. take (length machine.now.items) into.new ≡ machine.now.items) }
+    ensures others { IfSome result (λ _. drop (length machine.now.items) into.new ≡ drop (length machine.now.items) into.old) }
+{
+    let reply = machine.batch_reply()?;
+    put_first(machine.items(), into);
+    Some(reply)
 }
 
 impl<'a, O: Oracle + Drop> Taker<'a, O> {
@@ -212,10 +251,10 @@ impl<'a, O: Oracle + Drop> Taker<'a, O> {
         ensures same { IsSameEnd self.old.end self.new.end }
         ensures lawful { StandsAs C self.new.end }
         ensures one { ((result ≡ Some Closed) × (self.new.end ≡ self.old.end)) ⊎ ((e : Event) × Grows self.old.end self.new.end e) }
-        ensures none { IfNone result ((self.new.taking ≡ true) × (takes_whole self.new ≡ takes_whole self.old) × HasTakePart self.new.end.ring.shape (wants_next self.old.taking self.old.wanted) (takes_whole self.new) self.new.end.list) }
-        ensures some { IfSome result (λ r. (self.new.taking ≡ false) × HasTakenOf self.new.end.ring.shape (wants_next self.old.taking self.old.wanted) (takes_whole self.old) self.new.end.list r) }
-        ensures wanted { self.new.taking ≡ true → self.new.wanted ≡ wants_next self.old.taking self.old.wanted }
-        ensures few { length self.new.end.list ≤ length (takes_whole self.old) + 2 * longest_taking self.new.end.ring.shape (wants_next self.old.taking self.old.wanted) }
+        ensures none { IfNone result ((self.new.taking ≡ true) × (takes_whole self.new ≡ takes_whole self.old) × HasTakePart self.new.end.ring.shape (wants_next self.old.taking self.old.wanted 1) (takes_whole self.new) self.new.end.list) }
+        ensures some { IfSome result (λ r. (self.new.taking ≡ false) × HasTakenOf self.new.end.ring.shape (wants_next self.old.taking self.old.wanted 1) (takes_whole self.old) self.new.end.list r) }
+        ensures wanted { self.new.taking ≡ true → self.new.wanted ≡ wants_next self.old.taking self.old.wanted 1 }
+        ensures few { length self.new.end.list ≤ length (takes_whole self.old) + 2 * longest_taking self.new.end.ring.shape (wants_next self.old.taking self.old.wanted 1) }
         ensures oracle { IsAskedOnce O.answers self.old.oracle self.new.oracle }
         ensures answered { AreAnswered self.old.end self.new.end (O.answers self.old.oracle) (O.answers self.new.oracle) }
     {
@@ -224,6 +263,31 @@ impl<'a, O: Oracle + Drop> Taker<'a, O> {
         advance(&mut self.stepper, &mut self.machine, &mut self.oracle);
         self.steps = steps_behind(self.steps, &self.machine);
         self.machine.reply()
+    }
+
+    /// One step of a take of at most as many items as there are places, in the same way: they are written with the reply
+    /// alone. There are 1 to as many places as the shape's take batch, and as many until the reply.
+    pub fn step_take_all(&mut self, into: &mut [u64]) -> Option<TakeBatchReply>
+        requires some { 1 ≤ length into.old }
+        requires few { length into.old ≤ take_batch_of self.old.end.ring.shape }
+        requires wanted { self.old.taking ≡ true → self.old.wanted ≡ length into.old }
+        ensures same { IsSameEnd self.old.end self.new.end }
+        ensures lawful { StandsAs C self.new.end }
+        ensures one { ((result ≡ Some batch_reply.Closed) × (self.new.end ≡ self.old.end)) ⊎ ((e : Event) × Grows self.old.end self.new.end e) }
+        ensures none { IfNone result ((self.new.taking ≡ true) × (self.new.wanted ≡ length into.old) × (into.new ≡ into.old) × (takes_whole self.new ≡ takes_whole self.old) × HasTakePart self.new.end.ring.shape (length into.old) (takes_whole self.new) self.new.end.list) }
+        ensures some { IfSome result (λ r. (self.new.taking ≡ false) × HasTakenAll self.new.end.ring.shape (length into.old) (takes_whole self.old) self.new.end.list r into.new) }
+        ensures within { IfSome result (λ r. number_brought r ≤ length into.old) }
+        ensures long { length into.new ≡ length into.old }
+        ensures others { IfSome result (λ r. drop (number_brought r) into.new ≡ drop (number_brought r) into.old) }
+        ensures few { length self.new.end.list ≤ length (takes_whole self.old) + 2 * longest_taking self.new.end.ring.shape (length into.old) }
+        ensures oracle { IsAskedOnce O.answers self.old.oracle self.new.oracle }
+        ensures answered { AreAnswered self.old.end self.new.end (O.answers self.old.oracle) (O.answers self.new.oracle) }
+    {
+        laws_below();
+        begin_take_all(&mut self.machine, into.len() as u64);
+        advance(&mut self.stepper, &mut self.machine, &mut self.oracle);
+        self.steps = steps_behind(self.steps, &self.machine);
+        bring(&self.machine, into)
     }
 }
 
@@ -245,5 +309,11 @@ impl<'a, O: Oracle + Drop> TakeEnd for Taker<'a, O> {
         begin_take(&mut self.machine);
         finish(&mut self.stepper, &mut self.machine, &mut self.oracle);
         self.machine.reply().unwrap()
+    }
+
+    fn take_all(&mut self, into: &mut [u64]) -> TakeBatchReply {
+        begin_take_all(&mut self.machine, into.len() as u64);
+        finish(&mut self.stepper, &mut self.machine, &mut self.oracle);
+        bring(&self.machine, into).unwrap()
     }
 }

@@ -1,6 +1,6 @@
 -- What a take that finds the ring empty says of the puts that its taker knows.
 use Rattle.std.proofs.lemmas.Bool.Decides.{nat_tests}
-use Rattle.std.proofs.Common.{◌≡◌, ⊎_elim, ℕ, zero, suc, ◌+◌, ◌-◌, ◌*◌, ◌<◌, ◌≤◌, nat_le, if◌then◌else◌, Bool, true, false, Some, None, List, [], ◌∷◌, ◌++◌, length, take, refl, ap, sym, subst, ◌∙◌, arith, append-nil, append_assoc, length-append}
+use Rattle.std.proofs.Common.{◌≡◌, ⊎_elim, ℕ, zero, suc, ◌+◌, ◌-◌, ◌*◌, ◌<◌, ◌≤◌, nat_le, if◌then◌else◌, Bool, true, false, Option, Some, None, List, [], ◌∷◌, ◌++◌, length, take, refl, ap, sym, subst, ◌∙◌, arith, append-nil, append_assoc, length-append}
 use Rattle.std.specs.Prelude.{slice_get}
 use native.Mathlib.Decide.{dec_lt}
 use Rattle.bits_core.specs.declared.events.Side.{Side}
@@ -12,7 +12,10 @@ use Rattle.bits_core.specs.Bits.{is_by}
 use Rattle.bits_core.specs.Intervals.{IsWrite}
 use Rattle.bits_core.specs.Laws.{MadeIsAccess}
 use Rattle.bits_core.specs.Made.{Made, Write, events_of, own, clock, place_of, IsPlaceOf, IsBeginning}
+use Rattle.ring_core.specs.declared.consumers.TakeReply.{TakeReply}
 use Rattle.ring_core.specs.declared.consumers.TakeReply.TheVariants as reply
+use Rattle.ring_core.specs.declared.consumers.TakeBatchReply.{TakeBatchReply}
+use Rattle.ring_core.specs.declared.consumers.TakeBatchReply.TheVariants as batch_reply
 use Rattle.ring_core.specs.Counts.{Count, first_count, number_past}
 use Rattle.ring_core.specs.Puts.{Put, Stored, Full, Puts, stored_after, put_phrase, put_phrases, close_phrase, put_program}
 use Rattle.ring_core.specs.Takes.{Take, Item, ItemAfterClose, Empty, End, Open, Takes, taken_count, count_after, take_phrase, take_phrases, end_phrase, take_program, taken_in}
@@ -23,8 +26,8 @@ use Rattle.ring_core.specs.RingLaw.{IsRun, InEveryRun, EmptyIsFresh}
 use Rattle.ring_core.specs.ConsumerCalls as takes
 use Rattle.ring_core.specs.ConsumerCalls.{and_take, ends_closed, reply_at_end}
 use Rattle.ring_seats.specs.Rule.{Stands}
-use Rattle.ring_ends.specs.Ends.{HasPuts, HasTakes, TakeAdds}
-use Rattle.ring_run.specs.Laws.{EmptyAfterMeeting, TakesAdd}
+use Rattle.ring_ends.specs.Ends.{HasPuts, HasTakes, HasTakenAll, HasTakenOf, TakeAdds, TakeAllAdds}
+use Rattle.ring_run.specs.Laws.{EmptyAfterMeeting, ItemEmptyAfterMeeting, ItemTakesAdd, TakesAdd}
 use Rattle.ring_run.proofs.Lists.{by_case, events_of-append, length-events_of, last-snoc}
 
 -- ---- how many items calls store and take that have ended
@@ -230,10 +233,10 @@ empty_of (Empty seen) e = (seen, refl)
 
 -- the take that was answered so
 empty_adds :
-    (shape : Shape) (before after : List Event) (calls : Takes) (told : Bool) → TakeAdds told shape 1 calls reply.Empty before after →
+    (shape : Shape) (wanted : ℕ) (before after : List Event) (calls : Takes) (told : Bool) → TakeAdds told shape wanted calls reply.Empty before after →
     (seen : ℕ) × (calls.end ≡ Open) × HasTakes shape after (and_take calls (Empty seen))
-empty_adds shape before after calls true a = absurd (cc)
-empty_adds shape before after calls false (more, is_more, replied, has) = ⊎_elim
+empty_adds shape wanted before after calls true a = absurd (cc)
+empty_adds shape wanted before after calls false (more, is_more, replied, has) = ⊎_elim
     (λ one.
     let q : Some reply.Empty ≡ Some (takes.take_reply_to one.0) = replied ∙ ap (λ (t : Takes). reply_at_end t.end t.takes) one.2 ∙ last-snoc None calls.takes one.0 in
     let (seen, x_is) = empty_of one.0 (let e : reply.Empty ≡ takes.take_reply_to one.0 = cc in sym e) in
@@ -241,14 +244,57 @@ empty_adds shape before after calls false (more, is_more, replied, has) = ⊎_el
     (λ told. absurd (let q : Some reply.Empty ≡ Some reply.Closed = replied ∙ ap (λ (t : Takes). reply_at_end t.end t.takes) told.2 in cc))
     is_more.is_one_more
 
-pub empty-after : InEveryRun EmptyIsFresh → PutsAreFirst → TakesAreRead → MadeIsAccess → EmptyAfterMeeting
-empty-after law first read made shape known before after puts calls whole was begins st taken =
-    let same : taken.calls ≡ calls = read shape taken.calls calls taken.before_is.are was.are (sym taken.before_is.list_is ∙ was.list_is) in
-    let adds : TakeAdds (ends_closed calls.end) shape 1 calls reply.Empty before after = subst (λ (t : Takes). TakeAdds (ends_closed t.end) shape 1 t reply.Empty before after) same taken.adds in
-    let (seen, is_open, has) = empty_adds shape before after calls (ends_closed calls.end) adds in (
-      items law first made shape known before after puts calls seen is_open whole was begins st has,
-      open_yet law first made shape known before after puts calls seen is_open whole was begins st has,
+-- a take of several items, by the first of them
+by_first : (r : Option TakeReply) (items : List ℕ) (y : TakeBatchReply) → Some y ≡ takes.take_batch_reply r items → (x : TakeReply) × (r ≡ Some x)
+by_first None items y is = absurd (cc)
+by_first (Some x) items y is = (x, refl)
+
+of_first :
+    (shape : Shape) (wanted : ℕ) (before after : List Event) (y : TakeBatchReply) (into : List ℕ) → HasTakenAll shape wanted before after y into →
+    (x : TakeReply) × (items : List ℕ) × (Some y ≡ takes.take_batch_reply (Some x) items) × HasTakenOf shape wanted before after x
+of_first shape wanted before after y into taken = go (ends_closed taken.calls.end) refl taken.adds
+  where
+    go : (told : Bool) → ends_closed taken.calls.end ≡ told → TakeAllAdds told shape wanted taken.calls y into before after →
+        (x : TakeReply) × (items : List ℕ) × (Some y ≡ takes.take_batch_reply (Some x) items) × HasTakenOf shape wanted before after x
+    go true is a = (
+      reply.Closed,
+      [],
+      ap Some a.0,
+      record { calls = taken.calls; before_is = taken.before_is; adds = subst (λ t. TakeAdds t shape wanted taken.calls reply.Closed before after) (sym is) (refl, a.1) },
     )
+    go false is (more, is_more, (replied, places), has) =
+        let first = by_first (reply_at_end more.end more.takes) (takes.items_at_end more.end more.takes) y replied in (
+          first.0,
+          takes.items_at_end more.end more.takes,
+          replied ∙ ap (λ (r : Option TakeReply). takes.take_batch_reply r (takes.items_at_end more.end more.takes)) first.1,
+          record { calls = taken.calls; before_is = taken.before_is; adds = subst (λ t. TakeAdds t shape wanted taken.calls first.0 before after) (sym is) (more, is_more, sym first.1, has) },
+        )
+
+first_empty : (x : TakeReply) (items : List ℕ) → Some batch_reply.Empty ≡ takes.take_batch_reply (Some x) items → x ≡ reply.Empty
+first_empty (reply.Item item) items is = absurd (cc)
+first_empty reply.Empty items is = refl
+first_empty reply.Closed items is = absurd (cc)
+
+module _ (law : InEveryRun EmptyIsFresh) (first : PutsAreFirst) (read : TakesAreRead) (made : MadeIsAccess) where
+  empty_of_any :
+      (shape : Shape) (wanted : ℕ) (known before after : List Event) (puts : Puts) (calls : Takes) → HasPuts shape (own P known) puts → HasTakes shape before calls →
+      IsBeginning (own C known) before → Stands shape C after known → HasTakenOf shape wanted before after reply.Empty →
+      (length (all_put puts.puts) ≤ length (all_taken calls.takes)) × (puts.closes ≡ false)
+  empty_of_any shape wanted known before after puts calls whole was begins st taken =
+      let same : taken.calls ≡ calls = read shape taken.calls calls taken.before_is.are was.are (sym taken.before_is.list_is ∙ was.list_is) in
+      let adds : TakeAdds (ends_closed calls.end) shape wanted calls reply.Empty before after = subst (λ (t : Takes). TakeAdds (ends_closed t.end) shape wanted t reply.Empty before after) same taken.adds in
+      let (seen, is_open, has) = empty_adds shape wanted before after calls (ends_closed calls.end) adds in (
+        items law first made shape known before after puts calls seen is_open whole was begins st has,
+        open_yet law first made shape known before after puts calls seen is_open whole was begins st has,
+      )
+
+  pub empty-after : EmptyAfterMeeting
+  empty-after shape known before after puts calls wanted into whole was begins st taken =
+      let (x, items, is, one) = of_first shape wanted before after batch_reply.Empty into taken in
+      empty_of_any shape wanted known before after puts calls whole was begins st (subst (HasTakenOf shape wanted before after) (first_empty x items is) one)
+
+  pub item-empty-after : ItemEmptyAfterMeeting
+  item-empty-after shape = empty_of_any shape 1
 
 -- ---- a take adds to the list
 
@@ -271,11 +317,17 @@ one_more shape wanted calls more is_more =
     (λ told. (end_phrase (takes.and_end calls told.0 told.1).end, ap (take_program shape) told.2 ∙ ap (λ l. l ++ end_phrase (takes.and_end calls told.0 told.1).end) (sym program)))
     is_more.is_one_more
 
-pub takes-add : TakesAdd
-takes-add shape before after answer taken = go (ends_closed taken.calls.end) taken.adds
+adds_any : (shape : Shape) (wanted : ℕ) (before after : List Event) (answer : TakeReply) → HasTakenOf shape wanted before after answer → IsBeginning before after
+adds_any shape wanted before after answer taken = go (ends_closed taken.calls.end) taken.adds
   where
-    go : (told : Bool) → TakeAdds told shape 1 taken.calls answer before after → IsBeginning before after
+    go : (told : Bool) → TakeAdds told shape wanted taken.calls answer before after → IsBeginning before after
     go true a = ([], append-nil before ∙ sym a.1)
     go false (more, is_more, replied, has) =
-        let (rest, is) = one_more shape 1 taken.calls more is_more in
+        let (rest, is) = one_more shape wanted taken.calls more is_more in
         (events_of C rest, ap (λ l. l ++ events_of C rest) taken.before_is.list_is ∙ sym (events_of-append C (take_program shape taken.calls) rest) ∙ ap (events_of C) (sym is) ∙ sym has.list_is)
+
+pub takes-add : TakesAdd
+takes-add shape wanted before after answer into taken = let (x, items, is, one) = of_first shape wanted before after answer into taken in adds_any shape wanted before after x one
+
+pub item-takes-add : ItemTakesAdd
+item-takes-add shape = adds_any shape 1

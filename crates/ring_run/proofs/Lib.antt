@@ -2,4 +2,5 @@ pub mod Emptied
 pub mod Filled
 pub mod Lists
 pub mod RelayLemmas
+pub mod RelayTakes
 pub mod Relayed

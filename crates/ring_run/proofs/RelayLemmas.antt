@@ -1,5 +1,5 @@
 -- One put or take more of a relay.
-use Rattle.std.proofs.Common.{◌≡◌, ◌≢◌, ◌⊎◌, ⊎_elim, ℕ, zero, suc, ◌+◌, ◌-◌, ◌<◌, ◌≤◌, Bool, true, false, Some, None, List, [], ◌∷◌, ◌++◌, length, take, ◌%◌, append_assoc, refl, ap, sym, subst, ◌∙◌, arith, append-nil, Result, Ok, Err}
+use Rattle.std.proofs.Common.{◌≡◌, ◌⊎◌, ⊎_elim, ℕ, zero, suc, ◌+◌, ◌-◌, ◌<◌, ◌≤◌, Bool, true, false, List, [], ◌∷◌, ◌++◌, length, take, ◌%◌, append_assoc, refl, ap, sym, subst, ◌∙◌, arith, append-nil, Result, Ok, Err}
 use Rattle.std.specs.Prelude.{IfErr}
 use Rattle.std.proofs.lemmas.List.{length-append}
 use Rattle.std.proofs.Math.Seq.{take-add, take-length, drop-nil}
@@ -9,23 +9,15 @@ use Rattle.bits_core.specs.Shape.{AllFit, batch_of, modulus_of}
 use Rattle.bits_core.specs.declared.events.Event.{Event}
 use Rattle.ring_core.specs.declared.producers.BatchReply as batch_replies
 use Rattle.ring_core.specs.declared.producers.BatchReply.TheVariants as batch_reply
-use Rattle.ring_core.specs.declared.consumers.TakeReply as take_replies
-use Rattle.ring_core.specs.declared.consumers.TakeReply.TheVariants as take_reply
 use Rattle.ring_core.specs.Counts.{Count, first_count}
 use Rattle.ring_core.specs.Puts as puts
 use Rattle.ring_core.specs.Puts.{Put, Puts, IsBatch}
-use Rattle.ring_core.specs.Takes as takes
-use Rattle.ring_core.specs.OneCallMore.{TakesOfOne}
-use Rattle.ring_core.specs.Takes.{Take, Takes, Open, AreTakes}
-use Rattle.ring_core.specs.Items.{all_put, all_taken, taken_of}
-use Rattle.ring_core.specs.Over.{fulls, empties}
-use Rattle.ring_core.specs.Readings.{PutsAreRead, TakesAreRead}
+use Rattle.ring_core.specs.Items.{all_put}
+use Rattle.ring_core.specs.Over.{fulls}
+use Rattle.ring_core.specs.Readings.{PutsAreRead}
 use Rattle.ring_core.specs.ProducerCalls.{and_put, and_close, no_puts, IsPutOf}
 use Rattle.ring_core.specs.ProducerCalls as put_calls
-use Rattle.ring_core.specs.ConsumerCalls.{and_take, and_end, no_takes, ends_closed, HasTakeMore, reply_at_end, reply_items, last_take_reply}
-use Rattle.ring_core.specs.ConsumerCalls as take_calls
-use Rattle.ring_ends.specs.Ends.{HasPuts, HasPutAll, PutAdds, HasClosed, CloseAdds, HasTakes, HasTaken, TakeAdds}
-use Rattle.ring_run.proofs.Lists.{last-snoc}
+use Rattle.ring_ends.specs.Ends.{HasPuts, HasPutAll, PutAdds, HasClosed, CloseAdds}
 use Rattle.ring_run.specs.Relays.{AreGiven, PutsAre, TakesAre}
 
 -- ---- lists
@@ -224,96 +216,6 @@ module _ (read : PutsAreRead) (shape : Shape) (list list' : List Event) (items :
       let has : CloseAdds false shape p.calls list list' = subst (λ (z : Puts × Bool). CloseAdds z.1 shape z.0 list list') (λ i. (same i, (ap (λ (q : Puts). q.closes) same ∙ p.closes_is) i)) h.adds in
       record { calls = and_close p.calls; list_is = has; given = p.given; in_order = p.in_order; within = p.within; made_is = p.made_is; full_is = p.full_is; closes_is = refl }
 
--- ---- takes
-
-same_takes : TakesAreRead → (shape : Shape) (list : List Event) (a b : Takes) → HasTakes shape list a → HasTakes shape list b → a ≡ b
-same_takes read shape list a b ha hb = read shape a b ha.are hb.are (sym ha.list_is ∙ hb.list_is)
-
-pub no_takes_are : (shape : Shape) (list : List Event) → list ≡ [] → TakesAre shape list [] 0 false
-no_takes_are shape list is = record {
-  calls = no_takes;
-  list_is = record { are = tt; list_is = is };
-  taken_is = refl;
-  empty_is = refl;
-  told_is = refl;
-}
-
--- the empty takes of one take more
-empty_one : take_replies.TakeReply → ℕ
-empty_one (take_reply.Item i) = 0
-empty_one take_reply.Empty = 1
-empty_one take_reply.Closed = 0
-
-taken_snoc : (xs : List Take) (x : Take) → all_taken (xs ++ x ∷ []) ≡ all_taken xs ++ taken_of x
-taken_snoc [] x = append-nil (taken_of x)
-taken_snoc (y ∷ xs) x = ap (λ (l : List ℕ). taken_of y ++ l) (taken_snoc xs x) ∙ sym (append_assoc (taken_of y) (all_taken xs) (taken_of x))
-
-empties_snoc : (xs : List Take) (x : Take) → empties (xs ++ x ∷ []) ≡ empties xs + empty_one (take_calls.take_reply_to x)
-unfolding empty_one
-empties_snoc [] (takes.Item seen []) = refl
-empties_snoc [] (takes.Item seen (item ∷ items)) = refl
-empties_snoc [] (takes.ItemAfterClose seen again []) = refl
-empties_snoc [] (takes.ItemAfterClose seen again (item ∷ items)) = refl
-empties_snoc [] (takes.Empty seen) = refl
-empties_snoc (takes.Item s i ∷ xs) x = empties_snoc xs x
-empties_snoc (takes.ItemAfterClose s a i ∷ xs) x = empties_snoc xs x
-empties_snoc (takes.Empty s ∷ xs) x = omega (arith, empties_snoc xs x)
-
-never_closed : (x : Take) → take_calls.take_reply_to x ≢ take_reply.Closed
-never_closed (takes.Item seen []) e = cc
-never_closed (takes.Item seen (item ∷ items)) e = cc
-never_closed (takes.ItemAfterClose seen again []) e = cc
-never_closed (takes.ItemAfterClose seen again (item ∷ items)) e = cc
-never_closed (takes.Empty seen) e = cc
-
-module _ (read : TakesAreRead) (single : TakesOfOne) (shape : Shape) (list list' : List Event) (taken : List ℕ) (empty : ℕ) (p : TakesAre shape list taken empty false) where
-  adds_take : (reply : take_replies.TakeReply) → HasTaken shape list list' reply → TakeAdds false shape 1 p.calls reply list list'
-  adds_take reply h =
-      let same : h.calls ≡ p.calls = same_takes read shape list h.calls p.calls h.before_is p.list_is in
-      subst (λ (z : Takes × Bool). TakeAdds z.1 shape 1 z.0 reply list list') (λ i. (same i, (ap (λ (q : Takes). ends_closed q.end) same ∙ p.told_is) i)) h.adds
-
-  one_more : (reply : take_replies.TakeReply) → reply ≢ take_reply.Closed → HasTaken shape list list' reply → TakesAre shape list' (taken ++ reply_items reply) (empty + empty_one reply) false
-  one_more reply open_yet h =
-      let a = adds_take reply h in
-      ⊎_elim
-      (λ one.
-      let x : Take = one.0 in
-      let is : reply ≡ take_calls.take_reply_to x = let q : Some reply ≡ Some (take_calls.take_reply_to x) = a.2 ∙ ap (λ (t : Takes). reply_at_end t.end t.takes) one.2 ∙ last-snoc None p.calls.takes x in cc in
-      let are : AreTakes shape 0 (and_take p.calls x).takes Open = subst (λ (t : Takes). AreTakes shape 0 t.takes t.end) one.2 a.1.are in
-      record {
-        calls = and_take p.calls x;
-        list_is = subst (HasTakes shape list') one.2 a.3;
-        taken_is = taken_snoc p.calls.takes x ∙ (λ i. p.taken_is i ++ (single shape p.calls x are one.1 ∙ ap reply_items (sym is)) i);
-        empty_is = empties_snoc p.calls.takes x ∙ (λ i. p.empty_is i + empty_one (sym is i));
-        told_is = refl;
-      })
-      (λ told. absurd (open_yet (let q : Some reply ≡ Some take_reply.Closed = a.2 ∙ ap (λ (t : Takes). reply_at_end t.end t.takes) told.2 in cc)))
-      a.1.is_one_more
-
-  pub took : (item : ℕ) → HasTaken shape list list' (take_reply.Item item) → TakesAre shape list' (taken ++ item ∷ []) empty false
-  unfolding empty_one
-  took item h = subst (λ (n : ℕ). TakesAre shape list' (taken ++ item ∷ []) n false) (omega arith) (one_more (take_reply.Item item) (λ e. cc) h)
-
-  pub was_empty : HasTaken shape list list' take_reply.Empty → TakesAre shape list' taken (suc empty) false
-  unfolding empty_one
-  was_empty h =
-      let plus : empty + 1 ≡ suc empty = omega arith in
-      subst (λ (z : List ℕ × ℕ). TakesAre shape list' z.0 z.1 false) (λ i. (append-nil taken i, plus i)) (one_more take_reply.Empty (λ e. cc) h)
-
-  pub was_told : HasTaken shape list list' take_reply.Closed → TakesAre shape list' taken empty true
-  was_told h =
-      let a = adds_take take_reply.Closed h in
-      ⊎_elim
-      (λ one. absurd (never_closed one.0 (let q : Some take_reply.Closed ≡ Some (take_calls.take_reply_to one.0) = a.2 ∙ ap (λ (t : Takes). reply_at_end t.end t.takes) one.2 ∙ last-snoc None p.calls.takes one.0 in cc)))
-      (λ told. record {
-        calls = and_end p.calls told.0 told.1;
-        list_is = subst (HasTakes shape list') told.2 a.3;
-        taken_is = p.taken_is;
-        empty_is = p.empty_is;
-        told_is = refl;
-      })
-      a.1.is_one_more
-
 -- ---- a fault, whatever it is
 
 pub if_err : {A E : Type 0} (r : Result A E) (X : Type 0) → X → IfErr r (λ _. X)
@@ -328,5 +230,5 @@ same_trans a b c s t = record { ring = t.ring ∙ s.ring; side = t.side ∙ s.si
 pub puts_there : (a b : Rattle.ring_seats.specs.Ring.RingEnd) (items : List ℕ) (put made full : ℕ) → Rattle.ring_seats.specs.Steppers.IsSameEnd a b → PutsAre a.ring.shape a.list items put made full false → PutsAre b.ring.shape a.list items put made full false
 puts_there a b items put made full s p = subst (λ (z : Shape). PutsAre z a.list items put made full false) (sym (ap (λ (r : Rattle.ring_seats.specs.Ring.Ring). r.shape) s.ring)) p
 
-pub takes_there : (a b : Rattle.ring_seats.specs.Ring.RingEnd) (taken : List ℕ) (empty : ℕ) → Rattle.ring_seats.specs.Steppers.IsSameEnd a b → TakesAre a.ring.shape a.list taken empty false → TakesAre b.ring.shape a.list taken empty false
-takes_there a b taken empty s p = subst (λ (z : Shape). TakesAre z a.list taken empty false) (sym (ap (λ (r : Rattle.ring_seats.specs.Ring.Ring). r.shape) s.ring)) p
+pub takes_there : (a b : Rattle.ring_seats.specs.Ring.RingEnd) (limit : ℕ) (taken : List ℕ) (empty : ℕ) → Rattle.ring_seats.specs.Steppers.IsSameEnd a b → TakesAre a.ring.shape a.list limit taken empty false → TakesAre b.ring.shape a.list limit taken empty false
+takes_there a b limit taken empty s p = subst (λ (z : Shape). TakesAre z a.list limit taken empty false) (sym (ap (λ (r : Rattle.ring_seats.specs.Ring.Ring). r.shape) s.ring)) p

@@ -32,8 +32,8 @@ tells_true Open e = absurd (true≢false (sym e))
 tells_true (Closed seen again) e = tt
 
 -- one history of these puts and takes
-module _ (shape : Shape) (items : List ℕ) (put made full : ℕ) (closes : Bool) (taken : List ℕ) (empty : ℕ) (told : Bool) (h : List Event) (ring : IsRing shape h)
-    (ps : PutsAre shape (own P h) items put made full closes) (ts : TakesAre shape (own C h) taken empty told) where
+module _ (shape : Shape) (items : List ℕ) (put made full : ℕ) (closes : Bool) (limit : ℕ) (taken : List ℕ) (empty : ℕ) (told : Bool) (h : List Event) (ring : IsRing shape h)
+    (ps : PutsAre shape (own P h) items put made full closes) (ts : TakesAre shape (own C h) limit taken empty told) where
   run_of : IsRun shape h ps.calls ts.calls
   run_of = record {
     lawful = ring.run.lawful;
@@ -68,16 +68,16 @@ module _ (within : InEveryRun IsWithin) (prefix : InEveryRun TakenArePrefix) (cl
   takes = r.takes.takes.calls
 
   run : IsRun shape h puts takes
-  run = run_of shape items put made full (put == length items) taken empty closed h r.ring r.puts.puts r.takes.takes
+  run = run_of shape items put made full (put == length items) most_takes taken empty closed h r.ring r.puts.puts r.takes.takes
 
   put_is : items_put shape first_count puts.puts (clock P h (length h)) ≡ take put items
-  put_is = put_of shape items put made full (put == length items) taken empty closed h r.ring r.puts.puts r.takes.takes puts_count
+  put_is = put_of shape items put made full (put == length items) most_takes taken empty closed h r.ring r.puts.puts r.takes.takes puts_count
 
   taken_is : items_taken shape first_count takes.takes (clock C h (length h)) ≡ taken
-  taken_is = taken_of shape items put made full (put == length items) taken empty closed h r.ring r.puts.puts r.takes.takes takes_count
+  taken_is = taken_of shape items put made full (put == length items) most_takes taken empty closed h r.ring r.puts.puts r.takes.takes takes_count
 
   pub relayed_prefix : IsBeginning taken (take put items)
-  relayed_prefix = prefix_of shape items put made full (put == length items) taken empty closed h r.ring r.puts.puts r.takes.takes prefix puts_count takes_count
+  relayed_prefix = prefix_of shape items put made full (put == length items) most_takes taken empty closed h r.ring r.puts.puts r.takes.takes prefix puts_count takes_count
 
   pub relayed_all : closed ≡ true → (put ≡ length items) × (taken ≡ items)
   relayed_all e =
@@ -116,5 +116,5 @@ pub none_past :
 none_past prefix puts_count takes_count items most_puts most_takes p c same h m made more =
     let shape : Shape = p.ring.shape in
     let ps : PutsAre shape (own P h) items made.put made.made made.full (made.put == length items) = subst (λ l. PutsAre shape l items made.put made.made made.full (made.put == length items)) (sym m.put) made.puts.puts in
-    let ts : TakesAre shape (own C h) more.taken more.empty false = subst (λ (z : Ring × List Event). TakesAre z.0.shape z.1 more.taken more.empty false) (λ i. (same i, sym m.taken i)) more.takes in
-    absurd (omega (arith, more.more, few_of shape items made.put made.made made.full (made.put == length items) more.taken more.empty false h m.ring ps ts prefix puts_count takes_count))
+    let ts : TakesAre shape (own C h) most_takes more.taken more.empty false = subst (λ (z : Ring × List Event). TakesAre z.0.shape z.1 most_takes more.taken more.empty false) (λ i. (same i, sym m.taken i)) more.takes in
+    absurd (omega (arith, more.more, few_of shape items made.put made.made made.full (made.put == length items) most_takes more.taken more.empty false h m.ring ps ts prefix puts_count takes_count))

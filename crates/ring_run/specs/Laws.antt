@@ -9,21 +9,31 @@ use Rattle.ring_core.specs.declared.producers.PutReply.TheVariants as single
 use Rattle.ring_core.specs.declared.producers.BatchReply.{BatchReply}
 use Rattle.ring_core.specs.declared.producers.BatchReply.TheVariants as several
 use Rattle.ring_core.specs.declared.consumers.TakeReply.{TakeReply}
-use Rattle.ring_core.specs.declared.consumers.TakeReply.TheVariants.{Empty}
+use Rattle.ring_core.specs.declared.consumers.TakeReply.TheVariants as single_take
+use Rattle.ring_core.specs.declared.consumers.TakeBatchReply.{TakeBatchReply}
+use Rattle.ring_core.specs.declared.consumers.TakeBatchReply.TheVariants as several_take
 use Rattle.ring_core.specs.Puts.{Puts}
 use Rattle.ring_core.specs.Takes.{Takes}
 use Rattle.ring_core.specs.Items.{all_put, all_taken}
 use Rattle.ring_seats.specs.Rule.{Stands}
-use Rattle.ring_ends.specs.Ends.{HasPuts, HasPut, HasPutAll, HasTakes, HasTaken}
+use Rattle.ring_ends.specs.Ends.{HasPuts, HasPut, HasPutAll, HasTakes, HasTaken, HasTakenAll}
 pub use Rattle.ring_seats.specs.Laws.{PutsAreShown, TakesAreShown, WordsAreTold}
 
 -- A taker knows a history, whose puts are whole, and has made whole takes, those of that history among them. Where the next take
 -- finds the ring empty, each item of these puts was taken before it, and no close stands behind them.
 abbrev pub EmptyAfterMeeting : Type 0
 EmptyAfterMeeting =
+    (shape : Shape) (known before after : List Event) (puts : Puts) (takes : Takes) (wanted : ℕ) (into : List ℕ) →
+    HasPuts shape (own P known) puts → HasTakes shape before takes → IsBeginning (own C known) before →
+    Stands shape C after known → HasTakenAll shape wanted before after several_take.Empty into →
+    (length (all_put puts.puts) ≤ length (all_taken takes.takes)) × (puts.closes ≡ false)
+
+-- and so where the next take is one of a single item
+abbrev pub ItemEmptyAfterMeeting : Type 0
+ItemEmptyAfterMeeting =
     (shape : Shape) (known before after : List Event) (puts : Puts) (takes : Takes) →
     HasPuts shape (own P known) puts → HasTakes shape before takes → IsBeginning (own C known) before →
-    Stands shape C after known → HasTaken shape before after Empty →
+    Stands shape C after known → HasTaken shape before after single_take.Empty →
     (length (all_put puts.puts) ≤ length (all_taken takes.takes)) × (puts.closes ≡ false)
 
 -- A putter knows a history, whose takes are whole, and has made whole puts, those of that history among them. Where the next put
@@ -49,4 +59,10 @@ PutsAdd = (shape : Shape) (items : List ℕ) (before after : List Event) (reply 
 
 -- a take leaves the list that was there, and adds to it
 abbrev pub TakesAdd : Type 0
-TakesAdd = (shape : Shape) (before after : List Event) (reply : TakeReply) → HasTaken shape before after reply → IsBeginning before after
+TakesAdd =
+    (shape : Shape) (wanted : ℕ) (before after : List Event) (reply : TakeBatchReply) (into : List ℕ) →
+    HasTakenAll shape wanted before after reply into → IsBeginning before after
+
+-- and so does one of a single item
+abbrev pub ItemTakesAdd : Type 0
+ItemTakesAdd = (shape : Shape) (before after : List Event) (reply : TakeReply) → HasTaken shape before after reply → IsBeginning before after

@@ -1,5 +1,5 @@
 -- What a relay works its two ends to.
-use Rattle.std.specs.Prelude.{◌≡◌, ◌⊎◌, ℕ, ◌+◌, ◌<◌, ◌≤◌, ◌==◌, Bool, false, List, [], ◌∷◌, length, take, drop, if◌then◌else◌}
+use Rattle.std.specs.Prelude.{◌≡◌, ◌⊎◌, ℕ, ◌+◌, ◌-◌, ◌<◌, ◌≤◌, ◌==◌, Bool, false, List, [], ◌∷◌, length, min, take, drop, if◌then◌else◌}
 use Rattle.bits_core.specs.declared.shapes.Shape.{Shape}
 use Rattle.bits_core.specs.declared.events.Event.{Event}
 use Rattle.bits_core.specs.declared.events.Side.TheVariants.{P, C}
@@ -7,13 +7,14 @@ use Rattle.bits_core.specs.Made.{own}
 use Rattle.ring_seats.specs.Programs.{IsRing}
 use Rattle.ring_core.specs.Linear.{EachReadingIsLinearizable}
 use Rattle.ring_core.specs.Puts.{Put, Puts, number_after}
-use Rattle.ring_core.specs.Takes.{Takes}
+use Rattle.ring_core.specs.Counts.{take_batch_of}
+use Rattle.ring_core.specs.Takes.{Take, Takes, Item, ItemAfterClose, Empty, taken_after}
 use Rattle.ring_core.specs.Items.{all_put, all_taken}
 use Rattle.bits_core.specs.Shape.{batch_of}
 use Rattle.ring_core.specs.CallsAt.{stored_by}
 use Rattle.ring_core.specs.ProducerCalls.{IsPutOf}
 use Rattle.ring_core.specs.Over.{fulls, empties}
-use Rattle.ring_core.specs.ConsumerCalls.{ends_closed}
+use Rattle.ring_core.specs.ConsumerCalls.{ends_closed, IsTakeOf}
 use Rattle.ring_ends.specs.Ends.{HasPuts, HasTakes}
 
 -- These puts, behind n items, were given the items in order: each as many of those not yet stored as the shape's batch has, or
@@ -41,25 +42,41 @@ pub record HasRelayedPuts (shape : Shape) (list : List Event) (items : List ℕ)
   pub most : made ≤ limit
   pub all_or_limit : (put ≡ length items) ⊎ (made ≡ limit)
 
--- the list is of takes of these items, in order, of `empty` that found the ring empty, and perhaps of one that was told that the ring is closed
-pub record TakesAre (shape : Shape) (list : List Event) (taken : List ℕ) (empty : ℕ) (told : Bool) : Type 0 where
+-- how much of a relay's limit a take uses up: one for each item that it took, and one where it found the ring empty
+abbrev pub used_by : Take → ℕ
+used_by (Item seen items) = length items
+used_by (ItemAfterClose seen again items) = length items
+used_by (Empty seen) = 1
+
+-- These takes, behind k items, with so much left of the limit, asked for items in turn: each for as many as the shape's take batch,
+-- or for as many as were left where these are fewer.
+abbrev pub AreAsked : Shape → ℕ → (left : ℕ) → List Take → Type 0
+AreAsked shape k left [] = Unit {0}
+AreAsked shape k left (x ∷ takes) =
+    IsTakeOf shape k (min (take_batch_of shape) left) x × AreAsked shape (taken_after k x) (left - used_by x) takes
+
+-- the list is of takes of these items, in order, which asked for them so, of `empty` that found the ring empty, and perhaps of one that
+-- was told that the ring is closed
+pub record TakesAre (shape : Shape) (list : List Event) (limit : ℕ) (taken : List ℕ) (empty : ℕ) (told : Bool) : Type 0 where
   pub calls : Takes
   pub list_is : HasTakes shape list calls
+  pub asked : AreAsked shape 0 limit calls.takes
   pub taken_is : all_taken calls.takes ≡ taken
   pub empty_is : empties calls.takes ≡ empty
   pub told_is : ends_closed calls.end ≡ told
 
--- at most as many takes as the limit were made, and as many where none was told that the ring is closed
+-- The items taken and the takes that brought none are at most as many as the limit, so the takes are; and they are as many where none
+-- was told that the ring is closed.
 pub record HasRelayedTakes (shape : Shape) (list : List Event) (limit : ℕ) (taken : List ℕ) (empty : ℕ) (closed : Bool) : Type 0 where
-  pub takes : TakesAre shape list taken empty closed
+  pub takes : TakesAre shape list limit taken empty closed
   pub most : length taken + empty + (if closed then 1 else 0) ≤ limit
   pub all : closed ≡ false → length taken + empty ≡ limit
 
--- whole takes were made, at most as many as the limit; they took more items than this number, and none was told that the ring is closed
+-- whole takes were made, within the limit; they took more items than this number, and none was told that the ring is closed
 pub record HasTakenMore (shape : Shape) (list : List Event) (limit number : ℕ) : Type 0 where
   pub taken : List ℕ
   pub empty : ℕ
-  pub takes : TakesAre shape list taken empty false
+  pub takes : TakesAre shape list limit taken empty false
   pub most : length taken + empty ≤ limit
   pub more : number < length taken
 

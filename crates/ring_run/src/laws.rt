@@ -1,5 +1,5 @@
 //! What a caller of the ends may rest on, each the contract of a function that does nothing.
-ghost use Rattle.ring_run.specs.Laws.{EmptyAfterMeeting, FullAfterMeeting, ItemFullAfterMeeting, PutsAdd, TakesAdd};
+ghost use Rattle.ring_run.specs.Laws.{EmptyAfterMeeting, FullAfterMeeting, ItemEmptyAfterMeeting, ItemFullAfterMeeting, ItemTakesAdd, PutsAdd, TakesAdd};
 
 use bits_core::laws::made_is_access;
 use ring_core::laws::{calls_are_first, puts_are_read, ring_law, takes_are_read};
@@ -10,7 +10,8 @@ pub use ring_seats::laws::{counts_are_shown, words_are_told};
 /// where these have taken as many items as that history's puts stored, and no close stands in it. By the law of the
 /// ring, which says that the ring was empty where such a take began.
 pub fn empty_after_meeting()
-    ensures { EmptyAfterMeeting }
+    ensures several { EmptyAfterMeeting }
+    ensures single { ItemEmptyAfterMeeting }
 {
     ring_law();
     calls_are_first();
@@ -40,5 +41,6 @@ pub fn puts_add()
 /// A take leaves the taker's list as it was and adds to it. So the list of a taker begins with its side of what a
 /// meeting showed, however many takes it made since.
 pub fn takes_add()
-    ensures { TakesAdd }
+    ensures several { TakesAdd }
+    ensures single { ItemTakesAdd }
 {}

@@ -8,7 +8,7 @@ use queue_calls::{Event, Word, allows};
 use std::alloc::{AllocError, Allocator};
 use std::sync::atomic::{AtomicU64, Ordering};
 
-/// Room for a line of a recording, or for one more item of a put.
+/// Room for a line of a recording, or for one more item of a put or a take.
 ///
 /// In use: `lamport_ring run --record`.
 #[derive(Drop)]
@@ -112,7 +112,7 @@ pub struct Recorder<'a> {
 
 impl<'a> Recorder<'a> {
     /// A recorder that has recorded nothing, with room for the lines of either side. A put takes as many slots as it has
-    /// items, and any other line one.
+    /// items, so does the end of a take that brought items, and any other line one.
     pub fn new(puts: &'a [Slot], takes: &'a [Slot]) -> Recorder<'a> {
         Recorder {
             tickets: AtomicU64::new(1),

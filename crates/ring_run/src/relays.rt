@@ -3,15 +3,14 @@ ghost use Rattle.std.specs.Prelude.{◌≡◌, ◌⊎◌, ℕ, ◌+◌, ◌<◌,
 ghost use Rattle.ring_seats.specs.Steppers.{IsSameEnd};
 ghost use Rattle.bits_core.specs.Made.{IsBeginning};
 ghost use Rattle.bits_core.specs.Shape.{AllFit, batch_of, capacity_of};
+ghost use Rattle.ring_core.specs.Counts.{take_batch_of};
 ghost use Rattle.ring_run.specs.Relays.{HasMadePuts, HasRelayedPuts, HasRelayedTakes, HasTakenMore, IsRelayed};
 
 use crate::gates::Gate;
 use bits_core::{Oracle, Shape, Side};
 use queue_calls::Event;
-use ring_core::laws::{
-    programs_by_one_call, puts_are_read, ring_law, takes_are_read, whole_calls_count,
-};
-use ring_core::{BatchReply, TakeReply};
+use ring_core::laws::{puts_are_read, ring_law, takes_are_read, whole_calls_count};
+use ring_core::{BatchReply, TakeBatchReply};
 use ring_ends::{CounterRing, FlickerRing, PutEnd, RingOf, RunFault, TakeEnd};
 use std::alloc::Allocator;
 use std::thread::{Threads, join_mut};
@@ -23,7 +22,7 @@ use std::thread::{Threads, join_mut};
 pub struct Limits {
     /// The most puts.
     pub puts: u64,
-    /// The most takes.
+    /// The most takes, where one that brings several items counts as so many.
     pub takes: u64,
 }
 
@@ -99,9 +98,28 @@ fn put_in_order<E: PutEnd, G: Gate>(
     (put as u64, made, full)
 }
 
-// Takes until the ring is closed, into a list with no item yet. Tells how many takes found the ring empty, and whether
-// one was told that the ring is closed. An item that the list has no room for, and can get none, is lost, and no more
-// takes are made.
+// How many items one count write of the taker may count.
+fn take_batch(shape: &Shape) -> u64
+    ensures batch { result ≡ take_batch_of shape.now }
+    ensures some { 1 ≤ result }
+    ensures few { result ≤ 64 }
+{
+    1
+}
+
+// How many items one take asks for: a take batch, or all where fewer are left.
+fn next_take(shape: &Shape, left: u64) -> usize
+    requires some { 0 < left }
+    ensures lesser { result ≡ min (take_batch_of shape.now) left }
+    ensures some { 0 < result }
+    ensures few { result ≤ 64 }
+{
+    take_batch(shape).min(left) as usize
+}
+
+// Takes until the ring is closed, into a list with no item yet, as many items at a time as the shape's take batch, but no more than
+// are left of the limit. Tells how many takes found the ring empty, and whether one was told that the ring is closed. Where the list
+// has no room for the items of a take, and can get none, they are lost, and no more takes are made.
 fn take_all<A: Allocator, E: TakeEnd, G: Gate>(
     items: &mut Vec<u64, A>,
     taker: &mut E,
@@ -117,27 +135,33 @@ fn take_all<A: Allocator, E: TakeEnd, G: Gate>(
     ensures fault { IfErr result (λ _. HasTakenMore (E.end taker.new).ring.shape (E.end taker.new).list limit (vec_capacity items.old)) }
 {
     takes_are_read();
-    programs_by_one_call();
+    let shape = taker.shape();
+    let mut room = [0; 64];
+    let mut made = 0;
     let mut empty = 0;
     let mut closed = false;
     let mut waits = 0;
     'takes: while !closed && items.len() as u64 + empty < limit {
-        gate.pass(Side::C, items.len() as u64 + empty);
-        gate.hears(Event::TakeBegins(1));
-        let reply = taker.take();
+        gate.pass(Side::C, made);
+        made += 1;
+        let wanted = next_take(&shape, limit - (items.len() as u64 + empty));
+        gate.hears(Event::TakeBegins(wanted));
+        let into = &mut room[..wanted];
+        let reply = taker.take_all(into);
         match reply {
-            TakeReply::Item(item) => {
-                gate.hears(Event::TakeItems(&[item]));
-                items.push(item)?;
+            TakeBatchReply::Taken(count) => {
+                let taken = &into[..count as usize];
+                gate.hears(Event::TakeItems(taken));
+                items.extend_from_slice(taken)?;
                 waits = 0;
             }
-            TakeReply::Empty => {
+            TakeBatchReply::Empty => {
                 gate.hears(Event::TakeEmpty);
                 empty += 1;
                 waits += 1;
                 gate.wait(Side::C, waits);
             }
-            TakeReply::Closed => {
+            TakeBatchReply::Closed => {
                 gate.hears(Event::TakeClosed);
                 closed = true;
             }
@@ -218,9 +242,10 @@ fn relay_into<R: Threads, A: Allocator, E: PutEnd + Send, F: TakeEnd + Send, G: 
 
 /// Works the two ends at the same time, in two threads. The one side puts the items in order, as many at a time as the
 /// shape's batch has, goes on behind those that were stored, and closes behind the last; so a put that found the ring
-/// full is made again. The other side takes until it is told that the ring is closed. Neither makes more puts or takes
-/// than its limit (the close is not counted), and each passes the gate before each of them, with the number that it has
-/// made. The gate is told where each put, each take and the close begins and where it ends, by the thread that makes it; and
+/// full is made again. The other side takes as many items at a time as the shape's take batch, but no more than are left of its
+/// limit, until it is told that the ring is closed. Neither makes more puts or takes than its limit (the close is not counted,
+/// and a take that brings several items counts as so many), and each passes the gate before each of them, with the number that
+/// it has made. The gate is told where each put, each take and the close begins and where it ends, by the thread that makes it; and
 /// behind each put that found the ring full, and each take that found it empty, how many have in a row.
 ///
 /// The ends have made no call yet, and every item has to fit the width. It takes memory for the items that are taken:

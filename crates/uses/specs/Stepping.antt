@@ -12,5 +12,5 @@ IsFirstPut item p (Some reply) = (p.call ≡ None) × HasPut p.end.ring.shape it
 
 -- the taker's first take is not begun or under way, or was answered so
 abbrev pub IsFirstTake : {O : Type 0} → TakerState O → Option TakeReply → Type 0
-IsFirstTake t None = (takes_whole t ≡ []) × (wants_next t.taking t.wanted ≡ 1)
+IsFirstTake t None = (takes_whole t ≡ []) × (wants_next t.taking t.wanted 1 ≡ 1)
 IsFirstTake t (Some reply) = (t.taking ≡ false) × HasTaken t.end.ring.shape [] t.end.list reply

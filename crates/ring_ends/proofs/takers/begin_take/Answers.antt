@@ -15,7 +15,7 @@ returns-then-is_none c = record {
       let m = c.args.machine.now in
       let over : c.next.result ≡ None = search rules in
       let rests = (c.next.ensures.rest calls made at over).0 in
-      let one : wants_next (is_taking m) m.wanted ≡ 1 = ap (λ t. wants_next t m.wanted) rests in
+      let one : wants_next (is_taking m) m.wanted 1 ≡ 1 = ap (λ t. wants_next t m.wanted 1) rests in
       let none : due_take m ≡ None = sym c.next.ensures.due ∙ over in (
         c.take.ensures.shape,
         c.take.ensures.stands calls made at,

@@ -1,5 +1,8 @@
-use Rattle.ring_run.proofs.Emptied.{takes-add}
+use Rattle.ring_run.proofs.Emptied.{item-takes-add, takes-add}
 use Rattle.ring_run.proofs.laws.takes_add.Goals as goal
 
-pub returns : goal.returns
-returns c = takes-add
+pub returns-clause-several : goal.returns-clause-several
+returns-clause-several c = takes-add
+
+pub returns-clause-single : goal.returns-clause-single
+returns-clause-single c = item-takes-add

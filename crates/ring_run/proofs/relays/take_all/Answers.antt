@@ -1,69 +1,134 @@
-use Rattle.std.specs.Prelude.{if◌then◌else◌, vec_capacity}
+use Rattle.std.specs.Prelude.{◌-◌, if◌then◌else◌, min, vec_capacity}
 use Rattle.std.proofs.lemmas.List.{length-append}
-use Rattle.std.proofs.Common.{◌≡◌, ◌+◌, ◌≤◌, suc, ℕ, Bool, false, List, [], ◌∷◌, ◌++◌, length, refl, ap, sym, subst, arith}
+use Rattle.std.proofs.Common.{rules, ◌≡◌, ◌+◌, ◌<◌, ◌≤◌, suc, ℕ, Bool, false, List, [], ◌∷◌, ◌++◌, length, take, refl, ap, sym, subst, ◌∙◌, arith}
+use Rattle.ring_core.specs.declared.consumers.TakeBatchReply as replies
+use Rattle.ring_core.specs.declared.consumers.TakeBatchReply.TheVariants as reply
+use Rattle.ring_core.specs.Counts.{take_batch_of}
+use Rattle.ring_seats.specs.Ring.{Ring}
+use Rattle.ring_ends.specs.Ends.{HasTakenAll}
 use Rattle.ring_run.specs.Relays.{HasTakenMore, TakesAre}
-use Rattle.ring_run.proofs.RelayLemmas.{no_takes_are, took, was_empty, was_told, same_trans, takes_there, if_err}
+use Rattle.ring_run.proofs.RelayLemmas.{length_first, same_trans, takes_there, if_err}
+use Rattle.ring_run.proofs.RelayTakes.{no_takes_are, took, was_empty, was_told}
+use Rattle.ring_run.proofs.relays.take_all.Given.{Over}
+use Rattle.ring_run.proofs.relays.take_all.Goals.{After-take_all-reply}
 use Rattle.ring_run.proofs.relays.take_all.Goals as goal
+
+-- how many places a take is given
+asks : (g : Over) (c : After-take_all-reply g) →
+    length (take c.next_take-wanted.result c.takes.room) ≡ min (take_batch_of (g.E.TakeEnd.end c.take_all-reply.new.self).ring.shape) (c.args.limit - (length c.takes.items.items + c.takes.empty))
+asks g c =
+    let long : length (take c.next_take-wanted.result c.takes.room) ≡ c.next_take-wanted.result = search rules in
+    let lesser : c.next_take-wanted.result ≡ min (take_batch_of c.shape-shape.result) (c.args.limit - (c.len-in-takes.result + c.takes.empty)) = c.next_take-wanted.ensures.lesser in
+    let left : c.len-in-takes.result ≡ length c.takes.items.items = omega (arith, c.len-in-takes.ensures) in
+    let shape = c.takes.invariant.8 ∙ sym (ap (λ (r : Ring). r.shape) c.take_all-reply.ensures.same.ring) in
+    long ∙ lesser ∙ (λ i. min (take_batch_of (shape i)) (c.args.limit - (left i + c.takes.empty)))
+
+-- what was taken before
+yet : (g : Over) (c : After-take_all-reply g) →
+    (let b = g.E.TakeEnd.end c.take_all-reply.new.self in TakesAre b.ring.shape (g.E.TakeEnd.end c.takes.taker).list c.args.limit c.takes.items.items c.takes.empty false)
+yet g c =
+    let a = g.E.TakeEnd.end c.takes.taker in
+    takes_there a (g.E.TakeEnd.end c.take_all-reply.new.self) c.args.limit c.takes.items.items c.takes.empty c.take_all-reply.ensures.same
+    (subst (TakesAre a.ring.shape a.list c.args.limit c.takes.items.items c.takes.empty) c.takes-test.true c.takes.invariant.2)
 
 pub takes-init : goal.takes-init
 takes-init g c =
     let e = g.E.TakeEnd.end c.args.taker.now in (
       c.requires.idle,
       record { ring = refl; side = refl; known = refl },
-      subst (λ (l : List ℕ). TakesAre e.ring.shape e.list l 0 false) (sym c.requires.none) (no_takes_are e.ring.shape e.list c.requires.fresh),
+      subst (λ (l : List ℕ). TakesAre e.ring.shape e.list c.args.limit l 0 false) (sym c.requires.none) (no_takes_are e.ring.shape e.list c.args.limit c.requires.fresh),
       omega (arith, ap length c.requires.none),
       refl,
       omega arith,
       omega arith,
+      omega arith,
+      c.shape-shape.ensures.shape,
     )
 
-pub takes-preserved-in-Item : goal.takes-preserved-in-Item
-takes-preserved-in-Item g c =
+abbrev Came : (g : Over) (c : After-take_all-reply g) → replies.TakeBatchReply → Type 0
+Came g c r = let b = g.E.TakeEnd.end c.take_all-reply.new.self in HasTakenAll b.ring.shape (length (take c.next_take-wanted.result c.takes.room)) (g.E.TakeEnd.end c.takes.taker).list b.list r c.take_all-reply.new.into
+
+brought : (g : Over) (c : After-take_all-reply g) (n : ℕ) → Came g c (reply.Taken n) →
+    (let b = g.E.TakeEnd.end c.take_all-reply.new.self in (1 ≤ n) × TakesAre b.ring.shape b.list c.args.limit (c.takes.items.items ++ take n c.take_all-reply.new.into) c.takes.empty false)
+brought g c n came =
     let a = g.E.TakeEnd.end c.takes.taker in
-    let b = g.E.TakeEnd.end c.take-reply.new.self in
+    let b = g.E.TakeEnd.end c.take_all-reply.new.self in
+    took c.takes_are_read.ensures b.ring.shape a.list b.list c.args.limit c.takes.items.items c.takes.empty (yet g c) (length (take c.next_take-wanted.result c.takes.room)) (asks g c) c.take_all-reply.new.into n came
+
+-- it brought no more than is left of the limit
+few : (g : Over) (c : After-take_all-reply g) (n : ℕ) → n ≤ length (take c.next_take-wanted.result c.takes.room) → 
+    (length (take n c.take_all-reply.new.into) ≡ n) × (length c.takes.items.items + n + c.takes.empty ≤ c.args.limit)
+few g c n most =
+    let wanted : ℕ = length (take c.next_take-wanted.result c.takes.room) in
+    let left : wanted ≤ c.args.limit - (length c.takes.items.items + c.takes.empty) = omega (arith, asks g c) in
+    (length_first n c.take_all-reply.new.into (omega (arith, most, c.take_all-reply.ensures.long)), omega (arith, most, left, c.if-len-empty.true, c.len.ensures))
+
+pub takes-preserved-in-Taken : goal.takes-preserved-in-Taken
+takes-preserved-in-Taken g c =
+    let t = (goal.at.takes-preserved-in-Taken g c).After-take_all-reply in
     let i = c.takes.invariant in
-    let s = c.in-Item.ensures in
-    let yet : c.takes.closed ≡ false = c.takes-test.true in
-    let was : TakesAre a.ring.shape a.list c.takes.items.items c.takes.empty false = subst (TakesAre a.ring.shape a.list c.takes.items.items c.takes.empty) yet i.2 in
-    let now = took c.takes_are_read.ensures c.programs_by_one_call.ensures.one b.ring.shape a.list b.list c.takes.items.items c.takes.empty (takes_there a b c.takes.items.items c.takes.empty s.same was) c.in-Item.item s.phrase in
-    let list : c.push.new.self.items ≡ c.takes.items.items ++ c.in-Item.item ∷ [] = c.in_ok-push-in-Item.ensures.items in (
+    let n : ℕ = c.in-Taken.count in
+    let s = c.in-Taken.ensures in
+    let open_yet : c.takes.closed ≡ false = c.takes-test.true in
+    let b = g.E.TakeEnd.end c.take_all-reply.new.self in
+    let list : c.extend_from_slice.new.self.items ≡ c.takes.items.items ++ take n c.take_all-reply.new.into = c.in_ok-extend_from_slice-in-Taken.ensures.items in
+    let more = brought g t n s.phrase in
+    let room = few g t n s.within in
+    let long : length c.extend_from_slice.new.self.items ≡ length c.takes.items.items + n = omega (arith, ap length list, length-append c.takes.items.items (take n c.take_all-reply.new.into), room.0) in (
       s.idle,
-      same_trans (g.E.TakeEnd.end c.args.taker.now) a b i.1 s.same,
-      subst (λ (z : List ℕ × Bool). TakesAre b.ring.shape b.list z.0 c.takes.empty z.1) (λ j. (sym list j, sym yet j)) now,
-      subst (λ (t : Bool). length c.push.new.self.items + c.takes.empty + (if t then 1 else 0) ≤ c.args.limit) (sym yet) (omega (arith, ap length list, length-append c.takes.items.items (c.in-Item.item ∷ []), c.if-len-empty.true, c.len.ensures)),
+      same_trans (g.E.TakeEnd.end c.args.taker.now) (g.E.TakeEnd.end c.takes.taker) b i.1 s.same,
+      subst (λ (z : List ℕ × Bool). TakesAre b.ring.shape b.list c.args.limit z.0 c.takes.empty z.1) (λ j. (sym list j, sym open_yet j)) more.1,
+      subst (λ (z : Bool). length c.extend_from_slice.new.self.items + c.takes.empty + (if z then 1 else 0) ≤ c.args.limit) (sym open_yet) (omega (arith, long, room.1)),
       refl,
-      omega (arith, i.5, c.push.ensures.capacity),
+      omega (arith, i.5, c.extend_from_slice.ensures.capacity),
       omega arith,
+      subst (λ (z : Bool). c.takes.made + 1 ≤ length c.extend_from_slice.new.self.items + c.takes.empty + (if z then 1 else 0)) (sym open_yet)
+          (omega (arith, long, more.0, subst (λ (z : Bool). c.takes.made ≤ length c.takes.items.items + c.takes.empty + (if z then 1 else 0)) open_yet i.7)),
+      i.8 ∙ sym (ap (λ (r : Ring). r.shape) s.same.ring),
     )
+
+pub takes-smaller-in-Taken : goal.takes-smaller-in-Taken
+takes-smaller-in-Taken g c =
+    let t = (goal.at.takes-smaller-in-Taken g c).After-take_all-reply in
+    let n : ℕ = c.in-Taken.count in
+    let s = c.in-Taken.ensures in
+    let list : c.extend_from_slice.new.self.items ≡ c.takes.items.items ++ take n c.take_all-reply.new.into = c.in_ok-extend_from_slice-in-Taken.ensures.items in
+    let more = brought g t n s.phrase in
+    let room = few g t n s.within in
+    let long : length c.extend_from_slice.new.self.items ≡ length c.takes.items.items + n = omega (arith, ap length list, length-append c.takes.items.items (take n c.take_all-reply.new.into), room.0) in
+    subst (λ (z : Bool). c.args.limit - (length c.extend_from_slice.new.self.items + c.takes.empty + (if z then 1 else 0)) < c.args.limit - (length c.takes.items.items + c.takes.empty + (if z then 1 else 0))) (sym c.takes-test.true)
+    (omega (arith, long, more.0, room.1))
 
 pub takes-preserved-in-Empty : goal.takes-preserved-in-Empty
 takes-preserved-in-Empty g c =
-    let a = g.E.TakeEnd.end c.takes.taker in
-    let b = g.E.TakeEnd.end c.take-reply.new.self in
+    let t = (goal.at.takes-preserved-in-Empty g c).After-take_all-reply in
     let i = c.takes.invariant in
     let s = c.in-Empty.ensures in
-    let yet : c.takes.closed ≡ false = c.takes-test.true in
-    let was : TakesAre a.ring.shape a.list c.takes.items.items c.takes.empty false = subst (TakesAre a.ring.shape a.list c.takes.items.items c.takes.empty) yet i.2 in
-    let now = was_empty c.takes_are_read.ensures c.programs_by_one_call.ensures.one b.ring.shape a.list b.list c.takes.items.items c.takes.empty (takes_there a b c.takes.items.items c.takes.empty s.same was) s.phrase in
-    let plus : suc c.takes.empty ≡ c.takes.empty + 1 = omega arith in (
+    let open_yet : c.takes.closed ≡ false = c.takes-test.true in
+    let a = g.E.TakeEnd.end c.takes.taker in
+    let b = g.E.TakeEnd.end c.take_all-reply.new.self in
+    let now = was_empty c.takes_are_read.ensures b.ring.shape a.list b.list c.args.limit c.takes.items.items c.takes.empty (yet g t) (length (take c.next_take-wanted.result c.takes.room)) (asks g t) c.take_all-reply.new.into s.phrase in (
       s.idle,
       same_trans (g.E.TakeEnd.end c.args.taker.now) a b i.1 s.same,
-      subst (λ (z : List ℕ × ℕ × Bool). TakesAre b.ring.shape b.list z.0 z.1 z.2) (λ j. (c.takes.items.items, plus j, sym yet j)) now,
-      subst (λ (t : Bool). length c.takes.items.items + (c.takes.empty + 1) + (if t then 1 else 0) ≤ c.args.limit) (sym yet) (omega (arith, c.if-len-empty.true, c.len.ensures)),
+      subst (TakesAre b.ring.shape b.list c.args.limit c.takes.items.items (c.takes.empty + 1)) (sym open_yet) now,
+      subst (λ (z : Bool). length c.takes.items.items + (c.takes.empty + 1) + (if z then 1 else 0) ≤ c.args.limit) (sym open_yet) (omega (arith, c.if-len-empty.true, c.len.ensures)),
       refl,
       i.5,
       omega (arith, i.6),
+      subst (λ (z : Bool). c.takes.made + 1 ≤ length c.takes.items.items + (c.takes.empty + 1) + (if z then 1 else 0)) (sym open_yet)
+          (omega (arith, subst (λ (z : Bool). c.takes.made ≤ length c.takes.items.items + c.takes.empty + (if z then 1 else 0)) open_yet i.7)),
+      i.8 ∙ sym (ap (λ (r : Ring). r.shape) s.same.ring),
     )
 
 pub takes-preserved : goal.takes-preserved
 takes-preserved g c =
-    let a = g.E.TakeEnd.end c.takes.taker in
-    let b = g.E.TakeEnd.end c.take-reply.new.self in
+    let t = (goal.at.takes-preserved g c).After-take_all-reply in
     let i = c.takes.invariant in
     let s = c.in-Closed.ensures in
-    let yet : c.takes.closed ≡ false = c.takes-test.true in
-    let was : TakesAre a.ring.shape a.list c.takes.items.items c.takes.empty false = subst (TakesAre a.ring.shape a.list c.takes.items.items c.takes.empty) yet i.2 in
-    let now = was_told c.takes_are_read.ensures c.programs_by_one_call.ensures.one b.ring.shape a.list b.list c.takes.items.items c.takes.empty (takes_there a b c.takes.items.items c.takes.empty s.same was) s.phrase in (
+    let open_yet : c.takes.closed ≡ false = c.takes-test.true in
+    let a = g.E.TakeEnd.end c.takes.taker in
+    let b = g.E.TakeEnd.end c.take_all-reply.new.self in
+    let now = was_told c.takes_are_read.ensures b.ring.shape a.list b.list c.args.limit c.takes.items.items c.takes.empty (yet g t) (length (take c.next_take-wanted.result c.takes.room)) (asks g t) c.take_all-reply.new.into s.phrase in (
       s.idle,
       same_trans (g.E.TakeEnd.end c.args.taker.now) a b i.1 s.same,
       now,
@@ -71,22 +136,25 @@ takes-preserved g c =
       refl,
       i.5,
       i.6,
+      omega (arith, subst (λ (z : Bool). c.takes.made ≤ length c.takes.items.items + c.takes.empty + (if z then 1 else 0)) open_yet i.7),
+      i.8 ∙ sym (ap (λ (r : Ring). r.shape) s.same.ring),
     )
 
-pub returns-in_err-push-in-Item-clause-fault : goal.returns-in_err-push-in-Item-clause-fault
-returns-in_err-push-in-Item-clause-fault g c =
-    let a = g.E.TakeEnd.end c.takes.taker in
-    let b = g.E.TakeEnd.end c.take-reply.new.self in
+pub returns-in_err-extend_from_slice-in-Taken-clause-fault : goal.returns-in_err-extend_from_slice-in-Taken-clause-fault
+returns-in_err-extend_from_slice-in-Taken-clause-fault g c =
+    let t = (goal.at.returns-in_err-extend_from_slice-in-Taken-clause-fault g c).After-take_all-reply in
     let i = c.takes.invariant in
-    let s = c.in-Item.ensures in
-    let yet : c.takes.closed ≡ false = c.takes-test.true in
-    let was : TakesAre a.ring.shape a.list c.takes.items.items c.takes.empty false = subst (TakesAre a.ring.shape a.list c.takes.items.items c.takes.empty) yet i.2 in
-    let long : length (c.takes.items.items ++ c.in-Item.item ∷ []) ≡ suc (length c.takes.items.items) = omega (arith, length-append c.takes.items.items (c.in-Item.item ∷ [])) in
+    let n : ℕ = c.in-Taken.count in
+    let s = c.in-Taken.ensures in
+    let b = g.E.TakeEnd.end c.take_all-reply.new.self in
+    let more = brought g t n s.phrase in
+    let room = few g t n s.within in
+    let long : length (c.takes.items.items ++ take n c.take_all-reply.new.into) ≡ length c.takes.items.items + n = omega (arith, length-append c.takes.items.items (take n c.take_all-reply.new.into), room.0) in
     if_err c.from_residual.result (HasTakenMore b.ring.shape b.list c.args.limit (vec_capacity c.args.items.now))
     (record {
-      taken = c.takes.items.items ++ c.in-Item.item ∷ [];
+      taken = c.takes.items.items ++ take n c.take_all-reply.new.into;
       empty = c.takes.empty;
-      takes = took c.takes_are_read.ensures c.programs_by_one_call.ensures.one b.ring.shape a.list b.list c.takes.items.items c.takes.empty (takes_there a b c.takes.items.items c.takes.empty s.same was) c.in-Item.item s.phrase;
-      most = omega (arith, long, c.if-len-empty.true, c.len.ensures);
-      more = omega (arith, long, i.5, c.in_err-push-in-Item.ensures.full, c.takes.items.ok);
+      takes = more.1;
+      most = omega (arith, long, room.1);
+      more = omega (arith, long, room.0, i.5, c.in_err-extend_from_slice-in-Taken.ensures.full, c.takes.items.ok);
     })

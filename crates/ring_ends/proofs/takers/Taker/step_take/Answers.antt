@@ -1,16 +1,17 @@
+use Rattle.std.proofs.Common.{refl}
 use Rattle.ring_core.specs.ConsumerState.{is_taking}
 use Rattle.ring_ends.specs.Ends.{wants_next}
 use Rattle.ring_ends.specs.Machines.{consuming}
 use Rattle.ring_seats.specs.Steppers.{AreAnswered, IsAskedOnce}
 use Rattle.ring_ends.proofs.MachineCalls.{Step, same_step, step_few, step_lawful, step_stands}
-use Rattle.ring_ends.proofs.TakerCalls.{few_taken, take_invariant, take_laws, take_none, take_one, take_seen, take_some, take_step, take_wanted}
+use Rattle.ring_ends.proofs.TakerCalls.{begins_seen, few_taken, take_invariant, take_laws, take_none, take_one, take_seen, take_some, take_step, take_wanted}
 use Rattle.ring_ends.proofs.takers.Taker.step_take.Given.{Over}
 use Rattle.ring_ends.proofs.takers.Taker.step_take.Goals.{After-advance}
 use Rattle.ring_ends.proofs.takers.Taker.step_take.Goals as goal
 
 -- the take and the step
-abbrev step : (g : Over) (c : After-advance g) → Step consuming (wants_next c.args.self.now.taking c.args.self.now.wanted)
-step g c = take_step c.self.inside.oracle c.self.inside.stepper c.self.inside.machine c.self.inside.steps c.args.self.now c.self.view_is c.self.invariant c.begin_take.new.machine c.begin_take.ensures.begins c.advance.new.stepper c.advance.new.machine c.advance.ensures.rests c.advance.ensures.steps
+abbrev step : (g : Over) (c : After-advance g) → Step consuming (wants_next c.args.self.now.taking c.args.self.now.wanted 1)
+step g c = take_step c.self.inside.oracle c.self.inside.stepper c.self.inside.machine c.self.inside.steps c.args.self.now c.self.view_is c.self.invariant (wants_next c.args.self.now.taking c.args.self.now.wanted 1) c.begin_take.new.machine (begins_seen c.self.view_is c.self.inside.machine c.begin_take.new.machine 1 _ refl c.begin_take.ensures.begins) c.advance.new.stepper c.advance.new.machine c.advance.ensures.rests c.advance.ensures.steps
 
 pub steps_behind-self-inside-requires-clause-stands : goal.steps_behind-self-inside-requires-clause-stands
 steps_behind-self-inside-requires-clause-stands g c = step_stands consuming take_laws (step g (goal.at.steps_behind-self-inside-requires-clause-stands g c).After-advance)
