@@ -8,13 +8,13 @@ use std::fmt;
 ///
 /// In use: `uses::by_hand::put_by_hand`.
 pub trait Store<T>: Drop {
-    ghost use Rattle.std.specs.Prelude.{◌≡◌, ◌≤◌, ℕ, List, [], ◌∷◌, ◌++◌, OnErr, OnOk, length};
+    ghost use Rattle.std.specs.Prelude.{◌≡◌, ◌<◌, ◌≤◌, ℕ, ◌+◌, List, [], ◌∷◌, ◌++◌, OnErr, OnOk, length};
 
     // The list.
     ghost items: { Self → List T };
 
-    // There is room for one item more.
-    ghost has_room: { Self → Type 0 };
+    // There is room for so many items more.
+    ghost spare: { Self → ℕ };
 
     // It has room for so many items in all, or for more.
     ghost room: { Self → ℕ };
@@ -28,16 +28,25 @@ pub trait Store<T>: Drop {
     /// Makes room for one item more. The list stays as it was, also where room is refused.
     fn reserve(&mut self) -> Result<(), AllocError>
         ensures items { items self.new ≡ items self.old }
-        ensures room { OnOk result (has_room self.new) }
+        ensures room { OnOk result (0 < spare self.new) }
         ensures refused { OnErr result (refuses self.new) }
         ensures full { OnErr result (room self.old ≤ length (items self.old)) }
         ensures kept { room self.new ≡ room self.old }
         ensures slots { (first : Self) → same_slots first self.old → same_slots first self.new };
 
+    /// Makes room for so many items more. The list stays as it was, also where room is refused.
+    fn reserve_many(&mut self, count: usize) -> Result<(), AllocError>
+        ensures items { items self.new ≡ items self.old }
+        ensures room { OnOk result (count ≤ spare self.new) }
+        ensures full { OnErr result (room self.old < length (items self.old) + count) }
+        ensures kept { room self.new ≡ room self.old }
+        ensures slots { (first : Self) → same_slots first self.old → same_slots first self.new };
+
     /// Adds an item at the end, where there is room for it.
     fn add(&mut self, item: T)
-        requires { has_room self.old }
+        requires { 0 < spare self.old }
         ensures items { items self.new ≡ items self.old ++ item ∷ [] }
+        ensures spare { spare self.old ≤ spare self.new + 1 }
         ensures kept { room self.new ≡ room self.old }
         ensures slots { (first : Self) → same_slots first self.old → same_slots first self.new };
 
@@ -47,12 +56,12 @@ pub trait Store<T>: Drop {
 }
 
 impl<T: Drop, A: Allocator> Store<T> for Vec<T, A> {
-    ghost use Rattle.std.specs.Prelude.{◌<◌};
+    ghost use Rattle.std.specs.Prelude.{◌-◌};
     ghost use Rattle.std.specs.Vec.{vec_len, vec_capacity};
 
     ghost items = { λ v. v.items };
 
-    ghost has_room = { λ v. vec_len v < vec_capacity v };
+    ghost spare = { λ v. vec_capacity v - vec_len v };
 
     ghost room = { λ _. 0 };
 
@@ -62,6 +71,10 @@ impl<T: Drop, A: Allocator> Store<T> for Vec<T, A> {
 
     fn reserve(&mut self) -> Result<(), AllocError> {
         Vec::reserve(self, 1)
+    }
+
+    fn reserve_many(&mut self, count: usize) -> Result<(), AllocError> {
+        Vec::reserve(self, count)
     }
 
     fn add(&mut self, item: T) {
@@ -113,11 +126,11 @@ impl<'a, T: Copy> Filled<'a, T> {
 }
 
 impl<'a, T: Copy> Store<T> for Filled<'a, T> {
-    ghost use Rattle.std.specs.Prelude.{◌≡◌, ◌<◌, ◌≤◌, length, take};
+    ghost use Rattle.std.specs.Prelude.{◌≡◌, ◌≤◌, ◌-◌, length, take};
 
     ghost items = { λ f. take f.used f.slots.now };
 
-    ghost has_room = { λ f. f.used < length f.slots.now };
+    ghost spare = { λ f. length f.slots.now - f.used };
 
     ghost room = { λ f. length f.slots.now };
 
@@ -127,6 +140,14 @@ impl<'a, T: Copy> Store<T> for Filled<'a, T> {
 
     fn reserve(&mut self) -> Result<(), AllocError> {
         if self.used < self.slots.len() {
+            Ok(())
+        } else {
+            Err(AllocError)
+        }
+    }
+
+    fn reserve_many(&mut self, count: usize) -> Result<(), AllocError> {
+        if count <= self.slots.len() - self.used {
             Ok(())
         } else {
             Err(AllocError)

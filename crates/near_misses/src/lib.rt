@@ -9,4 +9,4 @@ mod rows;
 mod taking;
 
 pub use misses::NearMiss;
-pub use plays::{NearFault, NearPlay, play_near, play_near_first};
+pub use plays::{NearCall, NearFault, NearPlay, play_near, play_near_first};

@@ -18,7 +18,7 @@ use crate::putting::NearPutter;
 use crate::taking::NearTaker;
 use bits_core::laws::open_changes;
 use bits_core::{Access, Event, Memory, MemoryFault, Oracle, Side, Store, Tape};
-use ring_player::PlayedCall;
+use queue_calls::CallEvent;
 use ring_player::laws::{turns_are_by_interval, turns_go_on};
 use ring_script::{Script, ScriptRef};
 use std::alloc::{AllocError, AllocFailed, Allocator};
@@ -63,11 +63,17 @@ impl From<MemoryFault> for NearFault {
     }
 }
 
+/// What an event of a play by a near miss tells of a call: a put that begins tells how many items of the script were stored before it, and
+/// each take is of one item, which it tells, as its digits were read, where it took one.
+///
+/// For example, `CallEvent::TakeItems(5)` is what `C item 5` tells in a recording.
+pub type NearCall = CallEvent<usize, u64>;
+
 /// What was played: the history of the bits, and the begins and ends of the calls.
 ///
 /// In use: `lamport_ring play --wrong`.
 #[derive(Drop)]
-pub struct NearPlay<E: Store<Event>, T: Store<PlayedCall>> {
+pub struct NearPlay<E: Store<Event>, T: Store<NearCall>> {
     pub history: E,
     pub told: T,
 }
@@ -90,7 +96,7 @@ trait NearSide {
     ghost asked: { Self → NearAsked → Type 0 };
 
     // The access that is due, and what it tells where a call begins with it; none where the side stops.
-    fn next(&mut self) -> Option<(Access, Option<PlayedCall>)>
+    fn next(&mut self) -> Option<(Access, Option<NearCall>)>
         ensures side { (side self.new ≡ side self.old) × (shape self.new ≡ shape self.old) }
         ensures asked { (a : NearAsked) → asked self.old a → asked self.new a }
         ensures begins { IfSome result (λ r. (a : NearAsked) → asked self.old a → NearBegins a (side self.old) (stand self.old) r.1 (stand self.new)) }
@@ -105,7 +111,7 @@ trait NearSide {
         ensures stopped { stand self.new ≡ near_stopped (stand self.old) };
 
     // This access, which was due, has ended with this answer. Tells the end of a call, where it is one.
-    fn end(&mut self, access: Access, answer: bool) -> Option<PlayedCall>
+    fn end(&mut self, access: Access, answer: bool) -> Option<NearCall>
         requires { (stand self.old).in_call ≡ true }
         ensures side { (side self.new ≡ side self.old) × (shape self.new ≡ shape self.old) }
         ensures asked { (a : NearAsked) → asked self.old a → asked self.new a }
@@ -124,7 +130,7 @@ impl NearSide for NearPutter<'_> {
 
     ghost asked = { IsAskedToPut };
 
-    fn next(&mut self) -> Option<(Access, Option<PlayedCall>)> {
+    fn next(&mut self) -> Option<(Access, Option<NearCall>)> {
         NearPutter::next(self)
     }
 
@@ -132,7 +138,7 @@ impl NearSide for NearPutter<'_> {
         NearPutter::stop(self)
     }
 
-    fn end(&mut self, access: Access, answer: bool) -> Option<PlayedCall> {
+    fn end(&mut self, access: Access, answer: bool) -> Option<NearCall> {
         NearPutter::end(self, access, answer)
     }
 }
@@ -149,7 +155,7 @@ impl NearSide for NearTaker {
 
     ghost asked = { IsAskedToTake };
 
-    fn next(&mut self) -> Option<(Access, Option<PlayedCall>)> {
+    fn next(&mut self) -> Option<(Access, Option<NearCall>)> {
         NearTaker::next(self)
     }
 
@@ -157,7 +163,7 @@ impl NearSide for NearTaker {
         NearTaker::stop(self)
     }
 
-    fn end(&mut self, access: Access, answer: bool) -> Option<PlayedCall> {
+    fn end(&mut self, access: Access, answer: bool) -> Option<NearCall> {
         NearTaker::end(self, access, answer)
     }
 }
@@ -224,7 +230,7 @@ fn go_on<E: Store<Event>, S: NearSide>(
     memory: &mut Memory<E>,
     machine: &mut S,
     side: Side,
-) -> Result<Option<PlayedCall>, NearFault>
+) -> Result<Option<NearCall>, NearFault>
     requires none_open { open_access side memory.old.events ≡ None }
     requires side { (S.side machine.old ≡ side) × (S.shape machine.old ≡ memory.old.shape) }
     ensures shape { memory.new.shape ≡ memory.old.shape }
@@ -254,7 +260,7 @@ fn step<E: Store<Event>, S: NearSide, O: Oracle>(
     machine: &mut S,
     oracle: &mut O,
     side: Side,
-) -> Result<Option<PlayedCall>, NearFault>
+) -> Result<Option<NearCall>, NearFault>
     requires side { (S.side machine.old ≡ side) × (S.shape machine.old ≡ memory.old.shape) }
     requires open { IsInOpenCall side memory.old.events (S.stand machine.old) }
     ensures shape { memory.new.shape ≡ memory.old.shape }
@@ -274,7 +280,7 @@ fn step<E: Store<Event>, S: NearSide, O: Oracle>(
 }
 
 // Tells what an event tells, if anything.
-fn tell<T: Store<PlayedCall>>(told: &mut T, event: Option<PlayedCall>) -> Result<(), NearFault>
+fn tell<T: Store<NearCall>>(told: &mut T, event: Option<NearCall>) -> Result<(), NearFault>
     ensures told { OnOk result (T.items told.new ≡ T.items told.old ++ listed event) }
     ensures room { T.room told.new ≡ T.room told.old }
     ensures few { OnOk result (length (T.items told.new) ≤ length (T.items told.old) + 1) }
@@ -292,7 +298,7 @@ fn tell<T: Store<PlayedCall>>(told: &mut T, event: Option<PlayedCall>) -> Result
 
 // Both sides at work on one memory.
 #[derive(Drop)]
-struct NearWorld<'a, E: Store<Event>, T: Store<PlayedCall>> {
+struct NearWorld<'a, E: Store<Event>, T: Store<NearCall>> {
     memory: Memory<E>,
     putter: NearPutter<'a>,
     taker: NearTaker,
@@ -300,7 +306,7 @@ struct NearWorld<'a, E: Store<Event>, T: Store<PlayedCall>> {
     told: T,
 }
 
-impl<E: Store<Event>, T: Store<PlayedCall>> NearWorld<'_, E, T> {
+impl<E: Store<Event>, T: Store<NearCall>> NearWorld<'_, E, T> {
     // Makes one step of a side.
     fn step(&mut self, side: Side) -> Result<(), NearFault>
         requires { IsNearReady self.old }
@@ -370,7 +376,7 @@ impl<E: Store<Event>, T: Store<PlayedCall>> NearWorld<'_, E, T> {
 }
 
 // Makes one step for each of the first so many letters of the script's schedule, or for each letter where they are fewer.
-fn run_first<E: Store<Event>, T: Store<PlayedCall>>(
+fn run_first<E: Store<Event>, T: Store<NearCall>>(
     world: &mut NearWorld<'_, E, T>,
     script: ScriptRef<'_>,
     letters: u64,
@@ -403,7 +409,7 @@ pub fn play_near<A: Allocator + Copy, B: Allocator>(
     alloc: A,
     miss: NearMiss,
     script: &Script<B>,
-) -> Result<NearPlay<Vec<Event, A>, Vec<PlayedCall, A>>, NearFault>
+) -> Result<NearPlay<Vec<Event, A>, Vec<NearCall, A>>, NearFault>
     ensures plays { IfOk result (λ play. IsNearPlay script.now script.now.letters play.history.items play.told.items) }
     ensures of_shape { IfOk result (λ play. AreOfShape script.now.shape play.history.items) }
 {
@@ -423,7 +429,7 @@ pub fn play_near<A: Allocator + Copy, B: Allocator>(
 /// `OutOfMemory` tells that one of the stores had no room for as many events as letters are played.
 ///
 /// In use: the page, which shows a play up to a letter.
-pub fn play_near_first<E: Store<Event>, T: Store<PlayedCall>>(
+pub fn play_near_first<E: Store<Event>, T: Store<NearCall>>(
     miss: NearMiss,
     script: ScriptRef<'_>,
     letters: u64,

@@ -2,10 +2,10 @@
 ghost use Rattle.std.specs.Prelude.{◌≡◌, ℕ, ◌+◌, ◌-◌, ◌≤◌, None, IfSome, IsSome, true, false, length};
 
 use crate::misses::NearMiss;
+use crate::plays::NearCall;
 use crate::rows::{Order, Row, read_bit};
 use bits_core::{Access, Bit, Shape, Side};
 use ring_core::distance;
-use ring_player::PlayedCall;
 
 // How far the call under way has come.
 #[derive(Clone, Copy)]
@@ -67,7 +67,7 @@ impl<'a> NearPutter<'a> {
     }
 
     // Begins the next call. Tells it, with its first access.
-    fn begin(&mut self) -> Option<(Access, Option<PlayedCall>)>
+    fn begin(&mut self) -> Option<(Access, Option<NearCall>)>
         requires { (self.old.stage ≡ Between) × (self.old.stopped ≡ false) }
         ensures asked { (asked : NearAsked) → IsAskedToPut self.old asked → IsAskedToPut self.new asked }
         ensures shape { self.new.shape ≡ self.old.shape }
@@ -79,18 +79,18 @@ impl<'a> NearPutter<'a> {
             self.stage = Stage::Scanning(0);
             let _modulus = self.shape.modulus();
             let access = Access::Read(Bit::R(0));
-            Some((access, Some(PlayedCall::PutBegins(self.stored))))
+            Some((access, Some(NearCall::PutBegins(self.stored))))
         } else if self.closes {
             self.stage = Stage::Closing;
             let access = Access::Write(Bit::X, true);
-            Some((access, Some(PlayedCall::CloseBegins)))
+            Some((access, Some(NearCall::CloseBegins)))
         } else {
             None
         }
     }
 
     /// The access that is due, and what it tells where a call begins with it; none where the side stops.
-    pub fn next(&mut self) -> Option<(Access, Option<PlayedCall>)>
+    pub fn next(&mut self) -> Option<(Access, Option<NearCall>)>
         ensures shape { self.new.shape ≡ self.old.shape }
         ensures asked { (asked : NearAsked) → IsAskedToPut self.old asked → IsAskedToPut self.new asked }
         ensures begins { IfSome result (λ r. (asked : NearAsked) → IsAskedToPut self.old asked → NearBegins asked P (put_stand self.old) r.1 (put_stand self.new)) }
@@ -131,7 +131,7 @@ impl<'a> NearPutter<'a> {
     }
 
     /// This access, which was due, has ended with this answer. Tells the end of a call, where it is one.
-    pub fn end(&mut self, _access: Access, answer: bool) -> Option<PlayedCall>
+    pub fn end(&mut self, _access: Access, answer: bool) -> Option<NearCall>
         requires { is_in_put self.old.stage ≡ true }
         ensures shape { self.new.shape ≡ self.old.shape }
         ensures asked { (asked : NearAsked) → IsAskedToPut self.old asked → IsAskedToPut self.new asked }
@@ -150,13 +150,13 @@ impl<'a> NearPutter<'a> {
             Stage::Counting => self.counted(),
             Stage::Closing => {
                 self.stage = Stage::Over;
-                Some(PlayedCall::CloseEnds)
+                Some(NearCall::CloseEnds)
             }
         }
     }
 
     // A bit of the consumer's count answered 0: the next one is read. (One that answers 0 to the last gives no count, and the side stops.)
-    fn scan_on(&mut self, zeros: u8) -> Option<PlayedCall>
+    fn scan_on(&mut self, zeros: u8) -> Option<NearCall>
         requires { is_in_put self.old.stage ≡ true }
         ensures shape { self.new.shape ≡ self.old.shape }
         ensures asked { (asked : NearAsked) → IsAskedToPut self.old asked → IsAskedToPut self.new asked }
@@ -188,7 +188,7 @@ impl<'a> NearPutter<'a> {
     }
 
     // The scan gave this count: a put that finds room goes on, with its items or with its count.
-    fn scanned(&mut self, seen: u64) -> Option<PlayedCall>
+    fn scanned(&mut self, seen: u64) -> Option<NearCall>
         requires { is_in_put self.old.stage ≡ true }
         ensures shape { self.new.shape ≡ self.old.shape }
         ensures asked { (asked : NearAsked) → IsAskedToPut self.old asked → IsAskedToPut self.new asked }
@@ -197,7 +197,7 @@ impl<'a> NearPutter<'a> {
         let most = self.room_behind(seen);
         if most == 0 {
             self.stage = Stage::Between;
-            return Some(PlayedCall::PutFull);
+            return Some(NearCall::PutFull);
         }
         let modulus = self.miss.modulus(&self.shape);
         self.storing = most as usize;
@@ -211,7 +211,7 @@ impl<'a> NearPutter<'a> {
     }
 
     // A digit was written.
-    fn stored_digit(&mut self, done: usize, digit: u8) -> Option<PlayedCall>
+    fn stored_digit(&mut self, done: usize, digit: u8) -> Option<NearCall>
         requires { is_in_put self.old.stage ≡ true }
         ensures shape { self.new.shape ≡ self.old.shape }
         ensures asked { (asked : NearAsked) → IsAskedToPut self.old asked → IsAskedToPut self.new asked }
@@ -232,7 +232,7 @@ impl<'a> NearPutter<'a> {
     }
 
     // A bit of the count was written.
-    fn counted(&mut self) -> Option<PlayedCall>
+    fn counted(&mut self) -> Option<NearCall>
         requires { is_in_put self.old.stage ≡ true }
         ensures shape { self.new.shape ≡ self.old.shape }
         ensures asked { (asked : NearAsked) → IsAskedToPut self.old asked → IsAskedToPut self.new asked }
@@ -249,7 +249,7 @@ impl<'a> NearPutter<'a> {
         }
     }
 
-    fn put_is_over(&mut self) -> Option<PlayedCall>
+    fn put_is_over(&mut self) -> Option<NearCall>
         requires { is_in_put self.old.stage ≡ true }
         ensures shape { self.new.shape ≡ self.old.shape }
         ensures asked { (asked : NearAsked) → IsAskedToPut self.old asked → IsAskedToPut self.new asked }
@@ -260,6 +260,6 @@ impl<'a> NearPutter<'a> {
         self.stored += stored;
         self.storing = 0;
         self.stage = Stage::Between;
-        Some(PlayedCall::PutStored(stored))
+        Some(NearCall::PutStored(stored))
     }
 }

@@ -7,10 +7,10 @@ ghost use Rattle.near_misses.specs.NearPlays.{NearAsked, NearBegins, NearEnds, N
 ghost use Rattle.near_misses.specs.NearSides.{IsAskedToTake, is_in_take, item_ended, take_stand};
 
 use crate::misses::NearMiss;
+use crate::plays::NearCall;
 use crate::rows::{Order, Row, read_bit};
 use bits_core::{Access, Bit, Shape, Side};
 use ring_core::distance;
-use ring_player::PlayedCall;
 
 // How far the call under way has come.
 #[derive(Clone, Copy)]
@@ -67,7 +67,7 @@ impl NearTaker {
     }
 
     // Begins the next take. Tells it, with its first access.
-    fn begin(&mut self) -> Option<(Access, Option<PlayedCall>)>
+    fn begin(&mut self) -> Option<(Access, Option<NearCall>)>
         requires { (self.old.stage ≡ Between) × (self.old.stopped ≡ false) }
         ensures asked { (asked : NearAsked) → IsAskedToTake self.old asked → IsAskedToTake self.new asked }
         ensures shape { self.new.shape ≡ self.old.shape }
@@ -81,14 +81,14 @@ impl NearTaker {
             self.stage = Stage::Scanning(0);
             let _modulus = self.shape.modulus();
             let access = Access::Read(Bit::S(0));
-            Some((access, Some(PlayedCall::TakeBegins(1))))
+            Some((access, Some(NearCall::TakeBegins(1))))
         } else {
             None
         }
     }
 
     /// The access that is due, and what it tells where a take begins with it; none where the side stops.
-    pub fn next(&mut self) -> Option<(Access, Option<PlayedCall>)>
+    pub fn next(&mut self) -> Option<(Access, Option<NearCall>)>
         ensures shape { self.new.shape ≡ self.old.shape }
         ensures asked { (asked : NearAsked) → IsAskedToTake self.old asked → IsAskedToTake self.new asked }
         ensures begins { IfSome result (λ r. (asked : NearAsked) → IsAskedToTake self.old asked → NearBegins asked C (take_stand self.old) r.1 (take_stand self.new)) }
@@ -140,7 +140,7 @@ impl NearTaker {
     }
 
     /// This access, which was due, has ended with this answer. Tells the end of a take, where it is one.
-    pub fn end(&mut self, access: Access, answer: bool) -> Option<PlayedCall>
+    pub fn end(&mut self, access: Access, answer: bool) -> Option<NearCall>
         requires { is_in_take self.old.stage ≡ true }
         ensures shape { self.new.shape ≡ self.old.shape }
         ensures asked { (asked : NearAsked) → IsAskedToTake self.old asked → IsAskedToTake self.new asked }
@@ -161,7 +161,7 @@ impl NearTaker {
     }
 
     // A bit of the producer's count was read. (A scan that reads 0 to the last bit gives no count, and the side stops.)
-    fn scan_ends(&mut self, zeros: u8, answer: bool, again: bool) -> Option<PlayedCall>
+    fn scan_ends(&mut self, zeros: u8, answer: bool, again: bool) -> Option<NearCall>
         requires { is_in_take self.old.stage ≡ true }
         ensures shape { self.new.shape ≡ self.old.shape }
         ensures asked { (asked : NearAsked) → IsAskedToTake self.old asked → IsAskedToTake self.new asked }
@@ -181,7 +181,7 @@ impl NearTaker {
     }
 
     // A scan gave this count.
-    fn scanned(&mut self, seen: u64, again: bool) -> Option<PlayedCall>
+    fn scanned(&mut self, seen: u64, again: bool) -> Option<NearCall>
         requires { is_in_take self.old.stage ≡ true }
         ensures shape { self.new.shape ≡ self.old.shape }
         ensures asked { (asked : NearAsked) → IsAskedToTake self.old asked → IsAskedToTake self.new asked }
@@ -200,7 +200,7 @@ impl NearTaker {
             None
         } else if again {
             self.stage = Stage::Over;
-            Some(PlayedCall::TakeClosed)
+            Some(NearCall::TakeClosed)
         } else {
             self.stage = Stage::Looking;
             None
@@ -208,7 +208,7 @@ impl NearTaker {
     }
 
     // The close bit was read.
-    fn looked(&mut self, closed: bool) -> Option<PlayedCall>
+    fn looked(&mut self, closed: bool) -> Option<NearCall>
         requires { is_in_take self.old.stage ≡ true }
         ensures shape { self.new.shape ≡ self.old.shape }
         ensures asked { (asked : NearAsked) → IsAskedToTake self.old asked → IsAskedToTake self.new asked }
@@ -216,10 +216,10 @@ impl NearTaker {
     {
         if !closed {
             self.stage = Stage::Between;
-            Some(PlayedCall::TakeEmpty)
+            Some(NearCall::TakeEmpty)
         } else if self.miss == NearMiss::NoSecondScan {
             self.stage = Stage::Over;
-            Some(PlayedCall::TakeClosed)
+            Some(NearCall::TakeClosed)
         } else {
             self.stage = Stage::ScanningAgain(0);
             None
@@ -241,7 +241,7 @@ impl NearTaker {
     }
 
     // A bit of the count was written.
-    fn counted(&mut self) -> Option<PlayedCall>
+    fn counted(&mut self) -> Option<NearCall>
         requires { is_in_take self.old.stage ≡ true }
         ensures shape { self.new.shape ≡ self.old.shape }
         ensures asked { (asked : NearAsked) → IsAskedToTake self.old asked → IsAskedToTake self.new asked }
@@ -254,6 +254,6 @@ impl NearTaker {
         self.count = self.row.value();
         self.taken = self.taken.saturating_add(1);
         self.stage = Stage::Between;
-        Some(PlayedCall::TakeItems(self.item))
+        Some(NearCall::TakeItems(self.item))
     }
 }

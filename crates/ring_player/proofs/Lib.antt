@@ -5,7 +5,11 @@ mod Written
 mod Headlines
 mod Puttings
 mod Writings
+mod TakeBatches
+mod TakeLists
 mod Takings
+mod TakeEnds
+mod TakesSoFar
 mod Turns
 mod Steps
 mod Flickers
@@ -13,3 +17,4 @@ pub mod WorldParts
 mod Fillings
 mod TellingSteps
 mod TellingMoves
+mod TellingRecords

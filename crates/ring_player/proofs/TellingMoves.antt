@@ -1,39 +1,32 @@
 -- What is told of a history with one event more, whichever calls it is read as.
-use Rattle.std.proofs.Common.{◌≡◌, ℕ, suc, ◌+◌, ◌<◌, Bool, true, false, if◌then◌else◌, Option, Some, None, List, [], ◌∷◌, ◌++◌, length, take, refl, sym, ap, ap₂, subst, ◌∙◌, arith, append-nil, append_assoc, length-append}
+use Rattle.std.proofs.Common.{◌≡◌, ℕ, suc, ◌+◌, ◌<◌, Bool, true, false, if◌then◌else◌, Option, Some, None, List, [], ◌∷◌, ◌++◌, length, refl, sym, ap, ap₂, subst, ◌∙◌, arith, append-nil, append_assoc, length-append}
 use Rattle.std.specs.Prelude.{◌↔◌, replicate}
 use Rattle.std.proofs.lemmas.List.{map-append, replicate-append-replicate}
 use Rattle.bits_core.specs.Bits.{other}
 use Rattle.bits_core.specs.Laws.{OwnChanges}
 use Rattle.bits_core.specs.Made.{IsBeginning, own}
-use Rattle.bits_core.specs.Shape.{batch_of, capacity_of}
 use Rattle.bits_core.specs.declared.events.Event.{Event}
 use Rattle.bits_core.specs.declared.events.Side.{Side}
 use Rattle.bits_core.specs.declared.events.Side.TheVariants.{P, C}
 use Rattle.queue_calls.specs.Calls as calls
-use Rattle.queue_calls.specs.Calls.{IsLinearizable}
-use Rattle.queue_calls.specs.Queue.{exactly}
 use Rattle.ring_core.specs.Counts.{first_count}
-use Rattle.ring_core.specs.GoingOn.{AreWanted}
 use Rattle.ring_core.specs.Items.{all_taken, events_in, IsTold, ToldIn}
-use Rattle.ring_core.specs.Over.{empties, fulls, puts_over, puts_over_in, takes_over, takes_over_in, TakesOverAreRead}
-use Rattle.ring_core.specs.Puts.{FollowsPuts, IsPutOf, Put, Puts, number_after, put_program, stored_in}
-use Rattle.ring_core.specs.Recorded.{AreOffered, by_side, calls_told, put_told, RecordedIsLinearizable, take_told}
+use Rattle.ring_core.specs.Over.{empties, fulls, puts_over, puts_over_in, takes_over, takes_over_in}
+use Rattle.ring_core.specs.Puts.{FollowsPuts, Puts, put_program, stored_in}
+use Rattle.ring_core.specs.Recorded.{by_side, calls_told, put_told, take_told}
 use Rattle.ring_core.specs.Takes.{FollowsTakes, Takes, take_program}
 use Rattle.ring_player.specs.Actors.{IsMove, PutTally}
-use Rattle.ring_player.specs.Headline.{IsPlayOf}
-use Rattle.ring_player.specs.Plays.{AreAttempts, offered, Plays}
-use Rattle.ring_player.specs.Tellings.{AreAt, event_of, call_events, IsPutStage, IsReadingAsked, IsTakeStage, listed, offers_of, RecordsPlay, SaysPut, SaysTake, TakeTally, TellsCalls, told_in}
+use Rattle.ring_player.specs.Plays.{Plays, wanted_at}
+use Rattle.ring_player.specs.Tellings.{AreAt, event_of, call_events, IsPutStage, IsReadingAsked, IsTakeStage, listed, offers_of, SaysPut, SaysTake, TakeTally, TellsCalls, told_in, wants_of}
 use Rattle.ring_player.specs.declared.tellings.PutStage.{PutStage}
 use Rattle.ring_player.specs.declared.tellings.PutStage.TheVariants as put
+use Rattle.ring_player.specs.declared.tellings.TakenItems.{TakenItems}
 use Rattle.ring_player.specs.declared.tellings.TakeStage.{TakeStage}
 use Rattle.ring_player.specs.declared.tellings.TakeStage.TheVariants as taking
 use Rattle.queue_calls.specs.declared.events.CallEvent.{CallEvent}
 use Rattle.ring_script.specs.Content.{Content}
 use Rattle.ring_player.proofs.Moves.{by_side as is_by_side, length-events, not_by, own_by, own_other}
-use Rattle.ring_player.proofs.Overs.{none_over_puts, none_over_takes, over_front}
-use Rattle.ring_player.proofs.Puttings.{left_some, stored-more, taken_some}
-use Rattle.ring_player.proofs.Takings.{wanted_front}
-use Rattle.ring_player.proofs.TellingSteps.{take_front}
+use Rattle.ring_player.proofs.Overs.{none_over_puts, none_over_takes}
 
 -- ---- one event more
 
@@ -94,7 +87,7 @@ module _ (owns : OwnChanges) (script : Content) (h h' : List Event) (e : Event) 
   begins_other : (s : Side) → e.side ≡ s → (es : List Event) → IsBeginning (own (other s) h') es → IsBeginning (own (other s) h) es
   begins_other s by es b = subst (λ l. IsBeginning l es) (ap (own (other s)) is ∙ own_other owns s h e by) b
 
-  module _ (by : e.side ≡ P) (stage next : PutStage) (t : TakeStage) (items : ℕ) (before now : PutTally) (told : Option (CallEvent ℕ ℕ)) where
+  module _ (by : e.side ≡ P) (stage next : PutStage) (t : TakeStage) (items : ℕ) (before now : PutTally) (told : Option (CallEvent ℕ TakenItems)) where
     put_reading : (puts : Puts) (takes : Takes) → IsReadingAsked script h' puts takes → IsReadingAsked script h puts takes
     put_reading puts takes r = record {
       asked = r.asked;
@@ -124,7 +117,7 @@ module _ (owns : OwnChanges) (script : Content) (h h' : List Event) (e : Event) 
       )),
       (λ events tells puts takes r.
           let f : Telling = put_told script.shape (offers_of script puts) 0 first_count puts.puts puts.closes in
-          let g : Telling = take_told script.shape (λ _. 1) 0 first_count takes.takes takes.end in
+          let g : Telling = take_told script.shape (wants_of script takes) 0 first_count takes.takes takes.end in
           ap₂ (λ (a : List calls.Event) (b : List calls.Event). a ++ b) (tells puts takes (put_reading puts takes r))
           ((said puts takes r).0 ∙ sym (ap (λ s. by_side s (f (length (own P h))) (g (length (own C h)))) by))
           ∙ sym (told-last f g h e) ∙ ap (calls_told f g 0 0) (sym is)),
@@ -140,7 +133,7 @@ module _ (owns : OwnChanges) (script : Content) (h h' : List Event) (e : Event) 
               full' puts r.puts_follow ∙ ap (λ n. fulls (puts_over script.shape first_count puts.puts n)) one_put_more,
             )
 
-  module _ (by : e.side ≡ C) (stage : PutStage) (t next : TakeStage) (taken empty : ℕ) (before now : TakeTally) (told : Option (CallEvent ℕ ℕ)) where
+  module _ (by : e.side ≡ C) (stage : PutStage) (t next : TakeStage) (wanted : ℕ) (before now : TakeTally) (told : Option (CallEvent ℕ TakenItems)) where
     take_reading : (puts : Puts) (takes : Takes) → IsReadingAsked script h' puts takes → IsReadingAsked script h puts takes
     take_reading puts takes r = record {
       asked = r.asked;
@@ -160,21 +153,23 @@ module _ (owns : OwnChanges) (script : Content) (h h' : List Event) (e : Event) 
     abbrev pub IsCounted : List Event → TakeTally → Type 0
     IsCounted es kept =
         (takes : Takes) → FollowsTakes script.shape es takes →
-        (kept.taken ≡ all_taken (takes_over_in script.shape es takes)) × (kept.empty ≡ empties (takes_over_in script.shape es takes)) ×
+        (kept.taken ≡ length (all_taken (takes_over_in script.shape es takes))) × (kept.empty ≡ empties (takes_over_in script.shape es takes)) ×
         ((kept.told ≡ true) ↔ ToldIn script.shape es takes)
 
     pub take_moves :
-        SaysTake t taken empty now next told → taken ≡ length before.taken → empty ≡ before.empty → AreAt stage t script h → IsCounted h before → IsCounted h' now →
-        ((takes : Takes) → FollowsTakes script.shape h' takes → AreWanted script.shape (λ _. 1) 0 0 (takes_over_in script.shape h' takes)) →
+        SaysTake t wanted before now next told →
+        ((takes : Takes) → FollowsTakes script.shape h takes → wanted ≡ wanted_at script (length (all_taken (takes_over_in script.shape h takes)))) →
+        AreAt stage t script h → IsCounted h before → IsCounted h' now →
+        ((takes : Takes) → FollowsTakes script.shape h' takes → IsBeginning (all_taken (takes_over_in script.shape h' takes)) script.items) →
         AreAt stage next script h' × ((events : List calls.Event) → TellsCalls script h events → TellsCalls script h' (events ++ told_in script told))
-    take_moves says same_taken same_empty at counted counted' wanted = (
+    take_moves says is_wanted at counted counted' first = (
       (λ puts takes r. (
         subst (λ l. IsPutStage stage script puts (length l)) (sym (ap (own P) is ∙ own_other owns C h e by)) (at puts takes (take_reading puts takes r)).0,
         subst (IsTakeStage next script takes) (sym one_take_more) (said puts takes r).1,
       )),
       (λ events tells puts takes r.
           let f : Telling = put_told script.shape (offers_of script puts) 0 first_count puts.puts puts.closes in
-          let g : Telling = take_told script.shape (λ _. 1) 0 first_count takes.takes takes.end in
+          let g : Telling = take_told script.shape (wants_of script takes) 0 first_count takes.takes takes.end in
           ap₂ (λ (a : List calls.Event) (b : List calls.Event). a ++ b) (tells puts takes (take_reading puts takes r))
           ((said puts takes r).0 ∙ sym (ap (λ s. by_side s (f (length (own P h))) (g (length (own C h)))) by))
           ∙ sym (told-last f g h e) ∙ ap (calls_told f g 0 0) (sym is)),
@@ -182,13 +177,14 @@ module _ (owns : OwnChanges) (script : Content) (h h' : List Event) (e : Event) 
       where
         said :
             (puts : Puts) (takes : Takes) → IsReadingAsked script h' puts takes →
-            (told_in script told ≡ take_told script.shape (λ _. 1) 0 first_count takes.takes takes.end (length (own C h))) × IsTakeStage next script takes (suc (length (own C h)))
+            (told_in script told ≡ take_told script.shape (wants_of script takes) 0 first_count takes.takes takes.end (length (own C h))) × IsTakeStage next script takes (suc (length (own C h)))
         said puts takes r =
             let r' = take_reading puts takes r in
             let (now_taken, now_empty, now_told) = counted' takes r.takes_follow in
-            says script takes (length (own C h)) before same_taken same_empty (take_few takes r.takes_follow) r.takes_follow.are
-            (subst (λ n. AreWanted script.shape (λ _. 1) 0 0 (takes_over script.shape first_count takes.takes n)) one_take_more (wanted takes r.takes_follow)) (at puts takes r').1 (counted takes r'.takes_follow) (
-              now_taken ∙ ap (λ n. all_taken (takes_over script.shape first_count takes.takes n)) one_take_more,
+            says script takes (length (own C h)) (is_wanted takes r'.takes_follow ∙ ap (wanted_at script) (sym (counted takes r'.takes_follow).0)) (take_few takes r.takes_follow)
+            r.takes_follow.are (subst (λ n. IsBeginning (all_taken (takes_over script.shape first_count takes.takes n)) script.items) one_take_more (first takes r.takes_follow))
+            (at puts takes r').1 (counted takes r'.takes_follow) (
+              now_taken ∙ ap (λ n. length (all_taken (takes_over script.shape first_count takes.takes n))) one_take_more,
               now_empty ∙ ap (λ n. empties (takes_over script.shape first_count takes.takes n)) one_take_more,
               subst (λ n. (now.told ≡ true) ↔ IsTold script.shape takes n) one_take_more now_told,
             )
@@ -200,37 +196,6 @@ nothing_told script puts takes r = refl
 pub at_first : (script : Content) → AreAt put.Between taking.Between script []
 at_first script puts takes r = (none_over_puts script.shape first_count puts.puts, none_over_takes script.shape first_count takes.takes)
 
--- ---- the play
-
--- each put of the script is one of the items that the world offers it
-offered_all :
-    (script : Content) (puts : Puts) (front xs : List Put) (j n : ℕ) → puts.puts ≡ front ++ xs → j ≡ length front → n ≡ stored_in 0 front → AreAttempts script n xs →
-    AreOffered script.shape (offers_of script puts) j n xs
-offered_all script puts front [] j n e f g m = tt
-offered_all script puts front (x ∷ xs) j n e f g (l, of, m) =
-    let here : offered script n ≡ offers_of script puts j =
-    ap (offered script) (g ∙ ap (stored_in 0) (sym (take_front front (x ∷ xs)) ∙ ap₂ (λ (i : ℕ) (l : List Put). take i l) (sym f) (sym e))) in (
-      subst (λ l. 0 < length l) here (taken_some (batch_of script.shape) _ script.shape.has_batch (left_some n script.items l)),
-      subst (λ l. IsPutOf script.shape n l x) here of,
-      offered_all script puts (front ++ x ∷ []) xs (suc j) (number_after n x) (e ∙ sym (append_assoc front (x ∷ []) xs))
-          (omega (arith, f, length-append front (x ∷ []))) (ap (λ k. number_after k x) g ∙ sym (stored-more 0 front x)) m,
-    )
-
--- what is told of a play is a linearizable history
-pub records :
-    RecordedIsLinearizable → (script : Content) (letters : List Side) (h : List Event) (told : List (CallEvent ℕ ℕ)) → IsPlayOf script letters h → TellsCalls script h (call_events script told) →
-    RecordsPlay script h told
-records law script letters h told play tells =
-    let (puts, asked, begins) = play.plays.played.puts in
-    let (takes, asked', begins') = play.plays.played.takes in
-    let r : IsReadingAsked script h puts takes = record { asked = asked; puts_follow = record { are = asked.are; events = begins }; takes_follow = record { are = asked'.are; events = begins' } } in
-    record {
-      tells = tells;
-      linearizable = subst (IsLinearizable (exactly (capacity_of script.shape))) (sym (tells puts takes r))
-          (law script.shape (offers_of script puts) (λ _. 1) h puts takes (record { lawful = play.plays.played.lawful; puts_follow = r.puts_follow; takes_follow = r.takes_follow })
-          (offered_all script puts [] puts.puts 0 0 refl refl refl asked.attempts) (λ j. omega arith) asked'.wanted);
-    }
-
 -- ---- one step of the world
 
 abbrev pub ArePutsCounted : Content → List Event → PutTally → Type 0
@@ -239,12 +204,12 @@ ArePutsCounted script h kept =
     ((puts : Puts) → FollowsPuts script.shape h puts → kept.full ≡ fulls (puts_over_in script.shape h puts))
 
 -- the stages behind it, and what is told with it
-abbrev pub Stepped : Content → Content → List Event → List Event → PutStage → TakeStage → Option (CallEvent ℕ ℕ) → Type 0
+abbrev pub Stepped : Content → Content → List Event → List Event → PutStage → TakeStage → Option (CallEvent ℕ TakenItems) → Type 0
 Stepped script script' h h' stage t told =
     AreAt stage t script' h' × ((events : List calls.Event) → TellsCalls script h events → TellsCalls script' h' (events ++ told_in script told))
 
 pub put_stepped :
-    OwnChanges → (script script' : Content) (h h' : List Event) (stage next : PutStage) (t : TakeStage) (items : ℕ) (before now : PutTally) (told : Option (CallEvent ℕ ℕ)) → script' ≡ script →
+    OwnChanges → (script script' : Content) (h h' : List Event) (stage next : PutStage) (t : TakeStage) (items : ℕ) (before now : PutTally) (told : Option (CallEvent ℕ TakenItems)) → script' ≡ script →
     IsMove script P true h h' → SaysPut stage items before now next told → items ≡ length script.items → AreAt stage t script h → ArePutsCounted script h before →
     ArePutsCounted script' h' now → Stepped script script' h h' next t told
 put_stepped owns script script' h h' stage next t items before now told same (e, is, by, not) says all at counted counted' =
@@ -254,28 +219,24 @@ put_stepped owns script script' h h' stage next t items before now told same (e,
 
 abbrev pub AreTakesCounted : Content → List Event → TakeTally → Type 0
 AreTakesCounted script h kept =
-    (takes : Takes) → FollowsTakes script.shape h takes →
-    (kept.taken ≡ all_taken (takes_over_in script.shape h takes)) × (kept.empty ≡ empties (takes_over_in script.shape h takes)) ×
-    ((kept.told ≡ true) ↔ ToldIn script.shape h takes)
+    ((takes : Takes) → FollowsTakes script.shape h takes → kept.taken ≡ length (all_taken (takes_over_in script.shape h takes))) ×
+    ((takes : Takes) → FollowsTakes script.shape h takes → kept.empty ≡ empties (takes_over_in script.shape h takes)) ×
+    ((takes : Takes) → FollowsTakes script.shape h takes → (kept.told ≡ true) ↔ ToldIn script.shape h takes)
 
--- in a play the takes that are over are of one item each, whichever takes its history is read as
-takes_of_one :
-    TakesOverAreRead → (script : Content) (letters : List Side) (h : List Event) → Plays script letters h → (takes : Takes) → FollowsTakes script.shape h takes →
-    AreWanted script.shape (λ _. 1) 0 0 (takes_over_in script.shape h takes)
-takes_of_one read script letters h plays takes follows =
-    let (mine, asked, begins) = plays.played.takes in
-    let (rest, e) = over_front _ _ first_count mine.takes (length (own C h)) in
-    subst (AreWanted script.shape (λ _. 1) 0 0) (read script.shape h mine takes (record { are = asked.are; events = begins }) follows)
-    (wanted_front script.shape 0 0 (takes_over_in script.shape h mine) rest (subst (AreWanted script.shape (λ _. 1) 0 0) e asked.wanted))
+-- the items that the takes which are over took are the script's first ones
+abbrev pub AreFirst : Content → List Event → Type 0
+AreFirst script h = (takes : Takes) → FollowsTakes script.shape h takes → IsBeginning (all_taken (takes_over_in script.shape h takes)) script.items
 
 pub take_stepped :
-    OwnChanges → TakesOverAreRead → (script script' : Content) (h h' : List Event) (stage : PutStage) (t next : TakeStage) (taken empty : ℕ) (before now : TakeTally) (told : Option (CallEvent ℕ ℕ)) → script' ≡ script →
-    IsMove script C true h h' → SaysTake t taken empty now next told → taken ≡ length before.taken → empty ≡ before.empty → AreAt stage t script h → AreTakesCounted script h before →
-    AreTakesCounted script' h' now → (letters : List Side) → Plays script' letters h' → Stepped script script' h h' stage next told
-take_stepped owns read script script' h h' stage t next taken empty before now told same (e, is, by, not) says same_taken same_empty at counted counted' letters plays =
+    OwnChanges → (script script' : Content) (h h' : List Event) (stage : PutStage) (t next : TakeStage) (wanted : ℕ) (before now : TakeTally) (told : Option (CallEvent ℕ TakenItems)) → script' ≡ script →
+    IsMove script C true h h' → SaysTake t wanted before now next told →
+    ((takes : Takes) → FollowsTakes script.shape h takes → wanted ≡ wanted_at script (length (all_taken (takes_over_in script.shape h takes)))) →
+    AreAt stage t script h → AreTakesCounted script h before → AreTakesCounted script' h' now → AreFirst script' h' → Stepped script script' h h' stage next told
+take_stepped owns script script' h h' stage t next wanted before now told same (e, is, by, not) says is_wanted at counted counted' first =
+    let (taken', empty', told') = subst (λ s. AreTakesCounted s h' now) same counted' in
     subst (λ s. Stepped script s h h' stage next told) (sym same)
-    (take_moves owns script h h' e is by stage t next taken empty before now told says same_taken same_empty at counted (subst (λ s. AreTakesCounted s h' now) same counted')
-    (takes_of_one read script letters h' (subst (λ s. Plays s letters h') same plays)))
+    (take_moves owns script h h' e is by stage t next wanted before now told says is_wanted at (λ takes f. (counted.0 takes f, counted.1 takes f, counted.2 takes f))
+    (λ takes f. (taken' takes f, empty' takes f, told' takes f)) (subst (λ s. AreFirst s h') same first))
 
 -- where the side was done
 pub not_stepped :
@@ -287,12 +248,12 @@ not_stepped script script' h h' side stage t moved same m is at =
     (subst (λ l. Stepped script script h l stage t None) (sym still) (at, (λ events tells. subst (TellsCalls script h) (sym (append-nil events)) tells)))
 
 -- what was told, and with one event more
-pub told_with : (script : Content) (told : List (CallEvent ℕ ℕ)) (event : Option (CallEvent ℕ ℕ)) → call_events script (told ++ listed event) ≡ call_events script told ++ told_in script event
+pub told_with : (script : Content) (told : List (CallEvent ℕ TakenItems)) (event : Option (CallEvent ℕ TakenItems)) → call_events script (told ++ listed event) ≡ call_events script told ++ told_in script event
 told_with script told None = ap (call_events script) (append-nil told) ∙ sym (append-nil (call_events script told))
 told_with script told (Some x) = map-append (event_of script) told (x ∷ [])
 
 pub tells_with :
-    (script script' : Content) (h h' : List Event) (told told' : List (CallEvent ℕ ℕ)) (event : Option (CallEvent ℕ ℕ)) → script' ≡ script →
+    (script script' : Content) (h h' : List Event) (told told' : List (CallEvent ℕ TakenItems)) (event : Option (CallEvent ℕ TakenItems)) → script' ≡ script →
     ((events : List calls.Event) → TellsCalls script h events → TellsCalls script' h' (events ++ told_in script event)) → told' ≡ told ++ listed event →
     TellsCalls script h (call_events script told) → TellsCalls script' h' (call_events script' told')
 tells_with script script' h h' told told' event same step more tells =
@@ -307,12 +268,3 @@ letters_with script script' first h first_h h' s n same was step before letters 
     subst (λ l. Plays first l h') (append_assoc letters (replicate n s) (s ∷ []) ∙ ap (λ l. letters ++ l) (replicate-append-replicate n 1 s))
     (subst (λ t. Plays t ((letters ++ replicate n s) ++ s ∷ []) h') (same ∙ was)
     (step (letters ++ replicate n s) (subst (λ t. Plays t (letters ++ replicate n s) h) (sym was) (before letters p))))
-
--- the play of a world
-pub play_records :
-    RecordedIsLinearizable → (script first : Content) (letters : List Side) (h : List Event) (told : List (CallEvent ℕ ℕ)) → script ≡ first → IsPlayOf script letters h → Plays first first.letters h →
-    TellsCalls script h (call_events script told) → (x : List Event) × IsPlayOf first first.letters x × RecordsPlay first x told
-play_records law script first letters h told same play plays tells =
-    let p : IsPlayOf first letters h = subst (λ s. IsPlayOf s letters h) same play in
-    let whole : IsPlayOf first first.letters h = record { plays = plays; headline = p.headline; batches = p.batches } in
-    (h, whole, records law first first.letters h told whole (subst (λ s. TellsCalls s h (call_events s told)) same tells))

@@ -1,25 +1,25 @@
 -- What one event of a side tells of its calls, by the stage that the side is in and by what is counted of the calls that are over.
-use Rattle.std.proofs.Common.{◌≡◌, ◌⊎◌, inl, inr, ℕ, suc, ◌+◌, ◌-◌, ◌<◌, ◌≤◌, true, List, [], ◌∷◌, ◌++◌, length, take, refl, sym, ap, subst, ◌∙◌, arith, append-nil, append_assoc, length-append}
+use Rattle.std.proofs.Common.{◌≡◌, ◌⊎◌, inl, inr, ℕ, suc, ◌+◌, ◌-◌, ◌<◌, ◌≤◌, true, List, [], ◌∷◌, ◌++◌, length, take, drop, refl, sym, ap, ap₂, subst, ◌∙◌, arith, append_assoc, length-append}
+use Rattle.std.proofs.Math.Seq.{drop-append_seam, take-append_seam}
+use Rattle.bits_core.specs.Made.{IsBeginning}
 use Rattle.bits_core.specs.declared.shapes.Shape.{Shape}
 use Rattle.queue_calls.specs.Calls as calls
 use Rattle.ring_core.specs.Counts.{first_count}
-use Rattle.ring_core.specs.GoingOn.{AreWanted}
 use Rattle.ring_core.specs.Items.{all_taken, events_in, IsTold, taken_of}
 use Rattle.ring_core.specs.Over.{empties, fulls, puts_over, takes_over}
 use Rattle.ring_core.specs.Puts.{ArePuts, Full, IsPut, number_after, Put, Puts, put_phrases, put_program, close_phrase, Stored, stored_in}
 use Rattle.ring_core.specs.Recorded.{put_answer, put_told, take_answer, take_told}
 use Rattle.ring_core.specs.RecordedByOne.{events_of_puts, events_of_takes, PutTells, PutsTellByOne, TakeTells, TakesTellByOne}
-use Rattle.ring_core.specs.ConsumerCalls.{IsTakeOf}
 use Rattle.ring_core.specs.Takes.{AreTakes, Empty, IsTake, Item, ItemAfterClose, Take, Takes, take_program, taken_in}
-use Rattle.ring_player.specs.Plays.{AreAttempts, ArePutsOf, offered}
-use Rattle.ring_player.specs.Tellings.{IsPutStage, IsTakeStage, offers_of}
+use Rattle.ring_player.specs.Plays.{AreAttempts, ArePutsOf, offered, wanted_at}
+use Rattle.ring_player.specs.Tellings.{IsPutStage, IsTakeStage, offers_of, wants_of}
 use Rattle.ring_player.specs.declared.tellings.PutStage.TheVariants as put
 use Rattle.ring_player.specs.declared.tellings.TakeStage.TheVariants as taking
 use Rattle.ring_script.specs.Content.{Content}
 use Rattle.ring_player.proofs.Headlines.{past_is}
 use Rattle.ring_player.proofs.Overs.{over_front}
 use Rattle.ring_player.proofs.Puttings.{fulls-more, stored-more}
-use Rattle.ring_player.proofs.Takings.{all-more, empties-more, take_at, wanted_at}
+use Rattle.ring_player.proofs.TakeLists.{all-more, all_are, empties-more, take_at}
 
 -- ---- lists
 
@@ -27,10 +27,10 @@ next_of : {A : Type 0} (xs ys : List A) → length xs < length (xs ++ ys) → (y
 next_of xs [] l = absurd (omega (arith, l, length-append xs []))
 next_of xs (y ∷ ys) l = (y, ys, refl)
 
-pub take_front : {A : Type 0} (xs ys : List A) → take (length xs) (xs ++ ys) ≡ xs
-take_front [] [] = refl
-take_front [] (y ∷ ys) = refl
-take_front (x ∷ xs) ys = ap (λ l. x ∷ l) (take_front xs ys)
+-- a part of a list, by how many stand before it and how many it has
+part_is : (xs ys zs all : List ℕ) (n m : ℕ) → (xs ++ ys) ++ zs ≡ all → n ≡ length xs → m ≡ length ys → take m (drop n all) ≡ ys
+part_is xs ys zs all n m e f g =
+    ap₂ (λ (k : ℕ) (l : List ℕ). take k l) g (ap₂ (λ (k : ℕ) (l : List ℕ). drop k l) f (sym e ∙ append_assoc xs ys zs) ∙ drop-append_seam xs (ys ++ zs)) ∙ take-append_seam ys zs
 
 -- ---- puts
 
@@ -68,7 +68,7 @@ module _ (law : PutsTellByOne) (script : Content) (puts : Puts) (i : ℕ) (asked
   offer_is : offers_of script puts (length before) ≡ offered script (stored_in 0 before)
   offer_is =
       let (rest, e) = front in
-      ap (λ l. offered script (stored_in 0 l)) (ap (λ l. take (length before) l) e ∙ take_front before rest)
+      ap (λ l. offered script (stored_in 0 l)) (ap (λ l. take (length before) l) e ∙ take-append_seam before rest)
 
   -- where a put is next, there is an item for it
   next_item : length before < length puts.puts → stored_in 0 before < length script.items
@@ -189,46 +189,57 @@ module _ (law : TakesTellByOne) (script : Content) (takes : Takes) (i : ℕ) (fe
   over_after = takes_over shape_of first_count takes.takes (suc i)
 
   abbrev told_of : List calls.Event
-  told_of = take_told shape_of (λ _. 1) 0 first_count takes.takes takes.end i
+  told_of = take_told shape_of (wants_of script takes) 0 first_count takes.takes takes.end i
 
-  take_tells : TakeTells shape_of (λ _. 1) takes i over_before over_after told_of
-  take_tells = law shape_of (λ _. 1) takes i few
+  take_tells : TakeTells shape_of (wants_of script takes) takes i over_before over_after told_of
+  take_tells = law shape_of (wants_of script takes) takes i few
 
-  pub take_begins : IsTakeStage taking.Between script takes i → (calls.TakeBegin 1 ∷ [] ≡ told_of) × IsTakeStage taking.Taking script takes (suc i)
-  take_begins e = elim take_tells [
-    | inl z ↦ (sym z.2, omega (arith, z.1, ap (events_of_takes shape_of) z.0))
+  wants_are : wants_of script takes (length over_before) ≡ wanted_at script (length (all_taken over_before))
+  wants_are =
+      let (rest, e) = over_front _ _ first_count takes.takes i in
+      let count : taken_in 0 over_before ≡ length (all_taken over_before) = omega (arith, all_are 0 over_before) in
+      ap (λ l. wanted_at script (taken_in 0 l)) (ap (λ l. take (length over_before) l) e ∙ take-append_seam over_before rest) ∙ ap (wanted_at script) count
+
+  pub take_begins :
+      (wanted taken : ℕ) → IsTakeStage taking.Between script takes i → wanted ≡ wanted_at script taken → taken ≡ length (all_taken over_before) →
+      (calls.TakeBegin wanted ∷ [] ≡ told_of) × IsTakeStage taking.Taking script takes (suc i)
+  take_begins wanted taken e is_wanted is_taken = elim take_tells [
+    | inl z ↦ (
+      ap (λ n. calls.TakeBegin n ∷ []) (is_wanted ∙ ap (wanted_at script) is_taken ∙ sym wants_are) ∙ sym z.2,
+      omega (arith, z.1, ap (events_of_takes shape_of) z.0),
+    )
     | inr y ↦ absurd (elim y [
       | inl z ↦ let (x, is, less, ends, t) = z in omega (arith, less, e)
       | inr v ↦ elim v [ inl z ↦ omega (arith, z.2, e) | inr z ↦ omega (arith, z.1, e) ]
     ])
   ]
 
-  -- the items taken with one take more
-  abbrev Ends : List ℕ → List ℕ → ℕ → ℕ → Type 0
+  -- a take ends that took some items, or none
+  abbrev Ends : (taken taken' empty empty' : ℕ) → Type 0
   Ends taken taken' empty empty' =
-      ((item : ℕ) × (taken' ≡ taken ++ item ∷ []) × (calls.TakeItems (item ∷ []) true ∷ [] ≡ told_of) × IsTakeStage taking.Between script takes (suc i)) ⊎
-      ((taken' ≡ taken) × (empty < empty') × (calls.TakeEmpty ∷ [] ≡ told_of) × IsTakeStage taking.Between script takes (suc i))
+      ((taken < taken') × (calls.TakeItems (take (taken' - taken) (drop taken script.items)) true ∷ [] ≡ told_of) × IsTakeStage taking.Between script takes (suc i)) ⊎
+      ((taken' ≤ taken) × (empty < empty') × (calls.TakeEmpty ∷ [] ≡ told_of) × IsTakeStage taking.Between script takes (suc i))
 
   -- a take goes on, or it ends, by what is counted
   pub take_goes :
-      (taken taken' : List ℕ) (empty empty' : ℕ) → AreTakes shape_of 0 takes.takes takes.end → AreWanted shape_of (λ _. 1) 0 0 over_after → IsTakeStage taking.Taking script takes i → taken ≡ all_taken over_before → empty ≡ empties over_before → taken' ≡ all_taken over_after →
-      empty' ≡ empties over_after →
+      (taken taken' empty empty' : ℕ) → AreTakes shape_of 0 takes.takes takes.end → IsBeginning (all_taken over_after) script.items → IsTakeStage taking.Taking script takes i →
+      taken ≡ length (all_taken over_before) → empty ≡ empties over_before → taken' ≡ length (all_taken over_after) → empty' ≡ empties over_after →
       Ends taken taken' empty empty' ⊎
-      ((taken' ≡ taken) × (empty' ≤ empty) ×
+      ((taken' ≤ taken) × (empty' ≤ empty) ×
       ((IsTold shape_of takes (suc i) × (calls.TakeClosed ∷ [] ≡ told_of) × IsTakeStage taking.Told script takes (suc i)) ⊎
       ((¬ IsTold shape_of takes (suc i)) × ([] ≡ told_of) × IsTakeStage taking.Taking script takes (suc i))))
-  take_goes taken taken' empty empty' are wanted at is_taken is_empty now_taken now_empty = elim take_tells [
+  take_goes taken taken' empty empty' are (rest, first) at is_taken is_empty now_taken now_empty = elim take_tells [
     | inl z ↦ absurd (omega (arith, at, z.1))
     | inr y ↦ elim y [
-      | inl z ↦ (let (x, is, less, ends, t) = z in inl (by_take x is ends t (is_take x is) (is_of x is)))
+      | inl z ↦ (let (x, is, less, ends, t) = z in inl (by_take x is ends t (is_take x is)))
       | inr v ↦ elim v [
         | inl z ↦ inr (
-          now_taken ∙ ap all_taken z.0 ∙ sym is_taken,
+          omega (arith, now_taken, ap (λ l. length (all_taken l)) z.0, is_taken),
           omega (arith, now_empty, ap empties z.0, is_empty),
           inl ((z.1, omega (arith, z.3)), sym z.4, omega (arith, z.3)),
         )
         | inr z ↦ inr (
-          now_taken ∙ ap all_taken z.0 ∙ sym is_taken,
+          omega (arith, now_taken, ap (λ l. length (all_taken l)) z.0, is_taken),
           omega (arith, now_empty, ap empties z.0, is_empty),
           inr ((λ t. absurd (omega (arith, z.2 t.0, t.1))), sym z.3, omega (arith, z.1, ap (events_of_takes shape_of) z.0)),
         )
@@ -236,8 +247,11 @@ module _ (law : TakesTellByOne) (script : Content) (takes : Takes) (i : ℕ) (fe
     ]
   ]
     where
-      more : (x : Take) → over_after ≡ over_before ++ x ∷ [] → taken' ≡ taken ++ taken_of x
-      more x is = now_taken ∙ ap all_taken is ∙ all-more over_before x ∙ ap (λ l. l ++ taken_of x) (sym is_taken)
+      more : (x : Take) → over_after ≡ over_before ++ x ∷ [] → all_taken over_after ≡ all_taken over_before ++ taken_of x
+      more x is = ap all_taken is ∙ all-more over_before x
+
+      count_more : (x : Take) → over_after ≡ over_before ++ x ∷ [] → taken' ≡ taken + length (taken_of x)
+      count_more x is = omega (arith, now_taken, ap length (more x is), length-append (all_taken over_before) (taken_of x), is_taken)
 
       is_take : (x : Take) → over_after ≡ over_before ++ x ∷ [] → IsTake shape_of (taken_in 0 over_before) x
       is_take x is =
@@ -245,20 +259,28 @@ module _ (law : TakesTellByOne) (script : Content) (takes : Takes) (i : ℕ) (fe
           take_at shape_of 0 over_before x rest takes.end
           (subst (λ (l : List Take). AreTakes shape_of 0 l takes.end) (e ∙ ap (λ l. l ++ rest) is ∙ append_assoc over_before (x ∷ []) rest) are)
 
-      is_of : (x : Take) → over_after ≡ over_before ++ x ∷ [] → IsTakeOf shape_of (taken_in 0 over_before) 1 x
-      is_of x is = wanted_at shape_of 0 0 over_before x [] (subst (AreWanted shape_of (λ _. 1) 0 0) is wanted)
+      -- the items of the take are the script's behind those taken before
+      part : (x : Take) → over_after ≡ over_before ++ x ∷ [] → take (taken' - taken) (drop taken script.items) ≡ taken_of x
+      part x is =
+          part_is (all_taken over_before) (taken_of x) rest script.items taken (taken' - taken) (ap (λ l. l ++ rest) (sym (more x is)) ∙ first) is_taken
+          (omega (arith, count_more x is))
 
       by_take :
           (x : Take) → over_after ≡ over_before ++ x ∷ [] → suc i ≡ events_of_takes shape_of over_after → told_of ≡ take_answer x ∷ [] → IsTake shape_of (taken_in 0 over_before) x →
-          IsTakeOf shape_of (taken_in 0 over_before) 1 x → Ends taken taken' empty empty'
-      by_take (Item seen []) is ends t one of = absurd (omega (arith, one.1.some))
-      by_take (Item seen (item ∷ [])) is ends t one of = inl (item, more (Item seen (item ∷ [])) is, sym t, sym ends)
-      by_take (Item seen (item ∷ next ∷ items)) is ends t one of = absurd (omega (arith, of.0))
-      by_take (ItemAfterClose seen again []) is ends t one of = absurd (omega (arith, one.2.some))
-      by_take (ItemAfterClose seen again (item ∷ [])) is ends t one of = inl (item, more (ItemAfterClose seen again (item ∷ [])) is, sym t, sym ends)
-      by_take (ItemAfterClose seen again (item ∷ next ∷ items)) is ends t one of = absurd (omega (arith, of.0))
-      by_take (Empty seen) is ends t one of =
-          inr (more (Empty seen) is ∙ append-nil taken, omega (arith, now_empty, ap empties is, empties-more over_before (Empty seen), is_empty), sym t, sym ends)
+          Ends taken taken' empty empty'
+      by_take (Item seen items) is ends t one =
+          inl (omega (arith, count_more (Item seen items) is, one.1.some), ap (λ l. calls.TakeItems l true ∷ []) (part (Item seen items) is) ∙ sym t, sym ends)
+      by_take (ItemAfterClose seen again items) is ends t one = inl (
+        omega (arith, count_more (ItemAfterClose seen again items) is, one.2.some),
+        ap (λ l. calls.TakeItems l true ∷ []) (part (ItemAfterClose seen again items) is) ∙ sym t,
+        sym ends,
+      )
+      by_take (Empty seen) is ends t one = inr (
+        omega (arith, count_more (Empty seen) is),
+        omega (arith, now_empty, ap empties is, empties-more over_before (Empty seen), is_empty),
+        sym t,
+        sym ends,
+      )
 
   pub told_is_last : IsTakeStage taking.Told script takes i → ⊥
   told_is_last at = omega (arith, at, few)

@@ -1,5 +1,5 @@
 -- What a step of one side leaves of the world.
-use Rattle.std.proofs.Common.{◌≡◌, ◌⊎◌, inl, inr, ℕ, ◌+◌, ◌-◌, ◌<◌, ◌≤◌, zero, suc, get_or, min, Bool, true, false, Option, Some, None, Result, Ok, Err, List, [], ◌∷◌, ◌++◌, length, take, append_assoc, append-nil, refl, sym, ap, subst, ◌∙◌, arith}
+use Rattle.std.proofs.Common.{◌≡◌, ◌⊎◌, inl, inr, ℕ, ◌+◌, ◌-◌, ◌<◌, ◌≤◌, zero, suc, get_or, min, Bool, true, false, Option, Some, None, Result, Ok, Err, List, [], ◌∷◌, ◌++◌, length, take, drop, append_assoc, append-nil, refl, sym, ap, subst, ◌∙◌, arith}
 use Rattle.std.specs.Prelude.{if◌then◌else◌, IfOk, OnErr, OnOk, ◌↔◌}
 use Rattle.bits_core.specs.declared.events.Side.{Side}
 use Rattle.bits_core.specs.declared.events.Side.TheVariants.{P, C}
@@ -9,14 +9,14 @@ use Rattle.bits_core.specs.Bits.{begun_by, other}
 use Rattle.bits_core.specs.History.{open_access}
 use Rattle.bits_core.specs.Lawful.{IsLawful}
 use Rattle.bits_core.specs.Laws.{FlickerIsByInterval, OpenChanges, OwnChanges}
-use Rattle.bits_core.specs.Made.{clock, own}
+use Rattle.bits_core.specs.Made.{clock, IsBeginning, own}
 use Rattle.bits_core.specs.Memory.{MemoryState}
 use Rattle.bits_core.specs.Oracle.{turn}
 use Rattle.ring_player.specs.Actors.{IsAtTurn, IsMove, IsPlaying, PutTally, so_far}
 use Rattle.ring_player.specs.Plays.{AreMoves, IsDone, IsPlayed, IsProgram, Plays, event_sides}
 use Rattle.std.specs.Prelude.{replicate, slice_index_or}
 use Rattle.std.proofs.lemmas.Bool.{cases_lt}
-use Rattle.std.proofs.lemmas.List.{length-append, length-replicate, take_all, take_more, take-append-le, take-replicate}
+use Rattle.std.proofs.lemmas.List.{length-append, length-replicate, take_all, take_more, take-append-drop, take-append-le, take-replicate}
 use Rattle.std.proofs.Math.Seq.{take-append-add, take-length}
 use Rattle.ring_script.specs.declared.schedules.Run.{Run}
 use Rattle.ring_script.specs.Schedule.{spelled}
@@ -209,23 +209,32 @@ ended_of read script cs h due stands taken told empty same p t takes follows =
     let mine : FollowsTakes script.shape h u.takes = record { are = u.are; events = u.begins } in
     sym u.ended ∙ ap all_taken (read script.shape h u.takes takes mine follows)
 
--- ---- no more items were taken than put
+-- ---- the items taken are the script's first ones
 
 clock_end : (s : Side) (h : List Event) → clock s h (length h) ≡ length (own s h)
 clock_end s h = ap (λ l. length (own s l)) (take-length h)
 
-pub few_of :
+-- the items taken are the first of those put
+pub front_of :
     (script ps cs : Content) (h : List Event) (pd cd : Option Access) (pt ct : Stands) (put taken : List ℕ) (kept : PutTally) (told : Bool) (empty : ℕ) → ps ≡ script → cs ≡ script →
     (p : IsPlaying P h pd pt) → (t : IsPlaying C h cd ct) → PutSoFar ps.shape (so_far P p.list (open_access P h)) put kept →
-    TakenSoFar cs.shape (so_far C t.list (open_access C h)) taken told empty → HoldsHeadline script h → length taken ≤ length put
-few_of script ps cs h pd cd pt ct put taken kept told empty same_p same_c p t puts takes holds =
+    TakenSoFar cs.shape (so_far C t.list (open_access C h)) taken told empty → HoldsHeadline script h → IsBeginning taken put
+front_of script ps cs h pd cd pt ct put taken kept told empty same_p same_c p t puts takes holds =
     let u : PutSoFar script.shape (own P h) put kept = subst (λ (x : Content). PutSoFar x.shape (own P h) put kept) same_p (subst (λ l. PutSoFar ps.shape l put kept) (sym p.own_is) puts) in
     let v : TakenSoFar script.shape (own C h) taken told empty =
     subst (λ (x : Content). TakenSoFar x.shape (own C h) taken told empty) same_c (subst (λ l. TakenSoFar cs.shape l taken told empty) (sym t.own_is) takes) in
     let (rest, is) = (holds u.puts v.takes (record { are = u.are; events = u.begins }) (record { are = v.are; events = v.begins })).prefix (length h) in
     let put_so : items_put script.shape first_count u.puts.puts (clock P h (length h)) ≡ put = ap (items_put script.shape first_count u.puts.puts) (clock_end P h) ∙ u.items in
     let taken_so : items_taken script.shape first_count v.takes.takes (clock C h (length h)) ≡ taken = ap (items_taken script.shape first_count v.takes.takes) (clock_end C h) ∙ v.items in
-    omega (arith, ap length is, length-append (items_taken script.shape first_count v.takes.takes (clock C h (length h))) rest, ap length put_so, ap length taken_so)
+    (rest, ap (λ l. l ++ rest) (sym taken_so) ∙ is ∙ put_so)
+
+-- so they are the first of all items, where those put are
+pub first_of : (taken items : List ℕ) (n : ℕ) → IsBeginning taken (take n items) → IsBeginning taken items
+first_of taken items n (rest, e) =
+    (rest ++ drop n items, sym (append_assoc taken rest (drop n items)) ∙ ap (λ l. l ++ drop n items) e ∙ take-append-drop n items)
+
+pub first_few : (taken items : List ℕ) → IsBeginning taken items → length taken ≤ length items
+first_few taken items (rest, e) = omega (arith, ap length e, length-append taken rest)
 
 -- ---- the schedule
 

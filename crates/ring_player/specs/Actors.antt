@@ -14,17 +14,16 @@ use Rattle.ring_core.specs.ConsumerCalls.{ConsumerStands, ends_closed}
 use Rattle.ring_core.specs.ConsumerState.{ConsumerState, is_taking}
 use Rattle.ring_core.specs.ProducerCalls.{ProducerStands}
 use Rattle.ring_core.specs.ProducerState.{ProducerState, Call, Put, Close, call_of}
-use Rattle.ring_core.specs.declared.consumers.TakeReply.{TakeReply}
-use Rattle.ring_core.specs.declared.consumers.TakeReply.TheVariants as taken
+use Rattle.ring_core.specs.declared.consumers.TakeBatchReply.{TakeBatchReply}
+use Rattle.ring_core.specs.declared.consumers.TakeBatchReply.TheVariants as taken
 use Rattle.ring_core.specs.declared.producers.BatchReply.{BatchReply}
 use Rattle.ring_core.specs.declared.producers.BatchReply.TheVariants as reply
 use Rattle.bits_core.specs.Shape.{width_of}
-use Rattle.ring_core.specs.GoingOn.{AreWanted}
 use Rattle.ring_core.specs.Items.{all_taken}
 use Rattle.ring_core.specs.Over.{empties, fulls}
 use Rattle.ring_core.specs.Puts.{Puts, stored_in, put_program}
 use Rattle.ring_core.specs.Takes.{Takes, taken_in, take_program}
-use Rattle.ring_player.specs.Plays.{offered, AreAttempts, IsProgram, IsDone}
+use Rattle.ring_player.specs.Plays.{offered, wanted_at, AreAttempts, AreTakesOf, IsProgram, IsDone}
 use Rattle.ring_script.specs.Content.{Content}
 
 -- the events of accesses that were made, and of the one that is open
@@ -140,13 +139,13 @@ pub record HasWritten (script : Content) (digits put : ℕ) (list : List Made) (
 -- ---- the consumer's actor
 
 -- how many takes were answered that the ring is empty, by a reply
-abbrev pub empty_in : Option TakeReply → ℕ
+abbrev pub empty_in : Option TakeBatchReply → ℕ
 empty_in None = 0
-empty_in (Some (taken.Item item)) = 0
+empty_in (Some (taken.Taken count)) = 0
 empty_in (Some taken.Empty) = 1
 empty_in (Some taken.Closed) = 0
 
--- it stands after these accesses, with this one open; its takes are of one item each
+-- it stands after these accesses, with this one open
 pub record TakeActorStands (script : Content) (p : ConsumerState) (taken : List ℕ) (told : Bool) (empty : ℕ) (list : List Made) (opened : Option Access) : Type 0 where
   pub calls : Takes
   pub there : ConsumerStands p calls list
@@ -154,8 +153,8 @@ pub record TakeActorStands (script : Content) (p : ConsumerState) (taken : List 
   pub taken_is : taken ≡ all_taken calls.takes
   pub told_is : told ≡ ends_closed calls.end
   pub empty_is : empty ≡ empties calls.takes
-  pub one : AreWanted script.shape (λ _. 1) 0 0 calls.takes
-  pub wants : is_taking p ≡ true → p.wanted ≡ 1
+  pub takes_are : AreTakesOf script calls
+  pub wants : is_taking p ≡ true → p.wanted ≡ wanted_at script (taken_in 0 calls.takes)
   pub few : taken_in 0 calls.takes ≤ script.takes
   pub long : length (take_program script.shape calls) ≤ length list
   pub asked : is_taking p ≡ true → taken_in 0 calls.takes < script.takes

@@ -1,5 +1,5 @@
 -- When a history is the play of a script by a list of letters.
-use Rattle.std.specs.Prelude.{◌≡◌, ◌⊎◌, ℕ, suc, ◌<◌, ◌%◌, Bool, true, false, List, [], ◌∷◌, ◌++◌, length, take, drop, slice_index_or}
+use Rattle.std.specs.Prelude.{◌≡◌, ◌⊎◌, ℕ, suc, ◌-◌, ◌<◌, ◌%◌, min, Bool, true, false, List, [], ◌∷◌, ◌++◌, length, take, drop, slice_index_or}
 use Rattle.bits_core.specs.declared.events.Side.{Side}
 use Rattle.bits_core.specs.declared.events.Side.TheVariants.{P, C}
 use Rattle.bits_core.specs.declared.events.Bit.{Bit}
@@ -8,11 +8,12 @@ use Rattle.bits_core.specs.Intervals.{HasOverlap, IsRead}
 use Rattle.bits_core.specs.Lawful.{IsLawful}
 use Rattle.bits_core.specs.Made.{events_of, own, IsBeginning}
 use Rattle.bits_core.specs.Shape.{batch_of}
-use Rattle.ring_core.specs.GoingOn.{AreWanted}
+use Rattle.ring_core.specs.ConsumerCalls.{IsTakeOf}
+use Rattle.ring_core.specs.Counts.{take_batch_of}
 use Rattle.ring_core.specs.Items.{Tells}
 use Rattle.ring_core.specs.ProducerCalls.{IsPutOf}
 use Rattle.ring_core.specs.Puts.{Put, Puts, number_after, stored_in, put_program, ArePuts}
-use Rattle.ring_core.specs.Takes.{Takes, taken_in, take_program, AreTakes}
+use Rattle.ring_core.specs.Takes.{Take, Takes, taken_after, taken_in, take_program, AreTakes}
 use Rattle.ring_script.specs.Content.{Content}
 
 -- the items that the world offers where n are stored: the next ones, as many as a batch may have
@@ -30,10 +31,20 @@ pub record ArePutsOf (script : Content) (calls : Puts) : Type 0 where
   pub attempts : AreAttempts script 0 calls.puts
   pub closes : calls.closes ≡ true → (script.closes ≡ true) × (stored_in 0 calls.puts ≡ length script.items)
 
--- the takes are of one item each
+-- how many items the world wants where k are taken: as many as one count write may count, or as are left to take
+abbrev pub wanted_at : Content → ℕ → ℕ
+wanted_at script k = min (take_batch_of script.shape) (script.takes - k)
+
+-- takes, where k items are taken before them, each of which wants that many items, and some
+abbrev pub AreWantedBy : Content → ℕ → List Take → Type 0
+AreWantedBy script k [] = Unit {0}
+AreWantedBy script k (x ∷ takes) = (k < script.takes) × IsTakeOf script.shape k (wanted_at script k) x × AreWantedBy script (taken_after k x) takes
+
+-- the takes are those that the script wants, and where the last one is told that the ring is closed, it wanted some items
 pub record AreTakesOf (script : Content) (calls : Takes) : Type 0 where
   pub are : AreTakes script.shape 0 calls.takes calls.end
-  pub wanted : AreWanted script.shape (λ _. 1) 0 0 calls.takes
+  pub wanted : AreWantedBy script 0 calls.takes
+  pub ends : Tells calls.end → taken_in 0 calls.takes < script.takes
 
 -- these events of a side are a beginning of those of calls that the script asks for
 abbrev pub IsProgram : Content → Side → List Event → Type 0

@@ -1,8 +1,8 @@
 -- The calls of a play, as a recorder would tell them.
-use Rattle.std.specs.Prelude.{◌≡◌, ◌↔◌, ℕ, suc, ◌<◌, ◌≤◌, Bool, true, Option, Some, None, List, [], ◌∷◌, length, map, take}
+use Rattle.std.specs.Prelude.{◌≡◌, ◌↔◌, ℕ, suc, ◌<◌, ◌≤◌, Bool, true, Option, Some, None, List, [], ◌∷◌, length, map, take, drop}
 use Rattle.bits_core.specs.declared.events.Event.{Event}
 use Rattle.bits_core.specs.declared.events.Side.TheVariants.{P, C}
-use Rattle.bits_core.specs.Made.{own}
+use Rattle.bits_core.specs.Made.{own, IsBeginning}
 use Rattle.bits_core.specs.Shape.{capacity_of}
 use Rattle.queue_calls.specs.Calls as calls
 use Rattle.queue_calls.specs.Calls.{IsLinearizable}
@@ -10,17 +10,17 @@ use Rattle.queue_calls.specs.Queue.{exactly}
 use Rattle.queue_calls.specs.Told.{event_by}
 use Rattle.queue_calls.specs.declared.events.CallEvent.{CallEvent}
 use Rattle.ring_core.specs.Counts.{first_count}
-use Rattle.ring_core.specs.GoingOn.{AreWanted}
 use Rattle.ring_core.specs.Items.{all_taken, events_in, IsTold}
 use Rattle.ring_core.specs.Over.{empties, fulls, puts_over, takes_over}
 use Rattle.ring_core.specs.Puts.{FollowsPuts, Puts, put_program, stored_in}
 use Rattle.ring_core.specs.Recorded.{put_told, recorded, take_told}
 use Rattle.ring_core.specs.RecordedByOne.{events_of_puts, events_of_takes}
-use Rattle.ring_core.specs.Takes.{AreTakes, FollowsTakes, Takes, take_program}
+use Rattle.ring_core.specs.Takes.{AreTakes, FollowsTakes, Takes, taken_in, take_program}
 use Rattle.ring_player.specs.Actors.{PutTally}
-use Rattle.ring_player.specs.Plays.{ArePutsOf, offered}
+use Rattle.ring_player.specs.Plays.{ArePutsOf, offered, wanted_at}
 use Rattle.ring_player.specs.declared.tellings.PutStage.{PutStage}
 use Rattle.ring_player.specs.declared.tellings.PutStage.TheVariants as put
+use Rattle.ring_player.specs.declared.tellings.TakenItems.{TakenItems}
 use Rattle.ring_player.specs.declared.tellings.TakeStage.{TakeStage}
 use Rattle.ring_player.specs.declared.tellings.TakeStage.TheVariants as taking
 use Rattle.ring_script.specs.Content.{Content}
@@ -35,19 +35,27 @@ pub record IsReadingAsked (script : Content) (h : List Event) (puts : Puts) (tak
 abbrev pub offers_of : Content → Puts → ℕ → List ℕ
 offers_of script puts j = offered script (stored_in 0 (take j puts.puts))
 
+-- how many items the world wants by each of these takes, by its number: as many as it does behind those that the takes before it took
+abbrev pub wants_of : Content → Takes → ℕ → ℕ
+wants_of script takes j = wanted_at script (taken_in 0 (take j takes.takes))
+
 -- the events are the recorded calls of the history, whichever calls it is read as
 abbrev pub TellsCalls : Content → List Event → List calls.Event → Type 0
-TellsCalls script h events = (puts : Puts) (takes : Takes) → IsReadingAsked script h puts takes → events ≡ recorded script.shape (offers_of script puts) (λ _. 1) h puts takes
+TellsCalls script h events = (puts : Puts) (takes : Takes) → IsReadingAsked script h puts takes → events ≡ recorded script.shape (offers_of script puts) (wants_of script takes) h puts takes
 
--- what is told, as an event of calls: a put is of the items behind so many, as many as a batch has, and a take took one item
-abbrev pub event_of : Content → CallEvent ℕ ℕ → calls.Event
-event_of script told = event_by (offered script) (λ item. item ∷ []) told
+-- the items that a take took: so many of the script's, behind so many that were taken before
+abbrev pub taken_items : Content → TakenItems → List ℕ
+taken_items script taken = take taken.count (drop taken.before script.items)
 
-abbrev pub call_events : Content → List (CallEvent ℕ ℕ) → List calls.Event
+-- what is told, as an event of calls: a put is of the items behind so many, as many as a batch has
+abbrev pub event_of : Content → CallEvent ℕ TakenItems → calls.Event
+event_of script told = event_by (offered script) (taken_items script) told
+
+abbrev pub call_events : Content → List (CallEvent ℕ TakenItems) → List calls.Event
 call_events script told = map (event_of script) told
 
 -- what is told of a play is the recording of its calls, and a linearizable history of a queue of the ring's capacity
-pub record RecordsPlay (script : Content) (h : List Event) (told : List (CallEvent ℕ ℕ)) : Type 0 where
+pub record RecordsPlay (script : Content) (h : List Event) (told : List (CallEvent ℕ TakenItems)) : Type 0 where
   pub tells : TellsCalls script h (call_events script told)
   pub linearizable : IsLinearizable (exactly (capacity_of script.shape)) (call_events script told)
 
@@ -76,7 +84,7 @@ AreAt p t script h =
 -- ---- one event more
 
 -- what an option tells
-abbrev pub told_in : Content → Option (CallEvent ℕ ℕ) → List calls.Event
+abbrev pub told_in : Content → Option (CallEvent ℕ TakenItems) → List calls.Event
 told_in script None = []
 told_in script (Some told) = event_of script told ∷ []
 
@@ -85,33 +93,34 @@ abbrev pub IsPutTally : Content → Puts → ℕ → PutTally → Type 0
 IsPutTally script puts i kept =
     (kept.stored ≡ stored_in 0 (puts_over script.shape first_count puts.puts i)) × (kept.full ≡ fulls (puts_over script.shape first_count puts.puts i))
 
-abbrev pub listed : Option (CallEvent ℕ ℕ) → List (CallEvent ℕ ℕ)
+abbrev pub listed : {E : Type 0} → Option E → List E
 listed None = []
 listed (Some told) = told ∷ []
 
 -- what is told of an event of the producer, by its stage and by the puts that are over before it and with it
-abbrev pub SaysPut : PutStage → (items : ℕ) → (before now : PutTally) → PutStage → Option (CallEvent ℕ ℕ) → Type 0
+abbrev pub SaysPut : PutStage → (items : ℕ) → (before now : PutTally) → PutStage → Option (CallEvent ℕ TakenItems) → Type 0
 SaysPut stage items before now next told =
     (script : Content) (puts : Puts) (i : ℕ) → ArePutsOf script puts → items ≡ length script.items → i < events_in (put_program script.shape puts) →
     IsPutStage stage script puts i → IsPutTally script puts i before → IsPutTally script puts (suc i) now →
     (told_in script told ≡ put_told script.shape (offers_of script puts) 0 first_count puts.puts puts.closes i) × IsPutStage next script puts (suc i)
 
--- the takes that are over within i own events took these items, so many of them found the ring empty, and whether one was told that the
--- ring is closed
+-- the takes that are over within i own events took so many items, so many of them found the ring empty, and whether one was told that
+-- the ring is closed
 pub record TakeTally : Type 0 where
-  pub taken : List ℕ
+  pub taken : ℕ
   pub empty : ℕ
   pub told : Bool
 
 abbrev pub IsTakeTally : Content → Takes → ℕ → TakeTally → Type 0
 IsTakeTally script takes i kept =
-    (kept.taken ≡ all_taken (takes_over script.shape first_count takes.takes i)) × (kept.empty ≡ empties (takes_over script.shape first_count takes.takes i)) ×
-    ((kept.told ≡ true) ↔ IsTold script.shape takes i)
+    (kept.taken ≡ length (all_taken (takes_over script.shape first_count takes.takes i))) ×
+    (kept.empty ≡ empties (takes_over script.shape first_count takes.takes i)) × ((kept.told ≡ true) ↔ IsTold script.shape takes i)
 
--- what is told of an event of the consumer, whose takes that are over with it are of one item each
-abbrev pub SaysTake : TakeStage → (taken : ℕ) → (empty : ℕ) → (now : TakeTally) → TakeStage → Option (CallEvent ℕ ℕ) → Type 0
-SaysTake stage taken empty now next told =
-    (script : Content) (takes : Takes) (i : ℕ) (before : TakeTally) → taken ≡ length before.taken → empty ≡ before.empty → i < events_in (take_program script.shape takes) →
-    AreTakes script.shape 0 takes.takes takes.end → AreWanted script.shape (λ _. 1) 0 0 (takes_over script.shape first_count takes.takes (suc i)) →
+-- what is told of an event of the consumer, whose takes that are over with it took the script's first items; where it begins a take,
+-- that wants so many items
+abbrev pub SaysTake : TakeStage → (wanted : ℕ) → (before now : TakeTally) → TakeStage → Option (CallEvent ℕ TakenItems) → Type 0
+SaysTake stage wanted before now next told =
+    (script : Content) (takes : Takes) (i : ℕ) → wanted ≡ wanted_at script before.taken → i < events_in (take_program script.shape takes) →
+    AreTakes script.shape 0 takes.takes takes.end → IsBeginning (all_taken (takes_over script.shape first_count takes.takes (suc i))) script.items →
     IsTakeStage stage script takes i → IsTakeTally script takes i before → IsTakeTally script takes (suc i) now →
-    (told_in script told ≡ take_told script.shape (λ _. 1) 0 first_count takes.takes takes.end i) × IsTakeStage next script takes (suc i)
+    (told_in script told ≡ take_told script.shape (wants_of script takes) 0 first_count takes.takes takes.end i) × IsTakeStage next script takes (suc i)

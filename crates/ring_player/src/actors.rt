@@ -1,5 +1,5 @@
 //! One side of the world at work.
-ghost use Rattle.std.specs.Prelude.{◌≡◌, ◌≢◌, ◌≤◌, ◌⊎◌, ℕ, Bool, true, false, Some, None, List, [], ◌∷◌, ◌++◌, OnErr, OnOk, IfOk, length};
+ghost use Rattle.std.specs.Prelude.{◌≡◌, ◌≢◌, ◌<◌, ◌≤◌, ◌⊎◌, ℕ, ◌+◌, Bool, true, false, Some, None, List, [], ◌∷◌, ◌++◌, OnErr, OnOk, IfOk, length};
 ghost use Rattle.bits_core.specs.Bits.{other};
 ghost use Rattle.bits_core.specs.History.{open_access};
 ghost use Rattle.bits_core.specs.Made.{own, opening_event};
@@ -14,7 +14,7 @@ use ring_core::laws::last_bit_is_one;
 
 /// What makes the calls of one side: its machine, and what the script asks of it.
 pub trait Actor {
-    ghost use Rattle.std.specs.Prelude.{◌≡◌, ◌≢◌, ℕ, ◌<◌, ◌≤◌, ◌^◌, true, Option, Some, None, List, [], ◌∷◌, ◌++◌, OnErr, OnOk, length};
+    ghost use Rattle.std.specs.Prelude.{◌≡◌, ◌≢◌, ℕ, ◌+◌, ◌<◌, ◌≤◌, ◌^◌, true, Option, Some, None, List, [], ◌∷◌, ◌++◌, OnErr, OnOk, length};
     ghost use Rattle.bits_core.specs.declared.events.Access.{Access};
     ghost use Rattle.bits_core.specs.declared.events.Side.{Side};
     ghost use Rattle.bits_core.specs.Made.{Made, answered, events_of};
@@ -33,8 +33,10 @@ pub trait Actor {
 
     ghost ready: { Self → Type 0 };
 
-    // How many items it keeps, and for how many in all it has room at least.
+    // How many items it keeps, how many more one end of an access may give, and for how many in all it has room at least.
     ghost kept: { Self → ℕ };
+
+    ghost wants: { Self → ℕ };
 
     ghost room: { Self → ℕ };
 
@@ -69,7 +71,7 @@ pub trait Actor {
         ensures kept { kept self.new ≡ kept self.old }
         ensures stands { (list : List Made) (opened : Option Access) → stands self.old list opened → stands self.new list opened }
         ensures ready { OnOk result (ready self.new) }
-        ensures full { OnErr result (room self.old ≤ kept self.old) };
+        ensures full { OnErr result (room self.old < kept self.old + wants self.old) };
 
     /// What is known where the last bit of a count is due.
     fn last_bit(&self)
@@ -133,7 +135,7 @@ fn end_read<M: Store<Event>, A: Actor, O: Oracle>(
     ensures ok { IfOk result (λ moved. IsMove (A.script actor.old) side moved memory.old.events memory.new.events) }
     ensures err { OnErr result (memory.new.events ≡ memory.old.events) }
     ensures rooms { (memory.new.room ≡ memory.old.room) × (A.room actor.new ≡ A.room actor.old) }
-    ensures full { OnErr result ((memory.old.room ≤ length memory.old.events) ⊎ (A.room actor.old ≤ A.kept actor.old)) }
+    ensures full { OnErr result ((memory.old.room ≤ length memory.old.events) ⊎ (A.room actor.old < A.kept actor.old + A.wants actor.old)) }
     ensures kept { OnErr result (A.kept actor.new ≡ A.kept actor.old) }
     ensures err_oracle { OnErr result (oracle.new ≡ oracle.old) }
     ensures turns { (turns : ℕ → Bool) → IsAtTurn turns memory.old.events (O.answers oracle.old) → IsAtTurn turns memory.new.events (O.answers oracle.new) }
@@ -166,7 +168,7 @@ fn end_write<M: Store<Event>, A: Actor>(
     ensures ok { IfOk result (λ moved. IsMove (A.script actor.old) side moved memory.old.events memory.new.events) }
     ensures err { OnErr result (memory.new.events ≡ memory.old.events) }
     ensures rooms { (memory.new.room ≡ memory.old.room) × (A.room actor.new ≡ A.room actor.old) }
-    ensures full { OnErr result ((memory.old.room ≤ length memory.old.events) ⊎ (A.room actor.old ≤ A.kept actor.old)) }
+    ensures full { OnErr result ((memory.old.room ≤ length memory.old.events) ⊎ (A.room actor.old < A.kept actor.old + A.wants actor.old)) }
     ensures kept { OnErr result (A.kept actor.new ≡ A.kept actor.old) }
     ensures turns { (turns answers : ℕ → Bool) → IsAtTurn turns memory.old.events answers → IsAtTurn turns memory.new.events answers }
 {
@@ -196,7 +198,7 @@ fn go_on<M: Store<Event>, A: Actor>(
     ensures ok { IfOk result (λ moved. IsMove (A.script actor.old) side moved memory.old.events memory.new.events) }
     ensures err { OnErr result (memory.new.events ≡ memory.old.events) }
     ensures rooms { (memory.new.room ≡ memory.old.room) × (A.room actor.new ≡ A.room actor.old) }
-    ensures full { OnErr result ((memory.old.room ≤ length memory.old.events) ⊎ (A.room actor.old ≤ A.kept actor.old)) }
+    ensures full { OnErr result ((memory.old.room ≤ length memory.old.events) ⊎ (A.room actor.old < A.kept actor.old + A.wants actor.old)) }
     ensures kept { OnErr result (A.kept actor.new ≡ A.kept actor.old) }
     ensures turns { (turns answers : ℕ → Bool) → IsAtTurn turns memory.old.events answers → IsAtTurn turns memory.new.events answers }
 {
@@ -230,7 +232,7 @@ pub fn advance<M: Store<Event>, A: Actor, O: Oracle>(
     ensures ok { IfOk result (λ moved. IsMove (A.script actor.old) side moved memory.old.events memory.new.events) }
     ensures err { OnErr result (memory.new.events ≡ memory.old.events) }
     ensures rooms { (memory.new.room ≡ memory.old.room) × (A.room actor.new ≡ A.room actor.old) }
-    ensures full { OnErr result ((memory.old.room ≤ length memory.old.events) ⊎ (A.room actor.old ≤ A.kept actor.old)) }
+    ensures full { OnErr result ((memory.old.room ≤ length memory.old.events) ⊎ (A.room actor.old < A.kept actor.old + A.wants actor.old)) }
     ensures kept { OnErr result (A.kept actor.new ≡ A.kept actor.old) }
     ensures turns { (turns : ℕ → Bool) → IsAtTurn turns memory.old.events (O.answers oracle.old) → IsAtTurn turns memory.new.events (O.answers oracle.new) }
 {

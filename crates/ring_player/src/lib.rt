@@ -13,5 +13,5 @@ mod worlds;
 pub use faults::PlayFault;
 pub use ring_audit::{AuditFault, Finding, audit};
 pub use ring_script::{Field, ITEM_LIMIT, LETTER_LIMIT, Script, ScriptFault, ScriptRef};
-pub use tellings::{PlayedCall, play_calls};
+pub use tellings::{PlayedCall, TakenItems, play_calls};
 pub use worlds::{Report, World, play, play_first};

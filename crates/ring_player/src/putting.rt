@@ -171,6 +171,8 @@ impl<'a> Actor for PutActor<'a> {
 
     ghost kept = { λ a. 0 };
 
+    ghost wants = { λ a. 0 };
+
     ghost room = { λ a. 1 };
 
     fn next(&mut self) -> Option<Access> {

@@ -1,20 +1,43 @@
 //! The consumer's side of a script.
-ghost use Rattle.std.specs.Prelude.{◌≡◌, Bool, false, Option, None, Some, List, [], length};
+ghost use Rattle.std.specs.Prelude.{◌≡◌, ◌<◌, ◌≤◌, Bool, false, Option, None, Some, List, [], ◌++◌, length};
 ghost use Rattle.bits_core.specs.declared.events.Access.{Access};
 ghost use Rattle.bits_core.specs.declared.events.Side.TheVariants as side_is;
 ghost use Rattle.bits_core.specs.Made.{Made, events_of};
+ghost use Rattle.bits_core.specs.Shape.{capacity_of};
+ghost use Rattle.ring_core.specs.Counts.{take_batch_of};
 ghost use Rattle.ring_core.specs.ConsumerState.{due_take, is_taking};
 ghost use Rattle.ring_player.specs.Actors.{TakeActorStands, so_far};
 ghost use Rattle.ring_player.specs.SoFar.{TakenSoFar};
-ghost use Rattle.ring_player.specs.Plays.{IsDoneAfter};
+ghost use Rattle.ring_player.specs.Plays.{IsDoneAfter, wanted_at};
 ghost use Rattle.ring_script.specs.Borrowed.{content_of};
 
 use crate::actors::Actor;
 use crate::faults::PlayFault;
-use bits_core::{Access, Store};
+use bits_core::{Access, Shape, Store};
 use ring_core::laws::calls_are_first;
-use ring_core::{Consumer, TakeReply};
+use ring_core::{Consumer, TakeBatchReply};
 use ring_script::ScriptRef;
+
+/// How many items one count write of the consumer may count.
+fn take_batch(shape: &Shape) -> u64
+    ensures value { result ≡ take_batch_of shape.now }
+    ensures some { 0 < result }
+    ensures few { result ≤ capacity_of shape.now }
+{
+    let _ = shape;
+    1
+}
+
+/// Adds the items at the end.
+fn add_all<T: Store<u64>>(store: &mut T, items: &[u64])
+    requires { length items.now ≤ T.spare store.old }
+    ensures items { T.items store.new ≡ T.items store.old ++ items.now }
+    ensures room { T.room store.new ≡ T.room store.old }
+{
+    for each in items {
+        store.add(*each);
+    }
+}
 
 /// Takes as many items as a script wants, or until it is told that the ring is closed.
 #[derive(Drop)]
@@ -86,6 +109,18 @@ impl<'a, T: Store<u64>> TakeActor<'a, T> {
         self.consumer.next();
     }
 
+    /// How many items the next take wants: as many as one count write may count, or as are left to take.
+    pub fn wanted(&self) -> u64
+        ensures value { result ≡ wanted_at (content_of self.now.script) (length (T.items self.now.taken)) }
+        ensures few { result ≤ take_batch_of (content_of self.now.script).shape }
+        ensures small { result ≤ 64 }
+    {
+        let shape = self.script.shape();
+        let _capacity = shape.capacity();
+        let taken = self.taken().len() as u64;
+        take_batch(&shape).min(self.script.takes().saturating_sub(taken))
+    }
+
     /// Begins the next take, if none is under way and the script wants one.
     fn begin_take(&mut self)
         ensures script { content_of self.new.script ≡ content_of self.old.script }
@@ -96,8 +131,9 @@ impl<'a, T: Store<u64>> TakeActor<'a, T> {
         if self.consumer.next().is_some() {
             return;
         }
-        if !self.told && (self.taken().len() as u64) < self.script.takes() {
-            self.consumer.take();
+        let wanted = self.wanted();
+        if !self.told && wanted > 0 {
+            self.consumer.take_all(wanted);
         }
     }
 }
@@ -106,8 +142,9 @@ impl<'a, T: Store<u64>> Actor for TakeActor<'a, T> {
     ghost use Rattle.bits_core.specs.declared.events.Side.TheVariants as side_is;
     ghost use Rattle.ring_core.specs.ConsumerState.{due_take};
     ghost use Rattle.ring_player.specs.Actors.{TakeActorStands};
+    ghost use Rattle.ring_player.specs.Plays.{wanted_at};
     ghost use Rattle.ring_script.specs.Borrowed.{content_of};
-    ghost use Rattle.std.specs.Prelude.{length};
+    ghost use Rattle.std.specs.Prelude.{◌≤◌, length};
 
     ghost script = { λ a. content_of a.script };
 
@@ -117,9 +154,11 @@ impl<'a, T: Store<u64>> Actor for TakeActor<'a, T> {
 
     ghost stands = { λ a list opened. TakeActorStands (content_of a.script) a.consumer (T.items a.taken) a.told a.empty list opened };
 
-    ghost ready = { λ a. T.has_room a.taken };
+    ghost ready = { λ a. wanted_at (content_of a.script) (length (T.items a.taken)) ≤ T.spare a.taken };
 
     ghost kept = { λ a. length (T.items a.taken) };
+
+    ghost wants = { λ a. wanted_at (content_of a.script) (length (T.items a.taken)) };
 
     ghost room = { λ a. T.room a.taken };
 
@@ -134,7 +173,8 @@ impl<'a, T: Store<u64>> Actor for TakeActor<'a, T> {
     }
 
     fn reserve(&mut self) -> Result<(), PlayFault> {
-        self.taken.reserve()?;
+        let wanted = self.wanted();
+        self.taken.reserve_many(wanted as usize)?;
         Ok(())
     }
 
@@ -146,10 +186,10 @@ impl<'a, T: Store<u64>> Actor for TakeActor<'a, T> {
         self.consumer.next();
         self.consumer.feed(answer);
         self.consumer.next();
-        match self.consumer.reply() {
-            Some(TakeReply::Item(item)) => self.taken.add(item),
-            Some(TakeReply::Closed) => self.told = true,
-            Some(TakeReply::Empty) => self.empty += 1,
+        match self.consumer.batch_reply() {
+            Some(TakeBatchReply::Taken(_)) => add_all(&mut self.taken, self.consumer.items()),
+            Some(TakeBatchReply::Closed) => self.told = true,
+            Some(TakeBatchReply::Empty) => self.empty += 1,
             None => {}
         }
     }

@@ -1,11 +1,13 @@
 //! The calls of a play, one after the other, as a recorder would tell them.
-ghost use Rattle.std.specs.Prelude.{◌≡◌, IfOk, OnOk, List, [], ◌∷◌, ◌++◌, length, replicate};
+ghost use Rattle.std.specs.Prelude.{◌≡◌, ◌↔◌, true, IfOk, OnOk, List, [], ◌∷◌, ◌++◌, length, replicate};
 ghost use Rattle.bits_core.specs.declared.events.Event.{Event as AnEvent};
 ghost use Rattle.bits_core.specs.declared.events.Side.{Side};
 ghost use Rattle.bits_core.specs.declared.events.Side.TheVariants as side_is;
 ghost use Rattle.queue_calls.specs.Calls.{Event as ACall};
-ghost use Rattle.ring_core.specs.Over.{fulls, puts_over_in};
+ghost use Rattle.ring_core.specs.Items.{ToldIn, all_taken};
+ghost use Rattle.ring_core.specs.Over.{empties, fulls, puts_over_in, takes_over_in};
 ghost use Rattle.ring_core.specs.Puts.{FollowsPuts, Puts, stored_in};
+ghost use Rattle.ring_core.specs.Takes.{FollowsTakes, Takes};
 ghost use Rattle.ring_player.specs.Headline.{IsPlayOf};
 ghost use Rattle.ring_player.specs.Plays.{Plays};
 ghost use Rattle.ring_player.specs.Tellings.{AreAt, RecordsPlay, SaysPut, SaysTake, TellsCalls, call_events, listed, told_in};
@@ -15,16 +17,25 @@ use crate::worlds::World;
 use bits_core::laws::own_changes;
 use bits_core::{Event, Side, Store};
 use queue_calls::CallEvent;
-use ring_core::laws::{calls_over_are_read, events_tell_by_one, recorded_is_linearizable};
+use ring_core::laws::{events_tell_by_one, recorded_is_linearizable};
 use ring_script::Script;
 use std::alloc::{AllocError, Allocator};
 
-/// What an event of a play tells of a call: it begins, with its first own event, or it ends, with its last. A put that begins tells how
-/// many items of the script were stored before it: it is offered those that follow, as many as a batch may have. A take is of one item,
-/// and where it took one tells which.
+/// The items that a take of a play took: so many of the script's, behind as many as were taken before.
 ///
-/// For example, `CallEvent::TakeItems(5)` is what `C item 5` tells in a recording.
-pub type PlayedCall = CallEvent<usize, u64>;
+/// For example, of a script whose items are 5 and 6, `TakenItems { before: 1, count: 1 }` are the item 6.
+#[derive(Clone, Copy, PartialEq, Eq, Debug)]
+pub struct TakenItems {
+    pub before: usize,
+    pub count: usize,
+}
+
+/// What an event of a play tells of a call: it begins, with its first own event, or it ends, with its last. A put that begins tells how
+/// many items of the script were stored before it: it is offered those that follow, as many as a batch may have. A take that begins tells
+/// how many items it wants, and where it took some tells which.
+///
+/// In use: `lamport_ring play --calls`.
+pub type PlayedCall = CallEvent<usize, TakenItems>;
 
 // Where the producer is in its calls: between two, in a put, in the close, behind it.
 #[derive(Clone, Copy)]
@@ -89,30 +100,38 @@ fn put_says(
     }
 }
 
-// The stage behind an event of the consumer and what the event tells, by the stage before it, how many takes had taken an item and found the
-// ring empty, and what takes have taken, found and told with it.
-fn take_says(
-    stage: TakeStage,
+// What was counted of the takes that are over: the items that they took, how many found the ring empty, and whether one was told that the
+// ring is closed.
+#[derive(Clone, Copy)]
+struct TakeCount {
     taken: usize,
     empty: u64,
-    taken_now: &[u64],
-    empty_now: u64,
-    told_now: bool,
+    told: bool,
+}
+
+// The stage behind an event of the consumer and what the event tells, by the stage before it, how many items the next take wanted, and the
+// counts before it and with it.
+fn take_says(
+    stage: TakeStage,
+    wanted: usize,
+    before: TakeCount,
+    now: TakeCount,
 ) -> (TakeStage, Option<PlayedCall>)
-    ensures { SaysTake stage taken empty (record { taken = taken_now.now; empty = empty_now; told = told_now }) result.0 result.1 }
+    ensures { SaysTake stage wanted (record { taken = before.taken; empty = before.empty; told = before.told }) (record { taken = now.taken; empty = now.empty; told = now.told }) result.0 result.1 }
 {
     events_tell_by_one();
     match stage {
-        TakeStage::Between => (TakeStage::Taking, Some(PlayedCall::TakeBegins(1))),
+        TakeStage::Between => (TakeStage::Taking, Some(PlayedCall::TakeBegins(wanted))),
         TakeStage::Taking => {
-            if taken < taken_now.len() {
-                (
-                    TakeStage::Between,
-                    Some(PlayedCall::TakeItems(taken_now[taken])),
-                )
-            } else if empty < empty_now {
+            if before.taken < now.taken {
+                let taken = TakenItems {
+                    before: before.taken,
+                    count: now.taken - before.taken,
+                };
+                (TakeStage::Between, Some(PlayedCall::TakeItems(taken)))
+            } else if before.empty < now.empty {
                 (TakeStage::Between, Some(PlayedCall::TakeEmpty))
-            } else if told_now {
+            } else if now.told {
                 (TakeStage::Told, Some(PlayedCall::TakeClosed))
             } else {
                 (TakeStage::Taking, None)
@@ -137,6 +156,19 @@ fn put_count<E: Store<Event>, T: Store<u64>>(world: &World<'_, E, T>) -> PutCoun
     PutCount {
         stored: world.stored(),
         full: world.full(),
+    }
+}
+
+// What was counted of the takes that are over.
+fn take_count<E: Store<Event>, T: Store<u64>>(world: &World<'_, E, T>) -> TakeCount
+    ensures taken { (takes : Takes) → FollowsTakes world.now.script.shape world.now.history takes → result.taken ≡ length (all_taken (takes_over_in world.now.script.shape world.now.history takes)) }
+    ensures empty { (takes : Takes) → FollowsTakes world.now.script.shape world.now.history takes → result.empty ≡ empties (takes_over_in world.now.script.shape world.now.history takes) }
+    ensures told { (takes : Takes) → FollowsTakes world.now.script.shape world.now.history takes → (result.told ≡ true) ↔ ToldIn world.now.script.shape world.now.history takes }
+{
+    TakeCount {
+        taken: world.ended_items().len(),
+        empty: world.empty(),
+        told: world.told(),
     }
 }
 
@@ -177,24 +209,15 @@ fn take_step<E: Store<Event>, T: Store<u64>>(
     ensures letters { OnOk result ((letters : List Side) → Plays world.old.script letters world.old.history → Plays world.new.script (letters ++ side_is.C ∷ []) world.new.history) }
 {
     own_changes();
-    calls_over_are_read();
-    let told = world.told();
-    let taken = world.ended_items().len();
-    let empty = world.empty();
+    let wanted = world.wanted() as usize;
+    let before = take_count(world);
     let moved = world.step(Side::C)?;
     if !moved {
         return Ok(None);
     }
-    let empty_now = world.empty();
-    let told_now = world.told();
-    let said = take_says(
-        at.take,
-        taken,
-        empty,
-        world.ended_items(),
-        empty_now,
-        told_now,
-    );
+    world.ended_items();
+    let now = take_count(world);
+    let said = take_says(at.take, wanted, before, now);
     at.take = said.0;
     Ok(said.1)
 }

@@ -3,6 +3,8 @@ ghost use Rattle.std.specs.Prelude.{◌≡◌, ◌↔◌, ◌⊎◌, ◌<◌, �
 ghost use Rattle.bits_core.specs.declared.events.Side.{Side};
 ghost use Rattle.bits_core.specs.declared.events.Side.TheVariants as side_is;
 ghost use Rattle.bits_core.specs.Memory.{flicker_count};
+ghost use Rattle.bits_core.specs.Made.{IsBeginning};
+ghost use Rattle.ring_core.specs.Counts.{take_batch_of};
 ghost use Rattle.ring_core.specs.Items.{ToldIn, all_taken, items_put_in, items_taken_in};
 ghost use Rattle.ring_core.specs.Linear.{EachReadingIsLinearizable};
 ghost use Rattle.ring_core.specs.Over.{empties, fulls, puts_over_in, takes_over_in};
@@ -10,7 +12,7 @@ ghost use Rattle.ring_core.specs.Puts.{FollowsPuts, Puts, stored_in};
 ghost use Rattle.ring_core.specs.Takes.{FollowsTakes, Takes};
 ghost use Rattle.ring_player.specs.Actors.{IsMove};
 ghost use Rattle.ring_player.specs.Headline.{IsPlayOf};
-ghost use Rattle.ring_player.specs.Plays.{HasFlickers, Plays, event_sides};
+ghost use Rattle.ring_player.specs.Plays.{HasFlickers, Plays, event_sides, wanted_at};
 ghost use Rattle.ring_script.specs.Borrowed.{content_of};
 
 use crate::actors::advance;
@@ -144,11 +146,14 @@ impl<'a, E: Store<Event>, T: Store<u64>> World<'a, E, T> {
         self.producer.stored()
     }
 
-    /// The items that the takes which have ended took.
+    /// The items that the takes which have ended took: the first ones of the script.
     pub fn ended_items(&self) -> &[u64]
-        ensures { (takes : Takes) → FollowsTakes self.now.script.shape self.now.history takes → result.now ≡ all_taken (takes_over_in self.now.script.shape self.now.history takes) }
+        ensures items { (takes : Takes) → FollowsTakes self.now.script.shape self.now.history takes → result.now ≡ all_taken (takes_over_in self.now.script.shape self.now.history takes) }
+        ensures first { IsBeginning result.now self.now.script.items }
     {
         calls_over_are_read();
+        self.history();
+        self.producer.look();
         self.consumer.look();
         self.consumer.taken()
     }
@@ -171,9 +176,20 @@ impl<'a, E: Store<Event>, T: Store<u64>> World<'a, E, T> {
         self.consumer.empty()
     }
 
-    // No more items were taken than the script has.
+    /// How many items the next take wants: as many as one count write may count, or as are left to take.
+    pub fn wanted(&self) -> u64
+        ensures wanted { (takes : Takes) → FollowsTakes self.now.script.shape self.now.history takes → result ≡ wanted_at self.now.script (length (all_taken (takes_over_in self.now.script.shape self.now.history takes))) }
+        ensures small { result ≤ 64 }
+    {
+        calls_over_are_read();
+        self.consumer.look();
+        self.consumer.wanted()
+    }
+
+    // No more items were taken than the script has, nor than it takes.
     fn few_taken(&self)
-        ensures { self.now.taken ≤ length self.now.script.items }
+        ensures items { self.now.taken ≤ length self.now.script.items }
+        ensures takes { self.now.taken ≤ self.now.script.takes }
     {
         items_put_are_read();
         items_taken_are_read();
@@ -221,14 +237,14 @@ impl<'a, E: Store<Event>, T: Store<u64>> World<'a, E, T> {
 
     /// One step of a side: true where it made its next event, false where it is done.
     ///
-    /// `OutOfMemory` leaves all as it was: the history had no room for the event, or the items taken had none for one
-    /// item more, which is wanted wherever an access of the consumer ends.
+    /// `OutOfMemory` leaves all as it was: the history had no room for the event, or the items taken had none for as many
+    /// more as the take wants, which is asked for wherever an access of the consumer ends.
     pub fn step(&mut self, side: Side) -> Result<bool, PlayFault>
         ensures script { self.new.script ≡ self.old.script }
         ensures ok { IfOk result (λ moved. IsMove self.old.script side moved self.old.history self.new.history) }
         ensures err { OnErr result (self.new ≡ self.old) }
         ensures rooms { (self.new.event_room ≡ self.old.event_room) × (self.new.item_room ≡ self.old.item_room) }
-        ensures full { OnErr result ((self.old.event_room ≤ length self.old.history) ⊎ (self.old.item_room ≤ self.old.taken)) }
+        ensures full { OnErr result ((self.old.event_room ≤ length self.old.history) ⊎ (self.old.item_room < self.old.taken + wanted_at self.old.script self.old.taken)) }
         ensures few { length self.new.history ≤ length self.old.history + 1 }
         ensures letters { OnOk result ((letters : List Side) → Plays self.old.script letters self.old.history → Plays self.new.script (letters ++ side ∷ []) self.new.history) }
         ensures plays { IsPlayOf self.new.script (event_sides self.new.history) self.new.history }
@@ -243,7 +259,7 @@ impl<'a, E: Store<Event>, T: Store<u64>> World<'a, E, T> {
         ensures ok { IfOk result (λ moved. IsMove self.old.script side moved self.old.history self.new.history) }
         ensures err { OnErr result (self.new ≡ self.old) }
         ensures rooms { (self.new.event_room ≡ self.old.event_room) × (self.new.item_room ≡ self.old.item_room) }
-        ensures full { OnErr result ((self.old.event_room ≤ length self.old.history) ⊎ (self.old.item_room ≤ self.old.taken)) }
+        ensures full { OnErr result ((self.old.event_room ≤ length self.old.history) ⊎ (self.old.item_room < self.old.taken + wanted_at self.old.script self.old.taken)) }
     {
         match side {
             Side::P => self.step_producer(),
@@ -256,7 +272,7 @@ impl<'a, E: Store<Event>, T: Store<u64>> World<'a, E, T> {
         ensures ok { IfOk result (λ moved. IsMove self.old.script side_is.P moved self.old.history self.new.history) }
         ensures err { OnErr result (self.new ≡ self.old) }
         ensures rooms { (self.new.event_room ≡ self.old.event_room) × (self.new.item_room ≡ self.old.item_room) }
-        ensures full { OnErr result ((self.old.event_room ≤ length self.old.history) ⊎ (self.old.item_room ≤ self.old.taken)) }
+        ensures full { OnErr result ((self.old.event_room ≤ length self.old.history) ⊎ (self.old.item_room < self.old.taken + wanted_at self.old.script self.old.taken)) }
     {
         open_changes();
         own_changes();
@@ -273,7 +289,7 @@ impl<'a, E: Store<Event>, T: Store<u64>> World<'a, E, T> {
         ensures ok { IfOk result (λ moved. IsMove self.old.script side_is.C moved self.old.history self.new.history) }
         ensures err { OnErr result (self.new ≡ self.old) }
         ensures rooms { (self.new.event_room ≡ self.old.event_room) × (self.new.item_room ≡ self.old.item_room) }
-        ensures full { OnErr result ((self.old.event_room ≤ length self.old.history) ⊎ (self.old.item_room ≤ self.old.taken)) }
+        ensures full { OnErr result ((self.old.event_room ≤ length self.old.history) ⊎ (self.old.item_room < self.old.taken + wanted_at self.old.script self.old.taken)) }
     {
         open_changes();
         own_changes();
@@ -296,7 +312,7 @@ fn repeat<E: Store<Event>, T: Store<u64>>(
     ensures plays { OnOk result ((letters : List Side) → Plays world.old.script letters world.old.history → Plays world.old.script (letters ++ replicate count side) world.new.history) }
     ensures rooms { (world.new.event_room ≡ world.old.event_room) × (world.new.item_room ≡ world.old.item_room) }
     ensures few { OnOk result (length world.new.history ≤ length world.old.history + count) }
-    ensures full { OnErr result (((world.new.event_room ≤ length world.new.history) ⊎ (world.new.item_room ≤ world.new.taken)) × (length world.new.history < length world.old.history + count)) }
+    ensures full { OnErr result (((world.new.event_room ≤ length world.new.history) ⊎ (world.new.item_room < world.new.taken + wanted_at world.new.script world.new.taken)) × (length world.new.history < length world.old.history + count)) }
 {
     for made in 0..count {
         world.step(side)?;
@@ -316,7 +332,7 @@ fn run_first<E: Store<Event>, T: Store<u64>>(
     ensures plays { OnOk result (Plays (content_of script.entry) (take letters (content_of script.entry).letters) world.new.history) }
     ensures rooms { (world.new.event_room ≡ world.old.event_room) × (world.new.item_room ≡ world.old.item_room) }
     ensures few { OnOk result (length world.new.history ≤ min letters (length (content_of script.entry).letters)) }
-    ensures full { OnErr result (((world.new.event_room ≤ length world.new.history) ⊎ (world.new.item_room ≤ world.new.taken)) × (length world.new.history < min letters (length (content_of script.entry).letters))) }
+    ensures full { OnErr result (((world.new.event_room ≤ length world.new.history) ⊎ (world.new.item_room < world.new.taken + wanted_at world.new.script world.new.taken)) × (length world.new.history < min letters (length (content_of script.entry).letters))) }
 {
     world.history();
     let mut left = letters;
@@ -368,8 +384,8 @@ pub fn play<'a, A: Allocator + Copy, B: Allocator>(
 /// Plays the first so many letters of a script, or all of them where they are fewer: a new world, one step for each of
 /// these letters, and its report. The history and the items taken grow in these stores, which are empty.
 ///
-/// `OutOfMemory` tells that one of the stores had no room: the history for an event, or the items taken for one item
-/// more, which is wanted wherever an access of the consumer ends.
+/// `OutOfMemory` tells that one of the stores had no room: the history for an event, or the items taken for as many more
+/// as a take wants, which is asked for wherever an access of the consumer ends.
 ///
 /// In use: the page, which shows a play up to a letter.
 pub fn play_first<'a, E: Store<Event>, T: Store<u64>>(
@@ -390,9 +406,9 @@ pub fn play_first<'a, E: Store<Event>, T: Store<u64>>(
     ensures flicker { IfOk result (λ r. HasFlickers (E.items r.history) r.flicker) }
     // A letter gives one event at most.
     ensures few { IfOk result (λ r. length (E.items r.history) ≤ min letters (length (content_of script.entry).letters)) }
-    // A refusal comes only where the history has no room for as many events as letters are played, or the items taken have none for
-    // one more than the script has.
-    ensures refused { OnErr result ((E.room events < min letters (length (content_of script.entry).letters)) ⊎ (T.room taken ≤ length (content_of script.entry).items)) }
+    // A refusal comes only where the history has no room for as many events as letters are played, or the items taken have none for as
+    // many as the script takes, nor for as many more than it has, less one, as a take may take.
+    ensures refused { OnErr result ((E.room events < min letters (length (content_of script.entry).letters)) ⊎ ((T.room taken < (content_of script.entry).takes) × (T.room taken < length (content_of script.entry).items + take_batch_of (content_of script.entry).shape))) }
 {
     every_play_holds();
     every_play_fills();

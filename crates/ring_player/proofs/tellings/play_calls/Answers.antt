@@ -12,7 +12,9 @@ use Rattle.ring_player.specs.Tellings.{AreAt, TellsCalls, call_events}
 use Rattle.ring_player.specs.declared.tellings.PutStage.TheVariants as put
 use Rattle.ring_player.specs.declared.tellings.TakeStage.TheVariants as taking
 use Rattle.queue_calls.specs.declared.events.CallEvent.{CallEvent}
-use Rattle.ring_player.proofs.TellingMoves.{at_first, nothing_told, play_records}
+use Rattle.ring_player.specs.declared.tellings.TakenItems.{TakenItems}
+use Rattle.ring_player.proofs.TellingMoves.{at_first, nothing_told}
+use Rattle.ring_player.proofs.TellingRecords.{play_records}
 use Rattle.ring_player.proofs.WorldParts.{spelled-more, spelled-none}
 use Rattle.ring_player.proofs.tellings.play_calls.Goals as goal
 
@@ -23,7 +25,7 @@ loop-run-init g c =
       script = c.new-world.ensures.script;
       all = c.runs-run-items.ensures ∙ ap (λ (s : Content). s.letters) c.as_ref-script.ensures;
       at = subst (AreAt put.Between taking.Between w.script) (sym c.new-world.ensures.empty) (at_first w.script);
-      told = subst (λ (t : List (CallEvent ℕ ℕ)). TellsCalls w.script w.history (call_events w.script t)) (sym c.new-told.ensures.items)
+      told = subst (λ (t : List (CallEvent ℕ TakenItems)). TellsCalls w.script w.history (call_events w.script t)) (sym c.new-told.ensures.items)
           (subst (λ h. TellsCalls w.script h []) (sym c.new-world.ensures.empty) (nothing_told w.script));
       plays = subst (λ (l : List Side). Plays c.args.script.now l w.history) (sym spelled-none)
           (subst (λ (s : Content). Plays s [] w.history) c.new-world.ensures.script

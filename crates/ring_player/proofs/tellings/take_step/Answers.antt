@@ -1,9 +1,14 @@
-use Rattle.std.proofs.Common.{None, length, refl, subst}
+use Rattle.std.proofs.Common.{None, subst}
+use Rattle.bits_core.specs.Made.{IsBeginning}
 use Rattle.bits_core.specs.declared.events.Side.TheVariants.{C}
 use Rattle.ring_player.specs.Actors.{IsMove}
-use Rattle.ring_player.specs.Plays.{event_sides}
+use Rattle.ring_player.specs.Tellings.{TakeTally}
+use Rattle.ring_player.specs.declared.tellings.TakeCount.{TakeCount}
 use Rattle.ring_player.proofs.TellingMoves.{not_stepped, take_stepped, Stepped}
 use Rattle.ring_player.proofs.tellings.take_step.Goals as goal
+
+abbrev tally : TakeCount → TakeTally
+tally count = record { taken = count.taken; empty = count.empty; told = count.told }
 
 stays : (g : _) (c : goal.Then-not-moved g) → Stepped c.args.world.now.script c.step.new.self.script c.args.world.now.history c.step.new.self.history c.args.at.now.put c.args.at.now.take None
 stays g c =
@@ -21,15 +26,12 @@ goes :
     Stepped c.args.world.now.script c.step.new.self.script c.args.world.now.history c.step.new.self.history c.args.at.now.put c.take_says-said.result.0 c.take_says-said.result.1
 goes g c =
     let script = c.args.world.now.script in
-    take_stepped c.own_changes.ensures c.calls_over_are_read.ensures.takes script c.step.new.self.script c.args.world.now.history c.step.new.self.history c.args.at.now.put c.args.at.now.take c.take_says-said.result.0
-    (length c.ended_items-taken.result.now) c.empty-empty.result
-    (record { taken = c.ended_items-taken.result.now; empty = c.empty-empty.result; told = c.told-told.result })
-    (record { taken = c.ended_items.result.now; empty = c.empty-empty_now.result; told = c.told-told_now.result })
-    c.take_says-said.result.1 c.in_ok-moved.ensures.script
-    (subst (λ b. IsMove script C b c.args.world.now.history c.step.new.self.history) c.if-not-moved.false c.in_ok-moved.ensures.ok) c.take_says-said.ensures refl refl c.requires.at
-    (λ takes f. (c.ended_items-taken.ensures takes f, c.empty-empty.ensures takes f, c.told-told.ensures takes f))
-    (λ takes f. (c.ended_items.ensures takes f, c.empty-empty_now.ensures takes f, c.told-told_now.ensures takes f))
-    (event_sides c.step.new.self.history) c.in_ok-moved.ensures.plays.plays
+    take_stepped c.own_changes.ensures script c.step.new.self.script c.args.world.now.history c.step.new.self.history c.args.at.now.put c.args.at.now.take c.take_says-said.result.0
+    c.wanted-wanted.result (tally c.take_count-before.result) (tally c.take_count-now.result) c.take_says-said.result.1 c.in_ok-moved.ensures.script
+    (subst (λ b. IsMove script C b c.args.world.now.history c.step.new.self.history) c.if-not-moved.false c.in_ok-moved.ensures.ok) c.take_says-said.ensures c.wanted-wanted.ensures.wanted c.requires.at
+    (c.take_count-before.ensures.taken, c.take_count-before.ensures.empty, c.take_count-before.ensures.told)
+    (c.take_count-now.ensures.taken, c.take_count-now.ensures.empty, c.take_count-now.ensures.told)
+    (λ takes f. subst (λ l. IsBeginning l c.step.new.self.script.items) (c.ended_items.ensures.items takes f) c.ended_items.ensures.first)
 
 pub returns-clause-at : goal.returns-clause-at
 returns-clause-at g c = (goes g c).0

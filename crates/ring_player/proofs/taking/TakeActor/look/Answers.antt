@@ -1,6 +1,6 @@
 use Rattle.std.proofs.Common.{◌∙◌}
 use Rattle.ring_player.proofs.Nexts.{take_next}
-use Rattle.ring_player.proofs.Takings.{taken_so_far}
+use Rattle.ring_player.proofs.TakesSoFar.{taken_so_far}
 use Rattle.ring_script.specs.Borrowed.{content_of}
 use Rattle.ring_player.proofs.taking.TakeActor.look.Goals as goal
 

@@ -1,0 +1,147 @@
+-- What the consumer's actor has taken in its events so far.
+use Rattle.std.proofs.Common.{◌≡◌, ◌⊎◌, inl, inr, ℕ, ◌+◌, ◌*◌, ◌<◌, ◌≤◌, Bool, true, false, Option, Some, None, List, [], ◌∷◌, ◌++◌, length, refl, sym, ap, ap₂, subst, ◌∙◌, append_assoc, append-nil, length-append, arith}
+use Rattle.std.specs.Prelude.{◌-◌}
+use Rattle.bits_core.specs.declared.events.Side.TheVariants.{C}
+use Rattle.bits_core.specs.declared.events.Access.{Access}
+use Rattle.bits_core.specs.declared.shapes.Shape.{Shape}
+use Rattle.bits_core.specs.Made.{Made, answered, end_event, events_of, IsBeginning}
+use Rattle.ring_core.specs.ConsumerCalls.{and_end, and_take, count_taken, IsTakeOf, ends_closed}
+use Rattle.ring_core.specs.ConsumerState.{ConsumerState, is_taking}
+use Rattle.ring_core.specs.Counts.{first_count}
+use Rattle.ring_core.specs.Items.{all_taken, items_taken, Tells}
+use Rattle.ring_core.specs.Over.{empties, takes_over}
+use Rattle.ring_core.specs.Takes.{AreTakes, Closed, End, Open, Take, end_phrase, take_phrase, take_phrases, take_program, taken_count, taken_in, Takes}
+use Rattle.ring_player.specs.Actors.{TakeActorStands, so_far}
+use Rattle.ring_player.specs.Plays.{wanted_at}
+use Rattle.ring_player.specs.SoFar.{TakenSoFar}
+use Rattle.ring_script.specs.Content.{Content}
+use Rattle.ring_player.proofs.Moves.{events-append, events-more, length-events, so_far_length}
+use Rattle.ring_player.proofs.Nexts.{IsNextTake, NextTake as NextOf}
+use Rattle.ring_player.proofs.Overs.{takes_all_over, takes_cut_over}
+use Rattle.ring_player.proofs.TakeLists.{all_are, empties_few, phrases-more, taken-append, taken_all, taken_none, tells_so}
+use Rattle.ring_player.proofs.Takings.{next_in}
+
+-- the events so far begin those with the due access made
+so_far_begins : (list : List Made) (o : Option Access) (a : Access) (v : Bool) → ((b : Access) → o ≡ Some b → Some a ≡ Some b) → IsBeginning (so_far C list o) (events_of C (list ++ answered a v ∷ []))
+so_far_begins list None a v due = (events_of C (answered a v ∷ []), sym (events-append C list (answered a v ∷ [])))
+so_far_begins list (Some b) a v due =
+    let same : a ≡ b = some_same (due b refl) in
+    (end_event C (answered a v) ∷ [], ap (λ x. so_far C list (Some x) ++ end_event C (answered a v) ∷ []) (sym same) ∙ sym (events-more C list a v))
+  where
+    some_same : Some a ≡ Some b → a ≡ b
+    some_same e = cc
+
+begins-trans : {A : Type 0} (xs ys zs : List A) → IsBeginning xs ys → IsBeginning ys zs → IsBeginning xs zs
+begins-trans xs ys zs (r, e) (r', f) = (r ++ r', sym (append_assoc xs r r') ∙ ap (λ l. l ++ r') e ∙ f)
+
+pub taken_so_far :
+    (script : Content) (p : ConsumerState) (taken : List ℕ) (told : Bool) (empty : ℕ) (list : List Made) (o due : Option Access) → TakeActorStands script p taken told empty list o → NextOf p due →
+    ((a : Access) → o ≡ Some a → due ≡ Some a) → TakenSoFar script.shape (so_far C list o) taken told empty
+taken_so_far script p taken told empty list o due s next is_due = by_due due is_due (is_taking p) (next_in script p taken told empty list o due s next)
+  where
+    calls : Takes
+    calls = s.calls
+
+    shape : Shape
+    shape = script.shape
+
+    program-parts : (takes : Takes) → length (take_program shape takes) ≡ length (take_phrases shape first_count takes.takes) + length (end_phrase takes.end)
+    program-parts takes = length-append (take_phrases shape first_count takes.takes) (end_phrase takes.end)
+
+    calls_are : AreTakes shape 0 calls.takes calls.end
+    calls_are = subst (λ (t : Shape). AreTakes t 0 calls.takes calls.end) s.same_shape s.there.are
+
+    no_open : (o : Option Access) → ((a : Access) → o ≡ Some a → None ≡ Some a) → o ≡ None
+    no_open None f = refl
+    no_open (Some a) f = absurd (none_some (f a refl))
+      where
+        none_some : None ≡ Some a → ⊥
+        none_some e = absurd (cc)
+
+    tells_if : (end : End) → Tells end → ends_closed end ≡ true
+    tells_if Open t = absurd t
+    tells_if (Closed seen again) t = refl
+
+    by_due : (due : Option Access) → ((a : Access) → o ≡ Some a → due ≡ Some a) → (taking : Bool) → IsNextTake shape (wanted_at script (taken_in 0 calls.takes)) calls taking list due → TakenSoFar shape (so_far C list o) taken told empty
+    by_due None f false whole =
+        let none : o ≡ None = no_open o f in
+        let es : so_far C list o ≡ events_of C (take_program shape calls) = ap (so_far C list) none ∙ ap (events_of C) whole in
+        let size : length (so_far C list o) ≡ 2 * length (take_program shape calls) = ap length es ∙ length-events C (take_program shape calls) in
+        record {
+          takes = calls;
+          are = calls_are;
+          begins = ([], append-nil (so_far C list o) ∙ es);
+          items = taken_all shape first_count calls.takes (length (so_far C list o)) (omega (arith, size, program-parts calls)) ∙ sym s.taken_is;
+          over = ap empties (takes_all_over shape first_count calls.takes (length (so_far C list o)) (omega (arith, size, program-parts calls))) ∙ sym s.empty_is;
+          ended = ap all_taken (takes_all_over shape first_count calls.takes (length (so_far C list o)) (omega (arith, size, program-parts calls))) ∙ sym s.taken_is;
+          tells = (λ t. (tells_so calls.end (sym s.told_is ∙ t), omega (arith, size)), λ t. s.told_is ∙ tells_if calls.end t.0);
+        }
+    by_due None f true next = absurd next
+    by_due (Some a) f false next = absurd next
+    by_due (Some a) f true next =
+        let (more, has, (rest, e)) = next true (λ l. refl) in
+        let bounds = so_far_length C list o in
+        let longer : length list < length (take_program shape more) = omega (arith, ap length e, length-append (list ++ answered a true ∷ []) rest, length-append list (answered a true ∷ [])) in
+        let open_tells_not : told ≡ false = s.told_is ∙ ap ends_closed has.not_over in
+        record {
+          takes = more;
+          are = has.are;
+          begins = begins-trans (so_far C list o) (events_of C (list ++ answered a true ∷ [])) (events_of C (take_program shape more)) (so_far_begins list o a true f)
+              (events_of C rest, sym (events-append C (list ++ answered a true ∷ []) rest) ∙ ap (events_of C) e);
+          items = by_more more has.is_one_more longer ∙ sym s.taken_is;
+          over = ap empties (over_more more has.is_one_more longer) ∙ sym s.empty_is;
+          ended = ap all_taken (over_more more has.is_one_more longer) ∙ sym s.taken_is;
+          tells = (λ t. absurd (true_false (sym t ∙ open_tells_not)), λ t. absurd (omega (arith, t.1, longer, bounds)));
+        }
+      where
+        true_false : true ≡ false → ⊥
+        true_false e = absurd (cc)
+
+        sizes : (more : Takes) (x : Take) → more ≡ and_take calls x → length (take_program shape more) ≡ length (take_phrases shape first_count (calls.takes ++ x ∷ []))
+        sizes more x more_is = omega (arith, ap (λ (m : Takes). length (take_program shape m)) more_is, ap length (append-nil (take_phrases shape first_count (calls.takes ++ x ∷ []))))
+
+        over_more : (more : Takes) → ((x : Take) × IsTakeOf shape (count_taken shape calls).number (wanted_at script (taken_in 0 calls.takes)) x × (more ≡ and_take calls x)) ⊎ ((seen again : ℕ) × (more ≡ and_end calls seen again)) → length list < length (take_program shape more) →
+            takes_over shape first_count more.takes (length (so_far C list o)) ≡ calls.takes
+        over_more more (inl (x, of, more_is)) longer =
+            let t : ℕ = length (so_far C list o) in
+            let bounds = so_far_length C list o in
+            ap (λ (m : Takes). takes_over shape first_count m.takes t) more_is
+            ∙ takes_cut_over shape first_count calls.takes x t (omega (arith, s.long, program-parts calls, bounds)) (omega (arith, longer, sizes more x more_is, bounds))
+        over_more more (inr (seen, again, more_is)) longer =
+            let t : ℕ = length (so_far C list o) in
+            let bounds = so_far_length C list o in
+            ap (λ (m : Takes). takes_over shape first_count m.takes t) more_is ∙ takes_all_over shape first_count calls.takes t (omega (arith, s.long, program-parts calls, bounds))
+
+        by_more : (more : Takes) → ((x : Take) × IsTakeOf shape (count_taken shape calls).number (wanted_at script (taken_in 0 calls.takes)) x × (more ≡ and_take calls x)) ⊎ ((seen again : ℕ) × (more ≡ and_end calls seen again)) → length list < length (take_program shape more) →
+            items_taken shape first_count more.takes (length (so_far C list o)) ≡ all_taken calls.takes
+        by_more more (inl (x, of, more_is)) longer =
+            let t : ℕ = length (so_far C list o) in
+            let bounds = so_far_length C list o in
+            let front : ℕ = length (take_phrases shape first_count calls.takes) in
+            let size : length (take_program shape more) ≡ front + length (take_phrase shape (taken_count shape first_count calls.takes) x) =
+            omega (
+              arith,
+              ap (λ (m : Takes). length (take_program shape m)) more_is,
+              ap length (append-nil (take_phrases shape first_count (calls.takes ++ x ∷ []))),
+              ap length (phrases-more shape first_count calls.takes x),
+              length-append (take_phrases shape first_count calls.takes) (take_phrase shape (taken_count shape first_count calls.takes) x),
+            ) in
+            ap (λ (m : Takes). items_taken shape first_count m.takes t) more_is ∙ taken-append shape first_count calls.takes (x ∷ []) t
+            ∙ ap₂ (λ (l : List ℕ) (m : List ℕ). l ++ m) (taken_all shape first_count calls.takes t (omega (arith, s.long, program-parts calls, bounds)))
+            (taken_none shape (taken_count shape first_count calls.takes) x (t - 2 * front) (omega (arith, longer, size, bounds, s.long, program-parts calls)))
+            ∙ append-nil (all_taken calls.takes)
+        by_more more (inr (seen, again, more_is)) longer =
+            let t : ℕ = length (so_far C list o) in
+            let bounds = so_far_length C list o in
+            ap (λ (m : Takes). items_taken shape first_count m.takes t) more_is ∙ taken_all shape first_count calls.takes t (omega (arith, s.long, program-parts calls, bounds))
+
+-- it has taken no more than the script wants
+pub taken_few :
+    (script : Content) (p : ConsumerState) (taken : List ℕ) (told : Bool) (empty : ℕ) (list : List Made) (o : Option Access) → TakeActorStands script p taken told empty list o → length taken ≤ script.takes
+taken_few script p taken told empty list o s = omega (arith, s.few, ap length s.taken_is, all_are 0 s.calls.takes)
+
+-- no more takes found the ring empty than there are accesses
+pub empty_few :
+    (script : Content) (p : ConsumerState) (taken : List ℕ) (told : Bool) (empty : ℕ) (list : List Made) (o : Option Access) → TakeActorStands script p taken told empty list o → empty ≤ length list
+empty_few script p taken told empty list o s =
+    omega (arith, s.empty_is, empties_few script.shape first_count s.calls.takes, s.long, length-append (take_phrases script.shape first_count s.calls.takes) (end_phrase s.calls.end))
