@@ -6,7 +6,7 @@ ghost use Rattle.bits_core.specs.declared.events.Event.{Event as AnEvent};
 ghost use Rattle.bits_core.specs.declared.events.Access.{Access as AnAccess};
 ghost use Rattle.bits_core.specs.Made.{answered, end_event, opening_event};
 ghost use Rattle.ring_core.specs.ConsumerState.{IsBetweenWords, due_take};
-    ghost use Rattle.bits_core.specs.Shape.{take_batch_of};
+ghost use Rattle.bits_core.specs.Shape.{take_batch_of};
 ghost use Rattle.ring_core.specs.GoingOn.{WritesTakeCount};
 ghost use Rattle.ring_audit.specs.Sides.{AreOfTakes};
 ghost use Rattle.ring_audit.specs.Dues.{AreInOrder, IsNoneOf};

@@ -4,7 +4,7 @@ ghost use Rattle.bits_core.specs.declared.events.Event.{Event};
 ghost use Rattle.bits_core.specs.Made.{Made};
 ghost use Rattle.ring_core.specs.declared.consumers.TakeReply.TheVariants.{Closed};
 ghost use Rattle.ring_core.specs.declared.consumers.TakeBatchReply.TheVariants as batch_reply;
-ghost use Rattle.ring_core.specs.Counts.{take_batch_of};
+ghost use Rattle.bits_core.specs.Shape.{take_batch_of};
 ghost use Rattle.ring_core.specs.Lengths.{longest_taking};
 ghost use Rattle.ring_core.specs.Takes.{Takes};
 ghost use Rattle.ring_core.specs.ConsumerState.{due_take, is_taking};

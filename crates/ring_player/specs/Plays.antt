@@ -7,9 +7,8 @@ use Rattle.bits_core.specs.declared.events.Event.{Event}
 use Rattle.bits_core.specs.Intervals.{HasOverlap, IsRead}
 use Rattle.bits_core.specs.Lawful.{IsLawful}
 use Rattle.bits_core.specs.Made.{events_of, own, IsBeginning}
-use Rattle.bits_core.specs.Shape.{batch_of}
+use Rattle.bits_core.specs.Shape.{batch_of, take_batch_of}
 use Rattle.ring_core.specs.ConsumerCalls.{IsTakeOf}
-use Rattle.ring_core.specs.Counts.{take_batch_of}
 use Rattle.ring_core.specs.Items.{Tells}
 use Rattle.ring_core.specs.ProducerCalls.{IsPutOf}
 use Rattle.ring_core.specs.Puts.{Put, Puts, number_after, stored_in, put_program, ArePuts}

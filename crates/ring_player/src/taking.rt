@@ -3,8 +3,7 @@ ghost use Rattle.std.specs.Prelude.{◌≡◌, ◌<◌, ◌≤◌, Bool, false, 
 ghost use Rattle.bits_core.specs.declared.events.Access.{Access};
 ghost use Rattle.bits_core.specs.declared.events.Side.TheVariants as side_is;
 ghost use Rattle.bits_core.specs.Made.{Made, events_of};
-ghost use Rattle.bits_core.specs.Shape.{capacity_of};
-ghost use Rattle.ring_core.specs.Counts.{take_batch_of};
+ghost use Rattle.bits_core.specs.Shape.{take_batch_of};
 ghost use Rattle.ring_core.specs.ConsumerState.{due_take, is_taking};
 ghost use Rattle.ring_player.specs.Actors.{TakeActorStands, so_far};
 ghost use Rattle.ring_player.specs.SoFar.{TakenSoFar};
@@ -13,20 +12,10 @@ ghost use Rattle.ring_script.specs.Borrowed.{content_of};
 
 use crate::actors::Actor;
 use crate::faults::PlayFault;
-use bits_core::{Access, Shape, Store};
+use bits_core::{Access, Store};
 use ring_core::laws::calls_are_first;
 use ring_core::{Consumer, TakeBatchReply};
 use ring_script::ScriptRef;
-
-/// How many items one count write of the consumer may count.
-fn take_batch(shape: &Shape) -> u64
-    ensures value { result ≡ take_batch_of shape.now }
-    ensures some { 0 < result }
-    ensures few { result ≤ capacity_of shape.now }
-{
-    let _ = shape;
-    1
-}
 
 /// Adds the items at the end.
 fn add_all<T: Store<u64>>(store: &mut T, items: &[u64])
@@ -118,7 +107,9 @@ impl<'a, T: Store<u64>> TakeActor<'a, T> {
         let shape = self.script.shape();
         let _capacity = shape.capacity();
         let taken = self.taken().len() as u64;
-        take_batch(&shape).min(self.script.takes().saturating_sub(taken))
+        shape
+            .take_batch()
+            .min(self.script.takes().saturating_sub(taken))
     }
 
     /// Begins the next take, if none is under way and the script wants one.

@@ -4,7 +4,7 @@ ghost use Rattle.bits_core.specs.declared.events.Side.{Side};
 ghost use Rattle.bits_core.specs.declared.events.Side.TheVariants as side_is;
 ghost use Rattle.bits_core.specs.Memory.{flicker_count};
 ghost use Rattle.bits_core.specs.Made.{IsBeginning};
-ghost use Rattle.ring_core.specs.Counts.{take_batch_of};
+ghost use Rattle.bits_core.specs.Shape.{take_batch_of};
 ghost use Rattle.ring_core.specs.Items.{ToldIn, all_taken, items_put_in, items_taken_in};
 ghost use Rattle.ring_core.specs.Linear.{EachReadingIsLinearizable};
 ghost use Rattle.ring_core.specs.Over.{empties, fulls, puts_over_in, takes_over_in};

@@ -7,7 +7,8 @@ use Rattle.bits_core.specs.declared.events.Event.{Event}
 use Rattle.ring_core.specs.declared.consumers.TakeBatchReply as replies
 use Rattle.ring_core.specs.declared.consumers.TakeBatchReply.TheVariants as reply
 use Rattle.ring_core.specs.declared.consumers.TakeReply.TheVariants as first_reply
-use Rattle.ring_core.specs.Counts.{Count, first_count, number_past, take_batch_of}
+use Rattle.bits_core.specs.Shape.{take_batch_of}
+use Rattle.ring_core.specs.Counts.{Count, first_count, number_past}
 use Rattle.ring_core.specs.Takes as takes
 use Rattle.ring_core.specs.Takes.{Take, Takes, Open, AreTakes, IsTake, count_after, taken_after, taken_count, taken_in}
 use Rattle.ring_core.specs.Items.{all_taken, taken_of}

@@ -7,10 +7,9 @@ use Rattle.bits_core.specs.Made.{own}
 use Rattle.ring_seats.specs.Programs.{IsRing}
 use Rattle.ring_core.specs.Linear.{EachReadingIsLinearizable}
 use Rattle.ring_core.specs.Puts.{Put, Puts, number_after}
-use Rattle.ring_core.specs.Counts.{take_batch_of}
 use Rattle.ring_core.specs.Takes.{Take, Takes, Item, ItemAfterClose, Empty, taken_after}
 use Rattle.ring_core.specs.Items.{all_put, all_taken}
-use Rattle.bits_core.specs.Shape.{batch_of}
+use Rattle.bits_core.specs.Shape.{batch_of, take_batch_of}
 use Rattle.ring_core.specs.CallsAt.{stored_by}
 use Rattle.ring_core.specs.ProducerCalls.{IsPutOf}
 use Rattle.ring_core.specs.Over.{fulls, empties}

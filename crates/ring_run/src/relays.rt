@@ -2,8 +2,7 @@
 ghost use Rattle.std.specs.Prelude.{◌≡◌, ◌⊎◌, ℕ, ◌+◌, ◌<◌, ◌≤◌, ◌==◌, true, false, [], IfOk, IfErr, OnOk, length, min, take, vec_capacity};
 ghost use Rattle.ring_seats.specs.Steppers.{IsSameEnd};
 ghost use Rattle.bits_core.specs.Made.{IsBeginning};
-ghost use Rattle.bits_core.specs.Shape.{AllFit, batch_of, capacity_of};
-ghost use Rattle.ring_core.specs.Counts.{take_batch_of};
+ghost use Rattle.bits_core.specs.Shape.{AllFit, batch_of, capacity_of, take_batch_of};
 ghost use Rattle.ring_run.specs.Relays.{HasMadePuts, HasRelayedPuts, HasRelayedTakes, HasTakenMore, IsRelayed};
 
 use crate::gates::Gate;
@@ -98,15 +97,6 @@ fn put_in_order<E: PutEnd, G: Gate>(
     (put as u64, made, full)
 }
 
-// How many items one count write of the taker may count.
-fn take_batch(shape: &Shape) -> u64
-    ensures batch { result ≡ take_batch_of shape.now }
-    ensures some { 1 ≤ result }
-    ensures few { result ≤ 64 }
-{
-    1
-}
-
 // How many items one take asks for: a take batch, or all where fewer are left.
 fn next_take(shape: &Shape, left: u64) -> usize
     requires some { 0 < left }
@@ -114,7 +104,8 @@ fn next_take(shape: &Shape, left: u64) -> usize
     ensures some { 0 < result }
     ensures few { result ≤ 64 }
 {
-    take_batch(shape).min(left) as usize
+    let _capacity = shape.capacity();
+    shape.take_batch().min(left) as usize
 }
 
 // Takes until the ring is closed, into a list with no item yet, as many items at a time as the shape's take batch, but no more than

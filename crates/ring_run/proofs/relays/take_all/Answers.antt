@@ -3,7 +3,7 @@ use Rattle.std.proofs.lemmas.List.{length-append}
 use Rattle.std.proofs.Common.{rules, ◌≡◌, ◌+◌, ◌<◌, ◌≤◌, suc, ℕ, Bool, false, List, [], ◌∷◌, ◌++◌, length, take, refl, ap, sym, subst, ◌∙◌, arith}
 use Rattle.ring_core.specs.declared.consumers.TakeBatchReply as replies
 use Rattle.ring_core.specs.declared.consumers.TakeBatchReply.TheVariants as reply
-use Rattle.ring_core.specs.Counts.{take_batch_of}
+use Rattle.bits_core.specs.Shape.{take_batch_of}
 use Rattle.ring_seats.specs.Ring.{Ring}
 use Rattle.ring_ends.specs.Ends.{HasTakenAll}
 use Rattle.ring_run.specs.Relays.{HasTakenMore, TakesAre}
