@@ -1,5 +1,5 @@
 -- The calls of a counter ring's taker, step by step, over its ends.
-use Rattle.std.proofs.Common.{◌≡◌, ◌⊎◌, inl, inr, ℕ, suc, ◌+◌, ◌-◌, ◌%◌, ◌^◌, ◌<◌, ◌≤◌, Bool, true, false, Some, List, [], ◌∷◌, ◌++◌, length, refl, ap, sym, subst, ◌∙◌, arith, append_assoc, append-nil, length-append}
+use Rattle.std.proofs.Common.{◌≡◌, ◌⊎◌, inl, inr, ℕ, ◌+◌, ◌%◌, ◌^◌, ◌<◌, ◌≤◌, Bool, true, false, Some, List, [], ◌∷◌, ◌++◌, length, refl, ap, sym, subst, ◌∙◌, arith, append_assoc, append-nil, length-append}
 use Rattle.std.proofs.Math.Nat.{mod-add-mod, mod-eq_of_lt, mod-mod}
 use Rattle.std.proofs.lemmas.Nat.{mod_below}
 use Rattle.bits_core.specs.declared.shapes.Shape.{Shape}
@@ -18,7 +18,6 @@ use Rattle.ring_core.specs.Takes.{Take, Takes, Empty, Open, taken_after, words_r
 use Rattle.ring_core.specs.Items.{taken_of}
 use Rattle.ring_core.specs.ConsumerCalls.{Finding, Once, Twice, Finds, finding_phrase, count_taken, and_take, and_end, items_reply, take_reply_to, HasTakeMore, IsTakeOf, TakesAll}
 use Rattle.ring_seats.specs.declared.counter_calls.Scanned.TheVariants.{Shows, Over}
-use Rattle.ring_core.proofs.TakeCalls.{words_read-append, zeros, zeros-long, zeros-fit, fit-append, fit-push}
 use Rattle.ring_seats.specs.Below.{LawsBelow}
 use Rattle.ring_seats.specs.Ring.{RingEnd}
 use Rattle.ring_seats.specs.Programs.{Follows}
@@ -269,7 +268,7 @@ pub one_read :
 one_read a b cell item lt grows = subst (GrowsBy a b) (sym (one_word a.ring.shape cell item lt)) grows
 
 -- the loads of several items, one cell behind the other
-module _ (a : RingEnd) (cell : ℕ) (side : a.side ≡ C) where
+module _ (laws : LawsBelow) (a : RingEnd) (cell : ℕ) (side : a.side ≡ C) where
   pub no_loads : StandsAs C a → GrowsBy a a (words_read a.ring.shape cell [])
   no_loads stands = record { same = record { ring = refl; side = refl; known = refl }; list = sym (append-nil a.list); stands = subst (λ (s : Side). Stands a.ring.shape s a.list a.known) (sym side) stands }
 
@@ -283,10 +282,9 @@ module _ (a : RingEnd) (cell : ℕ) (side : a.side ≡ C) where
         let word : List Made = word_read (width_of a.ring.shape) ((cell + length items) % capacity_of a.ring.shape) item in
         (λ j. so_far j ++ events_of C (word_read (width_of a.ring.shape) (is j) item)) ∙
         (append_assoc a.list (events_of C before) (events_of C word) ∙
-        ap (λ (l : List Event). a.list ++ l) (sym (events_of-append C before word) ∙
-        ap (events_of C) (sym (words_read-append a.ring.shape cell items (item ∷ []) ∙ ap (λ (l : List Made). before ++ l) (append-nil word)))))
+        ap (λ (l : List Event). a.list ++ l) (sym (events_of-append C before word) ∙ ap (events_of C) (sym (laws.one_word a.ring.shape cell items item))))
 
-    -- the next of so many loads, as those behind it may load items of 0
+    -- the next of so many loads, whatever those behind it may load
     pub next_load :
         (wanted item : ℕ) → length items < wanted → AllFit a.ring.shape items → item < 2 ^ width_of b.ring.shape →
         ((all : List ℕ) → length all ≡ wanted → AllFit a.ring.shape all → Follows a.ring.shape C (a.list ++ events_of C (words_read a.ring.shape cell all))) →
@@ -294,18 +292,17 @@ module _ (a : RingEnd) (cell : ℕ) (side : a.side ≡ C) where
     next_load wanted item lt fit small program =
         let shape : Shape = a.ring.shape in
         let some : List ℕ = items ++ item ∷ [] in
-        let rest : List ℕ = zeros (wanted - suc (length items)) in
         let last : item < 2 ^ width_of a.ring.shape = subst (λ (s : Shape). item < 2 ^ width_of s) (same_shape a b g.same) small in
-        let more : List Event = events_of C (words_read shape (cell + length some) rest) in
-        let whole : a.list ++ events_of C (words_read shape cell (some ++ rest)) ≡ (a.list ++ events_of C (words_read shape cell some)) ++ more =
-        ap (λ (l : List Made). a.list ++ events_of C l) (words_read-append shape cell some rest) ∙
-        (ap (λ (l : List Event). a.list ++ l) (events_of-append C (words_read shape cell some) (words_read shape (cell + length some) rest)) ∙
+        let (all, long, fits, (rest, begins)) = laws.words_on shape cell wanted some (omega (arith, lt, length-append items (item ∷ []))) (laws.one_fits shape items item fit last) in
+        let more : List Event = events_of C rest in
+        let whole : a.list ++ events_of C (words_read shape cell all) ≡ (a.list ++ events_of C (words_read shape cell some)) ++ more =
+        ap (λ (l : List Made). a.list ++ events_of C l) (sym begins) ∙
+        (ap (λ (l : List Event). a.list ++ l) (events_of-append C (words_read shape cell some) rest) ∙
         sym (append_assoc a.list (events_of C (words_read shape cell some)) more)) in
-        let long : length (some ++ rest) ≡ wanted = omega (arith, lt, length-append some rest, length-append items (item ∷ []), zeros-long (wanted - suc (length items))) in
         subst (λ (s : Shape). Follows s C (b.list ++ events_of C (word_read (width_of s) place item))) (sym (same_shape a b g.same))
         (subst (Follows shape C) (sym (one_more item))
         (follows_shorter shape C (a.list ++ events_of C (words_read shape cell some)) more
-        (subst (Follows shape C) whole (program (some ++ rest) long (fit-append shape some rest (fit-push shape items item fit (last, tt)) (zeros-fit shape (wanted - suc (length items))))))))
+        (subst (Follows shape C) whole (program all long fits))))
 
     pub loaded_one : (c : RingEnd) (item : ℕ) → GrowsBy b c (word_read (width_of b.ring.shape) place item) → GrowsBy a c (words_read a.ring.shape cell (items ++ item ∷ []))
     loaded_one c item h = record {

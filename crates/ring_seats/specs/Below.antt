@@ -2,6 +2,7 @@
 use Rattle.bits_core.specs.Laws.{BeforeLastChanges, BeginningIsLawful, EmptyIsLawful, HeldChanges, LawfulByOneMore, MadeLeaveNoneOpen, OpenChanges, OpenFromOwn, OpenWriteChanges, OwnChanges, QuietIsHeld}
 use Rattle.ring_core.specs.CountWrites.{CountsShowNumbers}
 use Rattle.ring_core.specs.OneCallMore.{ClosesByOneMore, EndsByOneMore, PutsByOneMore, TakesByOneMore}
+use Rattle.ring_core.specs.OneWordMore.{ItemsFitByOneMore, WordsByOneMore, WordsGoOn}
 use Rattle.ring_core.specs.RunLaws.{RunsByPut, RunsByTake, PutsAreSeen, TakesAreSeen}
 use Rattle.ring_seats.specs.Laws.{AnswersAdd}
 
@@ -26,4 +27,7 @@ pub record LawsBelow : Type 0 where
   pub one_close : ClosesByOneMore
   pub one_take : TakesByOneMore
   pub one_end : EndsByOneMore
+  pub one_word : WordsByOneMore
+  pub one_fits : ItemsFitByOneMore
+  pub words_on : WordsGoOn
   pub answers : AnswersAdd

@@ -106,6 +106,7 @@ impl<'a> Stepper<'a, Counting> {
         ensures fit { AllFit self.old.ring.shape into.new }
         ensures grows { GrowsBy self.old self.new (words_read self.old.ring.shape cell into.new) }
     {
+        laws_below();
         let capacity = self.ring.shape().capacity();
         let mut index = 0;
         let mut place = cell;

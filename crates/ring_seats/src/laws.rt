@@ -9,7 +9,7 @@ use bits_core::laws::{
 };
 use register_core::laws::digits_tell_items;
 use ring_core::laws::{
-    counts_are_written, last_bit_is_one, programs_by_one_call, runs_by_one_more,
+    counts_are_written, last_bit_is_one, programs_by_one_call, runs_by_one_more, words_by_one_more,
 };
 
 /// Of reads that were answered by their loads and their oracle, and then more reads that were so, all were.
@@ -53,5 +53,6 @@ pub fn laws_below()
     last_bit_is_one();
     counts_are_written();
     programs_by_one_call();
+    words_by_one_more();
     answers_add();
 }

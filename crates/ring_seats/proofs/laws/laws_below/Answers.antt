@@ -22,5 +22,8 @@ returns c = record {
   one_close = c.programs_by_one_call.ensures.closes;
   one_take = c.programs_by_one_call.ensures.takes;
   one_end = c.programs_by_one_call.ensures.ends;
+  one_word = c.words_by_one_more.ensures.words;
+  one_fits = c.words_by_one_more.ensures.fit;
+  words_on = c.words_by_one_more.ensures.go_on;
   answers = c.answers_add.ensures;
 }
