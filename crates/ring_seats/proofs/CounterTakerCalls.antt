@@ -269,9 +269,6 @@ one_read a b cell item lt grows = subst (GrowsBy a b) (sym (one_word a.ring.shap
 
 -- the loads of several items, one cell behind the other
 module _ (laws : LawsBelow) (a : RingEnd) (cell : ℕ) (side : a.side ≡ C) where
-  pub no_loads : StandsAs C a → GrowsBy a a (words_read a.ring.shape cell [])
-  no_loads stands = record { same = record { ring = refl; side = refl; known = refl }; list = sym (append-nil a.list); stands = subst (λ (s : Side). Stands a.ring.shape s a.list a.known) (sym side) stands }
-
   module _ (b : RingEnd) (place : ℕ) (items : List ℕ) (g : GrowsBy a b (words_read a.ring.shape cell items)) (is : place ≡ (cell + length items) % capacity_of a.ring.shape) where
     so_far : b.list ≡ a.list ++ events_of C (words_read a.ring.shape cell items)
     so_far = g.list ∙ ap (λ (s : Side). a.list ++ events_of s (words_read a.ring.shape cell items)) side
