@@ -6,6 +6,7 @@ use Rattle.std.proofs.lemmas.Slice.Eq.{bytes_eq-Decides}
 use Rattle.std.proofs.lemmas.Grind.{flat_map-append}
 use Rattle.std.specs.List.{flat_map, sum_by}
 use Rattle.std.specs.Str.{bytes_eq}
+use Rattle.bits_core.specs.declared.shapes.Shape.{Shape}
 use Rattle.queue_calls.specs.Calls.{Event, PutBegin, TakeItems}
 use Rattle.ring_program.specs.RunRecordings.{AreOfRun, IsOfRun, RunCounts, TellAllBut, stored_with, taken_with, tells_close, tells_shut, tells_empty, tells_full, tells_put, tells_take}
 use Rattle.ring_program.specs.Untold.{TakesOff}
@@ -81,10 +82,10 @@ tell_more left mid all events event before now = record {
       ∙ ap (λ (xs : List ℕ). flat_map taken_with events ++ xs) now.taken ∙ before.taken;
 }
 
-pub are_more : (batch : ℕ) (left : List ℕ) (events : List Event) (event : Event) → AreOfRun batch left events → IsOfRun batch (drop (sum_by stored_with events) left) event
-    → AreOfRun batch left (events ++ event ∷ [])
-are_more batch left [] event are is = (is, tt)
-are_more batch left (e ∷ events) event are is =
+pub are_more : (shape : Shape) (left : List ℕ) (events : List Event) (event : Event) → AreOfRun shape left events → IsOfRun shape (drop (sum_by stored_with events) left) event
+    → AreOfRun shape left (events ++ event ∷ [])
+are_more shape left [] event are is = (is, tt)
+are_more shape left (e ∷ events) event are is =
     let same : drop (sum_by stored_with (e ∷ events)) left ≡ drop (sum_by stored_with events) (drop (stored_with e) left) =
     ap (λ (n : ℕ). drop n left) (sum_by-cons stored_with e events) ∙ sym (drop-drop (sum_by stored_with events) (stored_with e) left) in
-    (are.0, are_more batch (drop (stored_with e) left) events event are.1 (subst (λ (xs : List ℕ). IsOfRun batch xs event) same is))
+    (are.0, are_more shape (drop (stored_with e) left) events event are.1 (subst (λ (xs : List ℕ). IsOfRun shape xs event) same is))

@@ -4,7 +4,7 @@ use Rattle.std.proofs.lemmas.List.{append-nil, drop-drop}
 use Rattle.std.proofs.lemmas.List.Sums.{sum_by_push}
 use Rattle.std.proofs.lemmas.Grind.{flat_map-append}
 use Rattle.std.specs.List.{sum_by}
-use Rattle.bits_core.specs.Shape.{batch_of, capacity_of}
+use Rattle.bits_core.specs.Shape.{batch_of, capacity_of, take_batch_of}
 use Rattle.bits_core.specs.declared.shapes.Shape.{Shape}
 use Rattle.queue_calls.specs.Audits.{Audits}
 use Rattle.queue_calls.specs.Calls.{Event, IsLinearizable}
@@ -67,8 +67,8 @@ pub record IsWritten (is_cut : Bool) (capacity : ℕ) (b : Begun) (text : List �
   pub small : TellsSmall events
 
 -- the events are of the run, and this is left of it and of the room of the logs
-pub record IsLeft (batch : ℕ) (items : List ℕ) (all : RunCounts) (untold : Untold) (room : Room) (events : List Event) : Type 0 where
-  pub in_order : AreOfRun batch items events
+pub record IsLeft (shape : Shape) (items : List ℕ) (all : RunCounts) (untold : Untold) (room : Room) (events : List Event) : Type 0 where
+  pub in_order : AreOfRun shape items events
   pub items_are : untold.items.now ≡ drop (sum_by stored_with events) items
   pub tells : TellAllBut (left_of untold) all events
   pub puts : room.puts ≡ RECORDED - sum_by (room_with P) events
@@ -80,12 +80,12 @@ pub record IsAudited {Q E : Type 0} (items_of : Q → List ℕ) (capacity : ℕ)
   pub capacity_is : meant auditor.capacity ≡ exactly capacity
   pub linearizable : IsLinearizable (exactly capacity) events
 
-pub record HasTold {Q E : Type 0} (items_of : Q → List ℕ) (is_cut : Bool) (capacity batch : ℕ) (items : List ℕ) (all : RunCounts) (text : List ℕ) (auditor : CallAuditor Q E) (untold : Untold)
-    (room : Room) (b : Begun) : Type 0 where
+pub record HasTold {Q E : Type 0} (items_of : Q → List ℕ) (is_cut : Bool) (capacity : ℕ) (shape : Shape) (items : List ℕ) (all : RunCounts) (text : List ℕ) (auditor : CallAuditor Q E)
+    (untold : Untold) (room : Room) (b : Begun) : Type 0 where
   pub events : List Event
   pub is_written : IsWritten is_cut capacity b text events
   pub is_audited : IsAudited items_of capacity auditor events
-  pub is_left : IsLeft batch items all untold room events
+  pub is_left : IsLeft shape items all untold room events
 
 pub writes_more : (is_cut : Bool) (capacity : ℕ) (b next : Begun) (text after : List ℕ) (events : List Event) (event : Event)
     → after ≡ text ++ text_of (line_of b event) → next ≡ begun_after b (line_of b event).word (line_of b event).numbers
@@ -107,11 +107,11 @@ room_less : (f : Event → ℕ) (events : List Event) (event : Event) (room left
     → left ≡ RECORDED - sum_by f (events ++ event ∷ [])
 room_less f events event room left is now = omega (arith, sum_by_push f events event)
 
-pub leaves_less : (batch : ℕ) (items : List ℕ) (all : RunCounts) (untold after : Untold) (room less : Room) (events : List Event) (event : Event)
-    → IsOfRun batch untold.items.now event → TakesOff untold event after → less.puts ≡ room.puts - room_with P event → less.takes ≡ room.takes - room_with C event
-    → IsLeft batch items all untold room events → IsLeft batch items all after less (events ++ event ∷ [])
-leaves_less batch items all untold after room less events event is off puts takes l = record {
-  in_order = are_more batch items events event l.in_order (subst (λ (xs : List ℕ). IsOfRun batch xs event) l.items_are is);
+pub leaves_less : (shape : Shape) (items : List ℕ) (all : RunCounts) (untold after : Untold) (room less : Room) (events : List Event) (event : Event)
+    → IsOfRun shape untold.items.now event → TakesOff untold event after → less.puts ≡ room.puts - room_with P event → less.takes ≡ room.takes - room_with C event
+    → IsLeft shape items all untold room events → IsLeft shape items all after less (events ++ event ∷ [])
+leaves_less shape items all untold after room less events event is off puts takes l = record {
+  in_order = are_more shape items events event l.in_order (subst (λ (xs : List ℕ). IsOfRun shape xs event) l.items_are is);
   items_are = off.items ∙ ap (λ (xs : List ℕ). drop (stored_with event) xs) l.items_are ∙ drop-drop (stored_with event) (sum_by stored_with events) items
       ∙ ap (λ (n : ℕ). drop n items) (sym (sum_by_push stored_with events event));
   tells = tell_more (left_of after) (left_of untold) all events event l.tells off.tells;
@@ -136,11 +136,11 @@ audits_more {Q} items_of capacity auditor after events event same reads a =
 pub meant_exactly : (told : Capacity) (n capacity : ℕ) → told ≡ Between n n → n ≡ capacity → meant told ≡ exactly capacity
 meant_exactly told n capacity is same = ap meant is ∙ ap exactly same
 
-pub begins_run : {Q E : Type 0} (items_of : Q → List ℕ) (is_cut : Bool) (capacity batch : ℕ) (items : List ℕ) (all : RunCounts) (text before word : List ℕ) (n : ℕ) (auditor : CallAuditor Q E)
+pub begins_run : {Q E : Type 0} (items_of : Q → List ℕ) (is_cut : Bool) (capacity : ℕ) (shape : Shape) (items : List ℕ) (all : RunCounts) (text before word : List ℕ) (n : ℕ) (auditor : CallAuditor Q E)
     (untold : Untold) → before ≡ [] → word ≡ word_text (first_word is_cut) → n ≡ capacity → text ≡ before ++ list_line word (n ∷ []) → Audits items_of auditor []
     → meant auditor.capacity ≡ exactly capacity → IsLinearizable (meant auditor.capacity) [] → untold.items.now ≡ items → left_of untold ≡ all
-    → HasTold items_of is_cut capacity batch items all text auditor untold (record { puts = RECORDED; takes = RECORDED }) begun.Nothing
-begins_run {Q} items_of is_cut capacity batch items all text before word n auditor untold none word_is same is audits capacity_is linearizable items_are left_is = record {
+    → HasTold items_of is_cut capacity shape items all text auditor untold (record { puts = RECORDED; takes = RECORDED }) begun.Nothing
+begins_run {Q} items_of is_cut capacity shape items all text before word n auditor untold none word_is same is audits capacity_is linearizable items_are left_is = record {
   events = [];
   is_written = record {
     text_is = is ∙ ap₂ (λ (a : List ℕ) (b : List ℕ). a ++ b) none (ap₂ list_line word_is (ap (λ (k : ℕ). k ∷ []) same) ∙ line_is (first_word is_cut) (capacity ∷ []))
@@ -164,8 +164,8 @@ begins_run {Q} items_of is_cut capacity batch items all text before word n audit
 
 pub records_run : {Q E : Type 0} (items_of : Q → List ℕ) (is_cut : Bool) (shape : Shape) (n : ℕ) (items : List ℕ) (all : RunCounts) (text : List ℕ) (auditor : CallAuditor Q E) (untold : Untold)
     (room : Room) (b : Begun) → HistoryHasARecording → LinearizableIsInTurn → n ≡ capacity_of shape → 0 < n → n ≤ 64
-    → (is_cut ≡ false → left_of untold ≡ nothing_left) → (batch_of shape ≤ room.puts → 0 < room.takes → left_of untold ≡ nothing_left)
-    → HasTold items_of is_cut (capacity_of shape) (batch_of shape) items all text auditor untold room b → RecordsRun shape items all text
+    → (is_cut ≡ false → left_of untold ≡ nothing_left) → (batch_of shape ≤ room.puts → take_batch_of shape ≤ room.takes → left_of untold ≡ nothing_left)
+    → HasTold items_of is_cut (capacity_of shape) shape items all text auditor untold room b → RecordsRun shape items all text
 records_run {Q} items_of is_cut shape n items all text auditor untold room b law in_turn same some few cut whole t =
     let linearizable : IsLinearizable (exactly (capacity_of shape)) t.events = t.is_audited.linearizable in
     let recording = told_is_recording is_cut (capacity_of shape) n t.events text same some few law (in_turn (exactly (capacity_of shape)) t.events linearizable) t.is_written.small t.is_written.text_is in

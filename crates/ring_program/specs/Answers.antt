@@ -11,7 +11,7 @@ use Rattle.bits_core.specs.declared.audits.Verdict.TheVariants.{Lawful, Fault}
 use Rattle.bits_core.specs.declared.events.Event.{Event}
 use Rattle.bits_core.specs.declared.shapes.Shape.{Shape}
 use Rattle.bits_core.specs.declared.shapes.ShapeFault.{ShapeFault}
-use Rattle.bits_core.specs.Shape.{HasBatch, IsRefusedBatch, capacity_of}
+use Rattle.bits_core.specs.Shape.{HasBatches, IsRefusedBatches, capacity_of}
 use Rattle.bits_core.specs.Made.{IsBeginning}
 use Rattle.bits_core.specs.declared.traces.TraceFault.{TraceFault}
 use Rattle.bits_core.specs.declared.traces.TraceFault.TheVariants as trace
@@ -236,10 +236,10 @@ pub record RecordsWrong (input text : List ℕ) (ending : Ending) : Type 0 where
   pub ends : ending ≡ Done
 
 -- the text of a run of these items: how many were put and taken, or that and what was counted and timed; or a recording of its calls
-abbrev pub TellsRun : RunText → Shape → List ℕ → ℕ → ℕ → ℕ → List ℕ → ℕ → Bool → Option ℕ → List ℕ → Type 0
-TellsRun Totals shape items put calls full taken empty closed time text = text ≡ relay_text_of put (length taken) closed
-TellsRun Report shape items put calls full taken empty closed time text = text ≡ relay_report_of put calls full (length taken) empty closed time
-TellsRun Recording shape items put calls full taken empty closed time text = RecordsRun shape items (run_counts items put calls full taken empty closed) text
+abbrev pub TellsRun : RunText → Shape → List ℕ → ℕ → ℕ → ℕ → List ℕ → ℕ → ℕ → Bool → Option ℕ → List ℕ → Type 0
+TellsRun Totals shape items put calls full taken takes empty closed time text = text ≡ relay_text_of put (length taken) closed
+TellsRun Report shape items put calls full taken takes empty closed time text = text ≡ relay_report_of put calls full (length taken) empty closed time
+TellsRun Recording shape items put calls full taken takes empty closed time text = RecordsRun shape items (run_counts items put calls full taken takes empty closed) text
 
 -- what came of a run, in a ring of the shape of its numbers: it is counted in one lawful history whose two sides follow their
 -- programs; the items taken are the first ones, in order, and all of them once the taker was told that the ring is closed.
@@ -250,15 +250,16 @@ pub record AnswersRun (run : Run) (text : List ℕ) (ending : Ending) : Type 0 w
   pub calls : ℕ
   pub full : ℕ
   pub taken : List ℕ
+  pub takes : ℕ
   pub empty : ℕ
   pub closed : Bool
   pub time : Option ℕ
-  pub of_numbers : HasBatch run.capacity run.modulus run.width run.batch shape
-  pub relayed : IsRelayed shape (run_items run) run.limits.puts run.limits.takes put calls full taken empty closed
+  pub of_numbers : HasBatches run.capacity run.modulus run.width run.batch run.take_batch shape
+  pub relayed : IsRelayed shape (run_items run) run.limits.puts run.limits.takes put calls full taken takes empty closed
   pub prefix : IsBeginning taken (take put (run_items run))
   pub all : closed ≡ true → taken ≡ run_items run
   pub within : put ≤ length taken + run.capacity
-  pub words : TellsRun run.text shape (run_items run) put calls full taken empty closed time text
+  pub words : TellsRun run.text shape (run_items run) put calls full taken takes empty closed time text
   pub ends : ending ≡ relay_ending_of closed
 
 -- memory ran out, in the program, the trace, the audit, the script, the play or the run
@@ -270,7 +271,7 @@ IsOutOfMemory e = (e ≡ refusal.App app.OutOfMemory)
 -- a true cause of a refusal of a run: its numbers are no shape's, or memory ran out, or calls that it was to record were not recorded
 abbrev pub IsRunCause : Run → Refusal → Type 0
 IsRunCause run e = IsOutOfMemory e ⊎ (((e ≡ refusal.App app.NotOfRun) × (run.text ≡ Recording))
-    ⊎ ((fault : ShapeFault) × (e ≡ refusal.Shape fault) × IsRefusedBatch run.capacity run.modulus run.width run.batch fault))
+    ⊎ ((fault : ShapeFault) × (e ≡ refusal.Shape fault) × IsRefusedBatches run.capacity run.modulus run.width run.batch run.take_batch fault))
 
 -- the question, on this input, is answered by this text and this ending
 abbrev pub Answers : Question → List ℕ → List ℕ → Ending → Type 0

@@ -68,6 +68,10 @@ largest = 18446744073709551615
 abbrev pub batch_rule : Rule
 batch_rule = record (number_rule (codes "batch") largest) { defaults = codes "1" ∷ [] }
 
+-- `--take-batch`, in the same way
+abbrev pub take_batch_rule : Rule
+take_batch_rule = record (number_rule (codes "take-batch") largest) { defaults = codes "1" ∷ [] }
+
 -- `--ring`, which is `flicker` where it is left out
 abbrev pub ring_rule : Rule
 ring_rule = record (value_rule (codes "ring")) { defaults = codes "flicker" ∷ [] }
@@ -79,11 +83,11 @@ run_required =
     (required_rule (codes "capacity") largest)) (required_rule (codes "modulus") largest)) (required_rule (codes "width") largest))
     (required_rule (codes "count") ITEM_LIMIT)) (required_rule (codes "limit") largest)
 
--- `run`, with these, three that may be left out, and two flags
+-- `run`, with these, four that may be left out, and two flags
 abbrev pub run_application : App
 run_application =
-    with_rule (with_rule (with_rule (with_rule (with_rule run_required
-    (number_rule (codes "takes") largest)) batch_rule) ring_rule) (flag_rule (codes "report"))) (flag_rule (codes "record"))
+    with_rule (with_rule (with_rule (with_rule (with_rule (with_rule run_required
+    (number_rule (codes "takes") largest)) batch_rule) take_batch_rule) ring_rule) (flag_rule (codes "report"))) (flag_rule (codes "record"))
 
 -- the program with no commands: it has a version, and one command has to be named
 abbrev pub program_alone : App
@@ -162,13 +166,14 @@ text_asked false false = Some Totals
 abbrev pub text_given : List Row → Option RunText
 text_given rows = text_asked (is_flag_given (codes "report") rows) (is_flag_given (codes "record") rows)
 
-abbrev pub run_of_numbers : RingKind → ℕ → ℕ → ℕ → ℕ → ℕ → ℕ → ℕ → RunText → Run
-run_of_numbers ring capacity modulus width batch count puts takes text = record {
+abbrev pub run_of_numbers : RingKind → ℕ → ℕ → ℕ → ℕ → ℕ → ℕ → ℕ → ℕ → RunText → Run
+run_of_numbers ring capacity modulus width batch take_batch count puts takes text = record {
   ring = ring;
   capacity = capacity;
   modulus = modulus;
   width = width;
   batch = batch;
+  take_batch = take_batch;
   count = count;
   limits = record { puts = puts; takes = takes };
   text = text;
@@ -177,9 +182,9 @@ run_of_numbers ring capacity modulus width batch count puts takes text = record 
 -- what the options of `run` ask for: as many takes as puts, where nothing else is said
 abbrev pub run_in : List Row → Option Run
 run_in rows =
-    option_and_then (λ text. option_and_then (λ ring. option_and_then (λ capacity. option_and_then (λ modulus. option_and_then (λ width. option_and_then (λ batch. option_and_then (λ count.
-    option_map (λ puts. run_of_numbers ring capacity modulus width batch count puts (unwrap_or (number_given (codes "takes") rows) puts) text)
-    (number_given (codes "limit") rows)) (number_given (codes "count") rows)) (number_given (codes "batch") rows))
+    option_and_then (λ text. option_and_then (λ ring. option_and_then (λ capacity. option_and_then (λ modulus. option_and_then (λ width. option_and_then (λ batch. option_and_then (λ take_batch. option_and_then (λ count.
+    option_map (λ puts. run_of_numbers ring capacity modulus width batch take_batch count puts (unwrap_or (number_given (codes "takes") rows) puts) text)
+    (number_given (codes "limit") rows)) (number_given (codes "count") rows)) (number_given (codes "take-batch") rows)) (number_given (codes "batch") rows))
     (number_given (codes "width") rows)) (number_given (codes "modulus") rows)) (number_given (codes "capacity") rows)) (ring_given rows)) (text_given rows)
 
 -- what the named command asks for

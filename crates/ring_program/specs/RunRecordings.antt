@@ -1,8 +1,8 @@
 -- What the recording of a run tells of the run: calls as the run makes them, linearizable, and all of them where it does not say that
 -- some are missing, and where its logs had room.
-use Rattle.std.specs.Prelude.{◌≡◌, ℕ, ◌+◌, ◌<◌, ◌≤◌, ◌==◌, Bool, false, List, [], ◌∷◌, ◌++◌, length, take, drop, if◌then◌else◌}
+use Rattle.std.specs.Prelude.{◌≡◌, ℕ, ◌+◌, ◌≤◌, ◌==◌, Bool, false, List, [], ◌∷◌, ◌++◌, length, take, drop, if◌then◌else◌}
 use Rattle.std.specs.List.{flat_map, sum_by}
-use Rattle.bits_core.specs.Shape.{batch_of, capacity_of}
+use Rattle.bits_core.specs.Shape.{batch_of, capacity_of, take_batch_of}
 use Rattle.bits_core.specs.declared.shapes.Shape.{Shape}
 use Rattle.queue_calls.specs.Calls.{Event, PutBegin, PutStored, PutFull, PutShort, PutNothing, PutClosed, CloseBegin, CloseEnd, TakeBegin, TakeItems, TakeEmpty, TakeShort, TakeNothing, TakeClosed, IsLinearizable}
 use Rattle.queue_calls.specs.Order.{Side, P, C, pick, side_of}
@@ -48,32 +48,33 @@ abbrev pub tells_shut : Event → ℕ
 tells_shut TakeClosed = 1
 tells_shut _ = 0
 
--- the room that its line takes in the log of a side: a put that begins, as much as it has items
+-- the room that its line takes in the log of a side: a put that begins, and a take that ends with items, as much as it has items
 abbrev pub room_with : Side → Event → ℕ
 room_with s (PutBegin items) = pick s P (length items) 0
+room_with s (TakeItems items why) = pick s C (length items) 0
 room_with s event = pick s (side_of event) 1 0
 
 -- ---- calls as a run makes them
 
 -- Behind puts that left these items: a put offers as many of them as a batch has, or all where fewer are left, and a close comes
--- where none is left; a take is of one item
-abbrev pub IsOfRun : (batch : ℕ) → (left : List ℕ) → Event → Type 0
-IsOfRun batch left (PutBegin items) = items ≡ take batch left
-IsOfRun batch left CloseBegin = left ≡ []
-IsOfRun batch left (TakeBegin wanted) = wanted ≡ 1
-IsOfRun batch left (PutStored count false) = ⊥
-IsOfRun batch left PutShort = ⊥
-IsOfRun batch left PutNothing = ⊥
-IsOfRun batch left PutClosed = ⊥
-IsOfRun batch left (TakeItems items false) = ⊥
-IsOfRun batch left TakeShort = ⊥
-IsOfRun batch left TakeNothing = ⊥
-IsOfRun batch left _ = Unit {0}
+-- where none is left; a take wants one item, up to as many as the take batch
+abbrev pub IsOfRun : Shape → (left : List ℕ) → Event → Type 0
+IsOfRun shape left (PutBegin items) = items ≡ take (batch_of shape) left
+IsOfRun shape left CloseBegin = left ≡ []
+IsOfRun shape left (TakeBegin wanted) = (1 ≤ wanted) × (wanted ≤ take_batch_of shape)
+IsOfRun shape left (PutStored count false) = ⊥
+IsOfRun shape left PutShort = ⊥
+IsOfRun shape left PutNothing = ⊥
+IsOfRun shape left PutClosed = ⊥
+IsOfRun shape left (TakeItems items false) = ⊥
+IsOfRun shape left TakeShort = ⊥
+IsOfRun shape left TakeNothing = ⊥
+IsOfRun shape left _ = Unit {0}
 
 -- events one after the other
-abbrev pub AreOfRun : (batch : ℕ) → (left : List ℕ) → List Event → Type 0
-AreOfRun batch left [] = Unit {0}
-AreOfRun batch left (event ∷ events) = IsOfRun batch left event × AreOfRun batch (drop (stored_with event) left) events
+abbrev pub AreOfRun : Shape → (left : List ℕ) → List Event → Type 0
+AreOfRun shape left [] = Unit {0}
+AreOfRun shape left (event ∷ events) = IsOfRun shape left event × AreOfRun shape (drop (stored_with event) left) events
 
 -- ---- how much of a run is told
 
@@ -90,13 +91,13 @@ pub record RunCounts : Type 0 where
   pub taken : List ℕ
 
 -- by what came of it: a close was made where all items were stored
-abbrev pub run_counts : (items : List ℕ) → (put calls full : ℕ) → (taken : List ℕ) → (empty : ℕ) → (closed : Bool) → RunCounts
-run_counts items put calls full taken empty closed = record {
+abbrev pub run_counts : (items : List ℕ) → (put calls full : ℕ) → (taken : List ℕ) → (takes empty : ℕ) → (closed : Bool) → RunCounts
+run_counts items put calls full taken takes empty closed = record {
   put = put;
   calls = calls;
   full = full;
   closes = (if put == length items then 1 else 0);
-  takes = length taken + empty + (if closed then 1 else 0);
+  takes = takes;
   empty = empty;
   told = (if closed then 1 else 0);
   taken = taken;
@@ -117,8 +118,8 @@ pub record TellAllBut (left all : RunCounts) (events : List Event) : Type 0 wher
   pub taken : flat_map taken_with events ++ left.taken ≡ all.taken
 
 -- the log of each side had room for one more line
-abbrev pub HasRoomLeft : (batch : ℕ) → List Event → Type 0
-HasRoomLeft batch events = (sum_by (room_with P) events + batch ≤ RECORDED) × (sum_by (room_with C) events < RECORDED)
+abbrev pub HasRoomLeft : Shape → List Event → Type 0
+HasRoomLeft shape events = (sum_by (room_with P) events + batch_of shape ≤ RECORDED) × (sum_by (room_with C) events + take_batch_of shape ≤ RECORDED)
 
 -- The text is a recording of calls of a queue of the ring's capacity, which are linearizable: puts of the run's items in order, and takes
 -- of those that were taken, from the first on; none but those of the run, and all of them where the text does not say that some are
@@ -127,8 +128,8 @@ pub record RecordsRun (shape : Shape) (items : List ℕ) (all : RunCounts) (text
   pub events : List Event
   pub is_recording : IsRecording text (exactly (capacity_of shape)) events
   pub linearizable : IsLinearizable (exactly (capacity_of shape)) events
-  pub in_order : AreOfRun (batch_of shape) items events
+  pub in_order : AreOfRun shape items events
   pub left : RunCounts
   pub tells : TellAllBut left all events
   pub cut : is_recording.is_cut ≡ false → left ≡ nothing_left
-  pub whole : HasRoomLeft (batch_of shape) events → left ≡ nothing_left
+  pub whole : HasRoomLeft shape events → left ≡ nothing_left

@@ -11,7 +11,7 @@ use std::io::Write;
 const TOLD: usize = 80;
 
 /// The number options of `run`, as its help names them.
-const NUMBERS: [(&str, &str); 7] = [
+const NUMBERS: [(&str, &str); 8] = [
     ("--capacity", "--capacity <B>"),
     ("--modulus", "--modulus <M>"),
     ("--width", "--width <W>"),
@@ -19,6 +19,7 @@ const NUMBERS: [(&str, &str); 7] = [
     ("--limit", "--limit <L>"),
     ("--takes", "--takes <T>"),
     ("--batch", "--batch <G>"),
+    ("--take-batch", "--take-batch <H>"),
 ];
 
 // A word that was given, as it is told: as it is, where it is short and has only printable ASCII; else with escapes, and `..`

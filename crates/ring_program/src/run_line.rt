@@ -1,7 +1,7 @@
 //! The command `run` of the command line.
 ghost use Rattle.std.specs.Prelude.{◌≡◌, IfOk, Some, codes, false, option_map};
 ghost use Rattle.clap.specs.Words.{first_of, found_of, rows_of, rule_of};
-ghost use Rattle.ring_program.specs.CommandLine.{HasOption, IsCommand, batch_rule, largest, number_rule, required_rule, ring_given, ring_in, ring_rule, run_application, run_in, run_required, text_asked, text_given};
+ghost use Rattle.ring_program.specs.CommandLine.{HasOption, IsCommand, batch_rule, largest, number_rule, required_rule, ring_given, ring_in, ring_rule, run_application, run_in, run_required, take_batch_rule, text_asked, text_given};
 
 use crate::options::{is_given, new_command, number_found, value_option, with_flag};
 use clap::builder::ValueParser;
@@ -12,10 +12,11 @@ use std::alloc::{AllocError, Global};
 /// The most items that a run may put.
 pub const ITEM_LIMIT: u64 = 1_000_000;
 
-// The usage, in two lines under one another.
+// The usage, in lines under one another.
 const RUN_USAGE: &str = "\
 lamport_ring run --capacity B --modulus M --width W --count N --limit L
-       [--takes T] [--batch G] [--ring RING] [--report | --record]";
+       [--takes T] [--batch G] [--take-batch H] [--ring RING]
+       [--report | --record]";
 
 const RUN_HELP: &str = "\
 Two threads share a ring with no lock. One puts N items, the numbers 0, 1, ..
@@ -28,15 +29,17 @@ is faster. What they promise is the same.
 
 The numbers are whole, in decimal digits with no minus sign:
   B  how many cells the ring has, from 1 to 64
-  M  what its counts run modulo, from B + G + 1 to 256
+  M  what its counts run modulo, from B + G + 1 and B + H + 1 to 256
   W  how many binary digits an item has, from 1 to 64
   N  how many items to put, from 0 to 1000000
   L  the most calls of put, and of take, from 0 to 2^64 - 1
   T  the most calls of take, from 0 to 2^64 - 1; L where it is left out
   G  how many items a put has at most, from 1 to B; 1 where it is left out
+  H  how many items a take has at most, from 1 to B; 1 where it is left out
 
 A limit counts every call of put or take, also one that finds the ring full or
-empty; the close is not counted. A side that has made so many makes no more.
+empty, and a take that brings items by how many these are; the close is not
+counted. A side that has made so many makes no more.
 Where the taker was not told then that the ring is closed, the text is printed
 all the same, standard error says `refused: limit reached`, and the status is 1.
 
@@ -90,6 +93,7 @@ pub struct Run {
     pub modulus: u64,
     pub width: u64,
     pub batch: u64,
+    pub take_batch: u64,
     /// How many items to put.
     pub count: u64,
     /// The most puts and takes.
@@ -132,8 +136,17 @@ fn with_takes<'a>(alloc: Global, command: Command<'a>) -> Result<Command<'a>, Al
 fn with_batch<'a>(alloc: Global, command: Command<'a>) -> Result<Command<'a>, AllocError>
     ensures { IfOk result (HasOption batch_rule command.entry) }
 {
-    let help = "The most items under one count write";
+    let help = "The most items of a put";
     let batch = number_option(alloc, "batch", "G", u64::MAX, help);
+    command.arg(batch.default_value("1"))
+}
+
+// The command with the take batch, in the same way.
+fn with_take_batch<'a>(alloc: Global, command: Command<'a>) -> Result<Command<'a>, AllocError>
+    ensures { IfOk result (HasOption take_batch_rule command.entry) }
+{
+    let help = "The most items of a take";
+    let batch = number_option(alloc, "take-batch", "H", u64::MAX, help);
     command.arg(batch.default_value("1"))
 }
 
@@ -193,6 +206,7 @@ pub fn run_command<'a>(alloc: Global) -> Result<Command<'a>, AllocError>
     let command = required_part(alloc)?;
     let command = with_takes(alloc, command)?;
     let command = with_batch(alloc, command)?;
+    let command = with_take_batch(alloc, command)?;
     let command = with_ring(alloc, command)?;
     let help = "Tell the calls, and the items a second";
     let command = with_flag(alloc, command, "report", help)?;
@@ -252,6 +266,7 @@ pub fn run_found(matches: &ArgMatches<'_>) -> Option<Run>
     let modulus = number_found(matches, "modulus")?;
     let width = number_found(matches, "width")?;
     let batch = number_found(matches, "batch")?;
+    let take_batch = number_found(matches, "take-batch")?;
     let count = number_found(matches, "count")?;
     let puts = number_found(matches, "limit")?;
     let takes = match number_found(matches, "takes") {
@@ -264,6 +279,7 @@ pub fn run_found(matches: &ArgMatches<'_>) -> Option<Run>
         modulus,
         width,
         batch,
+        take_batch,
         count,
         limits: Limits { puts, takes },
         text,

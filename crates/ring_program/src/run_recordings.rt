@@ -1,6 +1,6 @@
 //! The recording of a run: each line of its recorder is audited, and compared with what the run came to, before it is written.
 ghost use Rattle.std.specs.Prelude.{◌≡◌, ◌⊎◌, false, ◌+◌, ◌-◌, ◌<◌, ◌≤◌, ◌^◌, ◌∷◌, ◌++◌, IfErr, IfOk, IfSome, IsTrue, List, OnOk, [], if◌then◌else◌, length, string_bytes, take};
-ghost use Rattle.bits_core.specs.Shape.{capacity_of};
+ghost use Rattle.bits_core.specs.Shape.{batch_of, capacity_of, take_batch_of};
 ghost use Rattle.queue_calls.specs.Audits.{Audits};
 ghost use Rattle.queue_calls.specs.Calls.{Event as ACall, IsLinearizable, PutBegin};
 ghost use Rattle.queue_calls.specs.Order.{C, P};
@@ -42,9 +42,8 @@ struct Untold<'r> {
 impl<'r> Untold<'r> {
     // All of it.
     fn all<A: Allocator>(items: &'r [u64], outcome: &'r Outcome<A>) -> Untold<'r>
-        requires { length outcome.now.taken.items + outcome.now.empty + (if outcome.now.closed then 1 else 0) < 2 ^ 64 }
         ensures items { result.items.now ≡ items.now }
-        ensures left { left_of result ≡ run_counts items.now outcome.now.put outcome.now.calls outcome.now.full outcome.now.taken.items outcome.now.empty outcome.now.closed }
+        ensures left { left_of result ≡ run_counts items.now outcome.now.put outcome.now.calls outcome.now.full outcome.now.taken.items outcome.now.takes outcome.now.empty outcome.now.closed }
     {
         let told = if outcome.closed { 1 } else { 0 };
         let closes = if outcome.put == items.len() as u64 {
@@ -59,16 +58,17 @@ impl<'r> Untold<'r> {
             calls: outcome.calls,
             full: outcome.full,
             closes,
-            takes: outcome.taken.len() as u64 + outcome.empty + told,
+            takes: outcome.takes,
             empty: outcome.empty,
             told,
         }
     }
 
     // What is left behind a put of these items that begins, where they are the next ones.
-    fn behind_offer(self, batch: usize, offered: &[u64]) -> Option<Untold<'r>>
-        ensures { IfSome result (λ after. (offered.now ≡ take batch self.entry.items.now) × TakesOff self.entry (PutBegin offered.now) after) }
+    fn behind_offer(self, shape: &Shape, offered: &[u64]) -> Option<Untold<'r>>
+        ensures { IfSome result (λ after. (offered.now ≡ take (batch_of shape.now) self.entry.items.now) × TakesOff self.entry (PutBegin offered.now) after) }
     {
+        let batch = shape.batch() as usize;
         let next = &self.items[..batch.min(self.items.len())];
         if offered != next {
             return None;
@@ -78,11 +78,11 @@ impl<'r> Untold<'r> {
     }
 
     // What is left behind an event, where it is one of the run.
-    fn behind(self, batch: usize, event: Event<'_>) -> Option<Untold<'r>>
-        ensures { IfSome result (λ after. IsOfRun batch self.entry.items.now (told event.entry) × TakesOff self.entry (told event.entry) after) }
+    fn behind(self, shape: &Shape, event: Event<'_>) -> Option<Untold<'r>>
+        ensures { IfSome result (λ after. IsOfRun shape.now self.entry.items.now (told event.entry) × TakesOff self.entry (told event.entry) after) }
     {
         match event {
-            Event::PutBegins(offered) => self.behind_offer(batch, offered),
+            Event::PutBegins(offered) => self.behind_offer(shape, offered),
             Event::PutStored(count) => {
                 let items = self.items.get(count..)?;
                 let put = self.put.checked_sub(count as u64)?;
@@ -103,7 +103,7 @@ impl<'r> Untold<'r> {
                 Some(Untold { closes, ..self })
             }
             Event::TakeBegins(wanted) => {
-                if wanted != 1 {
+                if wanted < 1 || wanted as u64 > shape.take_batch() {
                     return None;
                 }
                 let takes = self.takes.checked_sub(1)?;
@@ -146,11 +146,11 @@ impl<'r> Untold<'r> {
     }
 
     // Whether something is left, though no log was full, or the logs had room for one more line.
-    fn lacks_lines(&self, is_cut: bool, batch: usize, room: Room) -> bool
+    fn lacks_lines(&self, is_cut: bool, shape: &Shape, room: Room) -> bool
         ensures cut { result ≡ false → is_cut ≡ false → left_of self.now ≡ nothing_left }
-        ensures whole { result ≡ false → batch ≤ room.puts → 0 < room.takes → left_of self.now ≡ nothing_left }
+        ensures whole { result ≡ false → batch_of shape.now ≤ room.puts → take_batch_of shape.now ≤ room.takes → left_of self.now ≡ nothing_left }
     {
-        let had_room = batch <= room.puts && 0 < room.takes;
+        let had_room = shape.batch() <= room.puts as u64 && shape.take_batch() <= room.takes as u64;
         (!is_cut || had_room) && !self.is_nothing()
     }
 }
@@ -177,13 +177,11 @@ impl Room {
     fn behind(self, event: Event<'_>) -> Room
         ensures { (result.puts ≡ self.puts - room_with P (told event.entry)) × (result.takes ≡ self.takes - room_with C (told event.entry)) }
     {
-        if let Event::PutBegins(items) = event {
-            return self.less(items.len(), 0);
-        }
-        if event.is_of_producer() {
-            self.less(1, 0)
-        } else {
-            self.less(0, 1)
+        match event {
+            Event::PutBegins(items) => self.less(items.len(), 0),
+            Event::TakeItems(items) => self.less(0, items.len()),
+            _ if event.is_of_producer() => self.less(1, 0),
+            _ => self.less(0, 1),
         }
     }
 }
@@ -223,15 +221,13 @@ pub fn recording_text<A: Allocator + Copy, B: Allocator>(
     recorder: &Recorder<'_>,
     outcome: &Outcome<B>,
 ) -> Result<String<A>, AppFault>
-    requires { length outcome.now.taken.items + outcome.now.empty + (if outcome.now.closed then 1 else 0) < 2 ^ 64 }
     ensures text { IfOk result (λ text. RecordsRun shape.now items.now (run_counts items.now outcome.now.put outcome.now.calls outcome.now.full outcome.now.taken.items
-        outcome.now.empty outcome.now.closed) (string_bytes text)) }
+        outcome.now.takes outcome.now.empty outcome.now.closed) (string_bytes text)) }
     ensures refused { IfErr result (λ e. (e ≡ AppFault.OutOfMemory) ⊎ (e ≡ AppFault.NotOfRun)) }
 {
     linearizable_is_in_turn();
     history_has_a_recording();
     let capacity = shape.capacity();
-    let batch = shape.batch() as usize;
     let is_cut = recorder.is_cut();
     let mut text = String::new(alloc);
     push_list(&mut text, first_word(is_cut).text(), &[capacity])?;
@@ -252,7 +248,7 @@ pub fn recording_text<A: Allocator + Copy, B: Allocator>(
         let Some(event) = event_told(begun, word, numbers.as_slice()) else {
             return Err(AppFault::NotOfRun);
         };
-        let Some(left) = untold.behind(batch, event) else {
+        let Some(left) = untold.behind(shape, event) else {
             return Err(AppFault::NotOfRun);
         };
         audit(&mut auditor, event)?;
@@ -261,7 +257,7 @@ pub fn recording_text<A: Allocator + Copy, B: Allocator>(
         room = room.behind(event);
         begun = begun_behind(begun, event);
     }
-    if untold.lacks_lines(is_cut, batch, room) {
+    if untold.lacks_lines(is_cut, shape, room) {
         return Err(AppFault::NotOfRun);
     }
     Ok(text)

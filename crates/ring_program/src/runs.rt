@@ -137,9 +137,8 @@ fn run_text<A: Allocator + Copy, B: Allocator>(
     outcome: &Outcome<B>,
     time: Option<Duration>,
 ) -> Result<String<A>, AppFault>
-    requires few { length outcome.now.taken.items + outcome.now.empty + (if outcome.now.closed then 1 else 0) < 2 ^ 64 }
     ensures text { IfOk result (λ told. TellsRun text shape.now items.now outcome.now.put outcome.now.calls outcome.now.full
-        outcome.now.taken.items outcome.now.empty outcome.now.closed (option_map as_nanos time) (string_bytes told)) }
+        outcome.now.taken.items outcome.now.takes outcome.now.empty outcome.now.closed (option_map as_nanos time) (string_bytes told)) }
     ensures refused { IfErr result (λ e. (e ≡ AppFault.OutOfMemory) ⊎ ((e ≡ AppFault.NotOfRun) × (text ≡ RunText.Recording))) }
 {
     match text {
@@ -205,7 +204,7 @@ fn relay_through<R: Threads, A: Allocator + Copy, G: Gate + Sync>(
     gate: &G,
 ) -> Result<Outcome<A>, RunFault>
     requires fit { AllFit shape items.now }
-    ensures counted { IfOk result (λ r. IsRelayed shape items.now limits.puts limits.takes r.put r.calls r.full r.taken.items r.empty r.closed) }
+    ensures counted { IfOk result (λ r. IsRelayed shape items.now limits.puts limits.takes r.put r.calls r.full r.taken.items r.takes r.empty r.closed) }
     ensures prefix { IfOk result (λ r. IsBeginning r.taken.items (take r.put items.now)) }
     ensures all { IfOk result (λ r. r.closed ≡ true → (r.put ≡ length items.now) × (r.taken.items ≡ items.now)) }
     ensures within { IfOk result (λ r. r.put ≤ length r.taken.items + capacity_of shape) }
@@ -235,7 +234,7 @@ fn relay_run<R: Threads, A: Allocator + Copy>(
     recorder: &Recorder<'_>,
 ) -> Result<Outcome<A>, RunFault>
     requires fit { AllFit shape items.now }
-    ensures counted { IfOk result (λ r. IsRelayed shape items.now run.now.limits.puts run.now.limits.takes r.put r.calls r.full r.taken.items r.empty r.closed) }
+    ensures counted { IfOk result (λ r. IsRelayed shape items.now run.now.limits.puts run.now.limits.takes r.put r.calls r.full r.taken.items r.takes r.empty r.closed) }
     ensures prefix { IfOk result (λ r. IsBeginning r.taken.items (take r.put items.now)) }
     ensures all { IfOk result (λ r. r.closed ≡ true → (r.put ≡ length items.now) × (r.taken.items ≡ items.now)) }
     ensures within { IfOk result (λ r. r.put ≤ length r.taken.items + capacity_of shape) }
@@ -262,7 +261,13 @@ fn run_answer<R: Threads + Clock, A: Allocator + Copy>(
     ensures refused { IfErr result (IsRunCause run) }
     ensures unwritten { IfErr result (λ e. e ≢ Refusal.App AppFault.WriteFailed) }
 {
-    let shape = Shape::with_batch(run.capacity, run.modulus, run.width, run.batch)?;
+    let shape = Shape::with_batches(
+        run.capacity,
+        run.modulus,
+        run.width,
+        run.batch,
+        run.take_batch,
+    )?;
     let items = items_of(alloc, &run)?;
     let puts = slots_for(alloc, run.text)?;
     let takes = slots_for(alloc, run.text)?;

@@ -230,5 +230,5 @@ same_trans a b c s t = record { ring = t.ring ∙ s.ring; side = t.side ∙ s.si
 pub puts_there : (a b : Rattle.ring_seats.specs.Ring.RingEnd) (items : List ℕ) (put made full : ℕ) → Rattle.ring_seats.specs.Steppers.IsSameEnd a b → PutsAre a.ring.shape a.list items put made full false → PutsAre b.ring.shape a.list items put made full false
 puts_there a b items put made full s p = subst (λ (z : Shape). PutsAre z a.list items put made full false) (sym (ap (λ (r : Rattle.ring_seats.specs.Ring.Ring). r.shape) s.ring)) p
 
-pub takes_there : (a b : Rattle.ring_seats.specs.Ring.RingEnd) (limit : ℕ) (taken : List ℕ) (empty : ℕ) → Rattle.ring_seats.specs.Steppers.IsSameEnd a b → TakesAre a.ring.shape a.list limit taken empty false → TakesAre b.ring.shape a.list limit taken empty false
-takes_there a b limit taken empty s p = subst (λ (z : Shape). TakesAre z a.list limit taken empty false) (sym (ap (λ (r : Rattle.ring_seats.specs.Ring.Ring). r.shape) s.ring)) p
+pub takes_there : (a b : Rattle.ring_seats.specs.Ring.RingEnd) (limit : ℕ) (taken : List ℕ) (made empty : ℕ) → Rattle.ring_seats.specs.Steppers.IsSameEnd a b → TakesAre a.ring.shape a.list limit taken made empty false → TakesAre b.ring.shape a.list limit taken made empty false
+takes_there a b limit taken made empty s p = subst (λ (z : Shape). TakesAre z a.list limit taken made empty false) (sym (ap (λ (r : Rattle.ring_seats.specs.Ring.Ring). r.shape) s.ring)) p

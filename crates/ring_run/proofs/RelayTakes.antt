@@ -22,12 +22,13 @@ use Rattle.ring_run.specs.Relays.{AreAsked, TakesAre, used_by}
 same_takes : TakesAreRead → (shape : Shape) (list : List Event) (a b : Takes) → HasTakes shape list a → HasTakes shape list b → a ≡ b
 same_takes read shape list a b ha hb = read shape a b ha.are hb.are (sym ha.list_is ∙ hb.list_is)
 
-pub no_takes_are : (shape : Shape) (list : List Event) (limit : ℕ) → list ≡ [] → TakesAre shape list limit [] 0 false
+pub no_takes_are : (shape : Shape) (list : List Event) (limit : ℕ) → list ≡ [] → TakesAre shape list limit [] 0 0 false
 no_takes_are shape list limit is = record {
   calls = no_takes;
   list_is = record { are = tt; list_is = is };
   asked = tt;
   taken_is = refl;
+  made_is = refl;
   empty_is = refl;
   told_is = refl;
 }
@@ -125,7 +126,7 @@ record Made (shape : Shape) (list' : List Event) (calls : Takes) (wanted : ℕ) 
   told : Some y ≡ take_batch_reply (Some (take_reply_to x)) (taken_of x)
   brought : take (number_brought y) into ≡ taken_of x
 
-module _ (read : TakesAreRead) (shape : Shape) (list list' : List Event) (limit : ℕ) (taken : List ℕ) (empty : ℕ) (p : TakesAre shape list limit taken empty false)
+module _ (read : TakesAreRead) (shape : Shape) (list list' : List Event) (limit : ℕ) (taken : List ℕ) (made empty : ℕ) (p : TakesAre shape list limit taken made empty false)
     (wanted : ℕ) (wanted_is : wanted ≡ min (take_batch_of shape) (limit - (length taken + empty))) (into : List ℕ) where
   adds : (y : replies.TakeBatchReply) → HasTakenAll shape wanted list list' y into → TakeAllAdds false shape wanted p.calls y into list list'
   adds y h =
@@ -150,32 +151,33 @@ module _ (read : TakesAreRead) (shape : Shape) (list list' : List Event) (limit 
       (λ told. absurd (open_yet (let q : Some y ≡ Some reply.Closed = a.2.0 ∙ ap (λ (t : Takes). take_batch_reply (reply_at_end t.end t.takes) (items_at_end t.end t.takes)) told.2 in cc)))
       a.1.is_one_more
 
-  one_more : (y : replies.TakeBatchReply) → Made shape list' p.calls wanted y into → TakesAre shape list' limit (taken ++ take (number_brought y) into) (empty + empty_one y) false
+  one_more : (y : replies.TakeBatchReply) → Made shape list' p.calls wanted y into → TakesAre shape list' limit (taken ++ take (number_brought y) into) (made + 1) (empty + empty_one y) false
   one_more y m = record {
     calls = and_take p.calls m.x;
     list_is = m.has;
     asked = asked_more shape 0 limit p.calls.takes m.x p.asked
         (subst (λ n. IsTakeOf shape (taken_in 0 p.calls.takes) n m.x) (wanted_is ∙ (λ i. min (take_batch_of shape) (limit - (length (sym p.taken_is i) + sym p.empty_is i)))) m.of);
     taken_is = taken_snoc p.calls.takes m.x ∙ (λ i. p.taken_is i ++ sym m.brought i);
+    made_is = omega (arith, p.made_is, length-append p.calls.takes (m.x ∷ []));
     empty_is = empties_snoc p.calls.takes m.x ∙ (λ i. p.empty_is i + empty_told m.x y m.told i);
     told_is = refl;
   }
 
-  pub took : (n : ℕ) → HasTakenAll shape wanted list list' (reply.Taken n) into → (1 ≤ n) × TakesAre shape list' limit (taken ++ take n into) empty false
+  pub took : (n : ℕ) → HasTakenAll shape wanted list list' (reply.Taken n) into → (1 ≤ n) × TakesAre shape list' limit (taken ++ take n into) (made + 1) empty false
   unfolding empty_one
   took n h =
       let m = made_so (reply.Taken n) (λ e. cc) h in
       let same : empty + 0 ≡ empty = omega arith in (
         some_told shape (taken_in 0 p.calls.takes) m.x n (last_is_take shape 0 p.calls.takes m.x (m.has).are) m.told,
-        subst (λ (k : ℕ). TakesAre shape list' limit (taken ++ take n into) k false) same (one_more (reply.Taken n) m),
+        subst (λ (k : ℕ). TakesAre shape list' limit (taken ++ take n into) (made + 1) k false) same (one_more (reply.Taken n) m),
       )
 
-  pub was_empty : HasTakenAll shape wanted list list' reply.Empty into → TakesAre shape list' limit taken (empty + 1) false
+  pub was_empty : HasTakenAll shape wanted list list' reply.Empty into → TakesAre shape list' limit taken (made + 1) (empty + 1) false
   unfolding empty_one
   was_empty h =
-      subst (λ (l : List ℕ). TakesAre shape list' limit l (empty + 1) false) (append-nil taken) (one_more reply.Empty (made_so reply.Empty (λ e. cc) h))
+      subst (λ (l : List ℕ). TakesAre shape list' limit l (made + 1) (empty + 1) false) (append-nil taken) (one_more reply.Empty (made_so reply.Empty (λ e. cc) h))
 
-  pub was_told : HasTakenAll shape wanted list list' reply.Closed into → TakesAre shape list' limit taken empty true
+  pub was_told : HasTakenAll shape wanted list list' reply.Closed into → TakesAre shape list' limit taken (made + 1) empty true
   was_told h =
       let a = adds reply.Closed h in
       ⊎_elim
@@ -189,6 +191,7 @@ module _ (read : TakesAreRead) (shape : Shape) (list list' : List Event) (limit 
         list_is = subst (HasTakes shape list') told.2 a.3;
         asked = p.asked;
         taken_is = p.taken_is;
+        made_is = omega (arith, p.made_is);
         empty_is = p.empty_is;
         told_is = refl;
       })

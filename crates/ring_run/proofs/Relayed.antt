@@ -32,8 +32,8 @@ tells_true Open e = absurd (true≢false (sym e))
 tells_true (Closed seen again) e = tt
 
 -- one history of these puts and takes
-module _ (shape : Shape) (items : List ℕ) (put made full : ℕ) (closes : Bool) (limit : ℕ) (taken : List ℕ) (empty : ℕ) (told : Bool) (h : List Event) (ring : IsRing shape h)
-    (ps : PutsAre shape (own P h) items put made full closes) (ts : TakesAre shape (own C h) limit taken empty told) where
+module _ (shape : Shape) (items : List ℕ) (put made full : ℕ) (closes : Bool) (limit : ℕ) (taken : List ℕ) (made_takes empty : ℕ) (told : Bool) (h : List Event) (ring : IsRing shape h)
+    (ps : PutsAre shape (own P h) items put made full closes) (ts : TakesAre shape (own C h) limit taken made_takes empty told) where
   run_of : IsRun shape h ps.calls ts.calls
   run_of = record {
     lawful = ring.run.lawful;
@@ -57,7 +57,7 @@ module _ (shape : Shape) (items : List ℕ) (put made full : ℕ) (closes : Bool
       omega (arith, ap length p.1, length-append taken p.0, length_first put items ps.within, ps.within)
 
 module _ (within : InEveryRun IsWithin) (prefix : InEveryRun TakenArePrefix) (closed_law : InEveryRun ClosedIsTrue) (puts_count : WholePutsCount) (takes_count : WholeTakesCount)
-    (shape : Shape) (items : List ℕ) (most_puts most_takes put made full : ℕ) (taken : List ℕ) (empty : ℕ) (closed : Bool) (r : IsRelayed shape items most_puts most_takes put made full taken empty closed) where
+    (shape : Shape) (items : List ℕ) (most_puts most_takes put made full : ℕ) (taken : List ℕ) (made_takes empty : ℕ) (closed : Bool) (r : IsRelayed shape items most_puts most_takes put made full taken made_takes empty closed) where
   abbrev h : List Event
   h = r.history
 
@@ -68,16 +68,16 @@ module _ (within : InEveryRun IsWithin) (prefix : InEveryRun TakenArePrefix) (cl
   takes = r.takes.takes.calls
 
   run : IsRun shape h puts takes
-  run = run_of shape items put made full (put == length items) most_takes taken empty closed h r.ring r.puts.puts r.takes.takes
+  run = run_of shape items put made full (put == length items) most_takes taken made_takes empty closed h r.ring r.puts.puts r.takes.takes
 
   put_is : items_put shape first_count puts.puts (clock P h (length h)) ≡ take put items
-  put_is = put_of shape items put made full (put == length items) most_takes taken empty closed h r.ring r.puts.puts r.takes.takes puts_count
+  put_is = put_of shape items put made full (put == length items) most_takes taken made_takes empty closed h r.ring r.puts.puts r.takes.takes puts_count
 
   taken_is : items_taken shape first_count takes.takes (clock C h (length h)) ≡ taken
-  taken_is = taken_of shape items put made full (put == length items) most_takes taken empty closed h r.ring r.puts.puts r.takes.takes takes_count
+  taken_is = taken_of shape items put made full (put == length items) most_takes taken made_takes empty closed h r.ring r.puts.puts r.takes.takes takes_count
 
   pub relayed_prefix : IsBeginning taken (take put items)
-  relayed_prefix = prefix_of shape items put made full (put == length items) most_takes taken empty closed h r.ring r.puts.puts r.takes.takes prefix puts_count takes_count
+  relayed_prefix = prefix_of shape items put made full (put == length items) most_takes taken made_takes empty closed h r.ring r.puts.puts r.takes.takes prefix puts_count takes_count
 
   pub relayed_all : closed ≡ true → (put ≡ length items) × (taken ≡ items)
   relayed_all e =
@@ -99,14 +99,14 @@ module _ (within : InEveryRun IsWithin) (prefix : InEveryRun TakenArePrefix) (cl
 
 -- what a relay's ends and their meeting say, of one history
 pub relayed :
-    (shape : Shape) (items : List ℕ) (most_puts most_takes put made full : ℕ) (taken : List ℕ) (empty : ℕ) (closed : Bool) (p c : RingEnd) → p.ring.shape ≡ shape → c.ring.shape ≡ shape → (h : List Event) → Meets p c h →
-    EachReadingIsLinearizable p.ring.shape h → HasRelayedPuts p.ring.shape p.list items most_puts put made full → HasRelayedTakes c.ring.shape c.list most_takes taken empty closed → IsRelayed shape items most_puts most_takes put made full taken empty closed
-relayed shape items most_puts most_takes put made full taken empty closed p c p_is c_is h m linear ps ts = record {
+    (shape : Shape) (items : List ℕ) (most_puts most_takes put made full : ℕ) (taken : List ℕ) (made_takes empty : ℕ) (closed : Bool) (p c : RingEnd) → p.ring.shape ≡ shape → c.ring.shape ≡ shape → (h : List Event) → Meets p c h →
+    EachReadingIsLinearizable p.ring.shape h → HasRelayedPuts p.ring.shape p.list items most_puts put made full → HasRelayedTakes c.ring.shape c.list most_takes taken made_takes empty closed → IsRelayed shape items most_puts most_takes put made full taken made_takes empty closed
+relayed shape items most_puts most_takes put made full taken made_takes empty closed p c p_is c_is h m linear ps ts = record {
   history = h;
   ring = subst (λ (s : Shape). IsRing s h) p_is m.ring;
   linearizable = subst (λ (s : Shape). EachReadingIsLinearizable s h) p_is linear;
   puts = subst (λ (z : Shape × List Event). HasRelayedPuts z.0 z.1 items most_puts put made full) (λ i. (p_is i, sym m.put i)) ps;
-  takes = subst (λ (z : Shape × List Event). HasRelayedTakes z.0 z.1 most_takes taken empty closed) (λ i. (c_is i, sym m.taken i)) ts;
+  takes = subst (λ (z : Shape × List Event). HasRelayedTakes z.0 z.1 most_takes taken made_takes empty closed) (λ i. (c_is i, sym m.taken i)) ts;
 }
 
 -- in one ring no more items are taken than there are to put
@@ -116,5 +116,5 @@ pub none_past :
 none_past prefix puts_count takes_count items most_puts most_takes p c same h m made more =
     let shape : Shape = p.ring.shape in
     let ps : PutsAre shape (own P h) items made.put made.made made.full (made.put == length items) = subst (λ l. PutsAre shape l items made.put made.made made.full (made.put == length items)) (sym m.put) made.puts.puts in
-    let ts : TakesAre shape (own C h) most_takes more.taken more.empty false = subst (λ (z : Ring × List Event). TakesAre z.0.shape z.1 most_takes more.taken more.empty false) (λ i. (same i, sym m.taken i)) more.takes in
-    absurd (omega (arith, more.more, few_of shape items made.put made.made made.full (made.put == length items) most_takes more.taken more.empty false h m.ring ps ts prefix puts_count takes_count))
+    let ts : TakesAre shape (own C h) most_takes more.taken more.made more.empty false = subst (λ (z : Ring × List Event). TakesAre z.0.shape z.1 most_takes more.taken more.made more.empty false) (λ i. (same i, sym m.taken i)) more.takes in
+    absurd (omega (arith, more.more, few_of shape items made.put made.made made.full (made.put == length items) most_takes more.taken more.made more.empty false h m.ring ps ts prefix puts_count takes_count))

@@ -54,28 +54,30 @@ AreAsked shape k left [] = Unit {0}
 AreAsked shape k left (x ∷ takes) =
     IsTakeOf shape k (min (take_batch_of shape) left) x × AreAsked shape (taken_after k x) (left - used_by x) takes
 
--- the list is of takes of these items, in order, which asked for them so, of `empty` that found the ring empty, and perhaps of one that
--- was told that the ring is closed
-pub record TakesAre (shape : Shape) (list : List Event) (limit : ℕ) (taken : List ℕ) (empty : ℕ) (told : Bool) : Type 0 where
+-- the list is of `made` takes of these items, in order, which asked for them so, of which `empty` found the ring empty, and perhaps one was
+-- told that the ring is closed
+pub record TakesAre (shape : Shape) (list : List Event) (limit : ℕ) (taken : List ℕ) (made empty : ℕ) (told : Bool) : Type 0 where
   pub calls : Takes
   pub list_is : HasTakes shape list calls
   pub asked : AreAsked shape 0 limit calls.takes
   pub taken_is : all_taken calls.takes ≡ taken
+  pub made_is : length calls.takes + (if told then 1 else 0) ≡ made
   pub empty_is : empties calls.takes ≡ empty
   pub told_is : ends_closed calls.end ≡ told
 
 -- The items taken and the takes that brought none are at most as many as the limit, so the takes are; and they are as many where none
 -- was told that the ring is closed.
-pub record HasRelayedTakes (shape : Shape) (list : List Event) (limit : ℕ) (taken : List ℕ) (empty : ℕ) (closed : Bool) : Type 0 where
-  pub takes : TakesAre shape list limit taken empty closed
+pub record HasRelayedTakes (shape : Shape) (list : List Event) (limit : ℕ) (taken : List ℕ) (made empty : ℕ) (closed : Bool) : Type 0 where
+  pub takes : TakesAre shape list limit taken made empty closed
   pub most : length taken + empty + (if closed then 1 else 0) ≤ limit
   pub all : closed ≡ false → length taken + empty ≡ limit
 
 -- whole takes were made, within the limit; they took more items than this number, and none was told that the ring is closed
 pub record HasTakenMore (shape : Shape) (list : List Event) (limit number : ℕ) : Type 0 where
   pub taken : List ℕ
+  pub made : ℕ
   pub empty : ℕ
-  pub takes : TakesAre shape list limit taken empty false
+  pub takes : TakesAre shape list limit taken made empty false
   pub most : length taken + empty ≤ limit
   pub more : number < length taken
 
@@ -87,9 +89,9 @@ pub record HasMadePuts (shape : Shape) (list : List Event) (items : List ℕ) (l
   pub puts : HasRelayedPuts shape list items limit put made full
 
 -- one lawful history, whose two sides follow their programs, counts so; its calls are linearizable
-pub record IsRelayed (shape : Shape) (items : List ℕ) (most_puts most_takes put made full : ℕ) (taken : List ℕ) (empty : ℕ) (closed : Bool) : Type 0 where
+pub record IsRelayed (shape : Shape) (items : List ℕ) (most_puts most_takes put made full : ℕ) (taken : List ℕ) (made_takes empty : ℕ) (closed : Bool) : Type 0 where
   pub history : List Event
   pub ring : IsRing shape history
   pub puts : HasRelayedPuts shape (own P history) items most_puts put made full
-  pub takes : HasRelayedTakes shape (own C history) most_takes taken empty closed
+  pub takes : HasRelayedTakes shape (own C history) most_takes taken made_takes empty closed
   pub linearizable : EachReadingIsLinearizable shape history

@@ -109,20 +109,21 @@ fn next_take(shape: &Shape, left: u64) -> usize
 }
 
 // Takes until the ring is closed, into a list with no item yet, as many items at a time as the shape's take batch, but no more than
-// are left of the limit. Tells how many takes found the ring empty, and whether one was told that the ring is closed. Where the list
+// are left of the limit. Tells how many takes were made, how many found the ring empty, and whether one was told that the ring is
+// closed. Where the list
 // has no room for the items of a take, and can get none, they are lost, and no more takes are made.
 fn take_all<A: Allocator, E: TakeEnd, G: Gate>(
     items: &mut Vec<u64, A>,
     taker: &mut E,
     limit: u64,
     gate: &G,
-) -> Result<(u64, bool), RunFault>
+) -> Result<(u64, u64, bool), RunFault>
     requires none { items.old.items ≡ [] }
     requires idle { E.idle taker.old }
     requires fresh { (E.end taker.old).list ≡ [] }
     ensures idle { E.idle taker.new }
     ensures same { IsSameEnd (E.end taker.old) (E.end taker.new) }
-    ensures takes { IfOk result (λ t. HasRelayedTakes (E.end taker.new).ring.shape (E.end taker.new).list limit items.new.items t.0 t.1) }
+    ensures takes { IfOk result (λ t. HasRelayedTakes (E.end taker.new).ring.shape (E.end taker.new).list limit items.new.items t.0 t.1 t.2) }
     ensures fault { IfErr result (λ _. HasTakenMore (E.end taker.new).ring.shape (E.end taker.new).list limit (vec_capacity items.old)) }
 {
     takes_are_read();
@@ -158,7 +159,7 @@ fn take_all<A: Allocator, E: TakeEnd, G: Gate>(
             }
         }
     }
-    Ok((empty, closed))
+    Ok((made, empty, closed))
 }
 
 /// What a relay came to.
@@ -172,6 +173,8 @@ pub struct Outcome<A: Allocator> {
     pub calls: u64,
     /// The items taken, in order.
     pub taken: Vec<u64, A>,
+    /// How many takes were made.
+    pub takes: u64,
     /// Whether the taker was told that the ring is closed.
     pub closed: bool,
     /// How many puts found the ring full.
@@ -205,7 +208,7 @@ fn relay_into<R: Threads, A: Allocator, E: PutEnd + Send, F: TakeEnd + Send, G: 
     ensures idle { E.idle putter.new × F.idle taker.new }
     ensures same { IsSameEnd (E.end putter.old) (E.end putter.new) × IsSameEnd (F.end taker.old) (F.end taker.new) }
     ensures puts { IfOk result (λ r. HasRelayedPuts (E.end putter.new).ring.shape (E.end putter.new).list items.now limits.puts r.put r.calls r.full) }
-    ensures takes { IfOk result (λ r. HasRelayedTakes (F.end taker.new).ring.shape (F.end taker.new).list limits.takes r.taken.items r.empty r.closed) }
+    ensures takes { IfOk result (λ r. HasRelayedTakes (F.end taker.new).ring.shape (F.end taker.new).list limits.takes r.taken.items r.takes r.empty r.closed) }
     ensures fault { IfErr result (λ _. HasMadePuts (E.end putter.new).ring.shape (E.end putter.new).list items.now limits.puts × HasTakenMore (F.end taker.new).ring.shape (F.end taker.new).list limits.takes (length items.now)) }
 {
     let into = &mut taken;
@@ -215,16 +218,17 @@ fn relay_into<R: Threads, A: Allocator, E: PutEnd + Send, F: TakeEnd + Send, G: 
             requires { E.idle putter.now × ((E.end putter.now).list ≡ []) × AllFit (E.end putter.now).ring.shape items.now }
             ensures { E.idle putter.exit.now × IsSameEnd (E.end putter.entry.now) (E.end putter.exit.now) × HasRelayedPuts (E.end putter.exit.now).ring.shape (E.end putter.exit.now).list items.entry.now limits.puts result.0 result.1 result.2 }
         { put_in_order(putter, items, limits.puts, gate) },
-        &mut || -> Result<(u64, bool), RunFault>
+        &mut || -> Result<(u64, u64, bool), RunFault>
             requires { (into.now.items ≡ []) × F.idle taker.now × ((F.end taker.now).list ≡ []) }
-            ensures { F.idle taker.exit.now × IsSameEnd (F.end taker.entry.now) (F.end taker.exit.now) × IfOk result (λ t. HasRelayedTakes (F.end taker.exit.now).ring.shape (F.end taker.exit.now).list limits.takes into.exit.now.items t.0 t.1) × IfErr result (λ _. HasTakenMore (F.end taker.exit.now).ring.shape (F.end taker.exit.now).list limits.takes (vec_capacity into.entry.now)) }
+            ensures { F.idle taker.exit.now × IsSameEnd (F.end taker.entry.now) (F.end taker.exit.now) × IfOk result (λ t. HasRelayedTakes (F.end taker.exit.now).ring.shape (F.end taker.exit.now).list limits.takes into.exit.now.items t.0 t.1 t.2) × IfErr result (λ _. HasTakenMore (F.end taker.exit.now).ring.shape (F.end taker.exit.now).list limits.takes (vec_capacity into.entry.now)) }
         { take_all(into, taker, limits.takes, gate) },
     );
-    let (empty, closed) = takes?;
+    let (takes, empty, closed) = takes?;
     Ok(Outcome {
         put,
         calls,
         taken,
+        takes,
         closed,
         full,
         empty,
@@ -262,7 +266,7 @@ pub fn relay<R: Threads, A: Allocator + Copy, E: PutEnd + Send, F: TakeEnd + Sen
     ensures idle { E.idle putter.new × F.idle taker.new }
     ensures same { IsSameEnd (E.end putter.old) (E.end putter.new) × IsSameEnd (F.end taker.old) (F.end taker.new) }
     ensures puts { IfOk result (λ r. HasRelayedPuts (E.end putter.new).ring.shape (E.end putter.new).list items.now limits.puts r.put r.calls r.full) }
-    ensures takes { IfOk result (λ r. HasRelayedTakes (F.end taker.new).ring.shape (F.end taker.new).list limits.takes r.taken.items r.empty r.closed) }
+    ensures takes { IfOk result (λ r. HasRelayedTakes (F.end taker.new).ring.shape (F.end taker.new).list limits.takes r.taken.items r.takes r.empty r.closed) }
     ensures fault { IfErr result (λ _. ((putter.new ≡ putter.old) × (taker.new ≡ taker.old)) ⊎ (HasMadePuts (E.end putter.new).ring.shape (E.end putter.new).list items.now limits.puts × HasTakenMore (F.end taker.new).ring.shape (F.end taker.new).list limits.takes (length items.now))) }
 {
     let taken = room_for(alloc, items, limits)?;
@@ -293,7 +297,7 @@ fn relay_through<
     requires idle { E.idle putter × F.idle taker }
     requires fresh { ((E.end putter).list ≡ []) × ((F.end taker).list ≡ []) }
     requires fit { AllFit (E.end putter).ring.shape items.now }
-    ensures { IsRelayed (E.end putter).ring.shape items.now limits.puts limits.takes result.put result.calls result.full result.taken.items result.empty result.closed }
+    ensures { IsRelayed (E.end putter).ring.shape items.now limits.puts limits.takes result.put result.calls result.full result.taken.items result.takes result.empty result.closed }
 {
     ring_law();
     whole_calls_count();
@@ -332,7 +336,7 @@ pub fn relay_flicker<
     gate: &G,
 ) -> Result<Outcome<A>, RunFault>
     requires fit { AllFit shape items.now }
-    ensures counted { IfOk result (λ r. IsRelayed shape items.now limits.puts limits.takes r.put r.calls r.full r.taken.items r.empty r.closed) }
+    ensures counted { IfOk result (λ r. IsRelayed shape items.now limits.puts limits.takes r.put r.calls r.full r.taken.items r.takes r.empty r.closed) }
     ensures prefix { IfOk result (λ r. IsBeginning r.taken.items (take r.put items.now)) }
     ensures all { IfOk result (λ r. r.closed ≡ true → (r.put ≡ length items.now) × (r.taken.items ≡ items.now)) }
     ensures within { IfOk result (λ r. r.put ≤ length r.taken.items + capacity_of shape) }
@@ -364,7 +368,7 @@ pub fn relay_counter<R: Threads, A: Allocator + Copy, G: Gate + Sync>(
     gate: &G,
 ) -> Result<Outcome<A>, RunFault>
     requires fit { AllFit shape items.now }
-    ensures counted { IfOk result (λ r. IsRelayed shape items.now limits.puts limits.takes r.put r.calls r.full r.taken.items r.empty r.closed) }
+    ensures counted { IfOk result (λ r. IsRelayed shape items.now limits.puts limits.takes r.put r.calls r.full r.taken.items r.takes r.empty r.closed) }
     ensures prefix { IfOk result (λ r. IsBeginning r.taken.items (take r.put items.now)) }
     ensures all { IfOk result (λ r. r.closed ≡ true → (r.put ≡ length items.now) × (r.taken.items ≡ items.now)) }
     ensures within { IfOk result (λ r. r.put ≤ length r.taken.items + capacity_of shape) }

@@ -124,7 +124,7 @@ fn tells_the_report_and_the_trace_of_a_play(rt: HostRuntime) {
     expect_plays(&rt, &PLAYS);
 }
 
-static CALLS: [(&str, &str); 9] = [
+static CALLS: [(&str, &str); 10] = [
     (PLAIN, "queue 1\nP put 1\nP stored\nC take\nC item 1\n"),
     // no letter: no call
     (
@@ -145,6 +145,11 @@ static CALLS: [(&str, &str); 9] = [
     (
         "{\"capacity\":3,\"modulus\":6,\"width\":1,\"items\":[1,0,1,1],\"takes\":0,\"close\":false,\"schedule\":\"P20\",\"oracle\":\"\",\"batch\":2}",
         "queue 3\nP put 1 0\nP stored\nP put 1 1\nP stored 1\nP put 1\nP full\n",
+    ),
+    // a take of two items, a put that finds the ring full during it, and one that finds both cells free
+    (
+        "{\"capacity\":2,\"modulus\":5,\"width\":1,\"items\":[1,0,1],\"takes\":2,\"close\":false,\"schedule\":\"P16C13P14C1\",\"oracle\":\"10\",\"take_batch\":2}",
+        "queue 2\nP put 1\nP stored\nP put 0\nP stored\nC take 2\nP put 1\nP full\nP put 1\nP stored\nC item 1 0\n",
     ),
     // a batch whose put does not end
     (

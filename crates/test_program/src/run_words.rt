@@ -109,12 +109,12 @@ static WORDS: [(&[&str], u8, &str); 8] = [
     (
         RUN_HELP,
         0,
-        "Usage: lamport_ring run --capacity B --modulus M --width W --count N --limit L\n       [--takes T] [--batch G] [--ring RING] [--report | --record]\n",
+        "Usage: lamport_ring run --capacity B --modulus M --width W --count N --limit L\n       [--takes T] [--batch G] [--take-batch H] [--ring RING]\n       [--report | --record]\n",
     ),
     (
         RUN_HELP,
         0,
-        "  M  what its counts run modulo, from B + G + 1 to 256\n",
+        "  M  what its counts run modulo, from B + G + 1 and B + H + 1 to 256\n",
     ),
     (
         RUN_HELP,

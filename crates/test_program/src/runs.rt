@@ -15,7 +15,7 @@ static SMALL: [&str; 8] = [
 ];
 
 // What follows the options of the shape, the status, the output and the standard error.
-static RUNS: [(&[&str], u8, &str, &str); 10] = [
+static RUNS: [(&[&str], u8, &str, &str); 12] = [
     (
         &["--count", "64", "--limit", "1000000000"],
         0,
@@ -95,6 +95,18 @@ static RUNS: [(&[&str], u8, &str, &str); 10] = [
         "",
         "refused: batch must be from 1 to capacity\n",
     ),
+    (
+        &["--count", "1", "--limit", "1", "--take-batch=2"],
+        1,
+        "",
+        "refused: take batch must be from 1 to capacity\n",
+    ),
+    (
+        &["--count", "1", "--limit", "1", "--take-batch", "0"],
+        1,
+        "",
+        "refused: take batch must be from 1 to capacity\n",
+    ),
 ];
 
 #[test]
@@ -115,7 +127,7 @@ static BATCHED: [&str; 10] = [
     "3",
 ];
 
-static BATCHED_RUNS: [(&[&str], u8, &str, &str); 2] = [
+static BATCHED_RUNS: [(&[&str], u8, &str, &str); 5] = [
     (
         &["--count", "64", "--limit", "1000000000"],
         0,
@@ -134,6 +146,36 @@ static BATCHED_RUNS: [(&[&str], u8, &str, &str); 2] = [
         0,
         "put 64\ntaken 64\nclosed yes\n",
         "",
+    ),
+    // takes of several, on both rings
+    (
+        &["--count=64", "--limit=1000000000", "--take-batch=3"],
+        0,
+        "put 64\ntaken 64\nclosed yes\n",
+        "",
+    ),
+    (
+        &[
+            "--count=64",
+            "--limit=1000000000",
+            "--take-batch=2",
+            "--ring=counter",
+        ],
+        0,
+        "put 64\ntaken 64\nclosed yes\n",
+        "",
+    ),
+    // a limit of takes counts the items that they bring
+    (
+        &[
+            "--count=3",
+            "--limit=1000000000",
+            "--takes=0",
+            "--take-batch=3",
+        ],
+        1,
+        "put 3\ntaken 0\nclosed no\n",
+        "refused: limit reached\n",
     ),
 ];
 

@@ -1,8 +1,8 @@
-use Rattle.std.proofs.Common.{◌∙◌, ℕ, ◌≤◌, ap, subst, sym, string_bytes}
-use Rattle.bits_core.specs.Shape.{batch_of, capacity_of}
+use Rattle.std.proofs.Common.{◌∙◌, ap, string_bytes}
+use Rattle.bits_core.specs.Shape.{capacity_of}
 use Rattle.queue_calls.specs.Lines.{word_text}
 use Rattle.queue_calls.specs.Told.{told}
-use Rattle.ring_program.specs.RunRecordings.{IsOfRun, run_counts}
+use Rattle.ring_program.specs.RunRecordings.{run_counts}
 use Rattle.ring_program.proofs.RunText.{audits_more, begins_run, leaves_less, meant_exactly, records_run, writes_more}
 use Rattle.ring_program.proofs.run_recordings.recording_text.Goals as goal
 
@@ -12,7 +12,7 @@ lines-init g c =
     let o = c.args.outcome.now in
     let items = c.args.items.now in
     let auditor = c.new-auditor.result in
-    begins_run (λ q. q.items) c.is_cut-is_cut.result (capacity_of shape) (batch_of shape) items (run_counts items o.put o.calls o.full o.taken.items o.empty o.closed) (string_bytes c.push_list.new.text)
+    begins_run (λ q. q.items) c.is_cut-is_cut.result (capacity_of shape) shape items (run_counts items o.put o.calls o.full o.taken.items o.takes o.empty o.closed) (string_bytes c.push_list.new.text)
     _ _ _ auditor c.all-untold.result c.new-text.ensures.bytes (c.text.ensures ∙ ap word_text c.first_word.ensures) c.capacity-capacity.ensures.value c.in_ok-push_list.ensures.ok
     c.new-auditor.ensures.reads (meant_exactly auditor.capacity c.capacity-capacity.result (capacity_of shape) (c.new-auditor.ensures.capacity ∙ c.exactly.ensures) c.capacity-capacity.ensures.value)
     (c.has_read.ensures _ c.new-auditor.ensures.reads) c.all-untold.ensures.items c.all-untold.ensures.left
@@ -30,8 +30,8 @@ lines-preserved g c =
       is_written = writes_more c.is_cut-is_cut.result (capacity_of shape) c.lines.begun c.begun_behind-begun.result _ _ t.events event c.in_ok-push_event.ensures.line c.begun_behind-begun.ensures
           c.in_ok-push_event.ensures.small t.is_written;
       is_audited = audits_more (λ q. q.items) (capacity_of shape) c.lines.auditor c.audit.new.auditor t.events event c.in_ok-audit.ensures.capacity c.in_ok-audit.ensures.read t.is_audited;
-      is_left = leaves_less (batch_of shape) items (run_counts items o.put o.calls o.full o.taken.items o.empty o.closed) c.lines.untold left.left c.lines.room c.behind-room.result t.events event
-          (subst (λ (n : ℕ). IsOfRun n c.lines.untold.items.now event) c.batch-batch.ensures.value left.ensures.0) left.ensures.1 c.behind-room.ensures.0 c.behind-room.ensures.1 t.is_left;
+      is_left = leaves_less shape items (run_counts items o.put o.calls o.full o.taken.items o.takes o.empty o.closed) c.lines.untold left.left c.lines.room c.behind-room.result t.events event
+          left.ensures.0 left.ensures.1 c.behind-room.ensures.0 c.behind-room.ensures.1 t.is_left;
     }
 
 pub returns-clause-text : goal.returns-clause-text
@@ -39,8 +39,8 @@ returns-clause-text g c =
     let shape = c.args.shape.now in
     let o = c.args.outcome.now in
     let items = c.args.items.now in
-    records_run (λ q. q.items) c.is_cut-is_cut.result shape c.capacity-capacity.result items (run_counts items o.put o.calls o.full o.taken.items o.empty o.closed) _ c.lines.auditor c.lines.untold
+    records_run (λ q. q.items) c.is_cut-is_cut.result shape c.capacity-capacity.result items (run_counts items o.put o.calls o.full o.taken.items o.takes o.empty o.closed) _ c.lines.auditor c.lines.untold
     c.lines.room c.lines.begun c.history_has_a_recording.ensures c.linearizable_is_in_turn.ensures c.capacity-capacity.ensures.value c.capacity-capacity.ensures.some
     c.capacity-capacity.ensures.few
     (c.lacks_lines.ensures.cut c.if-lacks_lines.false)
-    (λ enough some. c.lacks_lines.ensures.whole c.if-lacks_lines.false (subst (λ (n : ℕ). n ≤ c.lines.room.puts) (sym c.batch-batch.ensures.value) enough) some) c.lines.invariant
+    (c.lacks_lines.ensures.whole c.if-lacks_lines.false) c.lines.invariant

@@ -26,20 +26,16 @@ returns-clause-answered g c =
       calls = o.calls;
       full = o.full;
       taken = o.taken.items;
+      takes = o.takes;
       empty = o.empty;
       closed = o.closed;
       time = option_map as_nanos c.time_since-time.result;
       of_numbers = c.in_ok-shape.ensures;
-      relayed = subst (λ (items : List ℕ). IsRelayed c.in_ok-shape.shape items run.limits.puts run.limits.takes o.put o.calls o.full o.taken.items o.empty o.closed) is told.counted;
+      relayed = subst (λ (items : List ℕ). IsRelayed c.in_ok-shape.shape items run.limits.puts run.limits.takes o.put o.calls o.full o.taken.items o.takes o.empty o.closed) is told.counted;
       prefix = subst (λ (items : List ℕ). IsBeginning o.taken.items (take o.put items)) is told.prefix;
       all = λ e. (told.all e).1 ∙ is;
       within = omega (arith, told.within, c.in_ok-shape.ensures.capacity_is);
-      words = subst (λ (items : List ℕ). TellsRun run.text c.in_ok-shape.shape items o.put o.calls o.full o.taken.items o.empty o.closed (option_map as_nanos c.time_since-time.result)
+      words = subst (λ (items : List ℕ). TellsRun run.text c.in_ok-shape.shape items o.put o.calls o.full o.taken.items o.takes o.empty o.closed (option_map as_nanos c.time_since-time.result)
           (string_bytes c.in_ok-text.text)) is c.in_ok-text.ensures.text;
       ends = c.relay_ending-ending.ensures;
     }
-
-pub run_text-requires : goal.run_text-requires
-run_text-requires g c =
-    let counted = c.in_ok-outcome.ensures.counted in
-    omega (arith, counted.takes.most)

@@ -20,4 +20,4 @@ returns g c =
     let shape = (g.E.PutEnd.end c.args.putter).ring.shape in
     let p_is : p.ring.shape ≡ shape = ap (λ (r : Ring). r.shape) f.same.0.ring in
     let t_is : t.ring.shape ≡ shape = ap (λ (r : Ring). r.shape) (f.same.1.ring ∙ sym c.requires.ring) in
-    relayed shape c.args.items.now c.args.limits.puts c.args.limits.takes o.put o.calls o.full o.taken.items o.empty o.closed p t p_is t_is c.finish-finished.result.history c.finish-finished.ensures.meets c.finish-finished.ensures.linearizable f.puts f.takes
+    relayed shape c.args.items.now c.args.limits.puts c.args.limits.takes o.put o.calls o.full o.taken.items o.takes o.empty o.closed p t p_is t_is c.finish-finished.result.history c.finish-finished.ensures.meets c.finish-finished.ensures.linearizable f.puts f.takes

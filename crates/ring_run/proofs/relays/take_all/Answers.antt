@@ -25,18 +25,18 @@ asks g c =
 
 -- what was taken before
 yet : (g : Over) (c : After-take_all-reply g) →
-    (let b = g.E.TakeEnd.end c.take_all-reply.new.self in TakesAre b.ring.shape (g.E.TakeEnd.end c.takes.taker).list c.args.limit c.takes.items.items c.takes.empty false)
+    (let b = g.E.TakeEnd.end c.take_all-reply.new.self in TakesAre b.ring.shape (g.E.TakeEnd.end c.takes.taker).list c.args.limit c.takes.items.items c.takes.made c.takes.empty false)
 yet g c =
     let a = g.E.TakeEnd.end c.takes.taker in
-    takes_there a (g.E.TakeEnd.end c.take_all-reply.new.self) c.args.limit c.takes.items.items c.takes.empty c.take_all-reply.ensures.same
-    (subst (TakesAre a.ring.shape a.list c.args.limit c.takes.items.items c.takes.empty) c.takes-test.true c.takes.invariant.2)
+    takes_there a (g.E.TakeEnd.end c.take_all-reply.new.self) c.args.limit c.takes.items.items c.takes.made c.takes.empty c.take_all-reply.ensures.same
+    (subst (TakesAre a.ring.shape a.list c.args.limit c.takes.items.items c.takes.made c.takes.empty) c.takes-test.true c.takes.invariant.2)
 
 pub takes-init : goal.takes-init
 takes-init g c =
     let e = g.E.TakeEnd.end c.args.taker.now in (
       c.requires.idle,
       record { ring = refl; side = refl; known = refl },
-      subst (λ (l : List ℕ). TakesAre e.ring.shape e.list c.args.limit l 0 false) (sym c.requires.none) (no_takes_are e.ring.shape e.list c.args.limit c.requires.fresh),
+      subst (λ (l : List ℕ). TakesAre e.ring.shape e.list c.args.limit l 0 0 false) (sym c.requires.none) (no_takes_are e.ring.shape e.list c.args.limit c.requires.fresh),
       omega (arith, ap length c.requires.none),
       refl,
       omega arith,
@@ -49,11 +49,11 @@ abbrev Came : (g : Over) (c : After-take_all-reply g) → replies.TakeBatchReply
 Came g c r = let b = g.E.TakeEnd.end c.take_all-reply.new.self in HasTakenAll b.ring.shape (length (take c.next_take-wanted.result c.takes.room)) (g.E.TakeEnd.end c.takes.taker).list b.list r c.take_all-reply.new.into
 
 brought : (g : Over) (c : After-take_all-reply g) (n : ℕ) → Came g c (reply.Taken n) →
-    (let b = g.E.TakeEnd.end c.take_all-reply.new.self in (1 ≤ n) × TakesAre b.ring.shape b.list c.args.limit (c.takes.items.items ++ take n c.take_all-reply.new.into) c.takes.empty false)
+    (let b = g.E.TakeEnd.end c.take_all-reply.new.self in (1 ≤ n) × TakesAre b.ring.shape b.list c.args.limit (c.takes.items.items ++ take n c.take_all-reply.new.into) (c.takes.made + 1) c.takes.empty false)
 brought g c n came =
     let a = g.E.TakeEnd.end c.takes.taker in
     let b = g.E.TakeEnd.end c.take_all-reply.new.self in
-    took c.takes_are_read.ensures b.ring.shape a.list b.list c.args.limit c.takes.items.items c.takes.empty (yet g c) (length (take c.next_take-wanted.result c.takes.room)) (asks g c) c.take_all-reply.new.into n came
+    took c.takes_are_read.ensures b.ring.shape a.list b.list c.args.limit c.takes.items.items c.takes.made c.takes.empty (yet g c) (length (take c.next_take-wanted.result c.takes.room)) (asks g c) c.take_all-reply.new.into n came
 
 -- it brought no more than is left of the limit
 few : (g : Over) (c : After-take_all-reply g) (n : ℕ) → n ≤ length (take c.next_take-wanted.result c.takes.room) → 
@@ -77,7 +77,7 @@ takes-preserved-in-Taken g c =
     let long : length c.extend_from_slice.new.self.items ≡ length c.takes.items.items + n = omega (arith, ap length list, length-append c.takes.items.items (take n c.take_all-reply.new.into), room.0) in (
       s.idle,
       same_trans (g.E.TakeEnd.end c.args.taker.now) (g.E.TakeEnd.end c.takes.taker) b i.1 s.same,
-      subst (λ (z : List ℕ × Bool). TakesAre b.ring.shape b.list c.args.limit z.0 c.takes.empty z.1) (λ j. (sym list j, sym open_yet j)) more.1,
+      subst (λ (z : List ℕ × Bool). TakesAre b.ring.shape b.list c.args.limit z.0 (c.takes.made + 1) c.takes.empty z.1) (λ j. (sym list j, sym open_yet j)) more.1,
       subst (λ (z : Bool). length c.extend_from_slice.new.self.items + c.takes.empty + (if z then 1 else 0) ≤ c.args.limit) (sym open_yet) (omega (arith, long, room.1)),
       refl,
       omega (arith, i.5, c.extend_from_slice.ensures.capacity),
@@ -107,10 +107,10 @@ takes-preserved-in-Empty g c =
     let open_yet : c.takes.closed ≡ false = c.takes-test.true in
     let a = g.E.TakeEnd.end c.takes.taker in
     let b = g.E.TakeEnd.end c.take_all-reply.new.self in
-    let now = was_empty c.takes_are_read.ensures b.ring.shape a.list b.list c.args.limit c.takes.items.items c.takes.empty (yet g t) (length (take c.next_take-wanted.result c.takes.room)) (asks g t) c.take_all-reply.new.into s.phrase in (
+    let now = was_empty c.takes_are_read.ensures b.ring.shape a.list b.list c.args.limit c.takes.items.items c.takes.made c.takes.empty (yet g t) (length (take c.next_take-wanted.result c.takes.room)) (asks g t) c.take_all-reply.new.into s.phrase in (
       s.idle,
       same_trans (g.E.TakeEnd.end c.args.taker.now) a b i.1 s.same,
-      subst (TakesAre b.ring.shape b.list c.args.limit c.takes.items.items (c.takes.empty + 1)) (sym open_yet) now,
+      subst (TakesAre b.ring.shape b.list c.args.limit c.takes.items.items (c.takes.made + 1) (c.takes.empty + 1)) (sym open_yet) now,
       subst (λ (z : Bool). length c.takes.items.items + (c.takes.empty + 1) + (if z then 1 else 0) ≤ c.args.limit) (sym open_yet) (omega (arith, c.if-len-empty.true, c.len.ensures)),
       refl,
       i.5,
@@ -128,7 +128,7 @@ takes-preserved g c =
     let open_yet : c.takes.closed ≡ false = c.takes-test.true in
     let a = g.E.TakeEnd.end c.takes.taker in
     let b = g.E.TakeEnd.end c.take_all-reply.new.self in
-    let now = was_told c.takes_are_read.ensures b.ring.shape a.list b.list c.args.limit c.takes.items.items c.takes.empty (yet g t) (length (take c.next_take-wanted.result c.takes.room)) (asks g t) c.take_all-reply.new.into s.phrase in (
+    let now = was_told c.takes_are_read.ensures b.ring.shape a.list b.list c.args.limit c.takes.items.items c.takes.made c.takes.empty (yet g t) (length (take c.next_take-wanted.result c.takes.room)) (asks g t) c.take_all-reply.new.into s.phrase in (
       s.idle,
       same_trans (g.E.TakeEnd.end c.args.taker.now) a b i.1 s.same,
       now,
@@ -153,6 +153,7 @@ returns-in_err-extend_from_slice-in-Taken-clause-fault g c =
     if_err c.from_residual.result (HasTakenMore b.ring.shape b.list c.args.limit (vec_capacity c.args.items.now))
     (record {
       taken = c.takes.items.items ++ take n c.take_all-reply.new.into;
+      made = c.takes.made + 1;
       empty = c.takes.empty;
       takes = more.1;
       most = omega (arith, long, room.1);
