@@ -42,6 +42,7 @@ struct Shape {
     modulus: usize,
     width: usize,
     batch: usize,
+    take_batch: usize,
 }
 
 impl Shape {
@@ -52,6 +53,7 @@ impl Shape {
             modulus: numbers[1],
             width: numbers[2],
             batch: numbers.get(3).copied().unwrap_or(1),
+            take_batch: numbers.get(4).copied().unwrap_or(1),
         }
     }
 
@@ -387,20 +389,24 @@ enum Take {
     Resting,
     Scanning { zeros: usize, again: bool },
     Checking,
-    Loading(usize),
+    // behind a word, so many items are shown that may be read yet
+    Choosing(usize),
+    Loading { digit: usize, left: usize },
     Counting,
     Told,
 }
 
-// The consumer's events, read as its takes.
+// The consumer's events, read as its takes. The items of a take are taken once its count write has ended.
 struct Consumer {
     shape: Shape,
     stage: Take,
     count: usize,
+    next_count: usize,
     cell: usize,
     item: u64,
     row: Row,
     items: Vec<u64>,
+    loaded: Vec<u64>,
 }
 
 impl Consumer {
@@ -409,27 +415,38 @@ impl Consumer {
             shape,
             stage: Take::Resting,
             count: 0,
+            next_count: 0,
             cell: 0,
             item: 0,
             row: Row::new(shape.r(0), shape.modulus),
             items: Vec::new(),
+            loaded: Vec::new(),
         }
     }
 
-    // The access that is due, where a take begins if none is under way.
+    // The access that is due, where a take begins if none is under way, and where one that may read a word more counts.
     fn next(&self) -> Option<Access> {
         match self.stage {
             Take::Resting => Some(Access::read(self.shape.s(0))),
             Take::Scanning { zeros, .. } => Some(Access::read(self.shape.s(zeros))),
             Take::Checking => Some(Access::read(self.shape.x())),
-            Take::Loading(digit) => Some(Access::read(self.shape.cell(self.cell, digit))),
-            Take::Counting => self.row.next(),
+            Take::Loading { digit, .. } => Some(Access::read(self.shape.cell(self.cell, digit))),
+            Take::Choosing(_) | Take::Counting => self.row.next(),
             Take::Told => None,
         }
     }
 
     // An access begins, while none is open. Tells whether the program goes on with it.
     fn begin(&mut self, access: Access) -> bool {
+        if let Take::Choosing(left) = self.stage {
+            if left > 0 && access == Access::read(self.shape.cell(self.cell, 0)) {
+                self.item = 0;
+                self.stage = Take::Loading { digit: 0, left };
+            } else {
+                self.row.begin(self.next_count);
+                self.stage = Take::Counting;
+            }
+        }
         let goes_on = self.next() == Some(access);
         if let Take::Resting = self.stage {
             self.stage = Take::Scanning {
@@ -443,7 +460,6 @@ impl Consumer {
     // The open access ends with this answer. Tells whether the program goes on with it.
     fn end(&mut self, answer: u8) -> bool {
         let shape = self.shape;
-        let next_count = (self.count + 1) % shape.modulus;
         match self.stage {
             Take::Scanning { zeros, again } if answer == 0 => {
                 self.stage = Take::Scanning {
@@ -456,7 +472,11 @@ impl Consumer {
                 let ahead = shape.distance(seen, self.count);
                 self.stage = if (1..=shape.capacity).contains(&ahead) {
                     self.item = 0;
-                    Take::Loading(0)
+                    self.next_count = self.count;
+                    Take::Loading {
+                        digit: 0,
+                        left: ahead.min(shape.take_batch),
+                    }
                 } else if again {
                     Take::Told
                 } else {
@@ -470,23 +490,27 @@ impl Consumer {
                 }
             }
             Take::Checking => self.stage = Take::Resting,
-            Take::Loading(digit) => {
+            Take::Loading { digit, left } => {
                 self.item |= u64::from(answer) << digit;
-                self.stage = Take::Loading(digit + 1);
+                self.stage = Take::Loading {
+                    digit: digit + 1,
+                    left,
+                };
                 if digit + 1 == shape.width {
-                    self.row.begin(next_count);
-                    self.stage = Take::Counting;
+                    self.loaded.push(self.item);
+                    self.cell = (self.cell + 1) % shape.capacity;
+                    self.next_count = (self.next_count + 1) % shape.modulus;
+                    self.stage = Take::Choosing(left - 1);
                 }
             }
             Take::Counting => {
                 if self.row.go_on() {
-                    self.items.push(self.item);
-                    self.count = next_count;
-                    self.cell = (self.cell + 1) % shape.capacity;
+                    self.items.append(&mut self.loaded);
+                    self.count = self.next_count;
                     self.stage = Take::Resting;
                 }
             }
-            Take::Resting | Take::Told => unreachable!(),
+            Take::Resting | Take::Choosing(_) | Take::Told => unreachable!(),
         }
         true
     }

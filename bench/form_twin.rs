@@ -23,13 +23,21 @@ fn number(word: &[u8], digits: usize) -> Option<u64> {
     })?
 }
 
-pub fn shape_fault(capacity: u64, modulus: u64, width: u64, batch: u64) -> Option<&'static str> {
+pub fn shape_fault(
+    [capacity, modulus, width, batch, take_batch]: [u64; 5],
+) -> Option<&'static str> {
     if !(1..=64).contains(&capacity) {
         Some("capacity must be from 1 to 64")
     } else if !(1..=capacity).contains(&batch) {
         Some("batch must be from 1 to capacity")
-    } else if !(capacity + batch + 1..=256).contains(&modulus) {
-        Some("modulus must be from capacity + batch + 1 to 256")
+    } else if !(1..=capacity).contains(&take_batch) {
+        Some("take batch must be from 1 to capacity")
+    } else if !(capacity + batch.max(take_batch) + 1..=256).contains(&modulus) {
+        Some(if take_batch == 1 {
+            "modulus must be from capacity + batch + 1 to 256"
+        } else {
+            "modulus must be from capacity + the larger batch + 1 to 256"
+        })
     } else if !(1..=64).contains(&width) {
         Some("width must be from 1 to 64")
     } else {
@@ -37,16 +45,16 @@ pub fn shape_fault(capacity: u64, modulus: u64, width: u64, batch: u64) -> Optio
     }
 }
 
-fn shape_of(line: &[u8]) -> Option<[u64; 4]> {
+fn shape_of(line: &[u8]) -> Option<[u64; 5]> {
     let words: Vec<&[u8]> = line.split(|byte| *byte == b' ').collect();
-    if words[0] != b"shape" || !(4..=5).contains(&words.len()) {
+    if words[0] != b"shape" || !(4..=6).contains(&words.len()) {
         return None;
     }
-    let mut shape = [0, 0, 0, 1];
+    let mut shape = [0, 0, 0, 1, 1];
     for (place, word) in words[1..].iter().enumerate() {
         shape[place] = number(word, 4)?;
     }
-    (words.len() == 4 || shape[3] != 1).then_some(shape)
+    (words.len() == 4 || shape[words.len() - 2] != 1).then_some(shape)
 }
 
 // Whether these words are those of an event, where each name of a bit is as `is_bit` says.
@@ -73,7 +81,7 @@ fn bit_of(word: &[u8]) -> Option<(u8, Vec<&[u8]>)> {
     }
 }
 
-fn is_bit_of(word: &[u8], [capacity, modulus, width, _]: [u64; 4]) -> bool {
+fn is_bit_of(word: &[u8], [capacity, modulus, width, ..]: [u64; 5]) -> bool {
     let limits: &[u64] = match word.first() {
         Some(b'c') => &[capacity, width],
         Some(b's' | b'r') => &[modulus],
@@ -172,7 +180,7 @@ pub fn refusal(text: &[u8], length: Length) -> Option<String> {
                 let Some(found) = shape_of(line) else {
                     return bad(at, line, true);
                 };
-                if let Some(words) = shape_fault(found[0], found[1], found[2], found[3]) {
+                if let Some(words) = shape_fault(found) {
                     return Some(format!("refused: {words}\n"));
                 }
                 shape = Some(found);

@@ -85,25 +85,26 @@ const CALLS_LINES: &[&str] = &[
 const SCRIPT_WORDS: &[&str] = &[
     "{", "}", "[", "]", ",", ":", "\"", "\\", "\\u0050", "\\ud83d\\ude00", "\\ud83d", "\\udc00", "\\n", "null", "true", "false", "1", "-1",
     "1.0", "1e5", "1e999", "\"capacity\":", "\"modulus\":", "\"width\":", "\"items\":", "\"takes\":", "\"close\":", "\"schedule\":",
-    "\"oracle\":", "\"batch\":", "\"batch\":2,", "\"other\":1,", "P", "C", "P9", "C0", "01", " ", "\n", "\t", "\u{feff}", "\u{1f600}", "é",
+    "\"oracle\":", "\"batch\":", "\"batch\":2,", "\"take_batch\":", "\"take_batch\":2,", "\"other\":1,", "P", "C", "P9", "C0", "01", " ", "\n", "\t", "\u{feff}", "\u{1f600}", "é",
 ];
 
 const SCRIPT_LINES: &[&str] = &[
     "\"capacity\":1,", "\"capacity\":64,", "\"modulus\":3,", "\"modulus\":256,", "\"width\":1,", "\"width\":64,", "\"items\":[],", "\"takes\":0,",
     "\"takes\":18446744073709551615,", "\"close\":true,", "\"close\":null,", "\"schedule\":\"\",", "\"schedule\":\"P1000000\",", "\"oracle\":\"01\",",
-    "\"batch\":1,", "\"batch\":0,", "",
+    "\"batch\":1,", "\"batch\":0,", "\"take_batch\":1,", "\"take_batch\":0,", "",
 ];
 
 const SMALL_TRACE: &str = "shape 1 3 1\nC read s0\nP write s0 0\nC got s0 0\nP wrote s0\nC read x\nC got x 0\nP read r0\nP got r0 1\nP write c0.0 1\n";
 const SMALL_CALLS: &str = "queue 1 2\nP put 12 3\nC take 2\nP stored 1\nC item 12\nP close\nP closed\nC take\nC closed\n";
-const SMALL_SCRIPT: &str = "{\"capacity\":2,\"modulus\":5,\"width\":2,\"items\":[1,3],\"takes\":2,\"close\":true,\"schedule\":\"P12C9P8C40\",\"oracle\":\"01\",\"batch\":2}";
+const SMALL_SCRIPT: &str = "{\"capacity\":2,\"modulus\":5,\"width\":2,\"items\":[1,3],\"takes\":2,\"close\":true,\"schedule\":\"P12C9P8C40\",\"oracle\":\"01\",\"batch\":2,\"take_batch\":2}";
 
 // A script that is one.
 pub fn script(pick: &mut Pick) -> String {
     let large = pick.below(50) == 0;
     let capacity = 1 + pick.below(if large { 64 } else { 4 });
     let batch = 1 + if pick.below(2) == 0 { pick.below(capacity) } else { 0 };
-    let least = capacity + batch + 1;
+    let take_batch = 1 + if pick.below(2) == 0 { pick.below(capacity) } else { 0 };
+    let least = capacity + batch.max(take_batch) + 1;
     let modulus = (least + pick.below(if large { 256 } else { 3 })).min(256);
     let width = 1 + pick.below(if large { 64 } else { 3 });
     let mask = if width == 64 { u64::MAX } else { (1 << width) - 1 };
@@ -132,6 +133,9 @@ pub fn script(pick: &mut Pick) -> String {
     ];
     if batch > 1 || pick.below(4) == 0 {
         fields.push(format!("\"batch\":{batch}"));
+    }
+    if take_batch > 1 || pick.below(4) == 0 {
+        fields.push(format!("\"take_batch\":{take_batch}"));
     }
     for at in 0..fields.len() {
         if pick.below(8) == 0 {
@@ -176,6 +180,9 @@ fn limits_of_trace(to: &mut Vec<Vec<u8>>) {
     for [capacity, modulus, width, batch] in shapes() {
         to.push(bytes(format!("shape {capacity} {modulus} {width}\n")));
         to.push(bytes(format!("shape {capacity} {modulus} {width} {batch}\n")));
+        for take_batch in [0, 1, 2, 3, 64, 65] {
+            to.push(bytes(format!("shape {capacity} {modulus} {width} {batch} {take_batch}\n")));
+        }
     }
     for bit in ["s2", "s3", "r2", "r3", "c0.0", "c1.0", "c0.1", "s255", "s256", "s99999999999999999999999"] {
         to.push(bytes(format!("shape 1 3 1\nC read {bit}\n")));
@@ -250,7 +257,7 @@ fn limits_of_script(to: &mut Vec<Vec<u8>>) {
         };
         bytes(SMALL_SCRIPT.replace(&format!("\"{field}\":{old}"), &format!("\"{field}\":{value}")))
     };
-    for field in ["capacity", "modulus", "width", "takes", "batch", "items", "close", "schedule", "oracle"] {
+    for field in ["capacity", "modulus", "width", "takes", "batch", "take_batch", "items", "close", "schedule", "oracle"] {
         for value in NUMBERS.iter().chain(&["null", "true", "[]", "{}", "\"\"", "\"P\"", "[1,2,3,4]", "[-1]", "[1.0]", "[[]]", "\"0\"", "\"P0\"", "\"P1000000\"", "\"P1000001\"", "\"\\u0050\""]) {
             to.push(with(field, value));
         }
@@ -260,6 +267,7 @@ fn limits_of_script(to: &mut Vec<Vec<u8>>) {
     }
     for [capacity, modulus, width, batch] in shapes() {
         to.push(bytes(format!("{{\"capacity\":{capacity},\"modulus\":{modulus},\"width\":{width},\"items\":[],\"takes\":0,\"close\":false,\"schedule\":\"PC\",\"oracle\":\"\",\"batch\":{batch}}}")));
+        to.push(bytes(format!("{{\"capacity\":{capacity},\"modulus\":{modulus},\"width\":{width},\"items\":[],\"takes\":0,\"close\":false,\"schedule\":\"PC\",\"oracle\":\"\",\"take_batch\":{batch}}}")));
     }
     for count in [999, 1000, 1001, 100_000] {
         to.push(with("items", &format!("[{}]", vec!["1"; count].join(","))));

@@ -24,11 +24,11 @@ enum At {
     // the number of zeros that a scan read; of a take, whether it is the one behind a close
     Scanning(usize, bool),
     Checking,
-    // the writes and reads that are left, all of them known; of a take, the digits so far
+    // the writes and reads that are left, all of them known
     Working,
 }
 
-// A side: its count and the bits of it, where its call stands, and what it came to.
+// A side: its count and the bits of it, where its call stands, how many items that offers or wants, and what it came to.
 struct Side {
     at: At,
     count: usize,
@@ -85,7 +85,9 @@ impl<'a> Play<'a> {
             "shape {} {} {}",
             script.capacity, script.modulus, script.width
         );
-        if script.batch > 1 {
+        if script.take_batch > 1 {
+            write!(shape, " {} {}", script.batch, script.take_batch).unwrap();
+        } else if script.batch > 1 {
             write!(shape, " {}", script.batch).unwrap();
         }
         Play {
@@ -171,8 +173,18 @@ impl<'a> Play<'a> {
                 if self.told || self.taken.len() as u64 >= self.script.takes {
                     return None;
                 }
+                let left = self.script.takes - self.taken.len() as u64;
+                let wanted = left.min(self.script.take_batch);
+                self.sides[1].offered = wanted as usize;
                 self.sides[1].at = At::Scanning(0, false);
-                self.tell("C take", &[]);
+                self.tell(
+                    "C take",
+                    if wanted > 1 {
+                        std::slice::from_ref(&wanted)
+                    } else {
+                        &[]
+                    },
+                );
             }
         }
         match self.sides[side].at {
@@ -337,12 +349,15 @@ impl<'a> Play<'a> {
     fn seen_by_take(&mut self, seen: usize, again: bool) {
         let modulus = self.modulus();
         let inside = (seen + modulus - self.sides[1].count) % modulus;
-        if 1 <= inside && inside <= self.script.capacity as usize {
-            let cell = self.taken.len() % self.script.capacity as usize;
-            for bit in self.cell_bits(cell) {
-                self.sides[1].left.push_back(Access { bit, value: None });
+        let capacity = self.script.capacity as usize;
+        if 1 <= inside && inside <= capacity {
+            let shown = inside.min(self.sides[1].offered);
+            for place in 0..shown {
+                for bit in self.cell_bits((self.taken.len() + place) % capacity) {
+                    self.sides[1].left.push_back(Access { bit, value: None });
+                }
             }
-            let count = (self.sides[1].count + 1) % modulus;
+            let count = (self.sides[1].count + shown) % modulus;
             self.write_count(1, count);
             self.sides[1].digits.clear();
             self.sides[1].at = At::Working;
@@ -366,10 +381,13 @@ impl<'a> Play<'a> {
         }
         self.sides[side].at = At::Resting;
         if side == 1 {
-            let digits = self.sides[1].digits.iter().rev();
-            let item = digits.fold(0, |item, digit| item << 1 | u64::from(*digit));
-            self.taken.push(item);
-            self.tell("C item", &[item]);
+            let words = self.sides[1].digits.chunks(self.script.width as usize);
+            let digits = words.map(|word| word.iter().rev());
+            let items: Vec<u64> = digits
+                .map(|word| word.fold(0, |item, digit| item << 1 | u64::from(*digit)))
+                .collect();
+            self.taken.extend(&items);
+            self.tell("C item", &items);
         } else if self.sides[0].closing {
             self.sides[0].closing = false;
             self.tell("P closed", &[]);

@@ -1,7 +1,7 @@
 #!/usr/bin/env python3
 """Time an item of the running rings: python3 bench/ring_bench.py, from any folder, on a machine that does nothing else.
 
-For nine shapes it prints how many nanoseconds an item takes from the one thread to the other, as `run --report` tells, beside a
+For twelve shapes it prints how many nanoseconds an item takes from the one thread to the other, as `run --report` tells, beside a
 twin in plain Rust (ring_twin.rs, built with rustc -O) that does the same, and beside a usual ring. Their runs are in turn, and told
 are the medians, with the first and the third quarter; the ratio is that of the medians. Each of the two threads has a core: the
 last two of those that the bench is permitted. `taskset -c 2 python3 bench/ring_bench.py` has both threads on that one.
@@ -17,17 +17,20 @@ from bench import PROGRAM, TOP, build_twin
 
 RUNS = 21
 COUNT = 200_000
-# Rings, with capacity, modulus, width and batch.
+# Rings, with capacity, modulus, width, batch and take batch.
 SHAPES = [
-    ("flicker", (1, 3, 1, 1)),
-    ("flicker", (8, 10, 16, 1)),
-    ("flicker", (64, 256, 64, 1)),
-    ("counter", (1, 3, 1, 1)),
-    ("counter", (8, 10, 16, 1)),
-    ("counter", (64, 256, 64, 1)),
-    ("counter", (8, 17, 16, 8)),
-    ("counter", (64, 256, 64, 16)),
-    ("counter", (64, 256, 64, 64)),
+    ("flicker", (1, 3, 1, 1, 1)),
+    ("flicker", (8, 10, 16, 1, 1)),
+    ("flicker", (64, 256, 64, 1, 1)),
+    ("counter", (1, 3, 1, 1, 1)),
+    ("counter", (8, 10, 16, 1, 1)),
+    ("counter", (64, 256, 64, 1, 1)),
+    ("counter", (8, 17, 16, 8, 1)),
+    ("counter", (64, 256, 64, 16, 1)),
+    ("counter", (64, 256, 64, 64, 1)),
+    ("flicker", (64, 81, 64, 16, 16)),
+    ("counter", (8, 17, 16, 8, 8)),
+    ("counter", (64, 81, 64, 16, 16)),
 ]
 
 
@@ -40,7 +43,7 @@ def build_apart(folder, core):
 
 def commands(twin, ring, shape):
     """The program, its twin and the usual ring, on a ring of this shape."""
-    options = [f"--{name}={number}" for name, number in zip(["capacity", "modulus", "width", "batch"], shape)]
+    options = [f"--{name}={number}" for name, number in zip(["capacity", "modulus", "width", "batch", "take-batch"], shape)]
     numbers = [*map(str, shape), str(COUNT)]
     run = [PROGRAM, "run", "--report", f"--ring={ring}", *options, f"--count={COUNT}", f"--limit={2**64 - 1}"]
     return run, [twin, ring, *numbers], [twin, "usual", *numbers]
@@ -62,7 +65,7 @@ def told(times):
 
 def rings(twin, env):
     """The table of rings."""
-    print("| Ring | Capacity, modulus, width, batch | `run` | Twin | Ratio | Usual ring |")
+    print("| Ring | Capacity, modulus, width, batch, take batch | `run` | Twin | Ratio | Usual ring |")
     print("|---|---|---|---|---|---|")
     for ring, shape in SHAPES:
         each = commands(twin, ring, shape)

@@ -1,12 +1,12 @@
 // Rings for one producer and one consumer in plain Rust, over two threads, which ring_bench.py measures `lamport_ring run` against:
 //
-//   ring_twin flicker B M W G N   a word for each safe bit: the ring of safe bits as its programs say
-//   ring_twin counter B M W G N   a word for each count and for each cell, with counts modulo M
-//   ring_twin usual B M W G N     head and tail by acquire and release, each kept by the other side as it was last seen; B a power of
-//                                 two, M of no use
+//   ring_twin flicker B M W G H N   a word for each safe bit: the ring of safe bits as its programs say
+//   ring_twin counter B M W G H N   a word for each count and for each cell, with counts modulo M
+//   ring_twin usual B M W G H N     head and tail by acquire and release, each kept by the other side as it was last seen; B a power of
+//                                   two, M of no use
 //
 // Each does what `run` does. It moves the list of the items i mod 2^W, i from 0 to N-1, through B cells into another list, in puts of G
-// items at most; the producer closes behind the last, and the consumer takes until it is told so. Each side yields its processor at
+// items at most and takes of H at most; the producer closes behind the last, and the consumer takes until it is told so. Each side yields its processor at
 // each 256th call, and rests where it has to wait, as by the gate of `run`. The words of the first two lie as those of the rings of
 // `run`. What was taken is compared with what was put, and the text is that of `run --report`.
 use std::hint::spin_loop;
@@ -22,6 +22,7 @@ struct Shape {
     modulus: usize,
     width: usize,
     batch: usize,
+    take_batch: usize,
 }
 
 impl Shape {
@@ -41,8 +42,14 @@ impl Shape {
             .min(offered)
     }
 
-    fn has_item(&self, put: usize, taken: usize) -> bool {
-        (1..=self.capacity).contains(&self.distance(put, taken))
+    // How many of so many items are shown.
+    fn shown(&self, put: usize, taken: usize, wanted: usize) -> usize {
+        let ahead = self.distance(put, taken);
+        if ahead > self.capacity {
+            0
+        } else {
+            ahead.min(wanted)
+        }
     }
 }
 
@@ -65,14 +72,15 @@ trait PutEnd: Send {
 }
 
 enum Taken {
-    Item(u64),
+    Items(usize),
     Empty,
     Closed,
 }
 
 // The end of a consumer.
 trait TakeEnd {
-    fn take(&mut self) -> Taken;
+    // Takes the next items, as many as are shown and there are places for, into the first places.
+    fn take(&mut self, into: &mut [u64]) -> Taken;
 }
 
 // How many calls a side makes between two that yield.
@@ -136,12 +144,15 @@ fn put_all(mut end: impl PutEnd, shape: Shape, items: &[u64]) -> (u64, u64) {
 // Takes until the ring is closed. Tells how many takes found it empty.
 fn take_all(mut end: impl TakeEnd, shape: Shape, items: &mut Vec<u64>) -> u64 {
     let mut waiting = Waiting::new(shape);
-    let mut empty = 0;
+    let mut room = [0; 64];
+    let (mut made, mut empty) = (0, 0);
     loop {
-        pass(items.len() as u64 + empty);
-        match end.take() {
-            Taken::Item(item) => {
-                items.push(item);
+        pass(made);
+        made += 1;
+        let into = &mut room[..shape.take_batch];
+        match end.take(into) {
+            Taken::Items(count) => {
+                items.extend_from_slice(&into[..count]);
                 waiting.times = 0;
             }
             Taken::Empty => {
@@ -304,9 +315,9 @@ impl<'a> FlickerEnd<'a> {
         self.cell = past_in(self.cell, by, self.shape.capacity);
     }
 
-    fn sees_item(&mut self) -> bool {
+    fn sees_items(&mut self, wanted: usize) -> usize {
         let seen = self.reader.scan(self.other);
-        self.shape.has_item(seen, self.count)
+        self.shape.shown(seen, self.count, wanted)
     }
 }
 
@@ -334,22 +345,29 @@ impl PutEnd for FlickerEnd<'_> {
 }
 
 impl TakeEnd for FlickerEnd<'_> {
-    fn take(&mut self) -> Taken {
-        if !self.sees_item() {
+    fn take(&mut self, into: &mut [u64]) -> Taken {
+        let mut most = self.sees_items(into.len());
+        if most == 0 {
             if self.reader.read(self.bits.close()) == 0 {
                 return Taken::Empty;
             }
             // behind a close a second scan tells whether an item came before it
-            if !self.sees_item() {
+            most = self.sees_items(into.len());
+            if most == 0 {
                 return Taken::Closed;
             }
         }
-        let mut item = 0;
-        for (digit, bit) in self.bits.cell(self.cell).iter().enumerate() {
-            item |= self.reader.read(bit) << digit;
+        let mut cell = self.cell;
+        for place in &mut into[..most] {
+            let mut item = 0;
+            for (digit, bit) in self.bits.cell(cell).iter().enumerate() {
+                item |= self.reader.read(bit) << digit;
+            }
+            *place = item;
+            cell = past_in(cell, 1, self.shape.capacity);
         }
-        self.go_on(1);
-        Taken::Item(item)
+        self.go_on(most);
+        Taken::Items(most)
     }
 }
 
@@ -393,8 +411,8 @@ impl<'a> CounterEnd<'a> {
         self.words[self.other].load(SeqCst) as usize
     }
 
-    fn sees_item(&self) -> bool {
-        self.shape.has_item(self.scan(), self.count)
+    fn sees_items(&self, wanted: usize) -> usize {
+        self.shape.shown(self.scan(), self.count, wanted)
     }
 
     fn go_on(&mut self, by: usize) {
@@ -425,19 +443,25 @@ impl PutEnd for CounterEnd<'_> {
 }
 
 impl TakeEnd for CounterEnd<'_> {
-    fn take(&mut self) -> Taken {
-        if !self.sees_item() {
+    fn take(&mut self, into: &mut [u64]) -> Taken {
+        let mut most = self.sees_items(into.len());
+        if most == 0 {
             if self.words[CLOSE].load(SeqCst) == 0 {
                 return Taken::Empty;
             }
             // behind a close a second scan tells whether an item came before it
-            if !self.sees_item() {
+            most = self.sees_items(into.len());
+            if most == 0 {
                 return Taken::Closed;
             }
         }
-        let item = self.words[CELLS + self.cell].load(SeqCst);
-        self.go_on(1);
-        Taken::Item(item)
+        let mut cell = self.cell;
+        for place in &mut into[..most] {
+            *place = self.words[CELLS + cell].load(SeqCst);
+            cell = past_in(cell, 1, self.shape.capacity);
+        }
+        self.go_on(most);
+        Taken::Items(most)
     }
 }
 
@@ -479,11 +503,11 @@ impl UsualEnd<'_> {
         self.ring.cells.len() - (self.own - self.seen) as usize
     }
 
-    fn sees_item(&mut self) -> bool {
-        if self.seen == self.own {
+    fn sees_items(&mut self, wanted: usize) -> usize {
+        if ((self.seen - self.own) as usize) < wanted {
             self.seen = self.ring.tail.0.load(Acquire);
         }
-        self.seen != self.own
+        ((self.seen - self.own) as usize).min(wanted)
     }
 }
 
@@ -510,19 +534,23 @@ impl PutEnd for UsualEnd<'_> {
 }
 
 impl TakeEnd for UsualEnd<'_> {
-    fn take(&mut self) -> Taken {
-        if !self.sees_item() {
+    fn take(&mut self, into: &mut [u64]) -> Taken {
+        let mut most = self.sees_items(into.len());
+        if most == 0 {
             if self.ring.closed.0.load(Acquire) == 0 {
                 return Taken::Empty;
             }
-            if !self.sees_item() {
+            most = self.sees_items(into.len());
+            if most == 0 {
                 return Taken::Closed;
             }
         }
-        let item = self.ring.cell(self.own).load(Relaxed);
-        self.own += 1;
+        for (number, place) in (self.own..).zip(&mut into[..most]) {
+            *place = self.ring.cell(number).load(Relaxed);
+        }
+        self.own += most as u64;
         self.ring.head.0.store(self.own, Release);
-        Taken::Item(item)
+        Taken::Items(most)
     }
 }
 
@@ -550,9 +578,12 @@ fn main() {
         .skip(1)
         .map_while(|word| word.parse().ok())
         .collect();
-    let (Some(name), &[capacity, modulus, width, batch, count]) = (words.first(), &numbers[..])
+    let (Some(name), &[capacity, modulus, width, batch, take_batch, count]) =
+        (words.first(), &numbers[..])
     else {
-        eprintln!("usage: ring_twin flicker|counter|usual CAPACITY MODULUS WIDTH BATCH COUNT");
+        eprintln!(
+            "usage: ring_twin flicker|counter|usual CAPACITY MODULUS WIDTH BATCH TAKE-BATCH COUNT"
+        );
         exit(2)
     };
     let shape = Shape {
@@ -560,6 +591,7 @@ fn main() {
         modulus,
         width,
         batch,
+        take_batch,
     };
     let items: Vec<u64> = (0..count as u64).map(|number| shape.item(number)).collect();
     match name.as_str() {

@@ -12,6 +12,7 @@ pub struct Script {
     pub modulus: u64,
     pub width: u64,
     pub batch: u64,
+    pub take_batch: u64,
     pub items: Vec<u64>,
     pub takes: u64,
     pub close: bool,
@@ -237,8 +238,17 @@ fn json(bytes: &[u8]) -> Option<Value> {
     json.rest.is_empty().then_some(value)
 }
 
-const FIELDS: [&str; 9] = [
-    "capacity", "modulus", "width", "items", "takes", "close", "schedule", "oracle", "batch",
+const FIELDS: [&str; 10] = [
+    "capacity",
+    "modulus",
+    "width",
+    "items",
+    "takes",
+    "close",
+    "schedule",
+    "oracle",
+    "batch",
+    "take_batch",
 ];
 
 // Whether a value has the kind of the field of this place.
@@ -348,7 +358,7 @@ pub fn read(bytes: &[u8]) -> Result<Script, Refusal> {
         .iter()
         .any(|(name, _)| !FIELDS.iter().any(|field| field.as_bytes() == &name[..]))
     {
-        let words = "  the fields are capacity, modulus, width, items, takes, close, schedule, oracle and batch";
+        let words = "  the fields are capacity, modulus, width, items, takes, close, schedule, oracle, batch and take_batch";
         return Err(refused(
             "script has an unknown field",
             Second::Line(words.into()),
@@ -363,7 +373,7 @@ pub fn read(bytes: &[u8]) -> Result<Script, Refusal> {
             .find(|(name, _)| &name[..] == field.as_bytes());
         match last {
             Some((_, value)) => given.push(value),
-            None if place == 8 => given.push(&one),
+            None if place >= 8 => given.push(&one),
             None => {
                 return Err(refused(
                     format_args!("field {field} is missing"),
@@ -372,7 +382,7 @@ pub fn read(bytes: &[u8]) -> Result<Script, Refusal> {
             }
         }
     }
-    if let Some(place) = (0..9).find(|place| !has_kind(*place, given[*place])) {
+    if let Some(place) = (0..10).find(|place| !has_kind(*place, given[*place])) {
         let field = FIELDS[place];
         let second = Second::Line(format!("  {field} is {}", kind_words(place)));
         return Err(refused(
@@ -380,8 +390,9 @@ pub fn read(bytes: &[u8]) -> Result<Script, Refusal> {
             second,
         ));
     }
-    let [capacity, modulus, width, takes, batch] = [0, 1, 2, 4, 8].map(|place| whole(given[place]));
-    if let Some(words) = shape_fault(capacity, modulus, width, batch) {
+    let [capacity, modulus, width, takes, batch, take_batch] =
+        [0, 1, 2, 4, 8, 9].map(|place| whole(given[place]));
+    if let Some(words) = shape_fault([capacity, modulus, width, batch, take_batch]) {
         return Err(refused(words, Second::Nothing));
     }
     let items: Vec<u64> = match given[3] {
@@ -423,6 +434,7 @@ pub fn read(bytes: &[u8]) -> Result<Script, Refusal> {
         modulus,
         width,
         batch,
+        take_batch,
         items,
         takes,
         close: matches!(given[5], Value::Truth(true)),

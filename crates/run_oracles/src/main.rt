@@ -1,7 +1,7 @@
 //! For bench/soak: items through the flickering ring by an oracle that is named, and the recording of its calls.
 //!
-//! The words are the oracle, the capacity, the modulus, the width, the batch and how many items: `0` and `1` answer so always, `flip` in
-//! turn, `tape` by a tape of seven answers, and any other number as the generator that begins with it draws.
+//! The words are the oracle, the capacity, the modulus, the width, the batch, the take batch and how many items: `0` and `1` answer so
+//! always, `flip` in turn, `tape` by a tape of seven answers, and any other number as the generator that begins with it draws.
 #![tactic(auto)]
 
 use bits_core::{Always, Flip, Oracle, Shape, Tape};
@@ -123,11 +123,12 @@ fn number(words: &[String], place: usize) -> Option<u64> {
 }
 
 fn shape_of(words: &[String]) -> Option<Shape> {
-    Shape::with_batch(
+    Shape::with_batches(
         number(words, 2)?,
         number(words, 3)?,
         number(words, 4)?,
         number(words, 5)?,
+        number(words, 6)?,
     )
     .ok()
 }
@@ -138,9 +139,12 @@ fn run<R: Threads, W: Write>(
     words: &[String],
     out: &mut W,
 ) -> io::Result<bool> {
-    let (Some(name), Some(shape), Some(count)) = (words.get(1), shape_of(words), number(words, 6))
+    let (Some(name), Some(shape), Some(count)) = (words.get(1), shape_of(words), number(words, 7))
     else {
-        writeln!(out, "run_oracles ORACLE CAPACITY MODULUS WIDTH BATCH COUNT")?;
+        writeln!(
+            out,
+            "run_oracles ORACLE CAPACITY MODULUS WIDTH BATCH TAKE-BATCH COUNT"
+        )?;
         out.flush()?;
         return Ok(words.len() < 2);
     };
