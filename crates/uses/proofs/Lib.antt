@@ -1,3 +1,4 @@
+pub mod Batches
 pub mod Driving
 pub mod Judging
 pub mod Packing
