@@ -1,6 +1,6 @@
-pub mod Batches
 pub mod Driving
 pub mod Judging
 pub mod Packing
 pub mod Passing
 pub mod Played
+pub mod Taking

@@ -1,6 +1,6 @@
 use Rattle.std.proofs.Common.{length, refl}
 use Rattle.ring_core.specs.declared.consumers.TakeBatchReply.TheVariants as reply
-use Rattle.uses.proofs.Batches.{took_all}
+use Rattle.uses.proofs.Taking.{took_all}
 use Rattle.uses.proofs.batches.take_batch.Goals as goal
 
 pub returns-in-Taken-clause-took : goal.returns-in-Taken-clause-took
