@@ -70,7 +70,7 @@ pub trait PutEnd {
 
 /// An end that takes. Its meaning is the list of its events, as for an end that puts.
 ///
-/// In use: `uses::two_threads::take_each`.
+/// In use: `uses::two_threads::take_each`, and `uses::batches::take_batch` for takes of several.
 pub trait TakeEnd {
     ghost use Rattle.std.specs.Prelude.{◌≡◌, ◌≤◌, length, drop};
     ghost use Rattle.ring_seats.specs.Ring.{RingEnd};

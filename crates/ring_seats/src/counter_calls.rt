@@ -175,7 +175,7 @@ fn of_none(reply: TakeReply) -> TakeBatchReply
 /// takes those that the producer's count shows, from the first on, at most as many as there are places, and tells how many;
 /// they are in the first places, and the others stay as they were. There are 1 to as many places as the shape's take batch.
 /// The count and the cell are those of the takes that the seat has made, and go on with the items.
-/// For example, a taker of a counter ring takes so.
+/// For example, a taker of a counter ring takes several items so.
 pub fn take_all_open<'a>(
     stepper: &mut Stepper<'a, Counting>,
     into: &mut [u64],

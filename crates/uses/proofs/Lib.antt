@@ -3,3 +3,4 @@ pub mod Judging
 pub mod Packing
 pub mod Passing
 pub mod Played
+pub mod Taking

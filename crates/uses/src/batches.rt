@@ -1,14 +1,16 @@
 //! A batch: several items under one count write.
-ghost use Rattle.std.specs.Prelude.{◌≡◌, ℕ, List, ◌≤◌, ◌++◌, length, take};
+ghost use Rattle.std.specs.Prelude.{◌≡◌, ℕ, List, ◌≤◌, ◌++◌, length, take, drop};
 ghost use Rattle.ring_core.specs.declared.producers.BatchReply.{BatchReply as AReply};
+ghost use Rattle.ring_core.specs.declared.consumers.TakeBatchReply.{TakeBatchReply as ATakeReply};
+ghost use Rattle.ring_core.specs.Counts.{take_batch_of};
 ghost use Rattle.ring_core.specs.Puts.{IsBatch};
 ghost use Rattle.ring_run.specs.Steppers.{IsSameEnd};
-ghost use Rattle.ring_run.specs.Ends.{HasPutAll};
-ghost use Rattle.uses.specs.Passed.{HasStored, number_stored};
+ghost use Rattle.ring_run.specs.Ends.{HasPutAll, HasTakenAll, number_brought};
+ghost use Rattle.uses.specs.Passed.{HasStored, HasTook, number_stored};
 
-use ring_core::BatchReply;
-use ring_core::laws::puts_are_read;
-use ring_run::PutEnd;
+use ring_core::laws::{puts_are_read, takes_are_read};
+use ring_core::{BatchReply, TakeBatchReply};
+use ring_run::{PutEnd, TakeEnd};
 
 /// Puts the items under one count write, from the first on as many as there is room for: how many were stored. None
 /// are where the ring is full, or closed.
@@ -26,5 +28,26 @@ pub fn put_batch<E: PutEnd>(putter: &mut E, items: &[u64]) -> usize
         BatchReply::Stored(stored) => stored as usize,
         BatchReply::Full => 0,
         BatchReply::Closed => 0,
+    }
+}
+
+/// Takes the next items under one count write, those that the producer's count shows, at most as many as there are places: how many
+/// were taken. They are in the first places, in order. None are where the ring is empty, or closed.
+pub fn take_batch<E: TakeEnd>(taker: &mut E, into: &mut [u64]) -> usize
+    requires idle { E.idle taker.old }
+    requires some { 1 ≤ length into.old }
+    requires few { length into.old ≤ take_batch_of (E.end taker.old).ring.shape }
+    ensures idle { E.idle taker.new }
+    ensures same { IsSameEnd (E.end taker.old) (E.end taker.new) }
+    ensures made { (reply : ATakeReply) × HasTakenAll (E.end taker.new).ring.shape (length into.old) (E.end taker.old).list (E.end taker.new).list reply into.new × (result ≡ number_brought reply) }
+    ensures few { result ≤ length into.old }
+    ensures others { (length into.new ≡ length into.old) × (drop result into.new ≡ drop result into.old) }
+    ensures took { (before : List ℕ) → HasTook (E.end taker.old) before → HasTook (E.end taker.new) (before ++ take result into.new) }
+{
+    takes_are_read();
+    match taker.take_all(into) {
+        TakeBatchReply::Taken(taken) => taken as usize,
+        TakeBatchReply::Empty => 0,
+        TakeBatchReply::Closed => 0,
     }
 }

@@ -56,7 +56,7 @@ brought g c n came =
     took c.takes_are_read.ensures b.ring.shape a.list b.list c.args.limit c.takes.items.items c.takes.made c.takes.empty (yet g c) (length (take c.next_take-wanted.result c.takes.room)) (asks g c) c.take_all-reply.new.into n came
 
 -- it brought no more than is left of the limit
-few : (g : Over) (c : After-take_all-reply g) (n : ℕ) → n ≤ length (take c.next_take-wanted.result c.takes.room) → 
+few : (g : Over) (c : After-take_all-reply g) (n : ℕ) → n ≤ length (take c.next_take-wanted.result c.takes.room) →
     (length (take n c.take_all-reply.new.into) ≡ n) × (length c.takes.items.items + n + c.takes.empty ≤ c.args.limit)
 few g c n most =
     let wanted : ℕ = length (take c.next_take-wanted.result c.takes.room) in

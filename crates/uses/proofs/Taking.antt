@@ -1,0 +1,55 @@
+-- What a take of several items took.
+use Rattle.std.proofs.Common.{◌≡◌, ⊎_elim, ℕ, Bool, true, false, List, [], ◌∷◌, ◌++◌, take, refl, ap, sym, subst, ◌∙◌, append-nil, append_assoc}
+use Rattle.bits_core.specs.declared.events.Event.{Event}
+use Rattle.ring_core.specs.declared.consumers.TakeBatchReply.{TakeBatchReply}
+use Rattle.ring_core.specs.Takes.{Take, Takes}
+use Rattle.ring_core.specs.Items.{all_taken, taken_of}
+use Rattle.ring_core.specs.Readings.{TakesAreRead}
+use Rattle.ring_core.specs.ConsumerCalls.{ends_closed, items_at_end, last_items}
+use Rattle.ring_run.specs.Ring.{Ring, RingEnd}
+use Rattle.ring_run.specs.Ends.{HasTakes, HasTakenAll, TakeAllAdds, number_brought}
+use Rattle.uses.specs.Passed.{HasTook}
+
+taken_snoc : (xs : List Take) (x : Take) → all_taken (xs ++ x ∷ []) ≡ all_taken xs ++ taken_of x
+taken_snoc [] x = append-nil (taken_of x)
+taken_snoc (y ∷ xs) x = ap (λ (l : List ℕ). taken_of y ++ l) (taken_snoc xs x) ∙ sym (append_assoc (taken_of y) (all_taken xs) (taken_of x))
+
+items_snoc : (first : List ℕ) (xs : List Take) (x : Take) → last_items first (xs ++ x ∷ []) ≡ taken_of x
+items_snoc first [] x = refl
+items_snoc first (y ∷ xs) x = items_snoc (taken_of y) xs x
+
+module _ (read : TakesAreRead) (a b : RingEnd) (same : b.ring ≡ a.ring) (items : List ℕ) (before : HasTook a items) (wanted : ℕ) (reply : TakeBatchReply) (into : List ℕ) where
+  take_there : HasTakes b.ring.shape a.list before.calls
+  take_there = subst (λ (r : Ring). HasTakes r.shape a.list before.calls) (sym same) before.list_is
+
+  -- whichever calls the list is read as, these are its items
+  items_of : (calls : Takes) → HasTakes b.ring.shape a.list calls → all_taken calls.takes ≡ items
+  items_of calls has =
+      let one : calls ≡ before.calls = read b.ring.shape calls before.calls has.are take_there.are (sym has.list_is ∙ take_there.list_is) in
+      ap (λ (c : Takes). all_taken c.takes) one ∙ before.items_are
+
+  by_one : (calls : Takes) → HasTakes b.ring.shape a.list calls → (told : Bool) → TakeAllAdds told b.ring.shape wanted calls reply into a.list b.list → HasTook b (items ++ take (number_brought reply) into)
+  by_one calls has true adds = record {
+    calls = calls;
+    list_is = subst (λ (l : List Event). HasTakes b.ring.shape l calls) (sym adds.1) has;
+    items_are = items_of calls has ∙ sym (append-nil items) ∙ ap (λ (r : TakeBatchReply). items ++ take (number_brought r) into) (sym adds.0);
+  }
+  by_one calls has false (more, is_more, (replied, places), after) = ⊎_elim
+      (λ one.
+      let last : take (number_brought reply) into ≡ taken_of one.0 = places ∙ ap (λ (t : Takes). items_at_end t.end t.takes) one.2 ∙ items_snoc [] calls.takes one.0 in
+      record {
+        calls = more;
+        list_is = after;
+        items_are = ap (λ (t : Takes). all_taken t.takes) one.2 ∙ taken_snoc calls.takes one.0 ∙ (λ i. items_of calls has i ++ sym last i);
+      })
+      (λ told.
+      let none : take (number_brought reply) into ≡ [] = places ∙ ap (λ (t : Takes). items_at_end t.end t.takes) told.2 in
+      record {
+        calls = more;
+        list_is = after;
+        items_are = ap (λ (t : Takes). all_taken t.takes) told.2 ∙ items_of calls has ∙ sym (append-nil items) ∙ ap (λ (l : List ℕ). items ++ l) (sym none);
+      })
+      is_more.is_one_more
+
+  pub took_all : HasTakenAll b.ring.shape wanted a.list b.list reply into → HasTook b (items ++ take (number_brought reply) into)
+  took_all h = by_one h.calls h.before_is (ends_closed h.calls.end) h.adds
