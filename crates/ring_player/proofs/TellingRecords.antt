@@ -42,7 +42,7 @@ offered_all script puts front (x ∷ xs) j n e f g (l, of, m) =
 
 -- ---- what takes want
 
--- the same, but for a take that wants none, which there is not among those of a play
+-- the same, but 1 where that is none: each take of a play wants some
 abbrev some_of : Content → Takes → ℕ → ℕ
 some_of script takes j = suc (wants_of script takes j - 1)
 

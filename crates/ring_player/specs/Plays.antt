@@ -34,7 +34,7 @@ pub record ArePutsOf (script : Content) (calls : Puts) : Type 0 where
 abbrev pub wanted_at : Content → ℕ → ℕ
 wanted_at script k = min (take_batch_of script.shape) (script.takes - k)
 
--- takes, where k items are taken before them, each of which wants that many items, and some
+-- takes, where k items are taken before them, each of which wants as many items as the world does there, where some are left to take
 abbrev pub AreWantedBy : Content → ℕ → List Take → Type 0
 AreWantedBy script k [] = Unit {0}
 AreWantedBy script k (x ∷ takes) = (k < script.takes) × IsTakeOf script.shape k (wanted_at script k) x × AreWantedBy script (taken_after k x) takes

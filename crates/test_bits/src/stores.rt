@@ -1,6 +1,6 @@
 use crate::memories::{CHOICE_COUNT, CHOICES, expect_made, expect_same, expect_true, make};
 use bits_core::{
-    Act, Bit, Event, Filled, Flip, Memory, Shape, ShapeFault, Side, TraceFault, read_trace,
+    Act, Bit, Event, Filled, Flip, Memory, Shape, ShapeFault, Side, Store, TraceFault, read_trace,
     read_trace_into,
 };
 use std::alloc::AllocGlobal;
@@ -40,6 +40,27 @@ fn a_trace_is_read_into_slots(rt: HostRuntime) {
     }
     // What stands behind the events stays.
     expect_true(&rt, slots[4] == UNUSED && slots[5] == UNUSED);
+}
+
+// Of a store of one number: whether it makes room for so many more.
+fn makes_room<S: Store<u64>>(rt: &impl Abort, mut store: S, more: usize) -> bool {
+    store.reserve().expect(rt, "room for one");
+    store.add(7);
+    let is_made = store.reserve_many(more).is_ok();
+    expect_true(rt, store.as_slice() == [7].as_slice());
+    is_made
+}
+
+#[test]
+fn room_is_made_for_several(rt: HostRuntime) {
+    let mut slots = [0; 4];
+    for more in 0..=5 {
+        expect_true(
+            &rt,
+            makes_room(&rt, Filled::new(&mut slots), more) == (more <= 3),
+        );
+        expect_true(&rt, makes_room(&rt, Vec::new(rt.alloc()), more));
+    }
 }
 
 // The fault of bytes, whatever room there is.
