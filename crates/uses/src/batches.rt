@@ -2,7 +2,7 @@
 ghost use Rattle.std.specs.Prelude.{◌≡◌, ℕ, List, ◌≤◌, ◌++◌, length, take, drop};
 ghost use Rattle.ring_core.specs.declared.producers.BatchReply.{BatchReply as AReply};
 ghost use Rattle.ring_core.specs.declared.consumers.TakeBatchReply.{TakeBatchReply as ATakeReply};
-ghost use Rattle.ring_core.specs.Counts.{take_batch_of};
+ghost use Rattle.bits_core.specs.Shape.{take_batch_of};
 ghost use Rattle.ring_core.specs.Puts.{IsBatch};
 ghost use Rattle.ring_run.specs.Steppers.{IsSameEnd};
 ghost use Rattle.ring_run.specs.Ends.{HasPutAll, HasTakenAll, number_brought};
