@@ -14,7 +14,7 @@ use std::alloc::{Allocator, Global};
 /// In use: `uses::batches::put_batch`.
 pub trait PutEnd {
     ghost use Rattle.std.specs.Prelude.{◌≡◌, ◌^◌, ◌<◌};
-    ghost use Rattle.bits_core.specs.Shape.{take_batch_of, width_of};
+    ghost use Rattle.bits_core.specs.Shape.{width_of};
     ghost use Rattle.ring_seats.specs.Ring.{RingEnd};
     ghost use Rattle.ring_seats.specs.Steppers.{IsSameEnd, StandsAs};
     ghost use Rattle.bits_core.specs.declared.events.Side.TheVariants.{P};
@@ -73,6 +73,7 @@ pub trait PutEnd {
 /// In use: `uses::two_threads::take_each`, and `uses::batches::take_batch` for takes of several.
 pub trait TakeEnd {
     ghost use Rattle.std.specs.Prelude.{◌≡◌, ◌≤◌, length, drop};
+    ghost use Rattle.bits_core.specs.Shape.{take_batch_of};
     ghost use Rattle.ring_seats.specs.Ring.{RingEnd};
     ghost use Rattle.ring_seats.specs.Steppers.{IsSameEnd, StandsAs};
     ghost use Rattle.bits_core.specs.declared.events.Side.TheVariants.{C};
