@@ -8,8 +8,7 @@ use crate::audits::{EVENT_ROOM, no_events};
 use crate::marks::Mark;
 use crate::plays::{ANSWER_ROOM, Asked, Played, RUN_ROOM, fields, put_lawful, told_fault};
 use bits_core::{Filled, Side};
-use near_misses::{NearFault, NearMiss, play_near_first};
-use ring_player::PlayedCall;
+use near_misses::{NearCall, NearFault, NearMiss, play_near_first};
 use ring_script::{Run, ScriptFault, ScriptRef};
 
 /// A begin or an end of a call, as numbers.
@@ -60,15 +59,15 @@ fn near_numbered(number: u64) -> Option<NearMiss>
 }
 
 // A begin or an end of a call, as numbers.
-fn telling_of(event: PlayedCall) -> Telling
+fn telling_of(event: NearCall) -> Telling
     ensures { said_in result ≡ said_by event }
 {
     let number = match event {
-        PlayedCall::PutBegins(count)
-        | PlayedCall::PutStored(count)
-        | PlayedCall::PutSome(count)
-        | PlayedCall::TakeBegins(count) => count as u64,
-        PlayedCall::TakeItems(item) | PlayedCall::TakeSome(item) => item,
+        NearCall::PutBegins(count)
+        | NearCall::PutStored(count)
+        | NearCall::PutSome(count)
+        | NearCall::TakeBegins(count) => count as u64,
+        NearCall::TakeItems(item) | NearCall::TakeSome(item) => item,
         _ => 0,
     };
     Telling {
@@ -78,7 +77,7 @@ fn telling_of(event: PlayedCall) -> Telling
 }
 
 // Puts what is told into the room, as much of it as there is room for.
-fn put_tellings(calls: &[PlayedCall], tellings: &mut [Telling])
+fn put_tellings(calls: &[NearCall], tellings: &mut [Telling])
     ensures { map said_in (take (length calls.now) tellings.new) ≡ map said_by (take (length tellings.new) calls.now) }
 {
     for i in 0..calls.len().min(tellings.len()) {
@@ -98,7 +97,7 @@ fn tell_near_play(
     ensures refused { OnErr result (EVENT_ROOM < min letters (length (content_of script.entry).letters)) }
 {
     let mut events = no_events();
-    let mut told_room = [PlayedCall::PutFull; EVENT_ROOM];
+    let mut told_room = [NearCall::PutFull; EVENT_ROOM];
     let play = play_near_first(
         miss,
         script,

@@ -3,6 +3,8 @@ ghost use Rattle.std.specs.Prelude.{◌≡◌, ◌<◌, ◌≤◌, ◌⊎◌, �
 ghost use Rattle.bits_core.specs.declared.events.Event.{Event};
 ghost use Rattle.bits_core.specs.declared.shapes.Shape.{Shape};
 ghost use Rattle.bits_core.specs.Lawful.{IsLawful};
+ghost use Rattle.bits_core.specs.Shape.{capacity_of};
+ghost use Rattle.ring_core.specs.Counts.{take_batch_of};
 ghost use Rattle.ring_script.specs.Borrowed.{content_of, held_of};
 ghost use Rattle.ring_page.specs.Audit.{AreMarksOf, IsNothingSeen};
 ghost use Rattle.ring_page.specs.Play.{Fills, TellsFirstLetters, TellsPlay, TellsPlayFault, fields_of};
@@ -111,6 +113,15 @@ pub fn put_lawful(shape: &Shape, history: &[Event], marks: &mut [Mark])
     put_marks(history, &seen, marks);
 }
 
+// How many items one count write of the consumer may count.
+fn take_batch(shape: &Shape) -> u64
+    ensures value { result ≡ take_batch_of shape.now }
+    ensures few { result ≤ capacity_of shape.now }
+{
+    let _ = shape;
+    1
+}
+
 // What is told of the play of a script's first letters.
 fn tell_play(
     script: ScriptRef<'_>,
@@ -123,9 +134,13 @@ fn tell_play(
     ensures refused { OnErr result (EVENT_ROOM < min letters (length (content_of script.entry).letters)) }
 {
     let mut events = no_events();
-    // One slot more than items can be taken, since a world asks for one wherever an access of the consumer ends.
-    let mut taken_room = [0; ITEM_LIMIT + 1];
+    // As many slots more than items can be taken as a take may take, since a world asks for these wherever an access of the
+    // consumer ends.
+    let mut taken_room = [0; ITEM_LIMIT + 64];
     script.items();
+    let shape = script.shape();
+    let _capacity = shape.capacity();
+    let _take_batch = take_batch(&shape);
     let report = play_first(
         script,
         letters,

@@ -28,6 +28,7 @@ use Rattle.ring_audit.specs.declared.faults.AuditFault.TheVariants as finding
 use Rattle.ring_core.specs.Linear.{EachReadingIsLinearizable}
 use Rattle.ring_player.specs.Headline.{IsPlayOf}
 use Rattle.ring_player.specs.Tellings.{RecordsPlay, call_events}
+use Rattle.ring_player.specs.declared.tellings.TakenItems.{TakenItems}
 use Rattle.queue_calls.specs.declared.events.CallEvent.{CallEvent}
 use Rattle.ring_player.specs.declared.faults.PlayFault.TheVariants as play
 use Rattle.ring_script.specs.Faults.{IsScriptFault}
@@ -41,7 +42,7 @@ use Rattle.ring_run.specs.Relays.{IsRelayed}
 use Rattle.bits_core.specs.declared.memory.MemoryFault.TheVariants as run
 use Rattle.ring_program.specs.RunRecordings.{RecordsRun, run_counts}
 use Rattle.ring_program.specs.Runs.{run_items}
-use Rattle.ring_program.specs.Texts.{Summary, audit_text_of, calls_text_of, relay_report_of, relay_text_of, report_text_of, told_text_of, verdict_text_of}
+use Rattle.ring_program.specs.Texts.{Summary, audit_text_of, calls_text_of, item_read, relay_report_of, relay_text_of, report_text_of, told_text_of, verdict_text_of}
 use Rattle.ring_program.specs.Why.{TellsWhy, verdict_in}
 use Rattle.ring_program.specs.declared.inputs.TheConstants.{INPUT_LIMIT}
 use Rattle.ring_program.specs.declared.answers.Ending.{Ending}
@@ -207,7 +208,7 @@ pub record TracesScript (input text : List ℕ) (ending : Ending) : Type 0 where
 pub record RecordsScript (input text : List ℕ) (ending : Ending) : Type 0 where
   pub content : Content
   pub history : List Event
-  pub told : List (CallEvent ℕ ℕ)
+  pub told : List (CallEvent ℕ TakenItems)
   pub is_script : IsScript input content
   pub plays : IsPlayOf content content.letters history
   pub records : RecordsPlay content history told
@@ -232,7 +233,7 @@ pub record RecordsWrong (input text : List ℕ) (ending : Ending) : Type 0 where
   pub told : List (CallEvent ℕ ℕ)
   pub is_script : IsScript input content
   pub plays : IsNearPlay content content.letters history told
-  pub words : text ≡ told_text_of content told
+  pub words : text ≡ told_text_of item_read content told
   pub ends : ending ≡ Done
 
 -- the text of a run of these items: how many were put and taken, or that and what was counted and timed; or a recording of its calls

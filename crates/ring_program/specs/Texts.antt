@@ -1,5 +1,5 @@
 -- The texts of the answers.
-use Rattle.std.specs.Prelude.{ℕ, ◌+◌, ◌*◌, ◌/◌, ◌^◌, Bool, true, false, ◌&&◌, List, [], ◌∷◌, ◌++◌, Option, Some, None, codes, decimal, length, Vec, nat_lt, if◌then◌else◌, option_and_then}
+use Rattle.std.specs.Prelude.{ℕ, ◌+◌, ◌*◌, ◌/◌, ◌^◌, Bool, true, false, ◌&&◌, List, [], ◌∷◌, ◌++◌, Option, Some, None, codes, decimal, length, map, Vec, nat_lt, if◌then◌else◌, option_and_then}
 use Rattle.std.specs.List.{flat_map}
 use Rattle.bits_core.specs.Audit.{kind_words}
 use Rattle.bits_core.specs.declared.audits.Verdict.{Verdict}
@@ -7,16 +7,18 @@ use Rattle.bits_core.specs.declared.audits.Verdict.TheVariants as bits
 use Rattle.bits_core.specs.declared.audits.Kind.{Kind}
 use Rattle.bits_core.specs.declared.events.Event.{Event}
 use Rattle.bits_core.specs.Shape.{capacity_of}
+use Rattle.queue_calls.specs.Calls as queue
 use Rattle.queue_calls.specs.Causes.{cause_words}
 use Rattle.queue_calls.specs.Recordings.{line, lines_text}
 use Rattle.queue_calls.specs.Tellings.{lines_of}
+use Rattle.queue_calls.specs.Told.{event_by}
 use Rattle.queue_calls.specs.declared.lines.Word.TheVariants as word
 use Rattle.queue_calls.specs.declared.hearings.Begun.TheVariants as begun
 use Rattle.queue_calls.specs.declared.recordings.CallsFinding.{CallsFinding}
 use Rattle.queue_calls.specs.declared.recordings.CallsFinding.TheVariants as calls
 use Rattle.queue_calls.specs.declared.reports.Report as calls_report
 use Rattle.ring_audit.specs.Audit.{Statement, Lawful, Fault}
-use Rattle.ring_player.specs.Tellings.{call_events}
+use Rattle.ring_player.specs.Plays.{offered}
 use Rattle.queue_calls.specs.declared.events.CallEvent.{CallEvent}
 use Rattle.ring_player.specs.declared.worlds.Report.{Report}
 use Rattle.ring_script.specs.Content.{Content}
@@ -148,6 +150,14 @@ relay_report_of put calls full taken empty closed time =
 
 -- ---- the text of the calls that were told
 
+-- the item that a take of a near miss read
+abbrev pub item_read : Content → ℕ → List ℕ
+item_read script item = item ∷ []
+
+-- what is told, as events of calls, by the items that a take took
+abbrev pub told_calls : {T : Type 0} → (Content → T → List ℕ) → Content → List (CallEvent ℕ T) → List queue.Event
+told_calls took script told = map (event_by (offered script) (took script)) told
+
 -- a line of the ring's capacity, and the line of each event of calls
-abbrev pub told_text_of : Content → List (CallEvent ℕ ℕ) → List ℕ
-told_text_of script told = lines_text (line word.Queue (capacity_of script.shape ∷ []) ∷ lines_of begun.Nothing (call_events script told))
+abbrev pub told_text_of : {T : Type 0} → (Content → T → List ℕ) → Content → List (CallEvent ℕ T) → List ℕ
+told_text_of took script told = lines_text (line word.Queue (capacity_of script.shape ∷ []) ∷ lines_of begun.Nothing (told_calls took script told))

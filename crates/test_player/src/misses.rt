@@ -1,13 +1,12 @@
 use crate::play_scripts::{Asked, Numbers, ONE, expect, script_of};
 use bits_core::{Verdict, audit_bits};
-use near_misses::{NearFault, NearMiss, play_near};
+use near_misses::{NearCall, NearFault, NearMiss, play_near};
 use refusing::Refusing;
-use ring_player::PlayedCall;
 use std::alloc::{AllocGlobal, Global};
 use std::process::Abort;
 
 // What a near miss is to tell of a script.
-type Near<'a> = (NearMiss, Numbers, Asked<'a>, &'a [PlayedCall]);
+type Near<'a> = (NearMiss, Numbers, Asked<'a>, &'a [NearCall]);
 
 static CASES: [Near<'static>; 5] = [
     // The count write spans the take, which reads the cell before the item is there: 0 for 1.
@@ -16,9 +15,9 @@ static CASES: [Near<'static>; 5] = [
         ONE,
         ("[1]", 1, false, "P5C10", ""),
         &[
-            PlayedCall::PutBegins(0),
-            PlayedCall::TakeBegins(1),
-            PlayedCall::TakeItems(0),
+            NearCall::PutBegins(0),
+            NearCall::TakeBegins(1),
+            NearCall::TakeItems(0),
         ],
     ),
     // Item 1 is stored, and the take that began before is told Closed.
@@ -27,12 +26,12 @@ static CASES: [Near<'static>; 5] = [
         ONE,
         ("[1]", 2, true, "C2P10C2", ""),
         &[
-            PlayedCall::TakeBegins(1),
-            PlayedCall::PutBegins(0),
-            PlayedCall::PutStored(1),
-            PlayedCall::CloseBegins,
-            PlayedCall::CloseEnds,
-            PlayedCall::TakeClosed,
+            NearCall::TakeBegins(1),
+            NearCall::PutBegins(0),
+            NearCall::PutStored(1),
+            NearCall::CloseBegins,
+            NearCall::CloseEnds,
+            NearCall::TakeClosed,
         ],
     ),
     // The count write is open: it is seen new, and then old, which looks like a round more, and item 1 is taken twice.
@@ -41,11 +40,11 @@ static CASES: [Near<'static>; 5] = [
         [1, 3, 2, 1],
         ("[1,2,3]", 3, false, "P9C20", "01"),
         &[
-            PlayedCall::PutBegins(0),
-            PlayedCall::TakeBegins(1),
-            PlayedCall::TakeItems(1),
-            PlayedCall::TakeBegins(1),
-            PlayedCall::TakeItems(1),
+            NearCall::PutBegins(0),
+            NearCall::TakeBegins(1),
+            NearCall::TakeItems(1),
+            NearCall::TakeBegins(1),
+            NearCall::TakeItems(1),
         ],
     ),
     // The fifth put has cleared s0 and not yet set s1, so a scan finds s3, which was set a round ago: Empty, with the fourth item inside.
@@ -54,23 +53,23 @@ static CASES: [Near<'static>; 5] = [
         [2, 4, 2, 1],
         ("[1,2,3,1,2]", 5, false, "P10C12P12C14P14C16P27C10", ""),
         &[
-            PlayedCall::PutBegins(0),
-            PlayedCall::PutStored(1),
-            PlayedCall::TakeBegins(1),
-            PlayedCall::TakeItems(1),
-            PlayedCall::PutBegins(1),
-            PlayedCall::PutStored(1),
-            PlayedCall::TakeBegins(1),
-            PlayedCall::TakeItems(2),
-            PlayedCall::PutBegins(2),
-            PlayedCall::PutStored(1),
-            PlayedCall::TakeBegins(1),
-            PlayedCall::TakeItems(3),
-            PlayedCall::PutBegins(3),
-            PlayedCall::PutStored(1),
-            PlayedCall::PutBegins(4),
-            PlayedCall::TakeBegins(1),
-            PlayedCall::TakeEmpty,
+            NearCall::PutBegins(0),
+            NearCall::PutStored(1),
+            NearCall::TakeBegins(1),
+            NearCall::TakeItems(1),
+            NearCall::PutBegins(1),
+            NearCall::PutStored(1),
+            NearCall::TakeBegins(1),
+            NearCall::TakeItems(2),
+            NearCall::PutBegins(2),
+            NearCall::PutStored(1),
+            NearCall::TakeBegins(1),
+            NearCall::TakeItems(3),
+            NearCall::PutBegins(3),
+            NearCall::PutStored(1),
+            NearCall::PutBegins(4),
+            NearCall::TakeBegins(1),
+            NearCall::TakeEmpty,
         ],
     ),
     // Where nothing overlaps, it is as with a ring: a batch of two, of which the second put finds room for one.
@@ -79,12 +78,12 @@ static CASES: [Near<'static>; 5] = [
         [3, 6, 2, 2],
         ("[1,2,3,1]", 1, false, "P26", ""),
         &[
-            PlayedCall::PutBegins(0),
-            PlayedCall::PutStored(2),
-            PlayedCall::PutBegins(2),
-            PlayedCall::PutStored(1),
-            PlayedCall::PutBegins(3),
-            PlayedCall::PutFull,
+            NearCall::PutBegins(0),
+            NearCall::PutStored(2),
+            NearCall::PutBegins(2),
+            NearCall::PutStored(1),
+            NearCall::PutBegins(3),
+            NearCall::PutFull,
         ],
     ),
 ];
