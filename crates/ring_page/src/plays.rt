@@ -3,8 +3,6 @@ ghost use Rattle.std.specs.Prelude.{◌≡◌, ◌<◌, ◌≤◌, ◌⊎◌, �
 ghost use Rattle.bits_core.specs.declared.events.Event.{Event};
 ghost use Rattle.bits_core.specs.declared.shapes.Shape.{Shape};
 ghost use Rattle.bits_core.specs.Lawful.{IsLawful};
-ghost use Rattle.bits_core.specs.Shape.{capacity_of};
-ghost use Rattle.ring_core.specs.Counts.{take_batch_of};
 ghost use Rattle.ring_script.specs.Borrowed.{content_of, held_of};
 ghost use Rattle.ring_page.specs.Audit.{AreMarksOf, IsNothingSeen};
 ghost use Rattle.ring_page.specs.Play.{Fills, TellsFirstLetters, TellsPlay, TellsPlayFault, fields_of};
@@ -113,15 +111,6 @@ pub fn put_lawful(shape: &Shape, history: &[Event], marks: &mut [Mark])
     put_marks(history, &seen, marks);
 }
 
-// How many items one count write of the consumer may count.
-fn take_batch(shape: &Shape) -> u64
-    ensures value { result ≡ take_batch_of shape.now }
-    ensures few { result ≤ capacity_of shape.now }
-{
-    let _ = shape;
-    1
-}
-
 // What is told of the play of a script's first letters.
 fn tell_play(
     script: ScriptRef<'_>,
@@ -140,7 +129,7 @@ fn tell_play(
     script.items();
     let shape = script.shape();
     let _capacity = shape.capacity();
-    let _take_batch = take_batch(&shape);
+    let _take_batch = shape.take_batch();
     let report = play_first(
         script,
         letters,
