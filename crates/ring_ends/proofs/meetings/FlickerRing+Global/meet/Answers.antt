@@ -1,0 +1,12 @@
+use Rattle.ring_ends.specs.Machines.{consuming, producing}
+use Rattle.ring_ends.proofs.Idle.{machine_idle}
+use Rattle.ring_ends.proofs.PutterCalls.{call_seen, put_laws}
+use Rattle.ring_ends.proofs.TakerCalls.{take_laws, taking_seen}
+use Rattle.std.proofs.Common.{◌∙◌}
+use Rattle.ring_ends.proofs.meetings.FlickerRing+Global.meet.Goals as goal
+
+pub meet_steppers-p-requires-clause-idle : goal.meet_steppers-p-requires-clause-idle
+meet_steppers-p-requires-clause-idle g c = (
+  machine_idle c.laws_below.ensures producing put_laws c.putter.inside.stepper c.putter.inside.machine _ c.putter.invariant.0 (call_seen c.putter.view_is ∙ c.requires.idle.0),
+  machine_idle c.laws_below.ensures consuming take_laws c.taker.inside.stepper c.taker.inside.machine _ c.taker.invariant.0 (taking_seen c.taker.view_is ∙ c.requires.idle.1),
+)
