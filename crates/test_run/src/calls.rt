@@ -3,7 +3,7 @@ ghost use Rattle.std.specs.Prelude.{◌≡◌, None, false};
 
 use crate::expects::shape_of;
 use bits_core::{Flip, Shape};
-use ring_core::{BatchReply, PutReply, TakeReply};
+use ring_core::{BatchReply, PutReply, TakeBatchReply, TakeReply};
 use ring_run::{
     CounterPutter, CounterRing, CounterTaker, FlickerRing, PutEnd, Putter, RingOf, TakeEnd, Taker,
 };
@@ -17,6 +17,8 @@ pub enum Call {
     PutAll(&'static [u64], BatchReply),
     Close,
     Take(TakeReply),
+    // of so many items at most; and what it brings
+    TakeAll(usize, TakeBatchReply, &'static [u64]),
     Meet,
 }
 
@@ -26,6 +28,29 @@ type Case = ([u64; 4], &'static [Call], bool, bool);
 // The put of this item, or of it and more, is answered as is wanted.
 fn expect_reply(rt: &impl Abort, is_wanted: bool, item: u64) {
     assert!(rt; is_wanted, "put {item}");
+}
+
+// The take of so many items at most is answered so and brings these; the other places stay as they were.
+fn expect_taken<T: TakeEnd>(
+    rt: &impl Abort,
+    taker: &mut T,
+    wanted: usize,
+    reply: TakeBatchReply,
+    items: &[u64],
+)
+    requires idle { T.idle taker.old }
+    ensures idle { T.idle taker.new }
+    ensures taker { (T.end taker.new).ring ≡ (T.end taker.old).ring }
+{
+    let shape = taker.shape();
+    assert!(rt; 1 <= wanted && wanted <= 64);
+    assert!(rt; wanted as u64 <= shape.take_batch());
+    let mut room = [77; 64];
+    let told = taker.take_all(&mut room[..wanted]);
+    assert!(rt; told == reply);
+    assert!(rt; room.get(..items.len()) == Some(items));
+    let others = room.get(items.len()..).unwrap_or(&[]);
+    assert!(rt; others.iter().all(|place| *place == 77));
 }
 
 // The call is answered so. It is no meeting.
@@ -52,6 +77,7 @@ fn expect_answer<P: PutEnd, T: TakeEnd>(rt: &impl Abort, putter: &mut P, taker: 
         Call::Take(wanted) => {
             assert!(rt; taker.take() == wanted);
         }
+        Call::TakeAll(wanted, reply, items) => expect_taken(rt, taker, wanted, reply, items),
         Call::Meet => {}
     }
 }
@@ -314,4 +340,37 @@ static PARTIAL: Case = (
 #[test]
 fn a_batch_is_stored_as_far_as_there_is_room(rt: HostRuntime) {
     expect_calls(&rt, &PARTIAL);
+}
+
+// Takes of up to two items, of a ring of three cells.
+static TAKES: Case = (
+    [3, 7, 3, 3],
+    &[
+        Call::TakeAll(2, TakeBatchReply::Empty, &[]),
+        Call::PutAll(&[1, 2, 3], BatchReply::Stored(3)),
+        Call::TakeAll(2, TakeBatchReply::Taken(2), &[1, 2]),
+        Call::PutAll(&[4, 5, 6], BatchReply::Stored(2)),
+        Call::TakeAll(2, TakeBatchReply::Taken(2), &[3, 4]),
+        Call::Take(TakeReply::Item(5)),
+        Call::Meet,
+        Call::TakeAll(2, TakeBatchReply::Empty, &[]),
+        Call::Put(6, PutReply::Stored),
+        Call::TakeAll(2, TakeBatchReply::Taken(1), &[6]),
+        Call::PutAll(&[7, 0], BatchReply::Stored(2)),
+        Call::Close,
+        Call::TakeAll(1, TakeBatchReply::Taken(1), &[7]),
+        Call::TakeAll(2, TakeBatchReply::Taken(1), &[0]),
+        Call::TakeAll(2, TakeBatchReply::Closed, &[]),
+        Call::Take(TakeReply::Closed),
+        Call::TakeAll(1, TakeBatchReply::Closed, &[]),
+    ],
+    true,
+    true,
+);
+
+#[test]
+fn a_take_brings_as_many_items_as_are_shown_and_there_are_places(rt: HostRuntime) {
+    let shape = Shape::with_batches(3, 7, 3, 3, 2).expect(&rt, "a shape");
+    expect_flicker(&rt, shape, &TAKES);
+    expect_counter(&rt, shape, &TAKES);
 }
