@@ -231,5 +231,5 @@ torus_run = run_words (codes "64") (codes "--ring" ∷ codes "torus" ∷ [])
 
 abbrev pub long_run : List Text
 long_run =
-    codes "run" ∷ codes "--ring" ∷ codes "counter" ∷ codes "--batch=3" ∷ codes "--takes" ∷ codes "8" ∷ codes "--capacity" ∷ codes "3" ∷ codes "--modulus=7" ∷ codes "--width" ∷ codes "6"
+    codes "run" ∷ codes "--ring" ∷ codes "counter" ∷ codes "--batch=3" ∷ codes "--take-batch" ∷ codes "2" ∷ codes "--takes" ∷ codes "8" ∷ codes "--capacity" ∷ codes "3" ∷ codes "--modulus=7" ∷ codes "--width" ∷ codes "6"
     ∷ codes "--count=64" ∷ codes "--limit" ∷ codes "9" ∷ []

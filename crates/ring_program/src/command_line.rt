@@ -357,10 +357,10 @@ pub fn command_lines()
     ensures wrong_calls { (name : List ℕ) → request_of (name ∷ codes "play" ∷ codes "--wrong=count-before-cell" ∷ codes "--calls" ∷ []) ≡ Some (Request.OnInput (Question.WrongCalls miss.CountBeforeCell)) }
     ensures wrong_report { (name : List ℕ) → request_of (name ∷ codes "play" ∷ codes "--wrong" ∷ codes "clears-first" ∷ []) ≡ None }
     ensures wrong_name { (name : List ℕ) → request_of (name ∷ codes "play" ∷ codes "--wrong" ∷ codes "right" ∷ codes "--calls" ∷ []) ≡ None }
-    ensures run { (name : List ℕ) → request_of (name ∷ short_run) ≡ Some (Request.Run (run_of_numbers kind.Flicker 1 3 6 1 64 9 9 RunText.Totals)) }
-    ensures run_with_all { (name : List ℕ) → request_of (name ∷ long_run) ≡ Some (Request.Run (run_of_numbers kind.Counter 3 7 6 3 64 9 8 RunText.Totals)) }
-    ensures run_with_report { (name : List ℕ) → request_of (name ∷ report_run) ≡ Some (Request.Run (run_of_numbers kind.Flicker 1 3 6 1 64 9 9 RunText.Report)) }
-    ensures run_with_record { (name : List ℕ) → request_of (name ∷ record_run) ≡ Some (Request.Run (run_of_numbers kind.Flicker 1 3 6 1 64 9 9 RunText.Recording)) }
+    ensures run { (name : List ℕ) → request_of (name ∷ short_run) ≡ Some (Request.Run (run_of_numbers kind.Flicker 1 3 6 1 1 64 9 9 RunText.Totals)) }
+    ensures run_with_all { (name : List ℕ) → request_of (name ∷ long_run) ≡ Some (Request.Run (run_of_numbers kind.Counter 3 7 6 3 2 64 9 8 RunText.Totals)) }
+    ensures run_with_report { (name : List ℕ) → request_of (name ∷ report_run) ≡ Some (Request.Run (run_of_numbers kind.Flicker 1 3 6 1 1 64 9 9 RunText.Report)) }
+    ensures run_with_record { (name : List ℕ) → request_of (name ∷ record_run) ≡ Some (Request.Run (run_of_numbers kind.Flicker 1 3 6 1 1 64 9 9 RunText.Recording)) }
     ensures run_with_both { (name : List ℕ) → request_of (name ∷ report_and_record) ≡ None }
     ensures lacking { (name : List ℕ) → request_of (name ∷ codes "run" ∷ []) ≡ None }
     ensures too_many { (name : List ℕ) → request_of (name ∷ big_run) ≡ None }

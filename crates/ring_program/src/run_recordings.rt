@@ -177,11 +177,16 @@ impl Room {
     fn behind(self, event: Event<'_>) -> Room
         ensures { (result.puts ≡ self.puts - room_with P (told event.entry)) × (result.takes ≡ self.takes - room_with C (told event.entry)) }
     {
-        match event {
-            Event::PutBegins(items) => self.less(items.len(), 0),
-            Event::TakeItems(items) => self.less(0, items.len()),
-            _ if event.is_of_producer() => self.less(1, 0),
-            _ => self.less(0, 1),
+        if let Event::PutBegins(items) = event {
+            return self.less(items.len(), 0);
+        }
+        if let Event::TakeItems(items) = event {
+            return self.less(0, items.len());
+        }
+        if event.is_of_producer() {
+            self.less(1, 0)
+        } else {
+            self.less(0, 1)
         }
     }
 }

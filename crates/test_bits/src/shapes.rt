@@ -277,7 +277,7 @@ fn a_memory_shows_its_history(rt: HostRuntime) {
     expect_words(
         &rt,
         &shown.expect(&rt, "memory for the text"),
-        "Memory { shape: Shape { capacity: 1, modulus: 3, width: 1, batch: 1 }, events: [], flickers: 0 }",
+        "Memory { shape: Shape { capacity: 1, modulus: 3, width: 1, batch: 1, take_batch: 1 }, events: [], flickers: 0 }",
     );
 }
 
