@@ -177,16 +177,14 @@ impl Room {
     fn behind(self, event: Event<'_>) -> Room
         ensures { (result.puts ≡ self.puts - room_with P (told event.entry)) × (result.takes ≡ self.takes - room_with C (told event.entry)) }
     {
-        if let Event::PutBegins(items) = event {
-            return self.less(items.len(), 0);
-        }
-        if let Event::TakeItems(items) = event {
-            return self.less(0, items.len());
-        }
-        if event.is_of_producer() {
-            self.less(1, 0)
-        } else {
-            self.less(0, 1)
+        match event {
+            Event::PutBegins(items) => self.less(items.len(), 0),
+            Event::PutStored(_) | Event::PutSome(_) => self.less(1, 0),
+            Event::PutFull | Event::PutShort | Event::PutNothing => self.less(1, 0),
+            Event::PutClosed | Event::CloseBegins | Event::CloseEnds => self.less(1, 0),
+            Event::TakeItems(items) | Event::TakeSome(items) => self.less(0, items.len()),
+            Event::TakeBegins(_) | Event::TakeEmpty | Event::TakeShort => self.less(0, 1),
+            Event::TakeNothing | Event::TakeClosed => self.less(0, 1),
         }
     }
 }
