@@ -306,8 +306,8 @@ take_phrases-append shape c (x ∷ xs) ys =
     sym (append_assoc (take_phrase shape c x) (take_phrases shape (count_after shape c x) xs) (take_phrases shape (taken_count shape (count_after shape c x) xs) ys))
 
 -- the accesses of calls that are not over begin those of one take more
-one_more : (shape : Shape) (wanted : ℕ) (calls more : Takes) → takes.HasTakeMore shape wanted calls more → (rest : List Made) × (take_program shape more ≡ take_program shape calls ++ rest)
-one_more shape wanted calls more is_more =
+one_more : (shape : Shape) (wanted : ℕ) (calls next : Takes) → takes.HasTakeMore shape wanted calls next → (rest : List Made) × (take_program shape next ≡ take_program shape calls ++ rest)
+one_more shape wanted calls next is_more =
     let phrases : List Made = take_phrases shape first_count calls.takes in
     let program : take_program shape calls ≡ phrases = ap (λ (e : End). phrases ++ end_phrase e) is_more.not_over ∙ append-nil phrases in
     ⊎_elim
