@@ -37,7 +37,7 @@ static CASES: [Near<'static>; 5] = [
     // The count write is open: it is seen new, and then old, which looks like a round more, and item 1 is taken twice.
     (
         NearMiss::SmallModulus,
-        [1, 3, 2, 1],
+        [1, 3, 2, 1, 1],
         ("[1,2,3]", 3, false, "P9C20", "01"),
         &[
             NearCall::PutBegins(0),
@@ -50,7 +50,7 @@ static CASES: [Near<'static>; 5] = [
     // The fifth put has cleared s0 and not yet set s1, so a scan finds s3, which was set a round ago: Empty, with the fourth item inside.
     (
         NearMiss::ClearsFirst,
-        [2, 4, 2, 1],
+        [2, 4, 2, 1, 1],
         ("[1,2,3,1,2]", 5, false, "P10C12P12C14P14C16P27C10", ""),
         &[
             NearCall::PutBegins(0),
@@ -75,7 +75,7 @@ static CASES: [Near<'static>; 5] = [
     // Where nothing overlaps, it is as with a ring: a batch of two, of which the second put finds room for one.
     (
         NearMiss::ClearsUpwards,
-        [3, 6, 2, 2],
+        [3, 6, 2, 2, 1],
         ("[1,2,3,1]", 1, false, "P26", ""),
         &[
             NearCall::PutBegins(0),

@@ -4,8 +4,8 @@ use ring_player::{Report, Script, play};
 use std::alloc::{AllocError, AllocGlobal, Allocator, Global};
 use std::process::Abort;
 
-/// A shape: capacity, modulus, width, batch.
-pub type Numbers = [u64; 4];
+/// A shape: capacity, modulus, width, batch, take batch.
+pub type Numbers = [u64; 5];
 
 /// What a script says beside its shape: items, takes, close, schedule, oracle.
 pub type Asked<'a> = (&'a str, u64, bool, &'a str, &'a str);
@@ -16,18 +16,19 @@ pub type Wanted<'a> = (usize, &'a [u64], &'a [u64], bool, [u64; 3]);
 /// A name, a script and its report.
 pub type Case<'a> = (&'a str, Numbers, Asked<'a>, Wanted<'a>);
 
-/// One cell of one bit, and puts of one item.
-pub const ONE: Numbers = [1, 3, 1, 1];
+/// One cell of one bit, and puts and takes of one item.
+pub const ONE: Numbers = [1, 3, 1, 1, 1];
 
 fn text_of(alloc: Global, shape: &Numbers, asked: &Asked) -> Result<String, AllocError> {
-    let [capacity, modulus, width, batch] = *shape;
+    let [capacity, modulus, width, batch, take_batch] = *shape;
     let (items, takes, close, schedule, oracle) = *asked;
     let numbers = format!(in alloc;
         "\"capacity\":{capacity},\"modulus\":{modulus},\"width\":{width},\"batch\":{batch}"
     )?;
+    let takes_of = format!(in alloc; "\"take_batch\":{take_batch}")?;
     let calls = format!(in alloc; "\"items\":{items},\"takes\":{takes},\"close\":{close}")?;
     let texts = format!(in alloc; "\"schedule\":\"{schedule}\",\"oracle\":\"{oracle}\"")?;
-    format!(in alloc; "{{{numbers},{calls},{texts}}}")
+    format!(in alloc; "{{{numbers},{takes_of},{calls},{texts}}}")
 }
 
 /// The script, its lists in memory of the allocator. (A `?` is dear to prove, so where memory or a script is lacking the test ends here.)

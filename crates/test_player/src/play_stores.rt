@@ -13,7 +13,7 @@ const UNUSED: Event = Event {
 };
 
 // Puts of two items.
-const PAIRS: Numbers = [3, 6, 1, 2];
+const PAIRS: Numbers = [3, 6, 1, 2, 1];
 
 const PAIRED: Asked<'static> = ("[1,0,1,1]", 0, false, "P20", "");
 

@@ -31,7 +31,7 @@ static WHOLE_CALLS: [Case<'static>; 6] = [
     ),
     (
         "largest shape",
-        [1, 256, 64, 1],
+        [1, 256, 64, 1, 1],
         ("[18446744073709551615]", 1, false, "P134C136", ""),
         (
             270,
@@ -43,7 +43,7 @@ static WHOLE_CALLS: [Case<'static>; 6] = [
     ),
     (
         "two cells",
-        [2, 4, 2, 1],
+        [2, 4, 2, 1, 1],
         ("[2,1,3]", 1, false, "P22C14P12", ""),
         (48, &[2, 1, 3], &[2], false, [1, 0, 0]),
     ),
@@ -133,13 +133,13 @@ fn a_close_is_told_once_it_is_read(rt: HostRuntime) {
 static BATCHES: [Case<'static>; 2] = [
     (
         "batch of three",
-        [3, 7, 1, 3],
+        [3, 7, 1, 3, 1],
         ("[1,0,1]", 4, false, "P11C46", "0001"),
         (57, &[1, 0, 1], &[1, 0, 1], false, [0, 1, 4]),
     ),
     (
         "partial batches",
-        [3, 6, 1, 2],
+        [3, 6, 1, 2, 1],
         ("[1,0,1,1]", 0, false, "P20", ""),
         (20, &[1, 0, 1], &[], false, [1, 0, 0]),
     ),
@@ -148,6 +148,35 @@ static BATCHES: [Case<'static>; 2] = [
 #[test]
 fn batches_give_their_reports(rt: HostRuntime) {
     expect_reports(&rt, &BATCHES);
+}
+
+static TAKES: [Case<'static>; 3] = [
+    // a take whose count write is open while a put finds the ring full, and then both cells free
+    (
+        "take of two",
+        [2, 5, 1, 1, 2],
+        ("[1,0,1]", 2, false, "P16C13P14C1", "10"),
+        (44, &[1, 0, 1], &[1, 0], false, [1, 0, 2]),
+    ),
+    // no more than are left to take
+    (
+        "two of three",
+        [3, 7, 1, 3, 3],
+        ("[1,0,1]", 2, false, "P12C20", ""),
+        (28, &[1, 0, 1], &[1, 0], false, [0, 0, 0]),
+    ),
+    // no more than are shown
+    (
+        "one by one",
+        [2, 5, 2, 1, 2],
+        ("[3,2]", 4, true, "P10C12P14C28", ""),
+        (64, &[3, 2], &[3, 2], true, [0, 0, 0]),
+    ),
+];
+
+#[test]
+fn takes_of_several_give_their_reports(rt: HostRuntime) {
+    expect_reports(&rt, &TAKES);
 }
 
 // A call of a side begins with the read of the first bit of the other side's count.
@@ -182,7 +211,7 @@ fn calls_have_their_events(rt: HostRuntime) {
     let five = ("[1,0,0,1,1]", 5, false, "P8C10P10C12P10C6P8C10P8C10", "");
     expect_calls(&rt, &ONE, &five, &[8, 10, 10, 12, 10, 6, 8, 10, 8, 10]);
     let partial = ("[1,0,1,1]", 0, false, "P20", "");
-    expect_calls(&rt, &[3, 6, 1, 2], &partial, &[10, 8, 2]);
+    expect_calls(&rt, &[3, 6, 1, 2, 1], &partial, &[10, 8, 2]);
 }
 
 // The next steps of a side: so many that add an event, and then two that add none.
