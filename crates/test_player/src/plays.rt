@@ -1,4 +1,4 @@
-use crate::play_scripts::{Asked, Case, ONE, expect_reports, script_of};
+use crate::play_scripts::{Asked, Case, Numbers, ONE, expect_reports, script_of};
 use bits_core::{Act, Bit, Event, Side, Store};
 use ring_player::{World, play};
 use std::alloc::AllocGlobal;
@@ -187,7 +187,7 @@ fn begins_call(event: &Event) -> bool {
 // The calls of the play follow each other, and each has so many events.
 fn expect_calls(
     rt: &(impl Abort + AllocGlobal),
-    shape: &[u64; 4],
+    shape: &Numbers,
     asked: &Asked,
     lengths: &[usize],
 ) {

@@ -119,7 +119,7 @@ static WORDS: [(&[&str], u8, &str); 8] = [
     (
         RUN_HELP,
         0,
-        "A limit counts every call of put or take, also one that finds the ring full or\nempty; the close is not counted.",
+        "A limit counts every call of put or take, also one that finds the ring full or\nempty, and a take that brings items by how many these are; the close is not\ncounted.",
     ),
     (
         RUN_HELP,
