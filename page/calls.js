@@ -5,7 +5,7 @@ export const MOST_CALLED = 600; // events of a history whose calls are told
 // The calls of the first events, as many as are of the programs: {side, kind, begin, end, reply, items, count}, from the place of the first own
 // event to that of the last, or to Infinity with no reply where it has not ended; `count` items are put, or taken, up to and with it. A call of the producer begins where it may close, and ends where it may
 // close again. One of the consumer begins with a scan, but for the second scan of a take, behind its read of the close bit as 1; it ends with
-// the item that it takes, where it is told that the ring is closed, or where a scan may begin again.
+// the items that it takes, where it is told that the ring is closed, or where a scan may begin again.
 export function callsOf(events, {found, put, taken}) {
   const calls = [], open = {P: null, C: null}, last = {P: null, C: null};
   const begin = (side, kind, place) => calls.push(open[side] = {side, kind, begin: place, end: Infinity, reply: "", items: [], count: null});
@@ -24,7 +24,10 @@ export function callsOf(events, {found, put, taken}) {
       if (open.P.kind === "close" && event.act === "wrote") end("P", place, "closed");
       else if (open.P.kind === "put" && now.mayClose) end("P", place, now.put > open.P.past ? "stored" : "full", put.slice(open.P.past, now.put));
     } else {
-      if (!open.C && before.mayScan && !seesClose(last.C)) begin("C", "take", place);
+      if (!open.C && before.mayScan && !seesClose(last.C)) {
+        begin("C", "take", place);
+        open.C.past = before.taken;
+      }
       if (now.taken > before.taken) end("C", place, "item", taken.slice(before.taken, now.taken));
       else if (now.told && !before.told) end("C", place, "closed");
       else if (open.C && now.mayScan && !seesClose(event)) end("C", place, "empty");

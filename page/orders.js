@@ -65,14 +65,14 @@ export function effectsOf(calls, holds, order) {
   return calls.length && order(it, holds) === it.marks.length ? it.effects.filter(({call}) => !call.isBefore) : [];
 }
 
-// The same of the calls of a run of a ring of this shape. A trace does not tell what a put offered that stored nothing; and a take under way may
-// have taken what is next.
-export function effectsOfRun(calls, {capacity}, order) {
+// The same of the calls of a run of a ring of this shape. A trace does not tell what a put offered that stored nothing, nor how many items a take
+// wanted that has fewer; and a take under way may have taken what is next.
+export function effectsOfRun(calls, {capacity, take_batch}, order) {
   const itemsOf = call => call.reply ? call.items : call.begun ?? [], of = side => calls.filter(it => it.side === side).flatMap(itemsOf);
-  const [next] = of("P").slice(of("C").length);
+  const taken = of("C").length, next = of("P").slice(taken, taken + take_batch);
   const told = calls.map(call => {
-    const items = call.side === "C" && !call.reply && next !== undefined ? [next] : itemsOf(call);
-    return {...call, items, offered: items.length ? items : [0]};
+    const items = call.side === "C" && !call.reply && next.length ? next : itemsOf(call);
+    return {...call, items, offered: items.length ? items : [0], wanted: Math.max(1, items.length)};
   });
   return effectsOf(told, {full: capacity, most: capacity}, order);
 }

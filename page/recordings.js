@@ -40,9 +40,9 @@ export function repliesOf(calls, numbers) {
 
 // The recording of calls at a queue of this capacity as far as the first `count` events: its text, and of each of its lines the place of its event.
 export function recordingOf(calls, capacity, count = Infinity) {
-  const lines = calls.flatMap(({side, kind, begin, end, reply, items, offered = []}) => {
+  const lines = calls.flatMap(({side, kind, begin, end, reply, items, offered = [], wanted = 1}) => {
     const few = reply === "stored" && items.length < offered.length ? [items.length] : [];
-    return [{place: begin, words: [side, kind, ...(kind === "put" ? offered : [])]}, {place: end, words: [side, reply, ...(reply === "item" ? items : few)]}];
+    return [{place: begin, words: [side, kind, ...(kind === "put" ? offered : wanted > 1 ? [wanted] : [])]}, {place: end, words: [side, reply, ...(reply === "item" ? items : few)]}];
   }).filter(it => it.place < count).sort((a, b) => a.place - b.place);
   return {text: [`queue ${capacity}`, ...lines.map(it => it.words.join(" ")), ""].join("\n"), places: [-1, -1, ...lines.map(it => it.place)]};
 }

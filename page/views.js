@@ -82,8 +82,9 @@ export function viewsOf(module) {
       const calls = callsTold(tellingsOf(letters => play(letters, false), all), script);
       return {calls, moments: repliesOf(calls, numbers)};
     }
-    const offered = it => it.kind === "put" ? {...it, offered: script.items.slice(it.past, it.past + script.batch)} : it;
-    return {calls: callsIn(traceOf(all.shape, all.events), all.events, all.events.length).map(offered), moments: momentsOf(letters => play(letters, false).report, all)};
+    const asked = it => it.kind === "put" ? {...it, offered: script.items.slice(it.past, it.past + script.batch)}
+      : it.kind === "take" ? {...it, wanted: Math.min(script.take_batch, script.takes - it.past)} : it;
+    return {calls: callsIn(traceOf(all.shape, all.events), all.events, all.events.length).map(asked), moments: momentsOf(letters => play(letters, false).report, all)};
   }
 
   const script = {

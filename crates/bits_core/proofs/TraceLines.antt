@@ -117,6 +117,7 @@ take_batch_at-text batch bytes x e =
           let same : (1, rest) ≡ x = same_Some (1, rest) x k in
           (sym (ap (λ (y : ℕ × List ℕ). y.0) same), t, text ∙ ap (λ (y : ℕ × List ℕ). codes "\n" ++ y.1) same)
     ] refl k0
+
     other_than_1 : (r1 : List ℕ) (g : ℕ) (r2 rest : List ℕ) → bytes ≡ codes " " ++ r1 → (r1 ≡ decimal g ++ r2) × (g < 10000) → r2 ≡ codes "\n" ++ rest
         → cond (g == 1) None (Some (g, rest)) ≡ Some x → ((x.0 == 1) ≡ false) × (x.0 < 10000) × (bytes ≡ codes " " ++ (decimal x.0 ++ (codes "\n" ++ x.1)))
     other_than_1 r1 g r2 rest e1 e2 e3 e4 =
@@ -182,6 +183,7 @@ batches_at-again batch take_batch rest short short_take =
   where
     split : (g h : ℕ) → (codes " " ++ (decimal g ++ (codes " " ++ decimal h))) ++ (codes "\n" ++ rest) ≡ codes " " ++ (decimal g ++ (codes " " ++ (decimal h ++ (codes "\n" ++ rest))))
     split g h = simp append_assoc
+
     one : (g : ℕ) → g < 10000 → batches_at (batches_end g 1 rest) ≡ Some ((g, 1), rest)
     one g small = elim (g == 1) as (λ t. (g == 1) ≡ t → batches_at (batches_end g 1 rest) ≡ Some ((g, 1), rest)) [
       | true ↦ λ t. subst (λ (k : ℕ). batches_at (batches_end k 1 rest) ≡ Some ((k, 1), rest)) (sym (eqb-true g 1 t)) refl

@@ -33,16 +33,16 @@ pub one_more :
     AreTakesOf script more
 one_more script calls more are left has = elim has.is_one_more [
   | inl z ↦ record {
-      are = has.are;
-      wanted = subst (λ (t : Takes). AreWantedBy script 0 t.takes) (sym z.2)
-          (wanted-more script 0 calls.takes z.0 are.wanted left (take_of_calls script.shape (wanted_at script (taken_in 0 calls.takes)) calls z.0 z.1));
-      ends = λ t. absurd (subst (λ (m : Takes). Tells m.end) z.2 t);
-    }
+    are = has.are;
+    wanted = subst (λ (t : Takes). AreWantedBy script 0 t.takes) (sym z.2)
+        (wanted-more script 0 calls.takes z.0 are.wanted left (take_of_calls script.shape (wanted_at script (taken_in 0 calls.takes)) calls z.0 z.1));
+    ends = λ t. absurd (subst (λ (m : Takes). Tells m.end) z.2 t);
+  }
   | inr z ↦ record {
-      are = has.are;
-      wanted = subst (λ (t : Takes). AreWantedBy script 0 t.takes) (sym z.2) are.wanted;
-      ends = λ t. omega (arith, left, ap (λ (m : Takes). taken_in 0 m.takes) z.2);
-    }
+    are = has.are;
+    wanted = subst (λ (t : Takes). AreWantedBy script 0 t.takes) (sym z.2) are.wanted;
+    ends = λ t. omega (arith, left, ap (λ (m : Takes). taken_in 0 m.takes) z.2);
+  }
 ]
 
 -- ---- the program

@@ -6,6 +6,6 @@ pub returns : goal.returns
 returns c =
     let u = c.args.self in (
       subst (λ (n : ℕ). c.args.offered.now ≡ take n u.items.now) c.batch-batch.ensures.value
-      (next_items c.args.offered.now u.items.now c.batch-batch.result c.min.result c.ne.result c.min.ensures c.ne.ensures c.if-ne.false),
+          (next_items c.args.offered.now u.items.now c.batch-batch.result c.min.result c.ne.result c.min.ensures c.ne.ensures c.if-ne.false),
       offered_next u c.args.offered.now c.in_ok-calls.calls c.in_ok-calls.ensures.0 c.in_ok-calls.ensures.1,
     )
