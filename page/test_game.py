@@ -117,8 +117,9 @@ for (const script of scripts) {
   const {refused, shape, events, report} = module.play(script, 1e6);
   if (refused) return refused;
   const all = callsOf(events, module.moments(traceOf(shape, events), events.length));
-  const offered = all.map(it => it.kind === "put" ? {...it, offered: script.items.slice(it.past, it.past + script.batch)} : it);
-  const {words} = module.calls(recordingOf(offered, shape.capacity).text);
+  const asked = all.map(it => it.kind === "put" ? {...it, offered: script.items.slice(it.past, it.past + script.batch)}
+    : it.kind === "take" ? {...it, wanted: Math.min(script.take_batch, script.takes - it.past)} : it);
+  const {words} = module.calls(recordingOf(asked, shape.capacity).text);
   calls += all.length;
   taken += report.taken.length;
   if (words !== "lawful") wrong.push([script, words]);
@@ -144,7 +145,7 @@ def test_goals(page, same, _):
     draw, began, calls, taken = random.Random(63), time.monotonic(), 0, 0
     page.open("")
     for name in WRONG:
-        shape, reached = {"batch": 1, **json.loads(example(f"wrong/{name}.json")), "wrong": name.replace("_", "-")}, 0
+        shape, reached = {"batch": 1, "take_batch": 1, **json.loads(example(f"wrong/{name}.json")), "wrong": name.replace("_", "-")}, 0
         runs = re.findall(r"([PC])(\d*)", shape["schedule"])
         for part in range(AT_RANDOM // 1000):
             found = page.browser.wait(PLAYS, [{**shape, **drawn(draw, runs)} for _ in range(1000)], GOALS[name], part == 0)
@@ -154,6 +155,11 @@ def test_goals(page, same, _):
             calls, taken, reached = calls + found["calls"], taken + found["taken"], reached + found["reached"]
         print(f"{name}: plays at random: {AT_RANDOM} by the ring, none reaches the goal; 1000 by that ring, {reached} reach it")
         same(f"{name}: its goal is reached at random", reached > 0, True)
+    several = {"batch": 1, **json.loads(example("take_of_two.json")), "items": [1, 0, 1, 1, 0, 0], "takes": 6, "wrong": ""}
+    for batch, modulus in (1, 5), (2, 5), (2, 7):
+        plays = [{**several, "batch": batch, "modulus": modulus, **drawn(draw, [("P", 16), ("C", 13), ("P", 14), ("C", 20)])} for _ in range(1000)]
+        found = page.browser.wait(PLAYS, plays, "", False)
+        same(f"takes of several, batch {batch}, modulus {modulus}: plays at random by the ring", isinstance(found, dict) and found["wrong"], [])
     print(f"{calls} calls, {taken} items taken, {time.monotonic() - began:.0f} s")
     return same("items were taken", taken > AT_RANDOM // 4, True)
 
