@@ -258,7 +258,7 @@ fn too_few_slots_are_told(rt: HostRuntime) {
 // A text that is no trace, with the number of its fault, its place and that of the shape's fault.
 type Refusal<'a> = (&'a str, [u64; 3]);
 
-static REFUSALS: [Refusal<'static>; 5] = [
+static REFUSALS: [Refusal<'static>; 7] = [
     ("", [2, 1, 0]),
     ("shape 1 3 1\nP write s3 0\n", [2, 2, 0]),
     ("shape 0 3 1\n", [1, 0, 1]),
