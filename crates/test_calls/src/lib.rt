@@ -2,9 +2,13 @@
 #![tactic(auto)]
 
 #[cfg(test)]
+mod first_cases;
+#[cfg(test)]
 mod growths;
 #[cfg(test)]
 mod histories;
+#[cfg(test)]
+mod more_cases;
 #[cfg(test)]
 mod recordings;
 #[cfg(test)]

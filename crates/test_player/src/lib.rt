@@ -14,4 +14,6 @@ mod plays;
 #[cfg(test)]
 mod script_growths;
 #[cfg(test)]
+mod script_words;
+#[cfg(test)]
 mod scripts;

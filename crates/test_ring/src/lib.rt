@@ -11,3 +11,5 @@ mod counts;
 mod handing;
 #[cfg(test)]
 mod near_misses;
+#[cfg(test)]
+mod runs;
