@@ -51,7 +51,7 @@ short_of why count zero = 0
 short_of false count (suc left) = 0
 short_of true count (suc left) = suc count
 
--- the calls of the producer: each mark needs it to be in one thing, and leaves it in another
+-- the calls of the producer: each mark needs it to be in one thing, and leaves it in another; the consumer's marks leave it as it is
 abbrev pub ProducerStep : Producer → Mark → Producer → Type 0
 ProducerStep p (Happens (PutBegin items)) after = (p ≡ Idle) × (0 < length items) × (after ≡ Putting 0 0 items)
 ProducerStep p (Happens (PutStored count why)) after = (left : List ℕ) × (0 < count) × (p ≡ Putting (short_of why count (length left)) count left) × (after ≡ Idle)
@@ -61,22 +61,14 @@ ProducerStep p (Happens PutNothing) after = (items : List ℕ) × (p ≡ Putting
 ProducerStep p (Happens PutClosed) after = (p ≡ FoundShut) × (after ≡ Idle)
 ProducerStep p (Happens CloseBegin) after = (p ≡ Idle) × (after ≡ Closing false)
 ProducerStep p (Happens CloseEnd) after = (p ≡ Closing true) × (after ≡ Idle)
-ProducerStep p (Happens (TakeBegin wanted)) after = after ≡ p
-ProducerStep p (Happens (TakeItems items why)) after = after ≡ p
-ProducerStep p (Happens TakeEmpty) after = after ≡ p
-ProducerStep p (Happens TakeShort) after = after ≡ p
-ProducerStep p (Happens TakeNothing) after = after ≡ p
-ProducerStep p (Happens TakeClosed) after = after ≡ p
 ProducerStep p (Effect (Enqueue item)) after =
     (lacked done : ℕ) × (left : List ℕ) × (p ≡ Putting lacked done (item ∷ left)) × (after ≡ Putting lacked (suc done) left)
 ProducerStep p (Effect (FindNoRoom count)) after = (items : List ℕ) × (p ≡ Putting 0 0 items) × (after ≡ Putting count 0 items)
 ProducerStep p (Effect FindShut) after = (items : List ℕ) × (p ≡ Putting 0 0 items) × (after ≡ FoundShut)
 ProducerStep p (Effect Close) after = (p ≡ Closing false) × (after ≡ Closing true)
-ProducerStep p (Effect (Dequeue item)) after = after ≡ p
-ProducerStep p (Effect (FindFewer count)) after = after ≡ p
-ProducerStep p (Effect FindClosed) after = after ≡ p
+ProducerStep p _ after = after ≡ p
 
--- the calls of the consumer
+-- the calls of the consumer, which the producer's marks leave as it is
 abbrev pub ConsumerStep : Consumer → Mark → Consumer → Type 0
 ConsumerStep c (Happens (TakeBegin wanted)) after = (c ≡ Resting) × (0 < wanted) × (after ≡ Taking 0 [] wanted)
 ConsumerStep c (Happens (TakeItems items why)) after = (left : ℕ) × (0 < length items) × (c ≡ Taking (short_of why (length items) left) items left) × (after ≡ Resting)
@@ -84,22 +76,11 @@ ConsumerStep c (Happens TakeEmpty) after = (wanted : ℕ) × (c ≡ Taking 1 [] 
 ConsumerStep c (Happens TakeShort) after = (wanted : ℕ) × (1 < wanted) × (c ≡ Taking wanted [] wanted) × (after ≡ Resting)
 ConsumerStep c (Happens TakeNothing) after = (wanted : ℕ) × (c ≡ Taking 0 [] wanted) × (after ≡ Resting)
 ConsumerStep c (Happens TakeClosed) after = (c ≡ FoundClosed) × (after ≡ Resting)
-ConsumerStep c (Happens (PutBegin items)) after = after ≡ c
-ConsumerStep c (Happens (PutStored count why)) after = after ≡ c
-ConsumerStep c (Happens PutFull) after = after ≡ c
-ConsumerStep c (Happens PutShort) after = after ≡ c
-ConsumerStep c (Happens PutNothing) after = after ≡ c
-ConsumerStep c (Happens PutClosed) after = after ≡ c
-ConsumerStep c (Happens CloseBegin) after = after ≡ c
-ConsumerStep c (Happens CloseEnd) after = after ≡ c
 ConsumerStep c (Effect (Dequeue item)) after =
     (lacked : ℕ) × (took : List ℕ) × (left : ℕ) × (c ≡ Taking lacked took (suc left)) × (after ≡ Taking lacked (took ++ item ∷ []) left)
 ConsumerStep c (Effect (FindFewer count)) after = (wanted : ℕ) × (c ≡ Taking 0 [] wanted) × (after ≡ Taking count [] wanted)
 ConsumerStep c (Effect FindClosed) after = (wanted : ℕ) × (c ≡ Taking 0 [] wanted) × (after ≡ FoundClosed)
-ConsumerStep c (Effect (Enqueue item)) after = after ≡ c
-ConsumerStep c (Effect (FindNoRoom count)) after = after ≡ c
-ConsumerStep c (Effect FindShut) after = after ≡ c
-ConsumerStep c (Effect Close) after = after ≡ c
+ConsumerStep c _ after = after ≡ c
 
 -- the queue changes by the operations alone
 abbrev pub QueueStep : Capacity → Queue → Mark → Queue → Type 0

@@ -66,8 +66,7 @@ and_take calls x = record { takes = calls.takes ++ x ∷ []; end = Open }
 abbrev pub and_end : Takes → ℕ → ℕ → Takes
 and_end calls seen again = record { takes = calls.takes; end = Closed seen again }
 
--- behind k taken items, a take of at most so many takes m, where the count that it reads shows some: all that it wants, or all
--- that the count shows
+-- behind k taken items, a take of at most so many takes m: all that it wants, or all that the count shows which it read
 abbrev pub TakesAll : Shape → ℕ → (wanted seen m : ℕ) → Type 0
 TakesAll shape k wanted seen m = (m ≤ wanted) × ((m ≡ wanted) ⊎ (m ≡ distance (modulus_of shape) seen (k % modulus_of shape)))
 

@@ -92,8 +92,7 @@ pub record IsTakeBatch (shape : Shape) (items : List ℕ) : Type 0 where
   pub few : length items ≤ take_batch_of shape
   pub fit : AllFit shape items
 
--- a scan is of a count below the modulus; a take has as many items as a count that it read shows, or fewer, and none exactly where
--- that shows none
+-- a scan gives a count below the modulus; a take has no more items than its scan shows, and none exactly where that shows none
 abbrev pub SeesItems : Shape → ℕ → ℕ → ℕ → Type 0
 SeesItems shape k seen m =
     (seen < modulus_of shape) × (m ≤ distance (modulus_of shape) seen (k % modulus_of shape)) × (distance (modulus_of shape) seen (k % modulus_of shape) ≤ capacity_of shape)

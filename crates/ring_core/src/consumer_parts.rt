@@ -1,11 +1,13 @@
-//! The parts of a take under way that may go on apart from the consumer: a scan, and a word read.
-ghost use Rattle.std.specs.Prelude.{◌≡◌, ◌≢◌, ◌+◌, ◌<◌, true, false, Some, List, [], ◌∷◌, ◌++◌, ◌↔◌, IsTrue, length, suc};
+//! The parts of a take under way that may go on apart from the consumer: a scan, and a word read; and what its replies are made of.
+ghost use Rattle.std.specs.Prelude.{◌≡◌, ◌≢◌, ℕ, ◌+◌, ◌<◌, true, false, Some, List, [], ◌∷◌, ◌++◌, ◌↔◌, IsTrue, length, suc, take};
+ghost use Rattle.bits_core.specs.declared.events.Bit.TheVariants.{Cell};
 ghost use Rattle.bits_core.specs.declared.events.Side.TheVariants.{C};
 ghost use Rattle.bits_core.specs.Made.{Made, answered};
 ghost use Rattle.bits_core.specs.Open.{IsOpenRight};
+ghost use Rattle.ring_core.specs.ConsumerCalls.{items_reply, take_batch_reply};
 
-use crate::consumers::Consumer;
-use bits_core::Access;
+use crate::consumers::{Consumer, TakeBatchReply, TakeReply};
+use bits_core::{Access, Bit};
 use register_core::{UnaryScan, WordReader};
 use std::marker::Model;
 use std::snapshot::Snapshot;
@@ -144,5 +146,48 @@ impl TakeWord {
         ensures stands { (calls : Takes) (made : List Made) (access : Access) → ConsumerStands self.old calls made → due_take self.old ≡ Some access → ConsumerHasMoved self.old self.new calls (made ++ answered access answer ∷ []) }
     {
         self.word.feed(answer);
+    }
+}
+
+// Keeps one item more in place.
+#[inline(always)]
+pub(crate) fn keep_one(kept: &mut [u64; 64], at: usize, item: u64)
+    requires room { at < 64 }
+    ensures kept { take (at + 1) kept.new ≡ take at kept.old ++ item ∷ [] }
+{
+    kept[at] = item;
+}
+
+// Whether the access reads the first digit of a cell.
+#[inline(always)]
+pub(crate) fn is_first_digit(access: Option<Access>) -> bool
+    ensures { IsTrue result ↔ ((j : ℕ) × (access ≡ Some (Access.Read (Cell j 0)))) }
+{
+    match access {
+        Some(Access::Read(Bit::Cell(_, 0))) => true,
+        _ => false,
+    }
+}
+
+// What a take of these items is answered: the first of them. No take takes none.
+#[inline(always)]
+pub(crate) fn item_reply(items: &[u64]) -> TakeReply
+    ensures { result ≡ items_reply items.now }
+{
+    match items.first() {
+        Some(&item) => TakeReply::Item(item),
+        None => TakeReply::Item(0),
+    }
+}
+
+// The answer to a take of these items, by their number.
+#[inline(always)]
+pub(crate) fn by_number(reply: TakeReply, items: &[u64]) -> TakeBatchReply
+    ensures { Some result ≡ take_batch_reply (Some reply) items.now }
+{
+    match reply {
+        TakeReply::Item(_) => TakeBatchReply::Taken(items.len() as u64),
+        TakeReply::Empty => TakeBatchReply::Empty,
+        TakeReply::Closed => TakeBatchReply::Closed,
     }
 }

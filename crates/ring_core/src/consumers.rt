@@ -1,15 +1,14 @@
 //! The consumer's machine.
 ghost use Rattle.std.specs.Prelude.{◌≡◌, ◌≢◌, ◌⊎◌, ℕ, ◌+◌, ◌<◌, ◌≤◌, Bool, true, false, Some, None, List, [], ◌∷◌, ◌++◌, ◌↔◌, IsTrue, IfSome, IfNone, length, ⊤, take};
-ghost use Rattle.bits_core.specs.declared.events.Bit.TheVariants.{R, Cell};
+ghost use Rattle.bits_core.specs.declared.events.Bit.TheVariants.{R};
 ghost use Rattle.bits_core.specs.declared.events.Side.TheVariants.{C};
 ghost use Rattle.bits_core.specs.Made.{Made, answered};
 ghost use Rattle.bits_core.specs.Open.{IsOpenRight};
-ghost use Rattle.bits_core.specs.Shape.{modulus_of, take_batch_of};
-ghost use Rattle.ring_core.specs.ConsumerCalls.{take_batch_reply, items_reply};
-ghost use Rattle.ring_core.specs.Counts as counts;
+ghost use Rattle.bits_core.specs.Shape.{take_batch_of};
+ghost use Rattle.ring_core.specs.ConsumerCalls.{take_batch_reply};
 
-use crate::consumer_parts::{TakeScan, TakeWord};
-use crate::counts::{distance, has_item, past_in};
+use crate::consumer_parts::{TakeScan, TakeWord, by_number, is_first_digit, item_reply, keep_one};
+use crate::counts::{has_item, items_shown, past_in};
 use bits_core::{Access, Bit, Shape, Side};
 use register_core::{UnaryScan, UnaryWriter, WordReader};
 use std::alloc::AllocError;
@@ -40,72 +39,6 @@ pub enum TakeBatchReply {
     Empty,
     /// The ring is closed, and every item put was taken.
     Closed,
-}
-
-/// How many items a consumer that has taken `k` takes of at most so many, where the producer's count `c` shows some: those
-/// that it shows, or as many as are wanted. Both are below the modulus.
-///
-/// In use: `ring_seats::take_all_open`.
-#[inline(always)]
-pub fn items_shown(shape: &Shape, c: u64, k: u64, wanted: usize) -> usize
-    requires c { c < modulus_of shape.now }
-    requires k { k < modulus_of shape.now }
-    requires shows { counts.ShowsItem shape.now c k }
-    requires some { 1 ≤ wanted }
-    ensures some { 1 ≤ result }
-    ensures few { result ≤ wanted }
-    ensures shown { result ≤ counts.distance (modulus_of shape.now) c k }
-    ensures all { (result ≡ wanted) ⊎ (result ≡ counts.distance (modulus_of shape.now) c k) }
-{
-    let shown = distance(c, k, shape.modulus());
-    if shown < wanted as u64 {
-        shown as usize
-    } else {
-        wanted
-    }
-}
-
-/// Keeps one item more in place.
-#[inline(always)]
-fn keep_one(kept: &mut [u64; 64], at: usize, item: u64)
-    requires room { at < 64 }
-    ensures kept { take (at + 1) kept.new ≡ take at kept.old ++ item ∷ [] }
-{
-    kept[at] = item;
-}
-
-/// Whether the access reads the first digit of a cell.
-#[inline(always)]
-fn is_first_digit(access: Option<Access>) -> bool
-    ensures { IsTrue result ↔ ((j : ℕ) × (access ≡ Some (Access.Read (Cell j 0)))) }
-{
-    match access {
-        Some(Access::Read(Bit::Cell(_, 0))) => true,
-        _ => false,
-    }
-}
-
-/// What a take of these items is answered: the first of them. No take takes none.
-#[inline(always)]
-fn item_reply(items: &[u64]) -> TakeReply
-    ensures { result ≡ items_reply items.now }
-{
-    match items.first() {
-        Some(&item) => TakeReply::Item(item),
-        None => TakeReply::Item(0),
-    }
-}
-
-/// The answer to a take of these items, by their number.
-#[inline(always)]
-fn by_number(reply: TakeReply, items: &[u64]) -> TakeBatchReply
-    ensures { Some result ≡ take_batch_reply (Some reply) items.now }
-{
-    match reply {
-        TakeReply::Item(_) => TakeBatchReply::Taken(items.len() as u64),
-        TakeReply::Empty => TakeBatchReply::Empty,
-        TakeReply::Closed => TakeBatchReply::Closed,
-    }
 }
 
 /// How far the take under way has come.

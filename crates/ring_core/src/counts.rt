@@ -1,5 +1,5 @@
 //! What the two counts of a ring show, each kept modulo the modulus.
-ghost use Rattle.std.specs.Prelude.{◌≡◌, ◌+◌, ◌%◌, ◌<◌, ◌≤◌, ◌↔◌, IsTrue};
+ghost use Rattle.std.specs.Prelude.{◌≡◌, ◌⊎◌, ◌+◌, ◌%◌, ◌<◌, ◌≤◌, ◌↔◌, IsTrue};
 ghost use Rattle.bits_core.specs.Shape.{modulus_of};
 ghost use Rattle.ring_core.specs.Counts as counts;
 
@@ -55,4 +55,27 @@ pub(crate) fn past_in(n: u64, more: u64, modulus: u64) -> u64
 {
     let sum = n + more;
     if sum < modulus { sum } else { sum - modulus }
+}
+
+/// How many items a consumer that has taken `k` takes of at most so many, where the producer's count `c` shows some: those
+/// that it shows, or as many as are wanted. Both are below the modulus.
+///
+/// In use: `ring_seats::take_all_open`.
+#[inline(always)]
+pub fn items_shown(shape: &Shape, c: u64, k: u64, wanted: usize) -> usize
+    requires c { c < modulus_of shape.now }
+    requires k { k < modulus_of shape.now }
+    requires shows { counts.ShowsItem shape.now c k }
+    requires some { 1 ≤ wanted }
+    ensures some { 1 ≤ result }
+    ensures few { result ≤ wanted }
+    ensures shown { result ≤ counts.distance (modulus_of shape.now) c k }
+    ensures all { (result ≡ wanted) ⊎ (result ≡ counts.distance (modulus_of shape.now) c k) }
+{
+    let shown = distance(c, k, shape.modulus());
+    if shown < wanted as u64 {
+        shown as usize
+    } else {
+        wanted
+    }
 }

@@ -6,9 +6,11 @@ mod consumer_parts;
 mod consumers;
 mod counts;
 pub mod laws;
+mod producer_parts;
 mod producers;
 
 pub use consumer_parts::{TakeScan, TakeWord};
-pub use consumers::{Consumer, TakeBatchReply, TakeReply, items_shown};
-pub use counts::{distance, has_item, has_room};
-pub use producers::{BatchReply, Producer, PutReply, PutScan, PutWord};
+pub use consumers::{Consumer, TakeBatchReply, TakeReply};
+pub use counts::{distance, has_item, has_room, items_shown};
+pub use producer_parts::{PutScan, PutWord};
+pub use producers::{BatchReply, Producer, PutReply};

@@ -124,7 +124,7 @@ never_false :
 never_false puts takes script P h list b lawful (calls, are, begins) own_is (before, last, top, list_is) i b_is i_top =
     let made : list ++ Read b false ∷ [] ≡ before ++ (zero_reads (row_bit C) (modulus_of script.shape) ++ []) =
     all_zero (row_bit C) list before last (modulus_of script.shape) b list_is top (b_is ∙ row_same P i last (modulus_of script.shape) i_top top) in
-    let fewer = (takes script.shape h calls lawful (record { are = are.are; events = begins })).1 (list ++ Read b false ∷ []) before [] ([], append-nil (own P h) ∙ own_is) made in
+    let fewer = (takes script.shape h calls lawful (record { are = are.0; events = begins })).1 (list ++ Read b false ∷ []) before [] ([], append-nil (own P h) ∙ own_is) made in
     absurd (omega (
       arith,
       fewer,

@@ -1,6 +1,6 @@
 -- How many items a take of a play wants.
 use Rattle.std.proofs.Common.{ℕ, ◌<◌, ◌≤◌, arith}
-use Rattle.ring_player.specs.Plays.{wanted_at}
+use Rattle.ring_player.specs.Wants.{wanted_at}
 use Rattle.ring_script.specs.Content.{Content}
 
 -- the world wants some items where some are left, and no more than are left

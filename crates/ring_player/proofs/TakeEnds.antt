@@ -13,7 +13,8 @@ use Rattle.ring_core.specs.Items.{all_taken, taken_of}
 use Rattle.ring_core.specs.Over.{empties}
 use Rattle.ring_core.specs.Takes.{Empty, Item, ItemAfterClose, Take, take_program, taken_in, Takes}
 use Rattle.ring_player.specs.Actors.{TakeActorStands, empty_in}
-use Rattle.ring_player.specs.Plays.{AreTakesOf, IsProgram, wanted_at}
+use Rattle.ring_player.specs.Plays.{IsProgram}
+use Rattle.ring_player.specs.Wants.{AreTakesOf, wanted_at}
 use Rattle.ring_script.specs.Content.{Content}
 use Rattle.ring_player.proofs.Nexts.{IsNextTake, NextTake as NextOf}
 use Rattle.ring_player.proofs.TakeLists.{after_is, all-more, all_are, empties-more, items-more, last-more, take_of_calls, take_within, taken-more}

@@ -12,7 +12,7 @@ use Rattle.ring_core.specs.Items.{all_taken, items_taken, Tells}
 use Rattle.ring_core.specs.Over.{empties, takes_over}
 use Rattle.ring_core.specs.Takes.{AreTakes, Closed, End, Open, Take, end_phrase, take_phrase, take_phrases, take_program, taken_count, taken_in, Takes}
 use Rattle.ring_player.specs.Actors.{TakeActorStands, so_far}
-use Rattle.ring_player.specs.Plays.{wanted_at}
+use Rattle.ring_player.specs.Wants.{wanted_at}
 use Rattle.ring_player.specs.SoFar.{TakenSoFar}
 use Rattle.ring_script.specs.Content.{Content}
 use Rattle.ring_player.proofs.Moves.{events-append, events-more, length-events, so_far_length}

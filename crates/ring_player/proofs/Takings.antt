@@ -13,7 +13,8 @@ use Rattle.ring_core.specs.Items.{Tells}
 use Rattle.ring_core.specs.Readings.{TakesAreFirst}
 use Rattle.ring_core.specs.Takes.{AreTakes, Closed, End, Open, Take, take_program, taken_after, taken_in, Takes}
 use Rattle.ring_player.specs.Actors.{TakeActorStands, so_far}
-use Rattle.ring_player.specs.Plays.{AreTakesOf, AreWantedBy, IsDoneAfter, IsProgram, wanted_at}
+use Rattle.ring_player.specs.Plays.{AreWantedBy, IsDoneAfter, IsProgram}
+use Rattle.ring_player.specs.Wants.{AreTakesOf, wanted_at}
 use Rattle.ring_script.specs.Content.{Content}
 use Rattle.ring_player.proofs.Nexts.{IsNextTake, NextTake as NextOf}
 use Rattle.ring_player.proofs.Moves.{events-append, events-more, length-events, program_beginning}
@@ -60,7 +61,8 @@ pub goes_on :
 goes_on script false calls list a v are left next one = absurd next
 goes_on script true calls list a v are left next one =
     let (more, has, (rest, e)) = next v one in
-    (more, one_more script calls more are (left refl) has, (events_of C rest, sym (events-append C (list ++ answered a v ∷ []) rest) ∙ ap (events_of C) e))
+    let all = one_more script calls more are (left refl) has in
+    (more, (all.are, all.wanted, all.ends), (events_of C rest, sym (events-append C (list ++ answered a v ∷ []) rest) ∙ ap (events_of C) e))
 
 idle :
     (shape : Shape) (wanted : ℕ) (calls : Takes) (taking : Bool) (made : List Made) → IsNextTake shape wanted calls taking made None → (taking ≡ false) × (made ≡ take_program shape calls)
@@ -261,7 +263,7 @@ new_taking script p is there = record {
   few = omega arith;
   long = omega arith;
   asked = λ e. absurd (true_false (sym e ∙ ap is_taking is));
-  program = (no_takes, record { are = tt; wanted = tt; ends = λ t. absurd t }, (events_of C (take_program script.shape no_takes), refl));
+  program = (no_takes, (tt, tt, λ t. absurd t), (events_of C (take_program script.shape no_takes), refl));
 }
   where
     true_false : true ≡ false → ⊥

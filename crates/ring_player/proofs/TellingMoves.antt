@@ -16,7 +16,8 @@ use Rattle.ring_core.specs.Puts.{FollowsPuts, Puts, put_program, stored_in}
 use Rattle.ring_core.specs.Recorded.{by_side, calls_told, put_told, take_told}
 use Rattle.ring_core.specs.Takes.{FollowsTakes, Takes, take_program}
 use Rattle.ring_player.specs.Actors.{IsMove, PutTally}
-use Rattle.ring_player.specs.Plays.{Plays, wanted_at}
+use Rattle.ring_player.specs.Plays.{Plays}
+use Rattle.ring_player.specs.Wants.{wanted_at}
 use Rattle.ring_player.specs.Tellings.{AreAt, event_of, call_events, IsPutStage, IsReadingAsked, IsTakeStage, listed, offers_of, SaysPut, SaysTake, TakeTally, TellsCalls, told_in, wants_of}
 use Rattle.ring_player.specs.declared.tellings.PutStage.{PutStage}
 use Rattle.ring_player.specs.declared.tellings.PutStage.TheVariants as put

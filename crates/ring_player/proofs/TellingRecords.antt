@@ -16,7 +16,8 @@ use Rattle.ring_core.specs.Puts.{IsPutOf, Put, Puts, number_after, stored_in}
 use Rattle.ring_core.specs.Recorded.{AreOffered, by_side, calls_told, put_told, recorded, RecordedIsLinearizable, take_answer, take_told, told_or_behind}
 use Rattle.ring_core.specs.Takes.{Closed, count_after, End, end_phrase, Open, Take, take_phrase, Takes, taken_after, taken_in}
 use Rattle.ring_player.specs.Headline.{IsPlayOf}
-use Rattle.ring_player.specs.Plays.{AreAttempts, AreWantedBy, offered, Plays, wanted_at}
+use Rattle.ring_player.specs.Plays.{AreAttempts, AreWantedBy, offered, Plays}
+use Rattle.ring_player.specs.Wants.{wanted_at}
 use Rattle.ring_player.specs.Tellings.{call_events, IsReadingAsked, offers_of, RecordsPlay, TellsCalls, wants_of}
 use Rattle.ring_player.specs.declared.tellings.TakenItems.{TakenItems}
 use Rattle.ring_script.specs.Content.{Content}
@@ -91,15 +92,15 @@ pub records :
 records law script letters h told play tells =
     let (puts, asked, begins) = play.plays.played.puts in
     let (takes, asked', begins') = play.plays.played.takes in
-    let r : IsReadingAsked script h puts takes = record { asked = asked; puts_follow = record { are = asked.are; events = begins }; takes_follow = record { are = asked'.are; events = begins' } } in
+    let r : IsReadingAsked script h puts takes = record { asked = asked; puts_follow = record { are = asked.are; events = begins }; takes_follow = record { are = asked'.0; events = begins' } } in
     let same : recorded script.shape (offers_of script puts) (wants_of script takes) h puts takes ≡ recorded script.shape (offers_of script puts) (some_of script takes) h puts takes =
     same_calls (put_told script.shape (offers_of script puts) 0 first_count puts.puts puts.closes) (take_told script.shape (wants_of script takes) 0 first_count takes.takes takes.end)
-    (take_told script.shape (some_of script takes) 0 first_count takes.takes takes.end) 0 0 h (same_told script takes [] takes.takes 0 0 refl refl refl asked'.wanted first_count takes.end asked'.ends) in
+    (take_told script.shape (some_of script takes) 0 first_count takes.takes takes.end) 0 0 h (same_told script takes [] takes.takes 0 0 refl refl refl asked'.1 first_count takes.end asked'.2) in
     record {
       tells = tells;
       linearizable = subst (IsLinearizable (exactly (capacity_of script.shape))) (sym (tells puts takes r ∙ same))
           (law script.shape (offers_of script puts) (some_of script takes) h puts takes (record { lawful = play.plays.played.lawful; puts_follow = r.puts_follow; takes_follow = r.takes_follow })
-          (offered_all script puts [] puts.puts 0 0 refl refl refl asked.attempts) (λ j. omega arith) (wanted_all script takes [] takes.takes 0 0 refl refl refl asked'.wanted));
+          (offered_all script puts [] puts.puts 0 0 refl refl refl asked.attempts) (λ j. omega arith) (wanted_all script takes [] takes.takes 0 0 refl refl refl asked'.1));
     }
 
 -- the play of a world

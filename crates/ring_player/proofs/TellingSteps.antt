@@ -11,7 +11,8 @@ use Rattle.ring_core.specs.Puts.{ArePuts, Full, IsPut, number_after, Put, Puts, 
 use Rattle.ring_core.specs.Recorded.{put_answer, put_told, take_answer, take_told}
 use Rattle.ring_core.specs.RecordedByOne.{events_of_puts, events_of_takes, PutTells, PutsTellByOne, TakeTells, TakesTellByOne}
 use Rattle.ring_core.specs.Takes.{AreTakes, Empty, IsTake, Item, ItemAfterClose, Take, Takes, take_program, taken_in}
-use Rattle.ring_player.specs.Plays.{AreAttempts, ArePutsOf, offered, wanted_at}
+use Rattle.ring_player.specs.Plays.{AreAttempts, ArePutsOf, offered}
+use Rattle.ring_player.specs.Wants.{wanted_at}
 use Rattle.ring_player.specs.Tellings.{IsPutStage, IsTakeStage, offers_of, wants_of}
 use Rattle.ring_player.specs.declared.tellings.PutStage.TheVariants as put
 use Rattle.ring_player.specs.declared.tellings.TakeStage.TheVariants as taking

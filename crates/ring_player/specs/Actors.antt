@@ -23,7 +23,8 @@ use Rattle.ring_core.specs.Items.{all_taken}
 use Rattle.ring_core.specs.Over.{empties, fulls}
 use Rattle.ring_core.specs.Puts.{Puts, stored_in, put_program}
 use Rattle.ring_core.specs.Takes.{Takes, taken_in, take_program}
-use Rattle.ring_player.specs.Plays.{offered, wanted_at, AreAttempts, AreTakesOf, IsProgram, IsDone}
+use Rattle.ring_player.specs.Plays.{offered, AreAttempts, IsProgram, IsDone}
+use Rattle.ring_player.specs.Wants.{wanted_at, AreTakesOf}
 use Rattle.ring_script.specs.Content.{Content}
 
 -- the events of accesses that were made, and of the one that is open

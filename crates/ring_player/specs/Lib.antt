@@ -1,4 +1,5 @@
 pub mod Plays
+pub mod Wants
 pub mod Headline
 pub mod Laws
 pub mod Actors

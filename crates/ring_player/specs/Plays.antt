@@ -30,25 +30,18 @@ pub record ArePutsOf (script : Content) (calls : Puts) : Type 0 where
   pub attempts : AreAttempts script 0 calls.puts
   pub closes : calls.closes ≡ true → (script.closes ≡ true) × (stored_in 0 calls.puts ≡ length script.items)
 
--- how many items the world wants where k are taken: as many as one count write may count, or as are left to take
-abbrev pub wanted_at : Content → ℕ → ℕ
-wanted_at script k = min (take_batch_of script.shape) (script.takes - k)
-
--- takes, where k items are taken before them, each of which wants as many items as the world does there, where some are left to take
+-- takes, behind k items, each of which wants as many items as one count write may count, or as are left to take, and some are left
 abbrev pub AreWantedBy : Content → ℕ → List Take → Type 0
 AreWantedBy script k [] = Unit {0}
-AreWantedBy script k (x ∷ takes) = (k < script.takes) × IsTakeOf script.shape k (wanted_at script k) x × AreWantedBy script (taken_after k x) takes
+AreWantedBy script k (x ∷ takes) =
+    (k < script.takes) × IsTakeOf script.shape k (min (take_batch_of script.shape) (script.takes - k)) x × AreWantedBy script (taken_after k x) takes
 
--- the takes are those that the script wants, and where the last one is told that the ring is closed, it wanted some items
-pub record AreTakesOf (script : Content) (calls : Takes) : Type 0 where
-  pub are : AreTakes script.shape 0 calls.takes calls.end
-  pub wanted : AreWantedBy script 0 calls.takes
-  pub ends : Tells calls.end → taken_in 0 calls.takes < script.takes
-
--- these events of a side are a beginning of those of calls that the script asks for
+-- these events of a side are a beginning of those of calls that the script asks for; a take that is told Closed wanted some items too
 abbrev pub IsProgram : Content → Side → List Event → Type 0
 IsProgram script P events = (calls : Puts) × ArePutsOf script calls × IsBeginning events (events_of P (put_program script.shape calls))
-IsProgram script C events = (calls : Takes) × AreTakesOf script calls × IsBeginning events (events_of C (take_program script.shape calls))
+IsProgram script C events =
+    (calls : Takes) × (AreTakes script.shape 0 calls.takes calls.end × AreWantedBy script 0 calls.takes × (Tells calls.end → taken_in 0 calls.takes < script.takes)) ×
+    IsBeginning events (events_of C (take_program script.shape calls))
 
 -- they are those of whole calls: of puts that store all items, with the close if the script closes; or of takes that take as
 -- many items as the script wants, or of which the last is told that the ring is closed

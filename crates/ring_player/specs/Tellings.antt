@@ -17,7 +17,8 @@ use Rattle.ring_core.specs.Recorded.{put_told, recorded, take_told}
 use Rattle.ring_core.specs.RecordedByOne.{events_of_puts, events_of_takes}
 use Rattle.ring_core.specs.Takes.{AreTakes, FollowsTakes, Takes, taken_in, take_program}
 use Rattle.ring_player.specs.Actors.{PutTally}
-use Rattle.ring_player.specs.Plays.{ArePutsOf, offered, wanted_at}
+use Rattle.ring_player.specs.Plays.{ArePutsOf, offered}
+use Rattle.ring_player.specs.Wants.{wanted_at}
 use Rattle.ring_player.specs.declared.tellings.PutStage.{PutStage}
 use Rattle.ring_player.specs.declared.tellings.PutStage.TheVariants as put
 use Rattle.ring_player.specs.declared.tellings.TakenItems.{TakenItems}

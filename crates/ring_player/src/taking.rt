@@ -7,7 +7,8 @@ ghost use Rattle.bits_core.specs.Shape.{take_batch_of};
 ghost use Rattle.ring_core.specs.ConsumerState.{due_take, is_taking};
 ghost use Rattle.ring_player.specs.Actors.{TakeActorStands, so_far};
 ghost use Rattle.ring_player.specs.SoFar.{TakenSoFar};
-ghost use Rattle.ring_player.specs.Plays.{IsDoneAfter, wanted_at};
+ghost use Rattle.ring_player.specs.Plays.{IsDoneAfter};
+ghost use Rattle.ring_player.specs.Wants.{wanted_at};
 ghost use Rattle.ring_script.specs.Borrowed.{content_of};
 
 use crate::actors::Actor;
@@ -133,7 +134,7 @@ impl<'a, T: Store<u64>> Actor for TakeActor<'a, T> {
     ghost use Rattle.bits_core.specs.declared.events.Side.TheVariants as side_is;
     ghost use Rattle.ring_core.specs.ConsumerState.{due_take};
     ghost use Rattle.ring_player.specs.Actors.{TakeActorStands};
-    ghost use Rattle.ring_player.specs.Plays.{wanted_at};
+    ghost use Rattle.ring_player.specs.Wants.{wanted_at};
     ghost use Rattle.ring_script.specs.Borrowed.{content_of};
     ghost use Rattle.std.specs.Prelude.{◌≤◌, length};
 

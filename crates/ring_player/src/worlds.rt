@@ -12,7 +12,8 @@ ghost use Rattle.ring_core.specs.Puts.{FollowsPuts, Puts, stored_in};
 ghost use Rattle.ring_core.specs.Takes.{FollowsTakes, Takes};
 ghost use Rattle.ring_player.specs.Actors.{IsMove};
 ghost use Rattle.ring_player.specs.Headline.{IsPlayOf};
-ghost use Rattle.ring_player.specs.Plays.{HasFlickers, Plays, event_sides, wanted_at};
+ghost use Rattle.ring_player.specs.Plays.{HasFlickers, Plays, event_sides};
+ghost use Rattle.ring_player.specs.Wants.{wanted_at};
 ghost use Rattle.ring_script.specs.Borrowed.{content_of};
 
 use crate::actors::advance;

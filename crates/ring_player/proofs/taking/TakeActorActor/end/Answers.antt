@@ -3,7 +3,7 @@ use Rattle.bits_core.specs.Made.{answered}
 use Rattle.ring_core.specs.declared.consumers.TakeBatchReply.{TakeBatchReply}
 use Rattle.ring_core.specs.declared.consumers.TakeBatchReply.TheVariants as batch
 use Rattle.ring_player.specs.Actors.{empty_in, TakeActorStands}
-use Rattle.ring_player.specs.Plays.{wanted_at}
+use Rattle.ring_player.specs.Wants.{wanted_at}
 use Rattle.ring_player.proofs.Nexts.{take_next}
 use Rattle.ring_player.proofs.TakeEnds.{ended, kept_of, reply_of, told_by}
 use Rattle.ring_player.proofs.TakesSoFar.{empty_few}

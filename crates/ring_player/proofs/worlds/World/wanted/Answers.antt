@@ -4,7 +4,7 @@ use Rattle.bits_core.specs.History.{open_access}
 use Rattle.ring_core.specs.Items.{all_taken}
 use Rattle.ring_core.specs.Over.{takes_over_in}
 use Rattle.ring_core.specs.Takes.{FollowsTakes}
-use Rattle.ring_player.specs.Plays.{wanted_at}
+use Rattle.ring_player.specs.Wants.{wanted_at}
 use Rattle.ring_player.specs.Worlds.{Played}
 use Rattle.ring_player.proofs.WorldParts.{ended_of}
 use Rattle.ring_script.specs.Borrowed.{content_of}
