@@ -50,7 +50,7 @@ taken_snoc : (xs : List Take) (x : Take) → all_taken (xs ++ x ∷ []) ≡ all_
 taken_snoc [] x = append-nil (taken_of x)
 taken_snoc (y ∷ xs) x = ap (λ (l : List ℕ). taken_of y ++ l) (taken_snoc xs x) ∙ sym (append_assoc (taken_of y) (all_taken xs) (taken_of x))
 
-items_snoc : (first : List ℕ) (xs : List Take) (x : Take) → last_items first (xs ++ x ∷ []) ≡ taken_of x
+pub items_snoc : (first : List ℕ) (xs : List Take) (x : Take) → last_items first (xs ++ x ∷ []) ≡ taken_of x
 items_snoc first [] x = refl
 items_snoc first (y ∷ xs) x = items_snoc (taken_of y) xs x
 

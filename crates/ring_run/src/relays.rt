@@ -1,17 +1,20 @@
 //! The two ends of a ring at work in two threads.
-ghost use Rattle.std.specs.Prelude.{◌≡◌, ◌⊎◌, ℕ, ◌+◌, ◌<◌, ◌≤◌, ◌==◌, true, false, [], IfOk, IfErr, OnOk, length, min, take, vec_capacity};
+ghost use Rattle.std.specs.Prelude.{◌≡◌, ◌⊎◌, ℕ, ◌+◌, ◌<◌, ◌≤◌, ◌==◌, true, false, [], ◌∷◌, ◌++◌, IfOk, IfErr, OnOk, OnErr, length, min, take, vec_capacity};
 ghost use Rattle.ring_seats.specs.Steppers.{IsSameEnd};
 ghost use Rattle.bits_core.specs.Made.{IsBeginning};
 ghost use Rattle.bits_core.specs.Shape.{AllFit, batch_of, capacity_of, take_batch_of};
+ghost use Rattle.ring_ends.specs.Ends.{HasTakenAll, number_brought};
 ghost use Rattle.ring_run.specs.Relays.{HasMadePuts, HasRelayedPuts, HasRelayedTakes, HasTakenMore, IsRelayed};
 
 use crate::gates::Gate;
 use bits_core::{Oracle, Shape, Side};
 use queue_calls::Event;
-use ring_core::laws::{puts_are_read, ring_law, takes_are_read, whole_calls_count};
-use ring_core::{BatchReply, TakeBatchReply};
+use ring_core::laws::{
+    programs_by_one_call, puts_are_read, ring_law, takes_are_read, whole_calls_count,
+};
+use ring_core::{BatchReply, TakeBatchReply, TakeReply};
 use ring_ends::{CounterRing, FlickerRing, PutEnd, RingOf, RunFault, TakeEnd};
-use std::alloc::Allocator;
+use std::alloc::{AllocError, Allocator};
 use std::thread::{Threads, join_mut};
 
 /// How many puts and takes a relay makes at most.
@@ -108,10 +111,65 @@ fn next_take(shape: &Shape, left: u64) -> usize
     shape.take_batch().min(left) as usize
 }
 
+// A take of one item, into this place.
+#[inline(always)]
+fn take_one<E: TakeEnd>(taker: &mut E, place: &mut u64) -> TakeBatchReply
+    requires idle { E.idle taker.old }
+    ensures idle { E.idle taker.new }
+    ensures same { IsSameEnd (E.end taker.old) (E.end taker.new) }
+    ensures phrase { HasTakenAll (E.end taker.new).ring.shape 1
+        (E.end taker.old).list (E.end taker.new).list result (place.new ∷ []) }
+    ensures within { number_brought result ≤ 1 }
+{
+    programs_by_one_call();
+    match taker.take() {
+        TakeReply::Item(item) => {
+            *place = item;
+            TakeBatchReply::Taken(1)
+        }
+        TakeReply::Empty => TakeBatchReply::Empty,
+        TakeReply::Closed => TakeBatchReply::Closed,
+    }
+}
+
+// Takes into these places; into one by a take of one, which costs less.
+#[inline(always)]
+fn take_into<E: TakeEnd>(taker: &mut E, into: &mut [u64]) -> TakeBatchReply
+    requires idle { E.idle taker.old }
+    requires some { 1 ≤ length into.old }
+    requires few { length into.old ≤ take_batch_of (E.end taker.old).ring.shape }
+    ensures idle { E.idle taker.new }
+    ensures same { IsSameEnd (E.end taker.old) (E.end taker.new) }
+    ensures phrase { HasTakenAll (E.end taker.new).ring.shape (length into.old)
+        (E.end taker.old).list (E.end taker.new).list result into.new }
+    ensures within { number_brought result ≤ length into.old }
+    ensures long { length into.new ≡ length into.old }
+{
+    match into {
+        [place] => take_one(taker, place),
+        _ => taker.take_all(into),
+    }
+}
+
+// Adds the items at the end of the list; where room for them is refused it stays as it was.
+#[inline(always)]
+fn append<A: Allocator>(items: &mut Vec<u64, A>, more: &[u64]) -> Result<(), AllocError>
+    ensures items { OnOk result (items.new.items ≡ items.old.items ++ more.now) }
+    ensures full { OnErr result (vec_capacity items.old < length items.old.items + length more.now) }
+    ensures capacity { vec_capacity items.old ≤ vec_capacity items.new }
+{
+    let [item] = more else {
+        return items.extend_from_slice(more);
+    };
+    match items.push(*item) {
+        Ok(()) => Ok(()),
+        Err(_refused) => Err(AllocError),
+    }
+}
+
 // Takes until the ring is closed, into a list with no item yet, as many items at a time as the shape's take batch, but no more than
 // are left of the limit. Tells how many takes were made, how many found the ring empty, and whether one was told that the ring is
-// closed. Where the list
-// has no room for the items of a take, and can get none, they are lost, and no more takes are made.
+// closed. Where the list has no room for the items of a take, and can get none, they are lost, and no more takes are made.
 fn take_all<A: Allocator, E: TakeEnd, G: Gate>(
     items: &mut Vec<u64, A>,
     taker: &mut E,
@@ -139,12 +197,11 @@ fn take_all<A: Allocator, E: TakeEnd, G: Gate>(
         let wanted = next_take(&shape, limit - (items.len() as u64 + empty));
         gate.hears(Event::TakeBegins(wanted));
         let into = &mut room[..wanted];
-        let reply = taker.take_all(into);
-        match reply {
+        match take_into(taker, into) {
             TakeBatchReply::Taken(count) => {
                 let taken = &into[..count as usize];
                 gate.hears(Event::TakeItems(taken));
-                items.extend_from_slice(taken)?;
+                append(items, taken)?;
                 waits = 0;
             }
             TakeBatchReply::Empty => {

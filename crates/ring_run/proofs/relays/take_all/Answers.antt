@@ -10,25 +10,25 @@ use Rattle.ring_run.specs.Relays.{HasTakenMore, TakesAre}
 use Rattle.ring_run.proofs.RelayLemmas.{length_first, same_trans, takes_there, if_err}
 use Rattle.ring_run.proofs.RelayTakes.{no_takes_are, took, was_empty, was_told}
 use Rattle.ring_run.proofs.relays.take_all.Given.{Over}
-use Rattle.ring_run.proofs.relays.take_all.Goals.{After-take_all-reply}
+use Rattle.ring_run.proofs.relays.take_all.Goals.{After-take_into}
 use Rattle.ring_run.proofs.relays.take_all.Goals as goal
 
 -- how many places a take is given
-asks : (g : Over) (c : After-take_all-reply g) →
-    length (take c.next_take-wanted.result c.takes.room) ≡ min (take_batch_of (g.E.TakeEnd.end c.take_all-reply.new.self).ring.shape) (c.args.limit - (length c.takes.items.items + c.takes.empty))
+asks : (g : Over) (c : After-take_into g) →
+    length (take c.next_take-wanted.result c.takes.room) ≡ min (take_batch_of (g.E.TakeEnd.end c.take_into.new.taker).ring.shape) (c.args.limit - (length c.takes.items.items + c.takes.empty))
 asks g c =
     let long : length (take c.next_take-wanted.result c.takes.room) ≡ c.next_take-wanted.result = search rules in
     let lesser : c.next_take-wanted.result ≡ min (take_batch_of c.shape-shape.result) (c.args.limit - (c.len-in-takes.result + c.takes.empty)) = c.next_take-wanted.ensures.lesser in
     let left : c.len-in-takes.result ≡ length c.takes.items.items = omega (arith, c.len-in-takes.ensures) in
-    let shape = c.takes.invariant.8 ∙ sym (ap (λ (r : Ring). r.shape) c.take_all-reply.ensures.same.ring) in
+    let shape = c.takes.invariant.8 ∙ sym (ap (λ (r : Ring). r.shape) c.take_into.ensures.same.ring) in
     long ∙ lesser ∙ (λ i. min (take_batch_of (shape i)) (c.args.limit - (left i + c.takes.empty)))
 
 -- what was taken before
-yet : (g : Over) (c : After-take_all-reply g) →
-    (let b = g.E.TakeEnd.end c.take_all-reply.new.self in TakesAre b.ring.shape (g.E.TakeEnd.end c.takes.taker).list c.args.limit c.takes.items.items c.takes.made c.takes.empty false)
+yet : (g : Over) (c : After-take_into g) →
+    (let b = g.E.TakeEnd.end c.take_into.new.taker in TakesAre b.ring.shape (g.E.TakeEnd.end c.takes.taker).list c.args.limit c.takes.items.items c.takes.made c.takes.empty false)
 yet g c =
     let a = g.E.TakeEnd.end c.takes.taker in
-    takes_there a (g.E.TakeEnd.end c.take_all-reply.new.self) c.args.limit c.takes.items.items c.takes.made c.takes.empty c.take_all-reply.ensures.same
+    takes_there a (g.E.TakeEnd.end c.take_into.new.taker) c.args.limit c.takes.items.items c.takes.made c.takes.empty c.take_into.ensures.same
     (subst (TakesAre a.ring.shape a.list c.args.limit c.takes.items.items c.takes.made c.takes.empty) c.takes-test.true c.takes.invariant.2)
 
 pub takes-init : goal.takes-init
@@ -45,69 +45,69 @@ takes-init g c =
       c.shape-shape.ensures.shape,
     )
 
-abbrev Came : (g : Over) (c : After-take_all-reply g) → replies.TakeBatchReply → Type 0
-Came g c r = let b = g.E.TakeEnd.end c.take_all-reply.new.self in HasTakenAll b.ring.shape (length (take c.next_take-wanted.result c.takes.room)) (g.E.TakeEnd.end c.takes.taker).list b.list r c.take_all-reply.new.into
+abbrev Came : (g : Over) (c : After-take_into g) → replies.TakeBatchReply → Type 0
+Came g c r = let b = g.E.TakeEnd.end c.take_into.new.taker in HasTakenAll b.ring.shape (length (take c.next_take-wanted.result c.takes.room)) (g.E.TakeEnd.end c.takes.taker).list b.list r c.take_into.new.into
 
-brought : (g : Over) (c : After-take_all-reply g) (n : ℕ) → Came g c (reply.Taken n) →
-    (let b = g.E.TakeEnd.end c.take_all-reply.new.self in (1 ≤ n) × TakesAre b.ring.shape b.list c.args.limit (c.takes.items.items ++ take n c.take_all-reply.new.into) (c.takes.made + 1) c.takes.empty false)
+brought : (g : Over) (c : After-take_into g) (n : ℕ) → Came g c (reply.Taken n) →
+    (let b = g.E.TakeEnd.end c.take_into.new.taker in (1 ≤ n) × TakesAre b.ring.shape b.list c.args.limit (c.takes.items.items ++ take n c.take_into.new.into) (c.takes.made + 1) c.takes.empty false)
 brought g c n came =
     let a = g.E.TakeEnd.end c.takes.taker in
-    let b = g.E.TakeEnd.end c.take_all-reply.new.self in
-    took c.takes_are_read.ensures b.ring.shape a.list b.list c.args.limit c.takes.items.items c.takes.made c.takes.empty (yet g c) (length (take c.next_take-wanted.result c.takes.room)) (asks g c) c.take_all-reply.new.into n came
+    let b = g.E.TakeEnd.end c.take_into.new.taker in
+    took c.takes_are_read.ensures b.ring.shape a.list b.list c.args.limit c.takes.items.items c.takes.made c.takes.empty (yet g c) (length (take c.next_take-wanted.result c.takes.room)) (asks g c) c.take_into.new.into n came
 
 -- it brought no more than is left of the limit
-few : (g : Over) (c : After-take_all-reply g) (n : ℕ) → n ≤ length (take c.next_take-wanted.result c.takes.room) →
-    (length (take n c.take_all-reply.new.into) ≡ n) × (length c.takes.items.items + n + c.takes.empty ≤ c.args.limit)
+few : (g : Over) (c : After-take_into g) (n : ℕ) → n ≤ length (take c.next_take-wanted.result c.takes.room) →
+    (length (take n c.take_into.new.into) ≡ n) × (length c.takes.items.items + n + c.takes.empty ≤ c.args.limit)
 few g c n most =
     let wanted : ℕ = length (take c.next_take-wanted.result c.takes.room) in
     let left : wanted ≤ c.args.limit - (length c.takes.items.items + c.takes.empty) = omega (arith, asks g c) in
-    (length_first n c.take_all-reply.new.into (omega (arith, most, c.take_all-reply.ensures.long)), omega (arith, most, left, c.if-len-empty.true, c.len.ensures))
+    (length_first n c.take_into.new.into (omega (arith, most, c.take_into.ensures.long)), omega (arith, most, left, c.if-len-empty.true, c.len.ensures))
 
 pub takes-preserved-in-Taken : goal.takes-preserved-in-Taken
 takes-preserved-in-Taken g c =
-    let t = (goal.at.takes-preserved-in-Taken g c).After-take_all-reply in
+    let t = (goal.at.takes-preserved-in-Taken g c).After-take_into in
     let i = c.takes.invariant in
     let n : ℕ = c.in-Taken.count in
     let s = c.in-Taken.ensures in
     let open_yet : c.takes.closed ≡ false = c.takes-test.true in
-    let b = g.E.TakeEnd.end c.take_all-reply.new.self in
-    let list : c.extend_from_slice.new.self.items ≡ c.takes.items.items ++ take n c.take_all-reply.new.into = c.in_ok-extend_from_slice-in-Taken.ensures.items in
+    let b = g.E.TakeEnd.end c.take_into.new.taker in
+    let list : c.append.new.items.items ≡ c.takes.items.items ++ take n c.take_into.new.into = c.in_ok-append-in-Taken.ensures.items in
     let more = brought g t n s.phrase in
     let room = few g t n s.within in
-    let long : length c.extend_from_slice.new.self.items ≡ length c.takes.items.items + n = omega (arith, ap length list, length-append c.takes.items.items (take n c.take_all-reply.new.into), room.0) in (
+    let long : length c.append.new.items.items ≡ length c.takes.items.items + n = omega (arith, ap length list, length-append c.takes.items.items (take n c.take_into.new.into), room.0) in (
       s.idle,
       same_trans (g.E.TakeEnd.end c.args.taker.now) (g.E.TakeEnd.end c.takes.taker) b i.1 s.same,
       subst (λ (z : List ℕ × Bool). TakesAre b.ring.shape b.list c.args.limit z.0 (c.takes.made + 1) c.takes.empty z.1) (λ j. (sym list j, sym open_yet j)) more.1,
-      subst (λ (z : Bool). length c.extend_from_slice.new.self.items + c.takes.empty + (if z then 1 else 0) ≤ c.args.limit) (sym open_yet) (omega (arith, long, room.1)),
+      subst (λ (z : Bool). length c.append.new.items.items + c.takes.empty + (if z then 1 else 0) ≤ c.args.limit) (sym open_yet) (omega (arith, long, room.1)),
       refl,
-      omega (arith, i.5, c.extend_from_slice.ensures.capacity),
+      omega (arith, i.5, c.append.ensures.capacity),
       omega arith,
-      subst (λ (z : Bool). c.takes.made + 1 ≤ length c.extend_from_slice.new.self.items + c.takes.empty + (if z then 1 else 0)) (sym open_yet)
+      subst (λ (z : Bool). c.takes.made + 1 ≤ length c.append.new.items.items + c.takes.empty + (if z then 1 else 0)) (sym open_yet)
           (omega (arith, long, more.0, subst (λ (z : Bool). c.takes.made ≤ length c.takes.items.items + c.takes.empty + (if z then 1 else 0)) open_yet i.7)),
       i.8 ∙ sym (ap (λ (r : Ring). r.shape) s.same.ring),
     )
 
 pub takes-smaller-in-Taken : goal.takes-smaller-in-Taken
 takes-smaller-in-Taken g c =
-    let t = (goal.at.takes-smaller-in-Taken g c).After-take_all-reply in
+    let t = (goal.at.takes-smaller-in-Taken g c).After-take_into in
     let n : ℕ = c.in-Taken.count in
     let s = c.in-Taken.ensures in
-    let list : c.extend_from_slice.new.self.items ≡ c.takes.items.items ++ take n c.take_all-reply.new.into = c.in_ok-extend_from_slice-in-Taken.ensures.items in
+    let list : c.append.new.items.items ≡ c.takes.items.items ++ take n c.take_into.new.into = c.in_ok-append-in-Taken.ensures.items in
     let more = brought g t n s.phrase in
     let room = few g t n s.within in
-    let long : length c.extend_from_slice.new.self.items ≡ length c.takes.items.items + n = omega (arith, ap length list, length-append c.takes.items.items (take n c.take_all-reply.new.into), room.0) in
-    subst (λ (z : Bool). c.args.limit - (length c.extend_from_slice.new.self.items + c.takes.empty + (if z then 1 else 0)) < c.args.limit - (length c.takes.items.items + c.takes.empty + (if z then 1 else 0))) (sym c.takes-test.true)
+    let long : length c.append.new.items.items ≡ length c.takes.items.items + n = omega (arith, ap length list, length-append c.takes.items.items (take n c.take_into.new.into), room.0) in
+    subst (λ (z : Bool). c.args.limit - (length c.append.new.items.items + c.takes.empty + (if z then 1 else 0)) < c.args.limit - (length c.takes.items.items + c.takes.empty + (if z then 1 else 0))) (sym c.takes-test.true)
     (omega (arith, long, more.0, room.1))
 
 pub takes-preserved-in-Empty : goal.takes-preserved-in-Empty
 takes-preserved-in-Empty g c =
-    let t = (goal.at.takes-preserved-in-Empty g c).After-take_all-reply in
+    let t = (goal.at.takes-preserved-in-Empty g c).After-take_into in
     let i = c.takes.invariant in
     let s = c.in-Empty.ensures in
     let open_yet : c.takes.closed ≡ false = c.takes-test.true in
     let a = g.E.TakeEnd.end c.takes.taker in
-    let b = g.E.TakeEnd.end c.take_all-reply.new.self in
-    let now = was_empty c.takes_are_read.ensures b.ring.shape a.list b.list c.args.limit c.takes.items.items c.takes.made c.takes.empty (yet g t) (length (take c.next_take-wanted.result c.takes.room)) (asks g t) c.take_all-reply.new.into s.phrase in (
+    let b = g.E.TakeEnd.end c.take_into.new.taker in
+    let now = was_empty c.takes_are_read.ensures b.ring.shape a.list b.list c.args.limit c.takes.items.items c.takes.made c.takes.empty (yet g t) (length (take c.next_take-wanted.result c.takes.room)) (asks g t) c.take_into.new.into s.phrase in (
       s.idle,
       same_trans (g.E.TakeEnd.end c.args.taker.now) a b i.1 s.same,
       subst (TakesAre b.ring.shape b.list c.args.limit c.takes.items.items (c.takes.made + 1) (c.takes.empty + 1)) (sym open_yet) now,
@@ -122,13 +122,13 @@ takes-preserved-in-Empty g c =
 
 pub takes-preserved : goal.takes-preserved
 takes-preserved g c =
-    let t = (goal.at.takes-preserved g c).After-take_all-reply in
+    let t = (goal.at.takes-preserved g c).After-take_into in
     let i = c.takes.invariant in
     let s = c.in-Closed.ensures in
     let open_yet : c.takes.closed ≡ false = c.takes-test.true in
     let a = g.E.TakeEnd.end c.takes.taker in
-    let b = g.E.TakeEnd.end c.take_all-reply.new.self in
-    let now = was_told c.takes_are_read.ensures b.ring.shape a.list b.list c.args.limit c.takes.items.items c.takes.made c.takes.empty (yet g t) (length (take c.next_take-wanted.result c.takes.room)) (asks g t) c.take_all-reply.new.into s.phrase in (
+    let b = g.E.TakeEnd.end c.take_into.new.taker in
+    let now = was_told c.takes_are_read.ensures b.ring.shape a.list b.list c.args.limit c.takes.items.items c.takes.made c.takes.empty (yet g t) (length (take c.next_take-wanted.result c.takes.room)) (asks g t) c.take_into.new.into s.phrase in (
       s.idle,
       same_trans (g.E.TakeEnd.end c.args.taker.now) a b i.1 s.same,
       now,
@@ -140,22 +140,22 @@ takes-preserved g c =
       i.8 ∙ sym (ap (λ (r : Ring). r.shape) s.same.ring),
     )
 
-pub returns-in_err-extend_from_slice-in-Taken-clause-fault : goal.returns-in_err-extend_from_slice-in-Taken-clause-fault
-returns-in_err-extend_from_slice-in-Taken-clause-fault g c =
-    let t = (goal.at.returns-in_err-extend_from_slice-in-Taken-clause-fault g c).After-take_all-reply in
+pub returns-in_err-append-in-Taken-clause-fault : goal.returns-in_err-append-in-Taken-clause-fault
+returns-in_err-append-in-Taken-clause-fault g c =
+    let t = (goal.at.returns-in_err-append-in-Taken-clause-fault g c).After-take_into in
     let i = c.takes.invariant in
     let n : ℕ = c.in-Taken.count in
     let s = c.in-Taken.ensures in
-    let b = g.E.TakeEnd.end c.take_all-reply.new.self in
+    let b = g.E.TakeEnd.end c.take_into.new.taker in
     let more = brought g t n s.phrase in
     let room = few g t n s.within in
-    let long : length (c.takes.items.items ++ take n c.take_all-reply.new.into) ≡ length c.takes.items.items + n = omega (arith, length-append c.takes.items.items (take n c.take_all-reply.new.into), room.0) in
+    let long : length (c.takes.items.items ++ take n c.take_into.new.into) ≡ length c.takes.items.items + n = omega (arith, length-append c.takes.items.items (take n c.take_into.new.into), room.0) in
     if_err c.from_residual.result (HasTakenMore b.ring.shape b.list c.args.limit (vec_capacity c.args.items.now))
     (record {
-      taken = c.takes.items.items ++ take n c.take_all-reply.new.into;
+      taken = c.takes.items.items ++ take n c.take_into.new.into;
       made = c.takes.made + 1;
       empty = c.takes.empty;
       takes = more.1;
       most = omega (arith, long, room.1);
-      more = omega (arith, long, room.0, i.5, c.in_err-extend_from_slice-in-Taken.ensures.full, c.takes.items.ok);
+      more = omega (arith, long, room.0, i.5, c.in_err-append-in-Taken.ensures.full, c.takes.items.ok);
     })
