@@ -10,13 +10,13 @@ use Rattle.ring_core.specs.Counts.{Count, batch_phrase}
 use Rattle.ring_core.specs.Puts.{Put, Stored, Full, stored_in, stored_after, words_phrase, put_phrase}
 use Rattle.ring_core.specs.Takes.{Take, Item, ItemAfterClose, Empty, End, Open, Closed, taken_in, count_after, words_read, take_phrase}
 use Rattle.ring_core.specs.Items.{events_in}
-use Rattle.ring_core.proofs.Lengths.{length-scan}
-use Rattle.ring_core.proofs.Timeline.{ended_past}
-use Rattle.ring_core.proofs.Spans.{Span, Passes, Stops, Asks, whole, before_count, counts_begun, counts_ended, sizes, tally, IsSpanAt, counts}
-use Rattle.ring_core.proofs.LookSpans.{look, put_looks, take_looks, span_of, spans}
+use Rattle.ring_core.proofs.Machines.Lengths.{length-scan}
+use Rattle.ring_core.proofs.OverSpans.Timeline.{ended_past}
+use Rattle.ring_core.proofs.OverSpans.Spans.{Span, Passes, Stops, Asks, whole, before_count, counts_begun, counts_ended, sizes, tally, IsSpanAt, counts}
+use Rattle.ring_core.proofs.OverSpans.LookSpans.{look, put_looks, take_looks, span_of, spans}
 use Rattle.ring_core.proofs.EndedCounts.{stored_ended, taken_begun, take_before_count}
 use Rattle.ring_core.proofs.CountRow.{past_is}
-use Rattle.ring_core.proofs.CallSpans.{three, take_phrase-item, take_phrase-after, take_phrase-empty}
+use Rattle.ring_core.proofs.OverSpans.CallSpans.{three, take_phrase-item, take_phrase-after, take_phrase-empty}
 
 -- counts where the same test holds, before the same counts
 same_count : (a b : Bool) (n l m : ℕ) → a ≡ b → l ≡ m → (if a then n else 0) + l ≡ (if b then n else 0) + m

@@ -17,23 +17,23 @@ use Rattle.ring_core.specs.Counts.{distance, first_count}
 use Rattle.ring_core.specs.Puts.{Put, Puts, Stored, Full, stored_in, close_phrase, put_program}
 use Rattle.ring_core.specs.Takes.{accesses_before_word, Take, Item, ItemAfterClose, Empty, Takes, taken_in, take_program}
 use Rattle.ring_core.specs.Items.{events_in, items_put, items_taken}
-use Rattle.ring_core.proofs.Spans.{Span, items_of, counts, whole, counts_begun, counts_ended, IsSpanAt, sizes, tally}
+use Rattle.ring_core.proofs.OverSpans.Spans.{Span, items_of, counts, whole, counts_begun, counts_ended, IsSpanAt, sizes, tally}
 use Rattle.ring_core.specs.Items as taken
-use Rattle.ring_core.proofs.LookSpans.{put_looks, take_looks, put_spans, take_spans}
+use Rattle.ring_core.proofs.OverSpans.LookSpans.{put_looks, take_looks, put_spans, take_spans}
 use Rattle.ring_core.specs.CallsAt.{IsTakeAt, scan_events, puts_begun, puts_ended, takes_begun, takes_ended}
-use Rattle.ring_core.proofs.ItemPlaces.{ItemsAreQuiet}
-use Rattle.ring_core.proofs.WordPlaces.{WordSpan, word_there}
-use Rattle.ring_core.proofs.WordPlaces.{none-close as no_word}
+use Rattle.ring_core.proofs.Cells.ItemPlaces.{ItemsAreQuiet}
+use Rattle.ring_core.proofs.Cells.WordPlaces.{WordSpan, word_there}
+use Rattle.ring_core.proofs.Cells.WordPlaces.{none-close as no_word}
 use Rattle.ring_core.specs.RingLaw.{IsRun, IsInterval, IsWithin, WordsAreQuiet, TakenArePrefix, TakesMatchPuts, EmptyIsFresh, FullIsFresh, FillIsFresh, DrainIsFresh, ClosedIsTrue}
 use Rattle.ring_core.specs.Ranges.{ReadsCount, PutsAreInRange, TakesAreInRange}
-use Rattle.ring_core.proofs.RingOfSpans as by_span
-use Rattle.ring_core.proofs.Timeline.{AllProper, begun_at, length-begun_items, length-ended_items}
-use Rattle.ring_core.proofs.SpanItems.{within_items}
-use Rattle.ring_core.proofs.Looks.{puts_as_looks, takes_as_looks, proper_puts, proper_takes, puts_items, takes_items, asks_word}
-use Rattle.ring_core.proofs.Lengths.{length-scan}
+use Rattle.ring_core.proofs.OverSpans.RingOfSpans as by_span
+use Rattle.ring_core.proofs.OverSpans.Timeline.{AllProper, begun_at, length-begun_items, length-ended_items}
+use Rattle.ring_core.proofs.OverSpans.SpanItems.{within_items}
+use Rattle.ring_core.proofs.OverSpans.Looks.{puts_as_looks, takes_as_looks, proper_puts, proper_takes, puts_items, takes_items, asks_word}
+use Rattle.ring_core.proofs.Machines.Lengths.{length-scan}
 use Rattle.ring_core.proofs.CloseReads.{OwnFacts}
 use Rattle.ring_core.proofs.CloseEnds.{place_within, not_ended}
-use Rattle.ring_core.proofs.CallSpans.{second_scan, stands_at, put_has_span, item_has_span, empty_has_span, after_has_second}
+use Rattle.ring_core.proofs.OverSpans.CallSpans.{second_scan, stands_at, put_has_span, item_has_span, empty_has_span, after_has_second}
 use Rattle.ring_core.proofs.EndedCounts.{puts_ended_is, takes_begun_is}
 use Rattle.ring_core.proofs.ScanPlaces.{ScanSpan, scan_there, none-close}
 use Rattle.ring_core.proofs.CallCounts.{stored_ended_is, taken_begun_is, put_tally, take_tally}

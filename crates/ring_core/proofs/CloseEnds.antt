@@ -12,8 +12,8 @@ use Rattle.bits_core.specs.Made.{own, clock, events_of, IsPlaceOf, IsBeginning}
 use Rattle.ring_core.specs.Counts.{first_count}
 use Rattle.ring_core.specs.Puts.{Puts, put_phrases, put_program}
 use Rattle.ring_core.specs.Items.{events_in}
-use Rattle.ring_core.proofs.Cuts.{at_most_or_above}
-use Rattle.ring_core.proofs.Gates.{clock_up, clock_p}
+use Rattle.ring_core.proofs.Readings.Cuts.{at_most_or_above}
+use Rattle.ring_core.proofs.OverSpans.Gates.{clock_up, clock_p}
 use Rattle.ring_core.proofs.HistoryClocks.{clock-yes, clock-no, clock-zero, clocks_of}
 use Rattle.ring_core.proofs.OwnEvents.{by_case}
 use Rattle.ring_core.proofs.CloseReads.{OwnFacts, only_close, no_close-puts}

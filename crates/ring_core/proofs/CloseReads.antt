@@ -18,9 +18,9 @@ use Rattle.register_core.specs.Word.{word_write, digit_writes}
 use Rattle.register_core.specs.ScanState.{scan_phrase, zero_reads, row_read_by}
 use Rattle.ring_core.specs.Counts.{Count, first_count, batch_phrase}
 use Rattle.ring_core.specs.Puts.{Put, Stored, Full, stored_after, words_phrase, put_phrase, put_phrases, close_phrase}
-use Rattle.ring_core.proofs.Following.{length-events}
-use Rattle.ring_core.proofs.Cuts.{at_most_or_above}
-use Rattle.ring_core.proofs.Gates.{Clock, clock_up, clock_p, clock_c}
+use Rattle.ring_core.proofs.Machines.Following.{length-events}
+use Rattle.ring_core.proofs.Readings.Cuts.{at_most_or_above}
+use Rattle.ring_core.proofs.OverSpans.Gates.{Clock, clock_up, clock_p, clock_c}
 use Rattle.ring_core.proofs.HistoryClocks.{clocks_of}
 use Rattle.ring_core.proofs.OwnEvents.{clock_within}
 

@@ -13,7 +13,7 @@ use Rattle.bits_core.specs.Made.{Write}
 use Rattle.register_core.specs.Row.{RowWrite, row_bit, first_bits, bits_with, bits_after}
 use Rattle.register_core.specs.Unary.{clearing, setting, unary_phrase, unary_writes, row_writes, writes_of}
 use Rattle.ring_core.specs.Counts.{bits_held, counted, count_phrase, number_past, Count, first_count, count_bits, batch_phrase, batch_by, IsCount}
-use Rattle.ring_core.proofs.Distances.{apart}
+use Rattle.ring_core.proofs.OverSpans.Distances.{apart}
 
 -- ---- a unary write over any bits
 

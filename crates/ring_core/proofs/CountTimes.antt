@@ -22,13 +22,13 @@ use Rattle.register_core.specs.Word.{digit, digit_writes, digit_reads}
 use Rattle.register_core.specs.ScanState.{zero_reads, scan_phrase, row_read_by}
 use Rattle.ring_core.specs.Counts.{number_past, Count, first_count, count_bits, batch_phrase, IsCount}
 use Rattle.ring_core.specs.Puts.{words_phrase, close_phrase}
-use Rattle.ring_core.proofs.Spans.{Outcome, Passes, Stops, Asks, Span, counts, counts_begun, counts_ended, size_of, sizes, tally}
-use Rattle.ring_core.proofs.LookSpans.{Look, words_read, word_part, count_part, look_number, look_bits, after_look, look_accesses, spans}
-use Rattle.ring_core.proofs.Cuts.{at_most_or_above}
+use Rattle.ring_core.proofs.OverSpans.Spans.{Outcome, Passes, Stops, Asks, Span, counts, counts_begun, counts_ended, size_of, sizes, tally}
+use Rattle.ring_core.proofs.OverSpans.LookSpans.{Look, words_read, word_part, count_part, look_number, look_bits, after_look, look_accesses, spans}
+use Rattle.ring_core.proofs.Readings.Cuts.{at_most_or_above}
 use Rattle.ring_core.proofs.CountRow.{past_is, first_is_count, bits_long}
-use Rattle.ring_core.proofs.Following.{events_of-append, length-events}
-use Rattle.ring_core.proofs.Timeline.{AllProper, ended_zero}
-use Rattle.ring_core.proofs.Looks.{Passing, AllPassing, look_is_count, all_proper}
+use Rattle.ring_core.proofs.Machines.Following.{events_of-append, length-events}
+use Rattle.ring_core.proofs.OverSpans.Timeline.{AllProper, ended_zero}
+use Rattle.ring_core.proofs.OverSpans.Looks.{Passing, AllPassing, look_is_count, all_proper}
 
 -- ---- the bit writes of a count among events
 

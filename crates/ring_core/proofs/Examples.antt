@@ -10,7 +10,7 @@ use Rattle.ring_core.specs.Puts.{Puts, Stored, put_program, ArePuts}
 use Rattle.ring_core.specs.Takes.{Takes, Item, ItemAfterClose, Empty, Open, Closed, take_phrases, take_program, IsTakeBatch, AreTakes}
 use Rattle.ring_core.specs.Items.{items_put, items_taken, IsTold}
 use Rattle.ring_core.specs.CallsAt.{IsPutAt, IsTakeAt, IsPartAt, puts_ended, takes_begun}
-use Rattle.ring_core.proofs.ItemPlaces.{StoresItem, TakesItem}
+use Rattle.ring_core.proofs.Cells.ItemPlaces.{StoresItem, TakesItem}
 
 -- one cell, modulus 3, items of one digit
 unfoldable pub one_cell : Shape

@@ -5,7 +5,7 @@ use Rattle.bits_core.specs.declared.events.Side.TheVariants.{P, C}
 use Rattle.bits_core.specs.declared.events.Event.{Event}
 use Rattle.bits_core.specs.Bits.{same_side, is_by}
 use Rattle.bits_core.specs.Made.{own, clock}
-use Rattle.ring_core.proofs.Clocks.{Clocks}
+use Rattle.ring_core.proofs.OverSpans.Clocks.{Clocks}
 
 -- a side's own events behind a first event, which is its own or not
 own-first : (s : Side) (e : Event) (h : List Event) (b : Bool) → is_by s e ≡ b → own s (e ∷ h) ≡ (if b then e ∷ own s h else own s h)

@@ -18,14 +18,14 @@ use Rattle.register_core.specs.ScanState.{zero_reads, row_read_by}
 use Rattle.register_core.specs.UnaryLaw.{NumberedStayWithin, ReadsZeros, UnaryHasOne}
 use Rattle.register_core.specs.MadeReads.{begin_place, end_place, ZerosAreMade}
 use Rattle.ring_core.specs.Counts.{number_past, first_count}
-use Rattle.ring_core.proofs.Spans.{Outcome, Passes, Stops, Asks}
+use Rattle.ring_core.proofs.OverSpans.Spans.{Outcome, Passes, Stops, Asks}
 use Rattle.ring_core.specs.Puts.{close_phrase}
-use Rattle.ring_core.proofs.LookSpans.{Look, put_looks, take_looks, look_number, look_accesses}
+use Rattle.ring_core.proofs.OverSpans.LookSpans.{Look, put_looks, take_looks, look_number, look_accesses}
 use Rattle.ring_core.specs.RunLaws.{NeverReadsAll, NeverMisses, PutsAreSeen, TakesAreSeen}
-use Rattle.ring_core.proofs.Cuts.{at_most_or_above}
+use Rattle.ring_core.proofs.Readings.Cuts.{at_most_or_above}
 use Rattle.ring_core.proofs.CountTimes.{IsQuiet, quiet_close, values_from, value_of, counted_in}
-use Rattle.ring_core.proofs.Lengths.{length-zero_reads}
-use Rattle.ring_core.proofs.RegularScans.{writes_unary, put_events, take_events}
+use Rattle.ring_core.proofs.Machines.Lengths.{length-zero_reads}
+use Rattle.ring_core.proofs.OverSpans.RegularScans.{writes_unary, put_events, take_events}
 
 -- ---- the values of a count
 

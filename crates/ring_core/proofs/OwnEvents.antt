@@ -18,9 +18,9 @@ use Rattle.bits_core.specs.Laws.{OwnHasPlace}
 use Rattle.bits_core.specs.Made.{own, clock, place_of}
 use Rattle.register_core.specs.Row.{row_write}
 use Rattle.register_core.specs.UnaryLaw.{number_in_count, count_write, count_begun, count_ended}
-use Rattle.ring_core.proofs.Clocks.{IsPlace}
-use Rattle.ring_core.proofs.Cuts.{at_most_or_above}
-use Rattle.ring_core.proofs.Gates.{clock_up, clock_p, clock_c}
+use Rattle.ring_core.proofs.OverSpans.Clocks.{IsPlace}
+use Rattle.ring_core.proofs.Readings.Cuts.{at_most_or_above}
+use Rattle.ring_core.proofs.OverSpans.Gates.{clock_up, clock_p, clock_c}
 use Rattle.ring_core.proofs.HistoryClocks.{clocks_of}
 
 pub by_case : {G : Type 0} → (b : Bool) → (b ≡ true → G) → (b ≡ false → G) → G

@@ -20,24 +20,24 @@ use Rattle.ring_core.specs.Counts.{Count, first_count}
 use Rattle.ring_core.specs.Puts.{Put, Puts, Stored, Full, stored_after, put_phrases, close_phrase}
 use Rattle.ring_core.specs.Takes.{Takes, Open, Closed, End, take_program}
 use Rattle.ring_core.specs.Items.{events_in, all_put, Tells}
-use Rattle.ring_core.proofs.Spans.{Span, Asks, counts, before_count, all_items, total}
-use Rattle.ring_core.proofs.Clocks.{IsPlace, AreCloseReads, Ring}
-use Rattle.ring_core.proofs.Clocks as clocks
-use Rattle.ring_core.proofs.LookSpans.{put_looks, take_looks, word_part, count_part, look_accesses, spans, put_spans, take_spans}
+use Rattle.ring_core.proofs.OverSpans.Spans.{Span, Asks, counts, before_count, all_items, total}
+use Rattle.ring_core.proofs.OverSpans.Clocks.{IsPlace, AreCloseReads, Ring}
+use Rattle.ring_core.proofs.OverSpans.Clocks as clocks
+use Rattle.ring_core.proofs.OverSpans.LookSpans.{put_looks, take_looks, word_part, count_part, look_accesses, spans, put_spans, take_spans}
 use Rattle.ring_core.specs.RingLaw.{IsRun}
-use Rattle.ring_core.proofs.RingOfSpans.{LawOfSpans, PutsAreInRange, TakesAreInRange, CellsAreQuiet, TakenArePrefix, TakesMatchPuts, EmptyIsFresh, FullIsFresh, FillIsFresh, DrainIsFresh, ClosedIsTrue}
-use Rattle.ring_core.proofs.Cuts.{at_most_or_above}
-use Rattle.ring_core.proofs.SpanLaw.{SpanLaw, span_law, IsToldAt, LastTwo}
+use Rattle.ring_core.proofs.OverSpans.RingOfSpans.{LawOfSpans, PutsAreInRange, TakesAreInRange, CellsAreQuiet, TakenArePrefix, TakesMatchPuts, EmptyIsFresh, FullIsFresh, FillIsFresh, DrainIsFresh, ClosedIsTrue}
+use Rattle.ring_core.proofs.Readings.Cuts.{at_most_or_above}
+use Rattle.ring_core.proofs.OverSpans.SpanLaw.{SpanLaw, span_law, IsToldAt, LastTwo}
 use Rattle.ring_core.proofs.HistoryClocks.{clocks_of}
 use Rattle.ring_core.proofs.OwnEvents.{clock_within, clock_end, clock_rises, one_place}
-use Rattle.ring_core.proofs.Following.{length-events}
-use Rattle.ring_core.proofs.LookSpans.{LookAt}
-use Rattle.ring_core.proofs.Looks.{puts_as_looks, takes_as_looks, proper_puts, proper_takes, total_is, look_from_first, words_are, asks_word, puts_items, takes_items, put_rules, take_rules, put_fits, take_fits, last_two}
+use Rattle.ring_core.proofs.Machines.Following.{length-events}
+use Rattle.ring_core.proofs.OverSpans.LookSpans.{LookAt}
+use Rattle.ring_core.proofs.OverSpans.Looks.{puts_as_looks, takes_as_looks, proper_puts, proper_takes, total_is, look_from_first, words_are, asks_word, puts_items, takes_items, put_rules, take_rules, put_fits, take_fits, last_two}
 use Rattle.ring_core.proofs.CountRow.{batch_fits, has_batch, take_batch_fits}
-use Rattle.ring_core.proofs.CellPlaces.{doubled, multiple_up}
-use Rattle.ring_core.proofs.RegularScans.{put_events, take_events, puts_regular, takes_regular}
+use Rattle.ring_core.proofs.Cells.CellPlaces.{doubled, multiple_up}
+use Rattle.ring_core.proofs.OverSpans.RegularScans.{put_events, take_events, puts_regular, takes_regular}
 use Rattle.ring_core.proofs.CloseReads.{OwnFacts, read_of_close}
-use Rattle.ring_core.proofs.SafeWords.{close_to_cell, words_are_safe}
+use Rattle.ring_core.proofs.Cells.SafeWords.{close_to_cell, words_are_safe}
 
 -- ---- reads of the close bit
 

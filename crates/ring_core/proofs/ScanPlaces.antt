@@ -11,10 +11,10 @@ use Rattle.register_core.specs.Phrases.{RowWrite, row_bit, writes_in, digit, dig
 use Rattle.ring_core.specs.Counts.{Count, count_bits}
 use Rattle.ring_core.specs.Puts.{words_phrase, close_phrase}
 use Rattle.ring_core.specs.CallsAt.{scan_events}
-use Rattle.ring_core.proofs.Parts.{NoneAre, none-append, behind, never}
-use Rattle.ring_core.proofs.Phrases.{scan-front, scan_begins, same_scan}
-use Rattle.ring_core.proofs.Spans.{Span, Outcome, Passes, Stops, Asks, counts, IsSpanAt}
-use Rattle.ring_core.proofs.LookSpans.{Look, words_read, word_part, count_part, after_look, look_accesses, span_of, spans}
+use Rattle.ring_core.proofs.Readings.Parts.{NoneAre, none-append, behind, never}
+use Rattle.ring_core.proofs.Readings.Phrases.{scan-front, scan_begins, same_scan}
+use Rattle.ring_core.proofs.OverSpans.Spans.{Span, Outcome, Passes, Stops, Asks, counts, IsSpanAt}
+use Rattle.ring_core.proofs.OverSpans.LookSpans.{Look, words_read, word_part, count_part, after_look, look_accesses, span_of, spans}
 
 -- ---- accesses with which no scan begins
 

@@ -11,11 +11,11 @@ use Rattle.ring_core.specs.Counts.{first_count}
 use Rattle.ring_core.specs.Takes.{Takes, take_phrases}
 use Rattle.ring_core.specs.ConsumerState.{ConsumerState, IsConsumer, IsTaking, due_take, is_taking}
 use Rattle.ring_core.specs.ConsumerCalls.{ConsumerStands, ConsumerHasMoved}
-use Rattle.ring_core.proofs.MachineParts.{ScanGoesOn}
-use Rattle.ring_core.proofs.NextParts.{scan_reads}
-use Rattle.ring_core.proofs.ConsumerInvariant.{at_stage, scan_keeps, rescan_keeps}
-use Rattle.ring_core.proofs.ConsumerMoves.{made_at, scan_on, rescan_on}
-use Rattle.ring_core.proofs.ConsumerNext.{Going, next_scan, next_rescan, rescan_zeros}
+use Rattle.ring_core.proofs.Machines.MachineParts.{ScanGoesOn}
+use Rattle.ring_core.proofs.Machines.NextParts.{scan_reads}
+use Rattle.ring_core.proofs.Machines.ConsumerInvariant.{at_stage, scan_keeps, rescan_keeps}
+use Rattle.ring_core.proofs.Machines.ConsumerMoves.{made_at, scan_on, rescan_on}
+use Rattle.ring_core.proofs.Machines.ConsumerNext.{Going, next_scan, next_rescan, rescan_zeros}
 
 abbrev pub IsAtScan : ConsumerState → Type 0
 IsAtScan p = (p.stage ≡ Scanning) ⊎ (p.stage ≡ Rescanning)

@@ -1,5 +1,5 @@
-use Rattle.ring_core.proofs.ItemsRead.{puts-are_first}
-use Rattle.ring_core.proofs.TakenRead.{takes-are_first}
+use Rattle.ring_core.proofs.Readings.ItemsRead.{puts-are_first}
+use Rattle.ring_core.proofs.Readings.TakenRead.{takes-are_first}
 use Rattle.ring_core.proofs.laws.calls_are_first.Goals as goal
 
 pub returns-clause-puts : goal.returns-clause-puts

@@ -1,4 +1,4 @@
-use Rattle.ring_core.proofs.Following.{puts-are_followed, takes-are_followed}
+use Rattle.ring_core.proofs.Machines.Following.{puts-are_followed, takes-are_followed}
 use Rattle.ring_core.proofs.laws.calls_are_followed.Goals as goal
 
 pub returns-clause-puts : goal.returns-clause-puts

@@ -1,4 +1,4 @@
-use Rattle.ring_core.proofs.Lengths.{item_puts-are_short, full_puts-are_short, puts-are_short, takes-are_short, ends-are_short}
+use Rattle.ring_core.proofs.Machines.Lengths.{item_puts-are_short, full_puts-are_short, puts-are_short, takes-are_short, ends-are_short}
 use Rattle.ring_core.proofs.laws.calls_are_short.Goals as goal
 
 pub returns-clause-item_puts : goal.returns-clause-item_puts

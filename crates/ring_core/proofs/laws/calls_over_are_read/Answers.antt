@@ -1,4 +1,4 @@
-use Rattle.ring_core.proofs.Over.{puts_over-read, takes_over-read}
+use Rattle.ring_core.proofs.Readings.Over.{puts_over-read, takes_over-read}
 use Rattle.ring_core.proofs.laws.calls_over_are_read.Goals as goal
 
 pub returns-clause-puts : goal.returns-clause-puts

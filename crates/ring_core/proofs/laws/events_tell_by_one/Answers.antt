@@ -1,4 +1,4 @@
-use Rattle.ring_core.proofs.RecordedByOne.{puts-tell, takes-tell}
+use Rattle.ring_core.proofs.Recorded.RecordedByOne.{puts-tell, takes-tell}
 use Rattle.ring_core.proofs.laws.events_tell_by_one.Goals as goal
 
 pub returns-clause-puts : goal.returns-clause-puts

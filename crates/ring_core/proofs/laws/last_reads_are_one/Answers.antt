@@ -1,4 +1,4 @@
-use Rattle.ring_core.proofs.PutParts.{last-puts_read_one}
+use Rattle.ring_core.proofs.Machines.PutParts.{last-puts_read_one}
 use Rattle.ring_core.proofs.LastBits.{last-takes_read_one}
 use Rattle.ring_core.proofs.laws.last_reads_are_one.Goals as goal
 

@@ -1,4 +1,4 @@
-use Rattle.ring_core.proofs.OneCallMore.{puts-by_one, closes-by_one, takes-by_one, ends-by_one, takes-of_one}
+use Rattle.ring_core.proofs.Machines.OneCallMore.{puts-by_one, closes-by_one, takes-by_one, ends-by_one, takes-of_one}
 use Rattle.ring_core.proofs.laws.programs_by_one_call.Goals as goal
 
 pub returns-clause-puts : goal.returns-clause-puts

@@ -1,4 +1,4 @@
-use Rattle.ring_core.proofs.PutsRead.{puts-are_read}
+use Rattle.ring_core.proofs.Readings.PutsRead.{puts-are_read}
 use Rattle.ring_core.proofs.laws.puts_are_read.Goals as goal
 
 pub returns : goal.returns

@@ -1,4 +1,4 @@
-use Rattle.ring_core.proofs.PutParts.{scans-or_closes, scans-on, stores-or_counts, stores-on, counts-on}
+use Rattle.ring_core.proofs.Machines.PutParts.{scans-or_closes, scans-on, stores-or_counts, stores-on, counts-on}
 use Rattle.ring_core.proofs.laws.puts_go_on.Goals as goal
 
 pub returns-clause-between : goal.returns-clause-between

@@ -1,12 +1,12 @@
 use Rattle.std.proofs.Common.{arith}
 use Rattle.ring_core.specs.RingLaw.{InEveryRun}
-use Rattle.ring_core.proofs.RingOfSpans.{LawOfSpans}
+use Rattle.ring_core.proofs.OverSpans.RingOfSpans.{LawOfSpans}
 use Rattle.ring_core.proofs.CloseReads.{OwnFacts}
 use Rattle.ring_core.proofs.RingHolds.{law_of_spans}
 use Rattle.ring_core.specs.Recorded.{recorded}
 use Rattle.bits_core.specs.Shape.{capacity_of}
 use Rattle.queue_calls.specs.Queue.{exactly}
-use Rattle.ring_core.proofs.RecordedRuns.{recorded_are_counted}
+use Rattle.ring_core.proofs.Recorded.RecordedRuns.{recorded_are_counted}
 use Rattle.ring_core.proofs.laws.recorded_is_linearizable.Goals as goal
 
 -- the published facts of own events

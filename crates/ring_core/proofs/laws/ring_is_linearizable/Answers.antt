@@ -1,8 +1,8 @@
 use Rattle.ring_core.specs.RingLaw.{InEveryRun}
-use Rattle.ring_core.proofs.RingOfSpans.{LawOfSpans}
+use Rattle.ring_core.proofs.OverSpans.RingOfSpans.{LawOfSpans}
 use Rattle.ring_core.proofs.CloseReads.{OwnFacts}
 use Rattle.ring_core.proofs.RingHolds.{law_of_spans}
-use Rattle.ring_core.proofs.LinearRuns.{linearizable}
+use Rattle.ring_core.proofs.Linear.LinearRuns.{linearizable}
 use Rattle.ring_core.proofs.laws.ring_is_linearizable.Goals as goal
 
 -- the published facts of own events

@@ -1,9 +1,9 @@
 use Rattle.ring_core.specs.RingLaw.{InEveryRun}
-use Rattle.ring_core.proofs.RingOfSpans.{LawOfSpans}
+use Rattle.ring_core.proofs.OverSpans.RingOfSpans.{LawOfSpans}
 use Rattle.ring_core.proofs.CloseReads.{OwnFacts}
 use Rattle.ring_core.proofs.RingHolds.{law_of_spans}
 use Rattle.ring_core.proofs.CallsLaw as calls
-use Rattle.ring_core.proofs.CellAccesses.{cells_are_quiet}
+use Rattle.ring_core.proofs.Cells.CellAccesses.{cells_are_quiet}
 use Rattle.ring_core.proofs.laws.ring_law.Goals as goal
 
 -- the published facts of own events

@@ -1,4 +1,4 @@
-use Rattle.ring_core.proofs.TakesRead.{takes-are_read}
+use Rattle.ring_core.proofs.Readings.TakesRead.{takes-are_read}
 use Rattle.ring_core.proofs.laws.takes_are_read.Goals as goal
 
 pub returns : goal.returns

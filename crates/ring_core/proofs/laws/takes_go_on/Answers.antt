@@ -1,4 +1,4 @@
-use Rattle.ring_core.proofs.TakeParts.{takes-go_on}
+use Rattle.ring_core.proofs.Machines.TakeParts.{takes-go_on}
 use Rattle.ring_core.proofs.laws.takes_go_on.Goals as goal
 
 pub returns : goal.returns

@@ -1,4 +1,4 @@
-use Rattle.ring_core.proofs.WholeCalls.{whole-puts, whole-takes}
+use Rattle.ring_core.proofs.Readings.WholeCalls.{whole-puts, whole-takes}
 use Rattle.ring_core.proofs.laws.whole_calls_count.Goals as goal
 
 pub returns-clause-puts : goal.returns-clause-puts

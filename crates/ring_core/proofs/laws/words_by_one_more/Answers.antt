@@ -1,4 +1,4 @@
-use Rattle.ring_core.proofs.TakeCalls.{words_read-push, fit-push, words-go_on}
+use Rattle.ring_core.proofs.Machines.TakeCalls.{words_read-push, fit-push, words-go_on}
 use Rattle.ring_core.proofs.laws.words_by_one_more.Goals as goal
 
 pub returns-clause-words : goal.returns-clause-words

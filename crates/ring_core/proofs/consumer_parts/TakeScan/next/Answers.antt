@@ -1,7 +1,7 @@
 use Rattle.std.proofs.Common.{Some, refl}
 use Rattle.ring_core.specs.contracts.consumer_parts.TakeScan.{the_view}
 use Rattle.ring_core.specs.ConsumerState.{ConsumerState, is_taking}
-use Rattle.ring_core.proofs.ConsumerNext.{going_on, going_bounded}
+use Rattle.ring_core.proofs.Machines.ConsumerNext.{going_on, going_bounded}
 use Rattle.ring_core.proofs.TakeScans.{next_there}
 use Rattle.ring_core.proofs.consumer_parts.TakeScan.next.Goals as goal
 

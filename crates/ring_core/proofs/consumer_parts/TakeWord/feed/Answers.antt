@@ -1,5 +1,5 @@
 use Rattle.ring_core.specs.contracts.consumer_parts.TakeWord.{the_view}
-use Rattle.ring_core.proofs.ConsumerMoves.{word_on}
+use Rattle.ring_core.proofs.Machines.ConsumerMoves.{word_on}
 use Rattle.ring_core.proofs.consumer_parts.TakeWord.feed.Goals as goal
 
 pub returns-clause-stands : goal.returns-clause-stands

@@ -1,7 +1,7 @@
 use Rattle.std.proofs.Common.{◌≡◌, Some, sym, ap, subst, ◌∙◌}
 use Rattle.ring_core.specs.ConsumerState.{ConsumerState, is_taking}
 use Rattle.ring_core.specs.ConsumerCalls.{take_batch_reply, IsBatchReplyToTake}
-use Rattle.ring_core.proofs.TakeCalls.{batched-reply}
+use Rattle.ring_core.proofs.Machines.TakeCalls.{batched-reply}
 use Rattle.ring_core.proofs.consumers.Consumer.batch_reply.Goals as goal
 
 -- the answer is that of the last take, by its items

@@ -4,10 +4,10 @@ use Rattle.register_core.specs.UnaryState.{UnaryState, UnaryStands}
 use Rattle.ring_core.specs.declared.consumers.Stage.TheVariants.{Loading, Counting}
 use Rattle.ring_core.specs.contracts.consumers.Consumer.{the_view}
 use Rattle.ring_core.specs.ConsumerState.{ConsumerState, IsBetweenWords, IsConsumer}
-use Rattle.ring_core.proofs.Batches.{taken_so}
+use Rattle.ring_core.proofs.Machines.Batches.{taken_so}
 use Rattle.ring_core.proofs.CountRow.{take_batch_below}
-use Rattle.ring_core.proofs.ConsumerInvariant.{at_stage, now_keeps, first_bit}
-use Rattle.ring_core.proofs.ConsumerMoves.{now_counts}
+use Rattle.ring_core.proofs.Machines.ConsumerInvariant.{at_stage, now_keeps, first_bit}
+use Rattle.ring_core.proofs.Machines.ConsumerMoves.{now_counts}
 use Rattle.ring_core.proofs.consumers.Consumer.count_now.Goals as goal
 
 abbrev with_value : UnaryState → ℕ → UnaryState

@@ -1,8 +1,8 @@
 use Rattle.ring_core.specs.declared.consumers.Stage.TheVariants.{Rescanning}
 use Rattle.ring_core.specs.contracts.consumers.Consumer.{the_view}
 use Rattle.ring_core.specs.ConsumerState.{ConsumerState}
-use Rattle.ring_core.proofs.ConsumerInvariant.{at_stage}
-use Rattle.ring_core.proofs.ConsumerNext.{rescan_zeros}
+use Rattle.ring_core.proofs.Machines.ConsumerInvariant.{at_stage}
+use Rattle.ring_core.proofs.Machines.ConsumerNext.{rescan_zeros}
 use Rattle.ring_core.proofs.consumers.Consumer.expects_one.Goals as goal
 
 pub returns-in-Rescanning-clause-stands : goal.returns-in-Rescanning-clause-stands

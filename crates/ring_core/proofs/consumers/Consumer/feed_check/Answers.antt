@@ -1,7 +1,7 @@
 use Rattle.ring_core.specs.declared.consumers.Stage.TheVariants.{Checking}
-use Rattle.ring_core.proofs.ConsumerInvariant.{at_stage}
+use Rattle.ring_core.proofs.Machines.ConsumerInvariant.{at_stage}
 use Rattle.ring_core.specs.contracts.consumers.Consumer.{the_view}
-use Rattle.ring_core.proofs.ConsumerMoves.{check_one, check_zero}
+use Rattle.ring_core.proofs.Machines.ConsumerMoves.{check_one, check_zero}
 use Rattle.ring_core.proofs.consumers.Consumer.feed_check.Goals as goal
 
 pub returns-then-answer-clause-stands : goal.returns-then-answer-clause-stands

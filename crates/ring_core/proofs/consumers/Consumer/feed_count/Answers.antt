@@ -4,9 +4,9 @@ use Rattle.ring_core.specs.declared.consumers.Stage.TheVariants.{Counting}
 use Rattle.ring_core.specs.contracts.consumers.Consumer.{the_view}
 use Rattle.ring_core.specs.ConsumerState.{ConsumerState}
 use Rattle.ring_core.proofs.CountRow.{take_batch_below}
-use Rattle.ring_core.proofs.MachineParts.{none_next, row_whole}
-use Rattle.ring_core.proofs.ConsumerInvariant.{at_stage}
-use Rattle.ring_core.proofs.ConsumerMoves.{count_on, count_over}
+use Rattle.ring_core.proofs.Machines.MachineParts.{none_next, row_whole}
+use Rattle.ring_core.proofs.Machines.ConsumerInvariant.{at_stage}
+use Rattle.ring_core.proofs.Machines.ConsumerMoves.{count_on, count_over}
 use Rattle.ring_core.proofs.consumers.Consumer.feed_count.Goals as goal
 
 pub returns-then-is_none-clause-stands : goal.returns-then-is_none-clause-stands

@@ -3,9 +3,9 @@ use Rattle.bits_core.specs.declared.events.Side.TheVariants.{C}
 use Rattle.ring_core.specs.declared.consumers.Stage.TheVariants.{Rescanning}
 use Rattle.ring_core.specs.contracts.consumers.Consumer.{the_view}
 use Rattle.ring_core.specs.ConsumerState.{ConsumerState}
-use Rattle.ring_core.proofs.MachineParts.{no_value, gives}
-use Rattle.ring_core.proofs.ConsumerInvariant.{at_stage, rescan_keeps}
-use Rattle.ring_core.proofs.ConsumerMoves.{rescan_on, rescan_item, rescan_none}
+use Rattle.ring_core.proofs.Machines.MachineParts.{no_value, gives}
+use Rattle.ring_core.proofs.Machines.ConsumerInvariant.{at_stage, rescan_keeps}
+use Rattle.ring_core.proofs.Machines.ConsumerMoves.{rescan_on, rescan_item, rescan_none}
 use Rattle.ring_core.proofs.consumers.Consumer.feed_rescan.Goals as goal
 
 pub invariant_of-self : goal.invariant_of-self

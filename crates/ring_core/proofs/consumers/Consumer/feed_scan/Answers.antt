@@ -3,9 +3,9 @@ use Rattle.bits_core.specs.declared.events.Side.TheVariants.{C}
 use Rattle.ring_core.specs.declared.consumers.Stage.TheVariants.{Scanning}
 use Rattle.ring_core.specs.contracts.consumers.Consumer.{the_view}
 use Rattle.ring_core.specs.ConsumerState.{ConsumerState}
-use Rattle.ring_core.proofs.MachineParts.{no_value, gives}
-use Rattle.ring_core.proofs.ConsumerInvariant.{at_stage, scan_keeps}
-use Rattle.ring_core.proofs.ConsumerMoves.{scan_on, scan_item, scan_none}
+use Rattle.ring_core.proofs.Machines.MachineParts.{no_value, gives}
+use Rattle.ring_core.proofs.Machines.ConsumerInvariant.{at_stage, scan_keeps}
+use Rattle.ring_core.proofs.Machines.ConsumerMoves.{scan_on, scan_item, scan_none}
 use Rattle.ring_core.proofs.consumers.Consumer.feed_scan.Goals as goal
 
 pub invariant_of-self : goal.invariant_of-self

@@ -4,10 +4,10 @@ use Rattle.register_core.specs.UnaryState.{UnaryState, UnaryStands}
 use Rattle.ring_core.specs.declared.consumers.Stage.TheVariants.{Loading}
 use Rattle.ring_core.specs.contracts.consumers.Consumer.{the_view}
 use Rattle.ring_core.specs.ConsumerState.{ConsumerState}
-use Rattle.ring_core.proofs.Batches.{taken_so}
+use Rattle.ring_core.proofs.Machines.Batches.{taken_so}
 use Rattle.ring_core.proofs.CountRow.{take_batch_below}
-use Rattle.ring_core.proofs.ConsumerInvariant.{at_stage, word_keeps, word_whole, kept_size}
-use Rattle.ring_core.proofs.ConsumerMoves.{word_on, word_next, word_over}
+use Rattle.ring_core.proofs.Machines.ConsumerInvariant.{at_stage, word_keeps, word_whole, kept_size}
+use Rattle.ring_core.proofs.Machines.ConsumerMoves.{word_on, word_next, word_over}
 use Rattle.ring_core.proofs.consumers.Consumer.feed_word.Goals as goal
 
 abbrev with_value : UnaryState → ℕ → UnaryState

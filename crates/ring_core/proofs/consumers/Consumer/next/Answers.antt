@@ -5,9 +5,9 @@ use Rattle.bits_core.specs.declared.events.Access.TheVariants.{Read}
 use Rattle.ring_core.specs.declared.consumers.Stage.TheVariants.{Scanning, Checking, Rescanning, Loading, Counting}
 use Rattle.ring_core.specs.contracts.consumers.Consumer.{the_view}
 use Rattle.ring_core.specs.ConsumerState.{ConsumerState, is_taking}
-use Rattle.ring_core.proofs.ConsumerInvariant.{at_stage}
-use Rattle.ring_core.proofs.NextParts.{scan_right, row_right, row_below}
-use Rattle.ring_core.proofs.ConsumerNext.{next_scan, next_check, next_rescan, next_word, next_count_write, word_right, going_rests, going_on, going_bounded}
+use Rattle.ring_core.proofs.Machines.ConsumerInvariant.{at_stage}
+use Rattle.ring_core.proofs.Machines.NextParts.{scan_right, row_right, row_below}
+use Rattle.ring_core.proofs.Machines.ConsumerNext.{next_scan, next_check, next_rescan, next_word, next_count_write, word_right, going_rests, going_on, going_bounded}
 use Rattle.ring_core.proofs.consumers.Consumer.next.Goals as goal
 
 pub returns-in-Scanning-clause-right : goal.returns-in-Scanning-clause-right

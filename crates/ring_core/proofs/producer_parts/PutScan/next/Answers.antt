@@ -2,8 +2,8 @@ use Rattle.std.proofs.Common.{Some, refl}
 use Rattle.ring_core.specs.declared.producers.Stage.TheVariants.{Scanning}
 use Rattle.ring_core.specs.contracts.producer_parts.PutScan.{the_view}
 use Rattle.ring_core.specs.ProducerState.{ProducerState, call_of}
-use Rattle.ring_core.proofs.ProducerInvariant.{at_stage}
-use Rattle.ring_core.proofs.ProducerNext.{next_scan, going_on, going_bounded}
+use Rattle.ring_core.proofs.Machines.ProducerInvariant.{at_stage}
+use Rattle.ring_core.proofs.Machines.ProducerNext.{next_scan, going_on, going_bounded}
 use Rattle.ring_core.proofs.producer_parts.PutScan.next.Goals as goal
 
 pub returns-clause-goes_on : goal.returns-clause-goes_on

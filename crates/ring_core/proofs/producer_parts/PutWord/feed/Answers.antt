@@ -1,5 +1,5 @@
 use Rattle.ring_core.specs.contracts.producer_parts.PutWord.{the_view}
-use Rattle.ring_core.proofs.ProducerMoves.{word_on}
+use Rattle.ring_core.proofs.Machines.ProducerMoves.{word_on}
 use Rattle.ring_core.proofs.producer_parts.PutWord.feed.Goals as goal
 
 pub returns-clause-stands : goal.returns-clause-stands

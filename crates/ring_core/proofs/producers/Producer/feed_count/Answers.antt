@@ -3,9 +3,9 @@ use Rattle.bits_core.specs.declared.events.Side.TheVariants.{P}
 use Rattle.ring_core.specs.declared.producers.Stage.TheVariants.{Counting}
 use Rattle.ring_core.specs.contracts.producers.Producer.{the_view}
 use Rattle.ring_core.specs.ProducerState.{ProducerState}
-use Rattle.ring_core.proofs.MachineParts.{none_next, row_whole}
-use Rattle.ring_core.proofs.ProducerInvariant.{at_stage}
-use Rattle.ring_core.proofs.ProducerMoves.{count_on, count_over}
+use Rattle.ring_core.proofs.Machines.MachineParts.{none_next, row_whole}
+use Rattle.ring_core.proofs.Machines.ProducerInvariant.{at_stage}
+use Rattle.ring_core.proofs.Machines.ProducerMoves.{count_on, count_over}
 use Rattle.ring_core.proofs.producers.Producer.feed_count.Goals as goal
 
 pub returns-then-is_none-clause-stands : goal.returns-then-is_none-clause-stands

@@ -1,14 +1,14 @@
 use Rattle.std.proofs.Common.{◌≡◌, ◌⊎◌, ◌+◌, true, false, length, subst, sym, arith}
 use Rattle.bits_core.specs.Shape.{capacity_of, modulus_of}
 use Rattle.ring_core.specs.Counts.{distance}
-use Rattle.ring_core.proofs.Batches.{taken_so}
+use Rattle.ring_core.proofs.Machines.Batches.{taken_so}
 use Rattle.bits_core.specs.declared.events.Side.TheVariants.{P}
 use Rattle.ring_core.specs.declared.producers.Stage.TheVariants.{Scanning}
 use Rattle.ring_core.specs.contracts.producers.Producer.{the_view}
 use Rattle.ring_core.specs.ProducerState.{ProducerState}
-use Rattle.ring_core.proofs.MachineParts.{no_value, gives}
-use Rattle.ring_core.proofs.ProducerInvariant.{at_stage, scan_keeps}
-use Rattle.ring_core.proofs.ProducerMoves.{scan_on, scan_room, scan_full}
+use Rattle.ring_core.proofs.Machines.MachineParts.{no_value, gives}
+use Rattle.ring_core.proofs.Machines.ProducerInvariant.{at_stage, scan_keeps}
+use Rattle.ring_core.proofs.Machines.ProducerMoves.{scan_on, scan_room, scan_full}
 use Rattle.ring_core.proofs.producers.Producer.feed_scan.Goals as goal
 
 pub invariant_of-self : goal.invariant_of-self

@@ -5,10 +5,10 @@ use Rattle.register_core.specs.UnaryState.{UnaryState, UnaryStands}
 use Rattle.ring_core.specs.declared.producers.Stage.TheVariants.{Storing}
 use Rattle.ring_core.specs.contracts.producers.Producer.{the_view}
 use Rattle.ring_core.specs.ProducerState.{ProducerState}
-use Rattle.ring_core.proofs.MachineParts.{none_next}
-use Rattle.ring_core.proofs.Batches.{taken_at, fits_at}
-use Rattle.ring_core.proofs.ProducerInvariant.{at_stage, next_so, word_keeps, word_whole}
-use Rattle.ring_core.proofs.ProducerMoves.{word_on, word_so, word_over}
+use Rattle.ring_core.proofs.Machines.MachineParts.{none_next}
+use Rattle.ring_core.proofs.Machines.Batches.{taken_at, fits_at}
+use Rattle.ring_core.proofs.Machines.ProducerInvariant.{at_stage, next_so, word_keeps, word_whole}
+use Rattle.ring_core.proofs.Machines.ProducerMoves.{word_on, word_so, word_over}
 use Rattle.ring_core.proofs.producers.Producer.feed_word.Goals as goal
 
 abbrev with_value : UnaryState → ℕ → UnaryState

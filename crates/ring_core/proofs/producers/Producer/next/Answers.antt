@@ -3,9 +3,9 @@ use Rattle.bits_core.specs.declared.events.Side.TheVariants.{P}
 use Rattle.ring_core.specs.declared.producers.Stage.TheVariants.{Scanning, Storing, Counting}
 use Rattle.ring_core.specs.contracts.producers.Producer.{the_view}
 use Rattle.ring_core.specs.ProducerState.{ProducerState, call_of}
-use Rattle.ring_core.proofs.ProducerInvariant.{at_stage}
-use Rattle.ring_core.proofs.NextParts.{scan_right, row_right, row_below}
-use Rattle.ring_core.proofs.ProducerNext.{next_scan, next_word, next_count_write, word_right, going_rests, going_on, going_bounded}
+use Rattle.ring_core.proofs.Machines.ProducerInvariant.{at_stage}
+use Rattle.ring_core.proofs.Machines.NextParts.{scan_right, row_right, row_below}
+use Rattle.ring_core.proofs.Machines.ProducerNext.{next_scan, next_word, next_count_write, word_right, going_rests, going_on, going_bounded}
 use Rattle.ring_core.proofs.producers.Producer.next.Goals as goal
 
 pub returns-in-Scanning-clause-right : goal.returns-in-Scanning-clause-right

@@ -1,6 +1,6 @@
 use Rattle.std.proofs.Common.{false}
 use Rattle.ring_core.specs.contracts.producers.Producer.{the_view}
-use Rattle.ring_core.proofs.ProducerMoves.{batched_stands}
+use Rattle.ring_core.proofs.Machines.ProducerMoves.{batched_stands}
 use Rattle.ring_core.proofs.producers.Producer.put.Goals as goal
 
 pub returns-clause-stands : goal.returns-clause-stands

@@ -1,0 +1,168 @@
+-- The writes to the digits of a cell in a history: they are the producer's, and how many began before a place.
+use Rattle.std.proofs.Common.{◌≡◌, ℕ, zero, suc, ◌*◌, ◌<◌, Bool, true, false, Option, Some, None, List, [], ◌∷◌, ◌++◌, length, take, drop, refl, sym, ap, ◌∙◌, arith, append_assoc, append-nil, length-append}
+use Rattle.std.specs.Prelude.{slice_get}
+use Rattle.std.specs.List.{cons_option}
+use Rattle.std.proofs.lemmas.List.{take-append-drop}
+use Rattle.std.proofs.lemmas.List.Elements.{filter-append}
+use Rattle.bits_core.specs.declared.events.Side.{Side}
+use Rattle.bits_core.specs.declared.events.Side.TheVariants.{P}
+use Rattle.bits_core.specs.declared.events.Bit.{Bit}
+use Rattle.bits_core.specs.declared.events.Bit.TheVariants.{S, R, X, Cell}
+use Rattle.bits_core.specs.declared.events.Act.{Act}
+use Rattle.bits_core.specs.declared.events.Act.TheVariants.{ReadBegin, ReadEnd, WriteBegin, WriteEnd}
+use Rattle.bits_core.specs.declared.events.Access.TheVariants as begins
+use Rattle.bits_core.specs.declared.events.Event.{Event}
+use Rattle.bits_core.specs.declared.shapes.Shape.{Shape}
+use Rattle.bits_core.specs.Shape.{IsByRightSide}
+use Rattle.bits_core.specs.Bits.{same_side, doer, begun_access, is_by}
+use Rattle.bits_core.specs.Intervals.{IsWrite}
+use Rattle.bits_core.specs.Lawful.{IsLawful}
+use Rattle.bits_core.specs.Made.{Made, Read, Write, begin_event, end_event, events_of, own, clock, IsBeginning}
+use Rattle.register_core.specs.Row.{RowWrite, row_write}
+use Rattle.register_core.specs.WordLaw.{number_in_cell, cell_write, cell_writes}
+use Rattle.ring_core.proofs.Machines.Following.{events_of-append, length-events}
+use Rattle.ring_core.proofs.Readings.Cuts.{cut}
+use Rattle.ring_core.proofs.Cells.CellTimes.{to_cell, own_number}
+
+-- ---- only the producer writes cells
+
+-- what is no begin of a write writes to no row
+no_row-read : (n : Option ℕ) → row_write n ReadBegin ≡ None
+no_row-read None = refl
+no_row-read (Some i) = refl
+
+no_row-answer : (n : Option ℕ) (v : Bool) → row_write n (ReadEnd v) ≡ None
+no_row-answer None v = refl
+no_row-answer (Some i) v = refl
+
+no_row-end : (n : Option ℕ) → row_write n WriteEnd ≡ None
+no_row-end None = refl
+no_row-end (Some i) = refl
+
+-- an event that is not the producer's is no write to a cell
+not_cell : (j : ℕ) (s : Side) (b : Bit) (a : Act) → s ≡ doer b a → same_side P s ≡ false → row_write (number_in_cell j b) a ≡ None
+not_cell j s b ReadBegin e f = no_row-read (number_in_cell j b)
+not_cell j s b (ReadEnd v) e f = no_row-answer (number_in_cell j b) v
+not_cell j s b WriteEnd e f = no_row-end (number_in_cell j b)
+not_cell j s (S i) (WriteBegin v) e f = refl
+not_cell j s (R i) (WriteBegin v) e f = refl
+not_cell j s X (WriteBegin v) e f = refl
+not_cell j s (Cell l i) (WriteBegin v) e f = absurd (let g : true ≡ false = sym (ap (same_side P) e) ∙ f in cc)
+
+-- each event is by the side that may do it
+abbrev AllRight : Shape → List Event → Type 0
+AllRight shape h = (place : ℕ) (e : Event) → slice_get h place ≡ Some e → IsByRightSide shape e
+
+by_owner :
+    (j : ℕ) (e : Event) (h : List Event) (b : Bool) → is_by P e ≡ b → (b ≡ false → cell_write j e ≡ None) →
+    cell_writes j h ≡ cell_writes j (own P h) → cell_writes j (e ∷ h) ≡ cell_writes j (own P (e ∷ h))
+by_owner j e h true by none rest = rw by (ap (cons_option (cell_write j e)) rest)
+by_owner j e h false by none rest = rw by (ap (λ o. cons_option o (cell_writes j h)) (none refl) ∙ rest)
+
+-- so the writes to a cell are among the producer's own events
+own_writes : (shape : Shape) (j : ℕ) (h : List Event) → AllRight shape h → cell_writes j h ≡ cell_writes j (own P h)
+own_writes shape j [] right = refl
+own_writes shape j (e ∷ h) right =
+    let first : IsByRightSide shape e = right 0 e refl in
+    by_owner j e h (is_by P e) refl (λ not_its. not_cell j e.side e.bit e.act first.by_doer not_its) (own_writes shape j h (λ place. right (suc place)))
+
+taken_from : {A : Type 0} → (h : List A) (t i : ℕ) (e : A) → slice_get (take t h) i ≡ Some e → slice_get h i ≡ Some e
+taken_from h zero i e there = absurd (cc)
+taken_from [] (suc t) i e there = there
+taken_from (x ∷ h) (suc t) zero e there = there
+taken_from (x ∷ h) (suc t) (suc i) e there = taken_from h t i e there
+
+-- ---- the writes among the events of accesses
+
+made_writes_cons :
+    (j : ℕ) (x : Made) (made : List Made) → cell_write j (end_event P x) ≡ None → cell_writes j (events_of P made) ≡ to_cell j made →
+    cell_writes j (events_of P (x ∷ made)) ≡ to_cell j (x ∷ made)
+made_writes_cons j x made none rest =
+    ap (cons_option (cell_write j (begin_event P x))) (ap (λ o. cons_option o (cell_writes j (events_of P made))) none ∙ rest)
+
+events_write : (j : ℕ) (made : List Made) → cell_writes j (events_of P made) ≡ to_cell j made
+events_write j [] = refl
+events_write j (Read b v ∷ made) = made_writes_cons j (Read b v) made (no_row-answer (number_in_cell j b) v) (events_write j made)
+events_write j (Write b v ∷ made) = made_writes_cons j (Write b v) made (no_row-end (number_in_cell j b)) (events_write j made)
+
+-- a side's events before a place are those of its first accesses
+own_before :
+    (s : Side) (h : List Event) (before behind : List Made) (t : ℕ) → IsBeginning (own s h) (events_of s (before ++ behind)) →
+    clock s h t ≡ 2 * length before → own s (take t h) ≡ events_of s before
+own_before s h before behind t (rest, e) count =
+    let parts : own s (take t h) ++ own s (drop t h) ≡ own s h = sym (filter-append (is_by s) (take t h) (drop t h)) ∙ ap (own s) (take-append-drop t h) in
+    let more : List Event = own s (drop t h) ++ rest in
+    let all : own s (take t h) ++ more ≡ events_of s before ++ events_of s behind =
+    sym (append_assoc (own s (take t h)) (own s (drop t h)) rest) ∙ ap (λ l. l ++ rest) parts ∙ e ∙ events_of-append s before behind in
+    let (none, is, other) = cut (events_of s before) (events_of s behind) (own s (take t h)) more (omega (arith, count, length-events s before)) all in
+    by_length none is (omega (arith, count, length-events s before, ap length is, length-append (events_of s before) none))
+  where
+    by_length : (none : List Event) → own s (take t h) ≡ events_of s before ++ none → length none ≡ 0 → own s (take t h) ≡ events_of s before
+    by_length [] is n = is ∙ append-nil (events_of s before)
+    by_length (x ∷ none) is n = absurd (omega (arith, n))
+
+-- as many writes to a cell began before a place as its first accesses have
+pub writes_before :
+    (shape : Shape) (h : List Event) → IsLawful shape h → (j : ℕ) (before behind : List Made) (t : ℕ) →
+    IsBeginning (own P h) (events_of P (before ++ behind)) → clock P h t ≡ 2 * length before → cell_writes j (take t h) ≡ to_cell j before
+writes_before shape h lawful j before behind t follows count =
+    own_writes shape j (take t h) (λ place e there. (lawful.each place e (taken_from h t place e there)).right_side) ∙
+    ap (cell_writes j) (own_before P h before behind t follows count) ∙ events_write j before
+
+-- ---- the order of the writes
+
+more_by_one : {A : Type 0} → (o : Option A) (xs ys : List A) → length xs < length ys → length (cons_option o xs) < length (cons_option o ys)
+more_by_one None xs ys l = l
+more_by_one (Some x) xs ys l = omega (arith, l)
+
+some_more : {A : Type 0} → (o : Option A) (x : A) (xs : List A) → o ≡ Some x → 0 < length (cons_option o xs)
+some_more None x xs e = absurd (cc)
+some_more (Some y) x xs e = omega arith
+
+-- a write counts at each later place
+write_counts :
+    (j : ℕ) (h : List Event) (a b : ℕ) (e : Event) (w : RowWrite) → slice_get h a ≡ Some e → cell_write j e ≡ Some w → a < b →
+    length (cell_writes j (take a h)) < length (cell_writes j (take b h))
+write_counts j [] a b e w there is l = absurd (cc)
+write_counts j (x ∷ h) a zero e w there is l = absurd (omega arith)
+write_counts j (x ∷ h) zero (suc b) e w there is l =
+    let same : x ≡ e = cc in
+    some_more (cell_write j x) w (cell_writes j (take b h)) (ap (cell_write j) same ∙ is)
+write_counts j (x ∷ h) (suc a) (suc b) e w there is l =
+    more_by_one (cell_write j x) (cell_writes j (take a h)) (cell_writes j (take b h)) (write_counts j h a b e w there is (omega arith))
+
+-- and in the end
+write_counts_at_end :
+    (j : ℕ) (h : List Event) (a : ℕ) (e : Event) (w : RowWrite) → slice_get h a ≡ Some e → cell_write j e ≡ Some w →
+    length (cell_writes j (take a h)) < length (cell_writes j h)
+write_counts_at_end j [] a e w there is = absurd (cc)
+write_counts_at_end j (x ∷ h) zero e w there is =
+    let same : x ≡ e = cc in
+    some_more (cell_write j x) w (cell_writes j h) (ap (cell_write j) same ∙ is)
+write_counts_at_end j (x ∷ h) (suc a) e w there is =
+    more_by_one (cell_write j x) (cell_writes j (take a h)) (cell_writes j h) (write_counts_at_end j h a e w there is)
+
+-- an act that begins a write to a digit of the cell
+cell_act :
+    (j d : ℕ) (v : Bool) (b : Bit) (a : Act) → begun_access b a ≡ Some (begins.Write (Cell j d) v) →
+    row_write (number_in_cell j b) a ≡ Some (record { bit = d; value = v })
+cell_act j d v b ReadBegin e = absurd (cc)
+cell_act j d v b (ReadEnd w) e = absurd (cc)
+cell_act j d v b WriteEnd e = absurd (cc)
+cell_act j d v b (WriteBegin w) e =
+    let bits : b ≡ Cell j d = cc in
+    let values : w ≡ v = cc in
+    ap (λ c. row_write (number_in_cell j c) (WriteBegin w)) bits ∙ ap (λ n. row_write n (WriteBegin w)) (own_number j d) ∙
+    ap (λ z. Some (record { bit = d; value = z })) values
+
+module _ (h : List Event) (j d : ℕ) (v : Bool) (start stop : ℕ) (w : IsWrite h (Cell j d) v start stop) where
+  is_cell_write : cell_write j w.event ≡ Some (record { bit = d; value = v })
+  is_cell_write = cell_act j d v w.event.bit w.event.act w.begins
+
+  -- fewer writes to the cell began before a write of its digits than before each later place
+  pub write_is_counted : (b : ℕ) → start < b → length (cell_writes j (take start h)) < length (cell_writes j (take b h))
+  write_is_counted b l = write_counts j h start b w.event _ w.at_start is_cell_write l
+
+  -- and than in the end
+  pub write_is_counted_at_end : length (cell_writes j (take start h)) < length (cell_writes j h)
+  write_is_counted_at_end = write_counts_at_end j h start w.event _ w.at_start is_cell_write

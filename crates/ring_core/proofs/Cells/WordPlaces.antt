@@ -1,0 +1,314 @@
+-- A word among the accesses of a program is that of an item of a look.
+use Rattle.std.proofs.Common.{◌≡◌, ◌⊎◌, inl, inr, ℕ, zero, suc, ◌+◌, ◌*◌, ◌%◌, ◌<◌, Bool, true, false, Some, List, [], ◌∷◌, ◌++◌, length, refl, sym, ap, ◌∙◌, arith, length-append, append-nil, append_assoc}
+use Rattle.std.specs.Prelude.{slice_get}
+use Rattle.std.proofs.Math.Nat.{suc-mul}
+use Rattle.bits_core.specs.declared.events.Side.{Side}
+use Rattle.bits_core.specs.declared.events.Side.TheVariants.{P, C}
+use Rattle.bits_core.specs.declared.events.Bit.{Bit}
+use Rattle.bits_core.specs.declared.events.Bit.TheVariants.{X, Cell}
+use Rattle.bits_core.specs.declared.shapes.Shape.{Shape}
+use Rattle.bits_core.specs.Shape.{capacity_of, width_of}
+use Rattle.bits_core.specs.Made.{Made, Read, Write}
+use Rattle.register_core.specs.Phrases.{RowWrite, row_bit, writes_in, digit, digit_writes, word_read, word_write, zero_reads, scan_phrase, row_read_by}
+use Rattle.ring_core.specs.Counts.{Count, count_bits}
+use Rattle.ring_core.specs.Puts.{words_phrase, close_phrase}
+use Rattle.ring_core.proofs.Readings.Parts.{NoneAre, none-append, behind, never}
+use Rattle.ring_core.proofs.OverSpans.Spans.{Span, Outcome, Passes, Stops, Asks, counts, whole, IsSpanAt}
+use Rattle.ring_core.proofs.OverSpans.LookSpans.{Look, words_read, word_part, count_part, after_look, look_accesses, span_of, spans}
+use Rattle.ring_core.proofs.OverSpans.Looks.{after_counts}
+
+-- ---- words, from the first digit on
+
+-- a side's access to a digit of a cell: the producer writes it, and the consumer reads it
+abbrev digit_access : Side → ℕ → ℕ → Bool → Made
+digit_access P j i v = Write (Cell j i) v
+digit_access C j i v = Read (Cell j i) v
+
+-- the first access of a word
+abbrev IsFirst : Side → Made → Type 0
+IsFirst s x = (j : ℕ) × (v : Bool) × (x ≡ digit_access s j 0 v)
+
+-- the word of an item
+abbrev pub word_of : Side → ℕ → ℕ → ℕ → List Made
+word_of P width j item = word_write width j item
+word_of C width j item = word_read width j item
+
+not_later : (s : Side) (j i : ℕ) (v : Bool) → IsFirst s (digit_access s j (suc i) v) → ⊥
+not_later P j i v (k, u, e) = let other : suc i ≡ 0 = cc in omega (arith, other)
+not_later C j i v (k, u, e) = let other : suc i ≡ 0 = cc in omega (arith, other)
+
+writes-append : (row : ℕ → Bit) (xs ys : List RowWrite) → writes_in row (xs ++ ys) ≡ writes_in row xs ++ writes_in row ys
+writes-append row [] ys = refl
+writes-append row (x ∷ xs) ys = ap (λ l. Write (row x.bit) x.value ∷ l) (writes-append row xs ys)
+
+digit_last : (s : Side) (w j item : ℕ) → word_of s (suc w) j item ≡ word_of s w j item ++ digit_access s j w (digit w item) ∷ []
+digit_last P w j item = writes-append (Cell j) (digit_writes item w) (record { bit = w; value = digit w item } ∷ [])
+digit_last C w j item = refl
+
+-- what follows the first digit
+record Front (s : Side) (w j item : ℕ) : Type 0 where
+  pub tail : List Made
+  pub is : word_of s w j item ≡ digit_access s j 0 (digit 0 item) ∷ tail
+  pub none : NoneAre (IsFirst s) tail
+  pub long : suc (length tail) ≡ w
+
+front_of : (s : Side) (w j item : ℕ) → Front s (suc w) j item
+front_of P zero j item = record { tail = []; is = refl; none = tt; long = refl }
+front_of C zero j item = record { tail = []; is = refl; none = tt; long = refl }
+front_of s (suc w) j item =
+    let r = front_of s w j item in
+    let last : Made = digit_access s j (suc w) (digit (suc w) item) in
+    record {
+      tail = r.tail ++ last ∷ [];
+      is = digit_last s (suc w) j item ∙ ap (λ l. l ++ last ∷ []) r.is;
+      none = none-append (IsFirst s) r.tail (last ∷ []) r.none (not_later s j w (digit (suc w) item), tt);
+      long = omega (arith, r.long, length-append r.tail (last ∷ []));
+    }
+
+some_digits : (s : Side) (w j item : ℕ) → 0 < w → Front s w j item
+some_digits s zero j item l = absurd (omega (arith, l))
+some_digits s (suc w) j item l = front_of s w j item
+
+same_cell : (s : Side) (j k : ℕ) (u v : Bool) → digit_access s j 0 u ≡ digit_access s k 0 v → j ≡ k
+same_cell P j k u v e = cc
+same_cell C j k u v e = cc
+
+-- ---- the words of items, one after the other
+
+abbrev words_of : Side → Shape → ℕ → List ℕ → List Made
+words_of P shape n items = words_phrase shape n items
+words_of C shape n items = words_read shape n items
+
+words_nil : (s : Side) (shape : Shape) (n : ℕ) → words_of s shape n [] ≡ []
+words_nil P shape n = refl
+words_nil C shape n = refl
+
+words_cons : (s : Side) (shape : Shape) (n item : ℕ) (items : List ℕ) →
+    words_of s shape n (item ∷ items) ≡ word_of s (width_of shape) (n % capacity_of shape) item ++ words_of s shape (suc n) items
+words_cons P shape n item items = refl
+words_cons C shape n item items = refl
+
+-- the item whose word begins there
+record ItemAt (s : Side) (shape : Shape) (n : ℕ) (items : List ℕ) (before rest : List Made) (cell : ℕ) (v : Bool) : Type 0 where
+  pub index : ℕ
+  pub item : ℕ
+  pub listed : slice_get items index ≡ Some item
+  pub cell_is : (n + index) % capacity_of shape ≡ cell
+  pub long : length before ≡ index * width_of shape
+  pub after : List Made
+  pub there : digit_access s cell 0 v ∷ rest ≡ word_of s (width_of shape) cell item ++ after
+
+abbrev IsBehind : List Made → List Made → List Made → Made → List Made → Type 0
+IsBehind xs more before z rest = (front : List Made) × (before ≡ xs ++ front) × (more ≡ front ++ z ∷ rest)
+
+item_there :
+    (s : Side) (shape : Shape) (n : ℕ) (items : List ℕ) (more before rest : List Made) (cell : ℕ) (v : Bool) →
+    words_of s shape n items ++ more ≡ before ++ digit_access s cell 0 v ∷ rest →
+    ItemAt s shape n items before rest cell v ⊎ IsBehind (words_of s shape n items) more before (digit_access s cell 0 v) rest
+item_there s shape n [] more before rest cell v e =
+    let none = words_nil s shape n in
+    inr (before, ap (λ l. l ++ before) (sym none), ap (λ l. l ++ more) (sym none) ∙ e)
+item_there s shape n (item ∷ items) more [] rest cell v e =
+    let w : ℕ = width_of shape in
+    let j : ℕ = n % capacity_of shape in
+    let later : List Made = words_of s shape (suc n) items ++ more in
+    let r = some_digits s w j item shape.has_digits in
+    let joined : word_of s w j item ++ later ≡ digit_access s cell 0 v ∷ rest =
+    sym (append_assoc (word_of s w j item) (words_of s shape (suc n) items) more) ∙ ap (λ l. l ++ more) (sym (words_cons s shape n item items)) ∙ e in
+    let first : digit_access s j 0 (digit 0 item) ∷ (r.tail ++ later) ≡ digit_access s cell 0 v ∷ rest = sym (ap (λ l. l ++ later) r.is) ∙ joined in
+    let heads : digit_access s j 0 (digit 0 item) ≡ digit_access s cell 0 v = cc in
+    let same : j ≡ cell = same_cell s j cell (digit 0 item) v heads in
+    let number : n + 0 ≡ n = omega arith in
+    inl (record {
+      index = 0;
+      item = item;
+      listed = refl;
+      cell_is = ap (λ k. k % capacity_of shape) number ∙ same;
+      long = omega arith;
+      after = later;
+      there = sym joined ∙ ap (λ k. word_of s w k item ++ later) same;
+    })
+item_there s shape n (item ∷ items) more (y ∷ before) rest cell v e =
+    let w : ℕ = width_of shape in
+    let j : ℕ = n % capacity_of shape in
+    let word : List Made = word_of s w j item in
+    let words : List Made = words_of s shape (suc n) items in
+    let z : Made = digit_access s cell 0 v in
+    let r = some_digits s w j item shape.has_digits in
+    let joined : word ++ (words ++ more) ≡ y ∷ (before ++ z ∷ rest) = sym (append_assoc word words more) ∙ ap (λ l. l ++ more) (sym (words_cons s shape n item items)) ∙ e in
+    let first : digit_access s j 0 (digit 0 item) ∷ (r.tail ++ (words ++ more)) ≡ y ∷ (before ++ z ∷ rest) = sym (ap (λ l. l ++ (words ++ more)) r.is) ∙ joined in
+    let later : r.tail ++ (words ++ more) ≡ before ++ z ∷ rest = cc in
+    let head : y ≡ digit_access s j 0 (digit 0 item) = cc in
+    let (a, a_is, a_left) = behind (IsFirst s) r.tail (words ++ more) before rest z (cell, v, refl) r.none later in
+    let front : y ∷ before ≡ digit_access s j 0 (digit 0 item) ∷ (r.tail ++ a) = cc in
+    let word_is : y ∷ before ≡ word ++ a = front ∙ ap (λ l. l ++ a) (sym r.is) in
+    elim (item_there s shape (suc n) items more a rest cell v a_left) [
+      | inl q ↦
+          let number : n + suc q.index ≡ suc n + q.index = omega arith in
+          inl (record {
+            index = suc q.index;
+            item = q.item;
+            listed = q.listed;
+            cell_is = ap (λ k. k % capacity_of shape) number ∙ q.cell_is;
+            long = omega (arith, ap length word_is, length-append word a, ap length r.is, r.long, q.long, suc-mul q.index w);
+            after = q.after;
+            there = q.there;
+          })
+      | inr (b, b_is, left) ↦
+          inr (b, word_is ∙ ap (λ l. word ++ l) b_is ∙ sym (append_assoc word words b) ∙ ap (λ l. l ++ b) (sym (words_cons s shape n item items)), left)
+    ]
+
+-- ---- accesses with which no word begins
+
+not_scan : (s : Side) (i : ℕ) (u : Bool) → IsFirst s (Read (row_read_by s i) u) → ⊥
+not_scan P i u (k, v, e) = absurd (cc)
+not_scan C i u (k, v, e) = absurd (cc)
+
+none-zeros : (s : Side) (n : ℕ) → NoneAre (IsFirst s) (zero_reads (row_read_by s) n)
+none-zeros s zero = tt
+none-zeros s (suc n) = none-append (IsFirst s) (zero_reads (row_read_by s) n) (Read (row_read_by s n) false ∷ []) (none-zeros s n) (not_scan s n false, tt)
+
+none-scan : (s : Side) (c : ℕ) → NoneAre (IsFirst s) (scan_phrase (row_read_by s) c)
+none-scan s c = none-append (IsFirst s) (zero_reads (row_read_by s) c) (Read (row_read_by s c) true ∷ []) (none-zeros s c) (not_scan s c true, tt)
+
+not_count : (s : Side) (i : ℕ) (u : Bool) → IsFirst s (Write (row_bit s i) u) → ⊥
+not_count P i u (k, v, e) = absurd (cc)
+not_count C i u (k, v, e) = absurd (cc)
+
+none-count : (s : Side) (writes : List RowWrite) → NoneAre (IsFirst s) (writes_in (row_bit s) writes)
+none-count s [] = tt
+none-count s (w ∷ writes) = (not_count s w.bit w.value, none-count s writes)
+
+none-count_part : (s : Side) (shape : Shape) (c : Count) (o : Outcome) → NoneAre (IsFirst s) (count_part s shape c o)
+none-count_part s shape c (Passes items) = none-count s (count_bits shape c items)
+none-count_part s shape c Stops = tt
+none-count_part s shape c (Asks answer) = tt
+
+not_close : (s : Side) (u : Bool) → IsFirst s (Read X u) → ⊥
+not_close P u (k, v, e) = absurd (cc)
+not_close C u (k, v, e) = absurd (cc)
+
+not_closing : (s : Side) (u : Bool) → IsFirst s (Write X u) → ⊥
+not_closing P u (k, v, e) = absurd (cc)
+not_closing C u (k, v, e) = absurd (cc)
+
+pub none-close : (s : Side) (closes : Bool) → NoneAre (IsFirst s) (close_phrase closes)
+none-close s false = tt
+none-close s true = (not_closing s true, tt)
+
+-- ---- the word of a look
+
+record InOutcome (s : Side) (shape : Shape) (n : ℕ) (o : Outcome) (before rest : List Made) (cell : ℕ) (v : Bool) : Type 0 where
+  pub items : List ℕ
+  pub outcome_is : o ≡ Passes items
+  pub at : ItemAt s shape n items before rest cell v
+
+part_there :
+    (s : Side) (shape : Shape) (n : ℕ) (o : Outcome) (more before rest : List Made) (cell : ℕ) (v : Bool) →
+    word_part s shape n o ++ more ≡ before ++ digit_access s cell 0 v ∷ rest →
+    InOutcome s shape n o before rest cell v ⊎ IsBehind (word_part s shape n o) more before (digit_access s cell 0 v) rest
+part_there P shape n (Passes items) more before rest cell v e =
+    elim (item_there P shape n items more before rest cell v e) [ inl r ↦ inl (record { items = items; outcome_is = refl; at = r }) | inr r ↦ inr r ]
+part_there C shape n (Passes items) more before rest cell v e =
+    elim (item_there C shape n items more before rest cell v e) [ inl r ↦ inl (record { items = items; outcome_is = refl; at = r }) | inr r ↦ inr r ]
+part_there P shape n Stops more before rest cell v e = inr (before, refl, e)
+part_there C shape n Stops more before rest cell v e = inr (before, refl, e)
+part_there P shape n (Asks answer) more before rest cell v e =
+    inr (behind (IsFirst P) (Read X answer ∷ []) more before rest (digit_access P cell 0 v) (cell, v, refl) (not_close P answer, tt) e)
+part_there C shape n (Asks answer) more before rest cell v e =
+    inr (behind (IsFirst C) (Read X answer ∷ []) more before rest (digit_access C cell 0 v) (cell, v, refl) (not_close C answer, tt) e)
+
+-- the span of the look, and which of its items
+pub record WordSpan (s : Side) (shape : Shape) (n : ℕ) (xs : List Span) (before whole_rest : List Made) (cell : ℕ) : Type 0 where
+  pub start : ℕ
+  pub number : ℕ
+  pub span : Span
+  pub stands : IsSpanAt xs start number span
+  pub items : List ℕ
+  pub outcome_is : span.outcome ≡ Passes items
+  pub index : ℕ
+  pub item : ℕ
+  pub listed : slice_get items index ≡ Some item
+  pub cell_is : (n + number + index) % capacity_of shape ≡ cell
+  pub place : 2 * length before ≡ start + span.scan + 2 * (index * width_of shape)
+  pub after : List Made
+  pub there : whole_rest ≡ word_of s (width_of shape) cell item ++ after
+
+word_from :
+    (s : Side) (shape : Shape) (c : Count) (looks : List Look) (tail : List Made) → NoneAre (IsFirst s) tail → (before rest : List Made) (cell : ℕ) (v : Bool) →
+    look_accesses s shape c looks tail ≡ before ++ digit_access s cell 0 v ∷ rest →
+    WordSpan s shape c.number (spans s shape c looks) before (digit_access s cell 0 v ∷ rest) cell
+word_from s shape c [] tail none before rest cell v e =
+    let (front, is, left) = behind (IsFirst s) tail [] before rest (digit_access s cell 0 v) (cell, v, refl) none (append-nil tail ∙ e) in
+    absurd (never front _ rest left)
+word_from s shape c (l ∷ looks) tail none before rest cell v e =
+    let next : Count = after_look shape c l.outcome in
+    let z : Made = digit_access s cell 0 v in
+    let scan : List Made = scan_phrase (row_read_by s) l.seen in
+    let word : List Made = word_part s shape c.number l.outcome in
+    let count : List Made = count_part s shape c l.outcome in
+    let later : List Made = look_accesses s shape next looks tail in
+    let (a, a_is, a_left) = behind (IsFirst s) scan (word ++ (count ++ later)) before rest z (cell, v, refl) (none-scan s l.seen) e in
+    elim (part_there s shape c.number l.outcome (count ++ later) a rest cell v a_left) [
+      | inl r ↦
+          let number : c.number + 0 + r.at.index ≡ c.number + r.at.index = omega arith in
+          record {
+            start = 0;
+            number = 0;
+            span = span_of s shape c l;
+            stands = inl (refl, refl, refl);
+            items = r.items;
+            outcome_is = r.outcome_is;
+            index = r.at.index;
+            item = r.at.item;
+            listed = r.at.listed;
+            cell_is = ap (λ k. k % capacity_of shape) number ∙ r.at.cell_is;
+            place = omega (arith, ap length a_is, length-append scan a, r.at.long);
+            after = r.at.after;
+            there = r.at.there;
+          }
+      | inr (b, b_is, b_left) ↦
+          let (d, d_is, d_left) = behind (IsFirst s) count later b rest z (cell, v, refl) (none-count_part s shape c l.outcome) b_left in
+          let r = word_from s shape next looks tail none d rest cell v d_left in
+          let number : c.number + (counts l.outcome + r.number) + r.index ≡ next.number + r.number + r.index = omega (arith, after_counts c.number l.outcome) in
+          record {
+            start = whole (span_of s shape c l) + r.start;
+            number = counts l.outcome + r.number;
+            span = r.span;
+            stands = inr (r.start, r.number, refl, refl, r.stands);
+            items = r.items;
+            outcome_is = r.outcome_is;
+            index = r.index;
+            item = r.item;
+            listed = r.listed;
+            cell_is = ap (λ k. k % capacity_of shape) number ∙ r.cell_is;
+            place = omega (arith, ap length a_is, length-append scan a, ap length b_is, length-append word b, ap length d_is, length-append count d, r.place);
+            after = r.after;
+            there = r.there;
+          }
+    ]
+
+-- a word that stands there is that of an item
+pub word_there :
+    (s : Side) (shape : Shape) (c : Count) (looks : List Look) (tail : List Made) → NoneAre (IsFirst s) tail → (before after : List Made) (cell item : ℕ) →
+    look_accesses s shape c looks tail ≡ before ++ (word_of s (width_of shape) cell item ++ after) →
+    WordSpan s shape c.number (spans s shape c looks) before (word_of s (width_of shape) cell item ++ after) cell
+word_there s shape c looks tail none before after cell item e =
+    let r = some_digits s (width_of shape) cell item shape.has_digits in
+    let from : word_of s (width_of shape) cell item ++ after ≡ digit_access s cell 0 (digit 0 item) ∷ (r.tail ++ after) = ap (λ l. l ++ after) r.is in
+    let z = word_from s shape c looks tail none before (r.tail ++ after) cell (digit 0 item) (e ∙ ap (λ l. before ++ l) from) in
+    record {
+      start = z.start;
+      number = z.number;
+      span = z.span;
+      stands = z.stands;
+      items = z.items;
+      outcome_is = z.outcome_is;
+      index = z.index;
+      item = z.item;
+      listed = z.listed;
+      cell_is = z.cell_is;
+      place = z.place;
+      after = z.after;
+      there = from ∙ z.there;
+    }

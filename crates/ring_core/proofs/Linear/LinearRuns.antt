@@ -1,0 +1,193 @@
+-- Every run of the ring is linearizable.
+use Rattle.std.proofs.Common.{◌≡◌, inl, inr, ℕ, ◌+◌, ◌-◌, ◌<◌, ◌≤◌, Bool, true, false, nat_le, if◌then◌else◌, List, [], ◌∷◌, ◌++◌, length, refl, sym, ap, subst, ◌∙◌, arith, length-append}
+use Rattle.std.proofs.lemmas.Bool.Decides.{nat_tests}
+use Rattle.queue_calls.specs.Queue.{queue}
+use Rattle.bits_core.specs.declared.events.Side.TheVariants.{P, C}
+use Rattle.bits_core.specs.declared.events.Event.{Event}
+use Rattle.bits_core.specs.declared.shapes.Shape.{Shape}
+use Rattle.bits_core.specs.Shape.{batch_of, capacity_of, take_batch_of}
+use Rattle.bits_core.specs.Made.{own, clock}
+use Rattle.ring_core.specs.Counts.{Count, first_count}
+use Rattle.ring_core.specs.Puts.{Puts, put_phrases}
+use Rattle.ring_core.specs.Takes.{Take, Item, ItemAfterClose, Empty, Takes, taken_in, count_after, take_phrase, take_phrases, end_phrase, take_program}
+use Rattle.ring_core.specs.Items.{events_in, items_put, items_taken, Tells}
+use Rattle.ring_core.proofs.EndedCounts.{taken_begun}
+use Rattle.ring_core.specs.RingLaw.{IsRun}
+use Rattle.ring_core.specs.Linear.{Operation, EndsBefore, KeepsTime, IsLinearizableRun}
+use Rattle.ring_core.proofs.OverSpans.Spans.{counts_begun, counts_ended}
+use Rattle.ring_core.proofs.OverSpans.LookSpans.{put_spans, take_spans}
+use Rattle.ring_core.proofs.OverSpans.RingOfSpans.{LawOfSpans}
+use Rattle.ring_core.proofs.CountRow.{past_is}
+use Rattle.ring_core.proofs.OverSpans.Timeline.{ended_begun, length-begun_items}
+use Rattle.ring_core.proofs.OverSpans.Looks.{proper_puts, proper_takes, puts_items}
+use Rattle.ring_core.proofs.OverSpans.CallSpans.{stands_at}
+use Rattle.ring_core.proofs.CallCounts.{taken_begun_is}
+use Rattle.ring_core.proofs.CloseReads.{OwnFacts}
+use Rattle.ring_core.proofs.HistoryClocks.{clock-zero}
+use Rattle.ring_core.proofs.OwnEvents.{clock_within, clock_end, clock_rises}
+use Rattle.ring_core.proofs.Linear.Turns.{In, PutOp, TakeOp, Tallies}
+use Rattle.ring_core.proofs.Linear.OneOrder.{IsTimely, Ordered, PutsNumbered, TakesNumbered, items_put_by, IsClosedBy, goes}
+use Rattle.ring_core.proofs.Linear.PutTurns.{put_turns, put_turns-ops, put_turns-sorted}
+use Rattle.ring_core.proofs.Linear.PutTurnFacts.{put_turns-numbered, put_turns-items, put_turns-closed, puts_hold}
+use Rattle.ring_core.proofs.Linear.TakeTurns.{take_turns, take_turns-ops, take_turns-sorted, take_turns-numbered, taken_from}
+use Rattle.ring_core.proofs.Linear.TakeTurnFacts.{takes_hold}
+
+-- an order that keeps time from the front keeps it
+in_behind : (xs ys : List Operation) (b : Operation) → In b (xs ++ b ∷ ys)
+in_behind [] ys b = inl refl
+in_behind (x ∷ xs) ys b = inr (in_behind xs ys b)
+
+timely_at : (h : List Event) (a b : Operation) (front between rest : List Operation) → IsTimely h (front ++ a ∷ between ++ b ∷ rest) → ¬ EndsBefore h b a
+timely_at h a b [] between rest r = r.0 b (in_behind between rest b)
+timely_at h a b (o ∷ front) between rest r = timely_at h a b front between rest r.1
+
+keeps_time : (h : List Event) (order : List Operation) → IsTimely h order → KeepsTime h order
+keeps_time h order r a b front between rest e = timely_at h a b front between rest (subst (IsTimely h) e r)
+
+-- once all takes have ended, as many items were taken as they take
+le_is : (a b : ℕ) → a ≤ b → nat_le a b ≡ true
+le_is a b l = grind (arith, nat_tests)
+
+some_taken : (long t : ℕ) (these items : List ℕ) → long ≤ t → length ((if nat_le long t then these else []) ++ items) ≡ length these + length items
+some_taken long t these items l = ap (λ (b : Bool). length ((if b then these else []) ++ items)) (le_is long t l) ∙ length-append these items
+
+all_taken : (shape : Shape) (c : Count) (takes : List Take) (t : ℕ) → events_in (take_phrases shape c takes) ≤ t → c.number + length (items_taken shape c takes t) ≡ taken_in c.number takes
+all_taken shape c [] t l = omega arith
+all_taken shape c (Item seen items ∷ takes) t l =
+    let x : Take = Item seen items in
+    let next : Count = count_after shape c x in
+    let long : ℕ = events_in (take_phrase shape c x) in
+    let both = length-append (take_phrase shape c x) (take_phrases shape next takes) in
+    omega (arith, past_is c.number items, some_taken long t items (items_taken shape next takes (t - long)) (omega (arith, l, both)), all_taken shape next takes (t - long) (omega (arith, l, both)))
+all_taken shape c (ItemAfterClose seen again items ∷ takes) t l =
+    let x : Take = ItemAfterClose seen again items in
+    let next : Count = count_after shape c x in
+    let long : ℕ = events_in (take_phrase shape c x) in
+    let both = length-append (take_phrase shape c x) (take_phrases shape next takes) in
+    omega (arith, past_is c.number items, some_taken long t items (items_taken shape next takes (t - long)) (omega (arith, l, both)), all_taken shape next takes (t - long) (omega (arith, l, both)))
+all_taken shape c (Empty seen ∷ takes) t l =
+    let x : Take = Empty seen in
+    let long : ℕ = events_in (take_phrase shape c x) in
+    let both = length-append (take_phrase shape c x) (take_phrases shape c takes) in
+    all_taken shape (count_after shape c x) takes (t - long) (omega (arith, l, both))
+
+module _ (facts : OwnFacts) (shape : Shape) (h : List Event) (puts : Puts) (takes : Takes) (run : IsRun shape h puts takes) (law : LawOfSpans shape h puts takes) where
+  abbrev xs : List PutOp
+  xs = put_turns shape first_count 0 puts.puts puts.closes (length (own P h))
+
+  abbrev ys : List TakeOp
+  ys = take_turns h shape first_count 0 takes.takes takes.end (length (own C h))
+
+  abbrev stored : ℕ
+  stored = counts_begun (put_spans shape puts) (length (own P h))
+
+  abbrev taken : ℕ
+  taken = taken_begun shape first_count takes.takes (length (own C h))
+
+  abbrev events : ℕ
+  events = events_in (put_phrases shape first_count puts.puts)
+
+  tallies : Tallies h (capacity_of shape) (counts_begun (put_spans shape puts)) (counts_ended (put_spans shape puts)) (counts_begun (take_spans shape takes)) (counts_ended (take_spans shape takes))
+  tallies = record {
+    has_cell = shape.has_cells;
+    few = λ t. (law.within t).0;
+    room = λ t. (law.within t).1;
+    puts_end = λ i. (ended_begun (batch_of shape) (put_spans shape puts) (proper_puts shape puts run.puts_follow.are) i).0;
+    takes_end = λ i. (ended_begun (take_batch_of shape) (take_spans shape takes) (proper_takes shape takes run.takes_follow.are) i).0;
+    up_p = clock_rises P h;
+    up_c = clock_rises C h;
+  }
+
+  taken_is : counts_begun (take_spans shape takes) (length (own C h)) ≡ taken
+  taken_is = sym (taken_begun_is shape first_count takes.takes takes.end (length (own C h)))
+
+  more_stored : taken ≤ stored
+  more_stored =
+      omega (arith, (law.within (length h)).0, ap (counts_begun (put_spans shape puts)) (clock_end P h), ap (counts_begun (take_spans shape takes)) (clock_end C h), taken_is)
+
+  within : stored ≤ taken + capacity_of shape
+  within =
+      omega (arith, (law.within (length h)).1, ap (counts_begun (put_spans shape puts)) (clock_end P h), ap (counts_begun (take_spans shape takes)) (clock_end C h), taken_is)
+
+  -- as many items are put as are stored
+  stored_is : length (items_put shape first_count puts.puts (length (own P h))) ≡ stored
+  stored_is = ap length (puts_items shape first_count puts.puts (length (own P h))) ∙ length-begun_items (put_spans shape puts) (length (own P h))
+
+  told :
+      (t : ℕ) → Tells takes.end → 0 + events_in (take_phrases shape first_count takes.takes ++ end_phrase takes.end) ≤ clock C h t →
+      (events < clock P h t) × (taken_in 0 takes.takes ≡ stored) × (puts.closes ≡ true)
+  told t tells l =
+      let u : ℕ = t + length h in
+      let ended : events_in (take_program shape takes) ≤ clock C h t = omega (arith, l) in
+      let now = law.closed t t (tells, ended) (omega arith) in
+      let (put, taken', closes, behind) = law.closed t u (tells, ended) (omega arith) in
+      let last : clock P h u ≡ length (own P h) = omega (arith, clock_within P h u, clock_rises P h (length h) u (omega arith), clock_end P h) in
+      let fewer : events_in (take_phrases shape first_count takes.takes) ≤ clock C h u =
+      omega (arith, ended, clock_rises C h t u (omega arith), length-append (take_phrases shape first_count takes.takes) (end_phrase takes.end)) in (
+        now.3,
+        omega (
+          arith,
+          all_taken shape first_count takes.takes (clock C h u) fewer,
+          ap length taken',
+          ap length put,
+          ap (λ j. length (items_put shape first_count puts.puts j)) last,
+          stored_is,
+        ),
+        closes,
+      )
+
+  takes_numbered : TakesNumbered taken 0 ys
+  takes_numbered =
+      let whole : length (own C h) - 0 ≡ length (own C h) = omega arith in
+      take_turns-numbered h shape first_count 0 takes.takes takes.end (length (own C h)) taken (omega (arith, ap (taken_begun shape first_count takes.takes) whole))
+
+  puts_numbered : PutsNumbered stored 0 xs
+  puts_numbered =
+      let whole : length (own P h) - 0 ≡ length (own P h) = omega arith in
+      put_turns-numbered shape first_count 0 puts.puts puts.closes (length (own P h)) stored (omega (arith, ap (counts_begun (put_spans shape puts)) whole))
+
+  items_are : items_put_by xs ≡ items_put shape first_count puts.puts (length (own P h))
+  items_are =
+      let whole : length (own P h) - 0 ≡ length (own P h) = omega arith in
+      put_turns-items shape first_count 0 puts.puts puts.closes (length (own P h)) ∙ ap (items_put shape first_count puts.puts) whole
+
+  ordered : Ordered h (capacity_of shape) (queue [] false) xs ys
+  ordered =
+      let put_holds =
+      puts_hold facts shape h puts takes law (proper_puts shape puts run.puts_follow.are) (proper_takes shape takes run.takes_follow.are) first_count 0 puts.puts puts.closes
+      (λ s n x st. stands_at (put_spans shape puts) s (0 + s) n (0 + n) x (omega arith) (omega arith) st) (omega arith) (omega arith) in
+      let take_holds =
+      takes_hold facts shape h puts takes law (proper_takes shape takes run.takes_follow.are) first_count 0 takes.takes takes.end
+      (λ s n x st. stands_at (take_spans shape takes) s (0 + s) n (0 + n) x (omega arith) (omega arith) st) told in
+      let (rest, same) = taken_from (items_put shape first_count puts.puts (length (own P h))) taken 0 ys takes_numbered (λ y i. (take_holds y i).1) in
+      goes h (capacity_of shape) events stored taken (counts_begun (put_spans shape puts)) (counts_ended (put_spans shape puts)) (counts_begun (take_spans shape takes))
+      (counts_ended (take_spans shape takes)) tallies more_stored within ys xs 0 [] false
+      (record {
+        fits = omega arith;
+        puts_numbered = puts_numbered;
+        takes_numbered = takes_numbered;
+        puts_sorted = put_turns-sorted shape first_count 0 puts.puts puts.closes (length (own P h));
+        takes_sorted = take_turns-sorted h shape first_count 0 takes.takes takes.end (length (own C h));
+        puts = put_holds;
+        takes = λ y i. (take_holds y i).0;
+        fulls = λ x i s. omega (arith, (put_holds x i).0.full s 0 (omega (arith, clock-zero P h)));
+        empties = λ y i s. (omega arith, refl);
+        opened = λ x i. refl;
+        ends = λ y i s.
+            (let (behind, closes) = (take_holds y i).2 s in
+            subst (λ b. IsClosedBy false (put_turns shape first_count 0 puts.puts b (length (own P h)))) (sym closes)
+            (put_turns-closed shape first_count 0 puts.puts (length (own P h)) (omega (arith, behind))));
+        same = (rest, items_are ∙ same);
+      })
+
+  pub linearizable : IsLinearizableRun shape h puts takes
+  linearizable =
+      let r = ordered in (
+        r.order,
+        record {
+          producer = r.producer ∙ put_turns-ops shape first_count 0 puts.puts puts.closes (length (own P h));
+          consumer = r.consumer ∙ take_turns-ops h shape first_count 0 takes.takes takes.end (length (own C h));
+          legal = r.legal;
+          keeps_time = keeps_time h r.order r.timely;
+        },
+      )

@@ -1,0 +1,273 @@
+-- What holds of the operations of the producer's calls in a run.
+use Rattle.std.proofs.Common.{◌≡◌, inl, inr, ℕ, suc, ◌+◌, ◌-◌, ◌<◌, ◌≤◌, Bool, true, false, nat_lt, nat_le, if◌then◌else◌, List, [], ◌∷◌, ◌++◌, length, refl, sym, ap, subst, ◌∙◌, arith, length-append}
+use Rattle.std.proofs.lemmas.Bool.Decides.{nat_tests}
+use Rattle.bits_core.specs.declared.events.Side.{Side}
+use Rattle.bits_core.specs.declared.events.Side.TheVariants.{P, C}
+use Rattle.bits_core.specs.declared.events.Event.{Event}
+use Rattle.bits_core.specs.declared.shapes.Shape.{Shape}
+use Rattle.bits_core.specs.Shape.{batch_of, capacity_of, take_batch_of}
+use Rattle.bits_core.specs.Made.{own, clock, place_of, IsPlaceOf}
+use Rattle.register_core.specs.ScanState.{scan_phrase, row_read_by}
+use Rattle.ring_core.specs.Counts.{number_past, Count, first_count, batch_phrase}
+use Rattle.ring_core.specs.Puts.{Put, Stored, Full, Puts, stored_after, words_phrase, put_phrase, put_phrases}
+use Rattle.ring_core.specs.Takes.{Takes}
+use Rattle.ring_core.specs.Items.{events_in, items_put}
+use Rattle.ring_core.proofs.OverSpans.Spans.{Span, Passes, Stops, counts, before_count, whole, counts_begun, counts_ended, IsSpanAt}
+use Rattle.ring_core.proofs.OverSpans.LookSpans.{look, put_looks, span_of, spans, put_spans, take_spans}
+use Rattle.ring_core.proofs.OverSpans.RingOfSpans.{LawOfSpans}
+use Rattle.ring_core.proofs.Readings.Cuts.{at_most_or_above}
+use Rattle.ring_core.proofs.CountRow.{past_is}
+use Rattle.ring_core.proofs.OverSpans.Timeline.{AllProper, begun_at, begun_up, begun_all, ended_up, in_all}
+use Rattle.ring_core.proofs.OverSpans.CallSpans.{three, stands_at}
+use Rattle.ring_core.proofs.CallCounts.{ended_counts}
+use Rattle.ring_core.proofs.CloseReads.{OwnFacts}
+use Rattle.ring_core.proofs.OwnEvents.{clock_rises}
+use Rattle.ring_core.proofs.Linear.Turns.{In, Fulls, Closes, IsEnqueue, PutOp, PutFact, enqueue_not_full, enqueue_not_close}
+use Rattle.ring_core.proofs.Linear.OneOrder.{PutsNumbered, items_put_by, IsClosedBy}
+use Rattle.ring_core.proofs.Linear.PutTurns.{if_yes, if_no, by_test, in_append, in_if, lt_says, lt_denies, le_says, begun_past_count, begun_before_count, begun_of_none, begun_counts, put_turn, enqueue_turns, put_long, until_count, put_turns, put_turns-none, put_some, before_put_ends, enqueue_of}
+
+-- the place of an own event is the last at which no more events have come
+pub last_place : (s : Side) (h : List Event) (i place t : ℕ) → IsPlaceOf s h i place → clock s h t ≤ i → t ≤ place
+last_place s h i place t q l = elim (at_most_or_above t place) [
+  | inl m ↦ m
+  | inr m ↦ absurd (omega (arith, clock_rises s h (suc place) t m, q.past, l))
+]
+
+-- a put has the events of its span
+pub long_is : (shape : Shape) (c : Count) (seen : ℕ) (items : List ℕ) → put_long shape c (Stored seen items) ≡ whole (span_of P shape c (look seen (Passes items)))
+long_is shape c seen items = omega (arith, three (scan_phrase (row_read_by P) seen) (words_phrase shape c.number items) (batch_phrase shape P c items))
+
+until_is : (shape : Shape) (c : Count) (seen : ℕ) (items : List ℕ) → until_count shape c seen items ≡ before_count (span_of P shape c (look seen (Passes items)))
+until_is shape c seen items = omega (arith, length-append (scan_phrase (row_read_by P) seen) (words_phrase shape c.number items))
+
+-- ---- their numbers
+
+enqueues_numbered :
+    (last n start stop : ℕ) (items : List ℕ) (xs : List PutOp) → PutsNumbered last (number_past n items) xs → PutsNumbered last n (enqueue_turns n start stop items ++ xs)
+enqueues_numbered last n start stop [] xs r = r
+enqueues_numbered last n start stop (item ∷ items) xs r = (refl, enqueues_numbered last (suc n) start stop items xs r)
+
+pub put_turns-numbered :
+    (shape : Shape) (c : Count) (start : ℕ) (puts : List Put) (closes : Bool) (t last : ℕ) →
+    c.number + counts_begun (spans P shape c (put_looks puts)) (t - start) ≡ last → PutsNumbered last c.number (put_turns shape c start puts closes t)
+put_turns-numbered shape c start [] false t last e = omega (arith, e)
+put_turns-numbered shape c start [] true t last e = by_test (nat_lt start t)
+    (λ f. subst (PutsNumbered last c.number) (sym (if_yes (nat_lt start t) (put_turn c.number Closes start (start + 2) ∷ []) f)) (refl, omega (arith, e)))
+    (λ f. subst (PutsNumbered last c.number) (sym (if_no (nat_lt start t) (put_turn c.number Closes start (start + 2) ∷ []) f)) (omega (arith, e)))
+put_turns-numbered shape c start (Stored seen items ∷ puts) closes t last e =
+    let stop : ℕ = start + put_long shape c (Stored seen items) in
+    let next : Count = stored_after shape c (Stored seen items) in
+    let rest : List PutOp = put_turns shape next stop puts closes t in
+    let test : Bool = nat_lt (start + until_count shape c seen items) t in
+    let y : Span = span_of P shape c (look seen (Passes items)) in
+    let ys : List Span = spans P shape next (put_looks puts) in
+    let long = long_is shape c seen items in
+    let front = until_is shape c seen items in
+    by_test test
+    (λ f.
+    (let past_count = begun_past_count y ys (t - start) (omega (arith, lt_says (start + until_count shape c seen items) t f, front)) in
+    let later : t - start - whole y ≡ t - stop = omega (arith, long) in
+    let e' : next.number + counts_begun ys (t - stop) ≡ last = omega (arith, e, past_count, past_is c.number items, ap (counts_begun ys) later) in
+    subst (λ l. PutsNumbered last c.number (l ++ rest)) (sym (if_yes test (enqueue_turns c.number start stop items) f))
+    (enqueues_numbered last c.number start stop items rest (put_turns-numbered shape next stop puts closes t last e'))))
+    (λ f.
+    (let early = lt_denies (start + until_count shape c seen items) t f in
+    let none : rest ≡ [] = put_turns-none shape next stop puts closes t (omega (arith, early, before_put_ends shape c seen items)) in
+    let e' : c.number ≡ last = omega (arith, e, begun_before_count y ys (t - start) (omega (arith, early, front))) in
+    subst (λ l. PutsNumbered last c.number (l ++ rest)) (sym (if_no test (enqueue_turns c.number start stop items) f))
+    (subst (PutsNumbered last c.number) (sym none) e')))
+put_turns-numbered shape c start (Full seen ∷ puts) closes t last e =
+    let stop : ℕ = start + put_long shape c (Full seen) in
+    let rest : List PutOp = put_turns shape c stop puts closes t in
+    let y : Span = span_of P shape c (look seen Stops) in
+    let ys : List Span = spans P shape c (put_looks puts) in
+    let later : t - start - whole y ≡ t - stop = omega arith in
+    let e' : c.number + counts_begun ys (t - stop) ≡ last = omega (arith, e, begun_of_none y ys (t - start) refl, ap (counts_begun ys) later) in
+    let r = put_turns-numbered shape c stop puts closes t last e' in
+    by_test (nat_le stop t)
+    (λ f. subst (λ l. PutsNumbered last c.number (l ++ rest)) (sym (if_yes (nat_le stop t) (put_turn c.number Fulls start stop ∷ []) f)) (refl, r))
+    (λ f. subst (λ l. PutsNumbered last c.number (l ++ rest)) (sym (if_no (nat_le stop t) (put_turn c.number Fulls start stop ∷ []) f)) r)
+
+-- ---- their items
+
+enqueues_items : (n start stop : ℕ) (items : List ℕ) (xs : List PutOp) → items_put_by (enqueue_turns n start stop items ++ xs) ≡ items ++ items_put_by xs
+enqueues_items n start stop [] xs = refl
+enqueues_items n start stop (item ∷ items) xs = ap (λ l. item ∷ l) (enqueues_items (suc n) start stop items xs)
+
+join_items :
+    (test test' : Bool) (n start stop : ℕ) (items rest : List ℕ) (xs : List PutOp) → test ≡ test' → items_put_by xs ≡ rest →
+    items_put_by ((if test then enqueue_turns n start stop items else []) ++ xs) ≡ (if test' then items else []) ++ rest
+join_items true test' n start stop items rest xs e f = subst (λ b. items_put_by (enqueue_turns n start stop items ++ xs) ≡ (if b then items else []) ++ rest) e (enqueues_items n start stop items xs ∙ ap (λ l. items ++ l) f)
+join_items false test' n start stop items rest xs e f = subst (λ b. items_put_by xs ≡ (if b then items else []) ++ rest) e f
+
+full_items : (test : Bool) (n start stop : ℕ) (xs : List PutOp) → items_put_by ((if test then put_turn n Fulls start stop ∷ [] else []) ++ xs) ≡ items_put_by xs
+full_items true n start stop xs = refl
+full_items false n start stop xs = refl
+
+close_items : (test : Bool) (n start stop : ℕ) → items_put_by (if test then put_turn n Closes start stop ∷ [] else []) ≡ []
+close_items true n start stop = refl
+close_items false n start stop = refl
+
+pub lt_behind : (a b t : ℕ) → nat_lt (a + b) t ≡ nat_lt b (t - a)
+lt_behind a b t = grind (arith, nat_tests)
+
+pub put_turns-items :
+    (shape : Shape) (c : Count) (start : ℕ) (puts : List Put) (closes : Bool) (t : ℕ) →
+    items_put_by (put_turns shape c start puts closes t) ≡ items_put shape c puts (t - start)
+put_turns-items shape c start [] false t = refl
+put_turns-items shape c start [] true t = close_items (nat_lt start t) c.number start (start + 2)
+put_turns-items shape c start (Stored seen items ∷ puts) closes t =
+    let stop : ℕ = start + put_long shape c (Stored seen items) in
+    let next : Count = stored_after shape c (Stored seen items) in
+    let later : t - stop ≡ t - start - put_long shape c (Stored seen items) = omega arith in
+    join_items (nat_lt (start + until_count shape c seen items) t) (nat_lt (until_count shape c seen items) (t - start)) c.number start stop items _ _
+    (lt_behind start (until_count shape c seen items) t)
+    (put_turns-items shape next stop puts closes t ∙ ap (items_put shape next puts) later)
+put_turns-items shape c start (Full seen ∷ puts) closes t =
+    let stop : ℕ = start + put_long shape c (Full seen) in
+    let later : t - stop ≡ t - start - put_long shape c (Full seen) = omega arith in
+    full_items (nat_le stop t) c.number start stop (put_turns shape c stop puts closes t) ∙ put_turns-items shape c stop puts closes t ∙ ap (items_put shape c puts) later
+
+-- ---- the close
+
+closed_enqueues : (b : Bool) (n start stop : ℕ) (items : List ℕ) (xs : List PutOp) → IsClosedBy b xs → IsClosedBy b (enqueue_turns n start stop items ++ xs)
+closed_enqueues b n start stop [] xs r = r
+closed_enqueues b n start stop (item ∷ items) xs r = closed_enqueues b (suc n) start stop items xs r
+
+pub put_turns-closed :
+    (shape : Shape) (c : Count) (start : ℕ) (puts : List Put) (t : ℕ) → start + events_in (put_phrases shape c puts) < t → IsClosedBy false (put_turns shape c start puts true t)
+put_turns-closed shape c start [] t l =
+    subst (IsClosedBy false) (sym (if_yes (nat_lt start t) (put_turn c.number Closes start (start + 2) ∷ []) (lt_is_here start t (omega (arith, l))))) refl
+  where
+    lt_is_here : (a b : ℕ) → a < b → nat_lt a b ≡ true
+    lt_is_here a b m = grind (arith, nat_tests)
+put_turns-closed shape c start (Stored seen items ∷ puts) t l =
+    let stop : ℕ = start + put_long shape c (Stored seen items) in
+    let next : Count = stored_after shape c (Stored seen items) in
+    let rest : List PutOp = put_turns shape next stop puts true t in
+    let test : Bool = nat_lt (start + until_count shape c seen items) t in
+    let r = put_turns-closed shape next stop puts t (omega (arith, l, length-append (put_phrase shape c (Stored seen items)) (put_phrases shape next puts))) in
+    by_test test
+    (λ f. subst (λ l. IsClosedBy false (l ++ rest)) (sym (if_yes test (enqueue_turns c.number start stop items) f)) (closed_enqueues false c.number start stop items rest r))
+    (λ f. subst (λ l. IsClosedBy false (l ++ rest)) (sym (if_no test (enqueue_turns c.number start stop items) f)) r)
+put_turns-closed shape c start (Full seen ∷ puts) t l =
+    let stop : ℕ = start + put_long shape c (Full seen) in
+    let rest : List PutOp = put_turns shape c stop puts true t in
+    let r = put_turns-closed shape c stop puts t (omega (arith, l, length-append (put_phrase shape c (Full seen)) (put_phrases shape c puts))) in
+    by_test (nat_le stop t)
+    (λ f. subst (λ l. IsClosedBy false (l ++ rest)) (sym (if_yes (nat_le stop t) (put_turn c.number Fulls start stop ∷ []) f)) r)
+    (λ f. subst (λ l. IsClosedBy false (l ++ rest)) (sym (if_no (nat_le stop t) (put_turn c.number Fulls start stop ∷ []) f)) r)
+
+-- ---- what holds of each
+
+module _ (facts : OwnFacts) (shape : Shape) (h : List Event) (puts : Puts) (takes : Takes) (law : LawOfSpans shape h puts takes)
+    (proper_puts : AllProper (batch_of shape) (put_spans shape puts)) (proper_takes : AllProper (take_batch_of shape) (take_spans shape takes)) where
+  -- the events of all puts
+  abbrev all_events : ℕ
+  all_events = events_in (put_phrases shape first_count puts.puts)
+
+  abbrev IsPut : PutOp → Type 0
+  IsPut x =
+      PutFact h (capacity_of shape) all_events (counts_begun (put_spans shape puts)) (counts_ended (put_spans shape puts)) (counts_ended (take_spans shape takes)) x ×
+      (IsEnqueue x.kind → x.number < counts_begun (put_spans shape puts) (length (own P h)))
+
+  -- the spans of puts stand among those of all, behind so many events and a count
+  abbrev Stand : Count → ℕ → List Put → Type 0
+  Stand c start rest = (s n : ℕ) (x : Span) → IsSpanAt (spans P shape c (put_looks rest)) s n x → IsSpanAt (put_spans shape puts) (start + s) (c.number + n) x
+
+  stand_on :
+      (c next : Count) (start stop : ℕ) (y : Span) (puts' rest : List Put) → spans P shape c (put_looks puts') ≡ y ∷ spans P shape next (put_looks rest) →
+      stop ≡ start + whole y → next.number ≡ c.number + counts y.outcome → Stand c start puts' → Stand next stop rest
+  stand_on c next start stop y puts' rest e f g stand s n x st =
+      let here : IsSpanAt (spans P shape c (put_looks puts')) (whole y + s) (counts y.outcome + n) x = subst (λ l. IsSpanAt l (whole y + s) (counts y.outcome + n) x) (sym e) (inr (s, n, refl, refl, st)) in
+      stands_at (put_spans shape puts) (start + (whole y + s)) (stop + s) (c.number + (counts y.outcome + n)) (next.number + n) x (omega (arith, f)) (omega (arith, g))
+      (stand (whole y + s) (counts y.outcome + n) x here)
+
+  -- what has begun before a span that stands there
+  begun_there : (start n : ℕ) (y : Span) → IsSpanAt (put_spans shape puts) start n y → (i : ℕ) → i ≤ start → counts_begun (put_spans shape puts) i ≤ n
+  begun_there start n y st i l =
+      let here : counts_begun (put_spans shape puts) (start + 0) ≡ n = begun_at (batch_of shape) (put_spans shape puts) proper_puts start n y st 0 (omega arith) in
+      omega (arith, here, begun_up (batch_of shape) (put_spans shape puts) proper_puts i (start + 0) (omega (arith, l)))
+
+  pub puts_hold :
+      (c : Count) (start : ℕ) (rest : List Put) (closes : Bool) → Stand c start rest → start + events_in (put_phrases shape c rest) ≡ all_events →
+      c.number + in_all (spans P shape c (put_looks rest)) ≡ in_all (put_spans shape puts) →
+      (x : PutOp) → In x (put_turns shape c start rest closes (length (own P h))) → IsPut x
+  puts_hold c start [] false stand e f x i = absurd i
+  puts_hold c start [] true stand e f x i = elim (in_if x (nat_lt start (length (own P h))) (put_turn c.number Closes start (start + 2) ∷ []) i).1 [
+    | inl g ↦ subst IsPut (sym g) ((
+      record {
+        some = omega arith;
+        begins = omega (arith, e);
+        not_begun = λ j l. omega (arith, f, begun_all (batch_of shape) (put_spans shape puts) proper_puts j);
+        ended = λ s. absurd s;
+        full = λ s. absurd s;
+        close = λ s. omega (arith, e);
+      },
+      λ s. absurd s,
+    ))
+    | inr j ↦ absurd j
+  ]
+  puts_hold c start (Stored seen items ∷ rest) closes stand e f x i =
+      let stop : ℕ = start + put_long shape c (Stored seen items) in
+      let next : Count = stored_after shape c (Stored seen items) in
+      let t : ℕ = length (own P h) in
+      let test : Bool = nat_lt (start + until_count shape c seen items) t in
+      let y : Span = span_of P shape c (look seen (Passes items)) in
+      let long = long_is shape c seen items in
+      let front = until_is shape c seen items in
+      let st : IsSpanAt (put_spans shape puts) start c.number y =
+      stands_at (put_spans shape puts) (start + 0) start (c.number + 0) c.number y (omega arith) (omega arith) (stand 0 0 y (inl (refl, refl, refl))) in
+      elim (in_append x (if test then enqueue_turns c.number start stop items else []) (put_turns shape next stop rest closes t) i) [
+        | inl j ↦ (
+            let (holds, k) = in_if x test (enqueue_turns c.number start stop items) j in
+            let r = enqueue_of c.number start stop items x k in
+            let begun = begun_counts (put_spans shape puts) start c.number y t st (omega (arith, lt_says (start + until_count shape c seen items) t holds, front)) in (
+              record {
+                some = omega (arith, r.starts, r.stops, before_put_ends shape c seen items);
+                begins = omega (arith, r.starts, e);
+                not_begun = λ m l. omega (arith, begun_there start c.number y st m (omega (arith, l, r.starts)), r.number);
+                ended = λ s m l. omega (arith, ended_counts (put_spans shape puts) start c.number y m st (omega (arith, l, r.stops, long)), r.number, r.inside);
+                full = λ s. absurd (enqueue_not_full x.kind r.enqueues s);
+                close = λ s. absurd (enqueue_not_close x.kind r.enqueues s);
+              },
+              λ s. omega (arith, begun, r.number, r.inside),
+            ))
+        | inr j ↦ puts_hold next stop rest closes
+            (stand_on c next start stop y (Stored seen items ∷ rest) rest refl (omega (arith, long)) (past_is c.number items) stand)
+            (omega (arith, e, length-append (put_phrase shape c (Stored seen items)) (put_phrases shape next rest)))
+            (omega (arith, f, past_is c.number items)) x j
+      ]
+  puts_hold c start (Full seen ∷ rest) closes stand e f x i =
+      let stop : ℕ = start + put_long shape c (Full seen) in
+      let t : ℕ = length (own P h) in
+      let y : Span = span_of P shape c (look seen Stops) in
+      let some = put_some shape c seen in
+      let st : IsSpanAt (put_spans shape puts) start c.number y =
+      stands_at (put_spans shape puts) (start + 0) start (c.number + 0) c.number y (omega arith) (omega arith) (stand 0 0 y (inl (refl, refl, refl))) in
+      elim (in_append x (if nat_le stop t then put_turn c.number Fulls start stop ∷ [] else []) (put_turns shape c stop rest closes t) i) [
+        | inl j ↦ (
+            let (holds, k) = in_if x (nat_le stop t) (put_turn c.number Fulls start stop ∷ []) j in
+            let over : stop ≤ t = le_says stop t holds in
+            let first : ℕ = place_of P h start in
+            let is_first : IsPlaceOf P h start first = facts.has_place P h start (omega (arith, over, some)) in
+            let few = law.full start c.number y st refl (omega (arith, over)) first is_first in
+            elim k [
+              | inl g ↦ subst IsPut (sym g) ((
+                record {
+                  some = omega (arith, some);
+                  begins = omega (arith, e);
+                  not_begun = begun_there start c.number y st;
+                  ended = λ s. absurd s;
+                  full = λ s m l. omega (arith, few, ended_up (take_batch_of shape) (take_spans shape takes) proper_takes (clock C h m) (clock C h first) (clock_rises C h m first (last_place P h start first m is_first l)));
+                  close = λ s. absurd s;
+                },
+                λ s. absurd s,
+              ))
+              | inr m ↦ absurd m
+            ])
+        | inr j ↦ puts_hold c stop rest closes
+            (stand_on c c start stop y (Full seen ∷ rest) rest refl (omega arith) (omega arith) stand)
+            (omega (arith, e, length-append (put_phrase shape c (Full seen)) (put_phrases shape c rest)))
+            (omega (arith, f)) x j
+      ]

@@ -1,0 +1,307 @@
+-- The operations of the producer's calls, with their numbers: their order, and what holds of each.
+use Rattle.std.proofs.Common.{◌≡◌, ◌⊎◌, inl, inr, ℕ, suc, ◌+◌, ◌-◌, ◌<◌, ◌≤◌, Bool, true, false, nat_lt, nat_le, if◌then◌else◌, List, [], ◌∷◌, ◌++◌, length, refl, sym, ap, ap₂, subst, ◌∙◌, arith, length-append, map}
+use Rattle.std.proofs.lemmas.Bool.Decides.{nat_tests}
+use Rattle.bits_core.specs.declared.events.Side.TheVariants.{P}
+use Rattle.bits_core.specs.declared.shapes.Shape.{Shape}
+use Rattle.bits_core.specs.Made.{Made}
+use Rattle.register_core.specs.ScanState.{scan_phrase, row_read_by}
+use Rattle.ring_core.specs.Counts.{number_past, Count, batch_phrase}
+use Rattle.ring_core.specs.Puts.{Put, Stored, Full, stored_after, accesses_before_count, words_phrase, put_phrase}
+use Rattle.ring_core.specs.Items.{events_in}
+use Rattle.queue_calls.specs.Queue.{Enqueue}
+use Rattle.ring_core.specs.Linear.{Operation, operations, put_operations}
+use Rattle.ring_core.proofs.OverSpans.Spans.{Span, counts, before_count, whole, counts_begun, IsSpanAt}
+use Rattle.ring_core.proofs.CountRow.{past_is}
+use Rattle.ring_core.proofs.Machines.Lengths.{length-scan}
+use Rattle.ring_core.proofs.OverSpans.Timeline.{begun_zero}
+use Rattle.ring_core.proofs.Linear.Turns.{In, Putting, Enqueues, Fulls, Closes, IsEnqueue, PutOp, put_op, PutsTo, enqueue_not_full}
+use Rattle.ring_core.proofs.Linear.OneOrder.{put_ops, PutsSorted}
+
+-- ---- lists under a test
+
+pub if_yes : {A : Type 0} (t : Bool) (xs : List A) → t ≡ true → (if t then xs else []) ≡ xs
+if_yes t xs e = rw e refl
+
+pub if_no : {A : Type 0} (t : Bool) (xs : List A) → t ≡ false → (if t then xs else []) ≡ []
+if_no t xs e = rw e refl
+
+pub by_test : {G : Type 0} (t : Bool) → (t ≡ true → G) → (t ≡ false → G) → G
+by_test true f g = f refl
+by_test false f g = g refl
+
+pub in_append : {A : Type 0} (x : A) (xs ys : List A) → In x (xs ++ ys) → In x xs ⊎ In x ys
+in_append x [] ys i = inr i
+in_append x (z ∷ xs) ys (inl e) = inl (inl e)
+in_append x (z ∷ xs) ys (inr i) = elim (in_append x xs ys i) [ inl j ↦ inl (inr j) | inr j ↦ inr j ]
+
+pub in_if : {A : Type 0} (x : A) (t : Bool) (xs : List A) → In x (if t then xs else []) → (t ≡ true) × In x xs
+in_if x true xs i = (refl, i)
+in_if x false xs i = absurd i
+
+pub lt_says : (a b : ℕ) → nat_lt a b ≡ true → a < b
+lt_says a b e = grind (arith, nat_tests)
+
+pub lt_denies : (a b : ℕ) → nat_lt a b ≡ false → b ≤ a
+lt_denies a b e = grind (arith, nat_tests)
+
+pub le_says : (a b : ℕ) → nat_le a b ≡ true → a ≤ b
+le_says a b e = grind (arith, nat_tests)
+
+pub le_denies : (a b : ℕ) → nat_le a b ≡ false → b < a
+le_denies a b e = grind (arith, nat_tests)
+
+pub lt_is : (a b : ℕ) → a < b → nat_lt a b ≡ true
+lt_is a b l = grind (arith, nat_tests)
+
+pub lt_not : (a b : ℕ) → b ≤ a → nat_lt a b ≡ false
+lt_not a b l = grind (arith, nat_tests)
+
+pub le_not : (a b : ℕ) → b < a → nat_le a b ≡ false
+le_not a b l = grind (arith, nat_tests)
+
+-- ---- counts that have begun, by the first span
+
+pub begun_past_count : (y : Span) (ys : List Span) (i : ℕ) → before_count y < i → counts_begun (y ∷ ys) i ≡ counts y.outcome + counts_begun ys (i - whole y)
+begun_past_count y ys i l = ap (λ (b : Bool). (if b then counts y.outcome else 0) + counts_begun ys (i - whole y)) (lt_is (before_count y) i l)
+
+pub begun_before_count : (y : Span) (ys : List Span) (i : ℕ) → i ≤ before_count y → counts_begun (y ∷ ys) i ≡ 0
+begun_before_count y ys i l =
+    let none : i - whole y ≡ 0 = omega arith in
+    ap (λ (b : Bool). (if b then counts y.outcome else 0) + counts_begun ys (i - whole y)) (lt_not (before_count y) i l) ∙ ap (λ j. 0 + counts_begun ys j) none ∙ omega (arith, begun_zero ys)
+
+pub begun_of_none : (y : Span) (ys : List Span) (i : ℕ) → counts y.outcome ≡ 0 → counts_begun (y ∷ ys) i ≡ counts_begun ys (i - whole y)
+begun_of_none y ys i e = by_test (nat_lt (before_count y) i)
+    (λ f. ap (λ (b : Bool). (if b then counts y.outcome else 0) + counts_begun ys (i - whole y)) f ∙ omega (arith, e))
+    (λ f. ap (λ (b : Bool). (if b then counts y.outcome else 0) + counts_begun ys (i - whole y)) f ∙ omega arith)
+
+-- the items of a span whose count write has begun are counted
+pub begun_counts : (xs : List Span) (s n : ℕ) (x : Span) (i : ℕ) → IsSpanAt xs s n x → s + before_count x < i → n + counts x.outcome ≤ counts_begun xs i
+begun_counts [] s n x i st l = elim st [ ]
+begun_counts (y ∷ ys) s n x i (inl st) l =
+    let same : before_count x ≡ before_count y = ap (λ (z : Span). before_count z) st.2 in
+    omega (arith, begun_past_count y ys i (omega (arith, l, same)), ap (λ (z : Span). counts z.outcome) st.2, st.1)
+begun_counts (y ∷ ys) s n x i (inr st) l =
+    omega (arith, begun_past_count y ys i (omega (arith, l, st.2)), begun_counts ys st.0 st.1 x (i - whole y) st.4 (omega (arith, l, st.2)), st.3)
+
+-- ---- the operations
+
+abbrev pub put_turn : ℕ → Putting → ℕ → ℕ → PutOp
+put_turn n kind start stop = record { number = n; kind = kind; start = start; stop = stop }
+
+abbrev pub enqueue_turns : ℕ → ℕ → ℕ → List ℕ → List PutOp
+enqueue_turns n start stop [] = []
+enqueue_turns n start stop (item ∷ items) = put_turn n (Enqueues item) start stop ∷ enqueue_turns (suc n) start stop items
+
+-- how many events a put has, and one that stores up to its count write
+abbrev pub put_long : Shape → Count → Put → ℕ
+put_long shape c x = events_in (put_phrase shape c x)
+
+abbrev pub until_count : Shape → Count → ℕ → List ℕ → ℕ
+until_count shape c seen items = events_in (accesses_before_count shape c.number seen items)
+
+abbrev pub put_turns : Shape → Count → ℕ → List Put → Bool → ℕ → List PutOp
+put_turns shape c start [] false t = []
+put_turns shape c start [] true t = (if nat_lt start t then put_turn c.number Closes start (start + 2) ∷ [] else [])
+put_turns shape c start (Stored seen items ∷ puts) closes t =
+    (if nat_lt (start + until_count shape c seen items) t then enqueue_turns c.number start (start + put_long shape c (Stored seen items)) items else [])
+    ++ put_turns shape (stored_after shape c (Stored seen items)) (start + put_long shape c (Stored seen items)) puts closes t
+put_turns shape c start (Full seen ∷ puts) closes t =
+    (if nat_le (start + put_long shape c (Full seen)) t then put_turn c.number Fulls start (start + put_long shape c (Full seen)) ∷ [] else [])
+    ++ put_turns shape c (start + put_long shape c (Full seen)) puts closes t
+
+-- ---- they are those of the statement
+
+put_ops-append : (xs ys : List PutOp) → put_ops (xs ++ ys) ≡ put_ops xs ++ put_ops ys
+put_ops-append [] ys = refl
+put_ops-append (x ∷ xs) ys = ap (λ l. put_op x ∷ l) (put_ops-append xs ys)
+
+put_ops-if : (t : Bool) (xs : List PutOp) → put_ops (if t then xs else []) ≡ (if t then put_ops xs else [])
+put_ops-if true xs = refl
+put_ops-if false xs = refl
+
+enqueue_turns-ops : (n start stop : ℕ) (items : List ℕ) → put_ops (enqueue_turns n start stop items) ≡ operations P start stop (map Enqueue items)
+enqueue_turns-ops n start stop [] = refl
+enqueue_turns-ops n start stop (item ∷ items) = ap (λ l. put_op (put_turn n (Enqueues item) start stop) ∷ l) (enqueue_turns-ops (suc n) start stop items)
+
+one_test : (a n t : ℕ) → nat_lt (a + n) t ≡ nat_le (a + suc n) t
+one_test a n t = grind (arith, nat_tests)
+
+join_ops :
+    (t t' : Bool) (xs ys : List PutOp) (os rest : List Operation) → t ≡ t' → put_ops xs ≡ os → put_ops ys ≡ rest →
+    put_ops ((if t then xs else []) ++ ys) ≡ (if t' then os else []) ++ rest
+join_ops t t' xs ys os rest e f g =
+    put_ops-append (if t then xs else []) ys ∙ ap₂ (λ a b. a ++ b) (put_ops-if t xs ∙ ap (λ l. if t then l else []) f ∙ ap (λ (b : Bool). if b then os else []) e) g
+
+pub put_turns-ops :
+    (shape : Shape) (c : Count) (start : ℕ) (puts : List Put) (closes : Bool) (t : ℕ) →
+    put_ops (put_turns shape c start puts closes t) ≡ put_operations shape c start puts closes t
+put_turns-ops shape c start [] false t = refl
+put_turns-ops shape c start [] true t =
+    let test : nat_lt start t ≡ nat_le (start + 1) t = grind (arith, nat_tests) in
+    put_ops-if (nat_lt start t) (put_turn c.number Closes start (start + 2) ∷ []) ∙
+    ap (λ (b : Bool). if b then put_op (put_turn c.number Closes start (start + 2)) ∷ [] else []) test
+put_turns-ops shape c start (Stored seen items ∷ puts) closes t =
+    let stop : ℕ = start + put_long shape c (Stored seen items) in
+    let until : ℕ = until_count shape c seen items in
+    join_ops (nat_lt (start + until) t) (nat_le (start + suc until) t) (enqueue_turns c.number start stop items) _ _ _ (one_test start until t)
+    (enqueue_turns-ops c.number start stop items) (put_turns-ops shape (stored_after shape c (Stored seen items)) stop puts closes t)
+put_turns-ops shape c start (Full seen ∷ puts) closes t =
+    let stop : ℕ = start + put_long shape c (Full seen) in
+    join_ops (nat_le stop t) (nat_le stop t) (put_turn c.number Fulls start stop ∷ []) _ _ _ refl refl (put_turns-ops shape c stop puts closes t)
+
+-- ---- where nothing has begun there are none
+
+pub put_some : (shape : Shape) (c : Count) (seen : ℕ) → 1 ≤ put_long shape c (Full seen)
+put_some shape c seen = omega (arith, length-scan (row_read_by P) seen)
+
+pub before_put_ends : (shape : Shape) (c : Count) (seen : ℕ) (items : List ℕ) →
+    (1 ≤ until_count shape c seen items) × (until_count shape c seen items ≤ put_long shape c (Stored seen items))
+before_put_ends shape c seen items =
+    let a : List Made = scan_phrase (row_read_by P) seen in
+    let b : List Made = words_phrase shape c.number items in
+    let d : List Made = batch_phrase shape P c items in
+    omega (arith, length-scan (row_read_by P) seen, length-append a b, length-append (a ++ b) d)
+
+no_turns : (xs ys : List PutOp) → xs ≡ [] → ys ≡ [] → xs ++ ys ≡ []
+no_turns xs ys e f = ap₂ (λ a b. a ++ b) e f
+
+pub put_turns-none :
+    (shape : Shape) (c : Count) (start : ℕ) (puts : List Put) (closes : Bool) (t : ℕ) → t ≤ start → put_turns shape c start puts closes t ≡ []
+put_turns-none shape c start [] false t l = refl
+put_turns-none shape c start [] true t l = if_no (nat_lt start t) (put_turn c.number Closes start (start + 2) ∷ []) (lt_not start t l)
+put_turns-none shape c start (Stored seen items ∷ puts) closes t l =
+    let stop : ℕ = start + put_long shape c (Stored seen items) in
+    no_turns _ (put_turns shape (stored_after shape c (Stored seen items)) stop puts closes t)
+    (if_no (nat_lt (start + until_count shape c seen items) t) (enqueue_turns c.number start stop items) (lt_not (start + until_count shape c seen items) t (omega (arith, l))))
+    (put_turns-none shape (stored_after shape c (Stored seen items)) stop puts closes t (omega (arith, l)))
+put_turns-none shape c start (Full seen ∷ puts) closes t l =
+    let stop : ℕ = start + put_long shape c (Full seen) in
+    no_turns _ (put_turns shape c stop puts closes t)
+    (if_no (nat_le stop t) (put_turn c.number Fulls start stop ∷ []) (le_not stop t (omega (arith, l, put_some shape c seen))))
+    (put_turns-none shape c stop puts closes t (omega (arith, l)))
+
+-- ---- their order
+
+-- what an operation of a batch is
+pub record IsEnqueueOf (n start stop : ℕ) (items : List ℕ) (x : PutOp) : Type 0 where
+  pub index : ℕ
+  pub number : x.number ≡ n + index
+  pub inside : index < length items
+  pub starts : x.start ≡ start
+  pub stops : x.stop ≡ stop
+  pub enqueues : IsEnqueue x.kind
+
+pub enqueue_of : (n start stop : ℕ) (items : List ℕ) (x : PutOp) → In x (enqueue_turns n start stop items) → IsEnqueueOf n start stop items x
+enqueue_of n start stop [] x i = absurd i
+enqueue_of n start stop (item ∷ items) x (inl e) = record {
+  index = 0;
+  number = omega (arith, ap (λ (z : PutOp). z.number) e);
+  inside = omega arith;
+  starts = ap (λ (z : PutOp). z.start) e;
+  stops = ap (λ (z : PutOp). z.stop) e;
+  enqueues = subst (λ (z : PutOp). IsEnqueue z.kind) (sym e) tt;
+}
+enqueue_of n start stop (item ∷ items) x (inr i) =
+    let r = enqueue_of (suc n) start stop items x i in
+    record { index = suc r.index; number = omega (arith, r.number); inside = omega (arith, r.inside); starts = r.starts; stops = r.stops; enqueues = r.enqueues }
+
+-- an operation that comes behind so many events and items
+pub record IsFrom (start number : ℕ) (x : PutOp) : Type 0 where
+  pub starts : start ≤ x.start
+  pub some : x.start < x.stop
+  pub behind : number ≤ x.number
+
+from_here : (n start stop : ℕ) (kind : Putting) (x : PutOp) → start < stop → x ≡ put_turn n kind start stop → IsFrom start n x
+from_here n start stop kind x l e = record {
+  starts = omega (arith, ap (λ (z : PutOp). z.start) e);
+  some = omega (arith, l, ap (λ (z : PutOp). z.start) e, ap (λ (z : PutOp). z.stop) e);
+  behind = omega (arith, ap (λ (z : PutOp). z.number) e);
+}
+
+from_later : (start start' n n' : ℕ) (x : PutOp) → start ≤ start' → n ≤ n' → IsFrom start' n' x → IsFrom start n x
+from_later start start' n n' x l m r = record { starts = omega (arith, l, r.starts); some = r.some; behind = omega (arith, m, r.behind) }
+
+pub put_turns-from :
+    (shape : Shape) (c : Count) (start : ℕ) (puts : List Put) (closes : Bool) (t : ℕ) (x : PutOp) →
+    In x (put_turns shape c start puts closes t) → IsFrom start c.number x
+put_turns-from shape c start [] false t x i = absurd i
+put_turns-from shape c start [] true t x i = elim (in_if x (nat_lt start t) (put_turn c.number Closes start (start + 2) ∷ []) i).1 [
+  | inl e ↦ from_here c.number start (start + 2) Closes x (omega arith) e
+  | inr j ↦ absurd j
+]
+put_turns-from shape c start (Stored seen items ∷ puts) closes t x i =
+    let stop : ℕ = start + put_long shape c (Stored seen items) in
+    let next : Count = stored_after shape c (Stored seen items) in
+    let b = before_put_ends shape c seen items in
+    elim (in_append x (if nat_lt (start + until_count shape c seen items) t then enqueue_turns c.number start stop items else []) (put_turns shape next stop puts closes t) i) [
+      | inl j ↦ (
+          let r = enqueue_of c.number start stop items x (in_if x _ (enqueue_turns c.number start stop items) j).1 in
+          record { starts = omega (arith, r.starts); some = omega (arith, r.starts, r.stops, b); behind = omega (arith, r.number) })
+      | inr j ↦ from_later start stop c.number next.number x (omega arith) (omega (arith, past_is c.number items)) (put_turns-from shape next stop puts closes t x j)
+    ]
+put_turns-from shape c start (Full seen ∷ puts) closes t x i =
+    let stop : ℕ = start + put_long shape c (Full seen) in
+    elim (in_append x (if nat_le stop t then put_turn c.number Fulls start stop ∷ [] else []) (put_turns shape c stop puts closes t) i) [
+      | inl j ↦ (
+          elim (in_if x (nat_le stop t) (put_turn c.number Fulls start stop ∷ []) j).1 [
+            | inl e ↦ from_here c.number start stop Fulls x (omega (arith, put_some shape c seen)) e
+            | inr k ↦ absurd k
+          ])
+      | inr j ↦ from_later start stop c.number c.number x (omega arith) (omega arith) (put_turns-from shape c stop puts closes t x j)
+    ]
+
+-- the operations of a batch stand before what comes behind it
+enqueue_before :
+    (n start stop : ℕ) (item : ℕ) (x : PutOp) → IsFrom stop (suc n) x → start ≤ stop → PutsTo (put_turn n (Enqueues item) start stop) x
+enqueue_before n start stop item x r l =
+    record { start = omega (arith, r.starts, l); stop = omega (arith, r.starts, r.some); number = omega (arith, r.behind); full = λ a b. (omega (arith, r.behind), r.starts); close = λ a. absurd a }
+
+enqueues_sorted :
+    (n start stop : ℕ) (items : List ℕ) (xs : List PutOp) → start ≤ stop → ((x : PutOp) → In x xs → IsFrom stop (number_past n items) x) → PutsSorted xs →
+    PutsSorted (enqueue_turns n start stop items ++ xs)
+enqueues_sorted n start stop [] xs l from s = s
+enqueues_sorted n start stop (item ∷ items) xs l from s = (
+  (λ x i. (
+    (elim (in_append x (enqueue_turns (suc n) start stop items) xs i) [
+      | inl j ↦ (
+          let r = enqueue_of (suc n) start stop items x j in
+          record {
+            start = omega (arith, r.starts);
+            stop = omega (arith, r.stops);
+            number = omega (arith, r.number);
+            full = λ a b. absurd (enqueue_not_full x.kind r.enqueues b);
+            close = λ a. absurd a;
+          })
+      | inr j ↦ enqueue_before n start stop item x (from_later stop stop (suc n) (number_past (suc n) items) x (omega arith) (omega (arith, past_is (suc n) items)) (from x j)) l
+    ]),
+    λ a. absurd a,
+  )),
+  enqueues_sorted (suc n) start stop items xs l from s,
+)
+
+pub put_turns-sorted :
+    (shape : Shape) (c : Count) (start : ℕ) (puts : List Put) (closes : Bool) (t : ℕ) → PutsSorted (put_turns shape c start puts closes t)
+put_turns-sorted shape c start [] false t = tt
+put_turns-sorted shape c start [] true t = by_test (nat_lt start t)
+    (λ e. subst PutsSorted (sym (if_yes (nat_lt start t) (put_turn c.number Closes start (start + 2) ∷ []) e)) ((λ x i. absurd i), tt))
+    (λ e. subst PutsSorted (sym (if_no (nat_lt start t) (put_turn c.number Closes start (start + 2) ∷ []) e)) tt)
+put_turns-sorted shape c start (Stored seen items ∷ puts) closes t =
+    let stop : ℕ = start + put_long shape c (Stored seen items) in
+    let next : Count = stored_after shape c (Stored seen items) in
+    let rest : List PutOp = put_turns shape next stop puts closes t in
+    let test : Bool = nat_lt (start + until_count shape c seen items) t in
+    by_test test
+    (λ e. subst (λ l. PutsSorted (l ++ rest)) (sym (if_yes test (enqueue_turns c.number start stop items) e))
+    (enqueues_sorted c.number start stop items rest (omega arith) (put_turns-from shape next stop puts closes t) (put_turns-sorted shape next stop puts closes t)))
+    (λ e. subst (λ l. PutsSorted (l ++ rest)) (sym (if_no test (enqueue_turns c.number start stop items) e)) (put_turns-sorted shape next stop puts closes t))
+put_turns-sorted shape c start (Full seen ∷ puts) closes t =
+    let stop : ℕ = start + put_long shape c (Full seen) in
+    let rest : List PutOp = put_turns shape c stop puts closes t in
+    let test : Bool = nat_le stop t in
+    by_test test
+    (λ e. subst (λ l. PutsSorted (l ++ rest)) (sym (if_yes test (put_turn c.number Fulls start stop ∷ []) e)) (
+      (λ x i. (let r = put_turns-from shape c stop puts closes t x i in
+          (record { start = omega (arith, r.starts); stop = omega (arith, r.starts, r.some); number = r.behind; full = λ a b. absurd a; close = λ a. absurd a }, λ a. absurd a))),
+      put_turns-sorted shape c stop puts closes t,
+    ))
+    (λ e. subst (λ l. PutsSorted (l ++ rest)) (sym (if_no test (put_turn c.number Fulls start stop ∷ []) e)) (put_turns-sorted shape c stop puts closes t))

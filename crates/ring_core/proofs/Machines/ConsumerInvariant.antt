@@ -1,0 +1,211 @@
+-- What holds at each stage of the consumer's machine holds after an access.
+use Rattle.std.proofs.Common.{◌≡◌, ◌≢◌, ℕ, ◌+◌, ◌%◌, ◌<◌, ◌≤◌, Bool, true, false, Option, Some, None, List, [], ◌∷◌, ◌++◌, length, length-append, if◌then◌else◌, nat_lt, refl, sym, ap, subst, ◌∙◌, arith}
+use Rattle.std.proofs.Math.Nat.{mod-eq_of_lt}
+use Rattle.std.proofs.lemmas.Bool.Decides.{nat_tests}
+use Rattle.bits_core.specs.declared.events.Side.TheVariants.{C}
+use Rattle.bits_core.specs.declared.events.Access.TheVariants.{Read}
+use Rattle.bits_core.specs.declared.events.Access.TheVariants as begins
+use Rattle.bits_core.specs.declared.events.Bit.TheVariants.{R}
+use Rattle.bits_core.specs.Shape.{capacity_of, modulus_of, width_of}
+use Rattle.bits_core.specs.Made.{Made}
+use Rattle.register_core.specs.ScanState.{ScanState, scan_read, due_scan}
+use Rattle.register_core.specs.WordState.{ReaderState, ReaderStands, IsReadOf, IsItemRead, read_digit}
+use Rattle.register_core.specs.Row.{RowWrite, row_bit}
+use Rattle.register_core.specs.UnaryState.{UnaryState, due_unary, due_writes, first_access}
+use Rattle.ring_core.specs.declared.consumers.Stage.{Stage}
+use Rattle.ring_core.specs.declared.consumers.Stage.TheVariants.{Scanning, Rescanning, Loading, Counting}
+use Rattle.ring_core.specs.Calls.{LastBitIsDue, IsScanning, IsCounted}
+use Rattle.ring_core.specs.ConsumerState.{ConsumerState, IsConsumer, ConsumerIsAt, IsBetweenWords, IsTaking, IsLoading, due_take, consumer_due_at}
+use Rattle.ring_core.proofs.CountRow.{take_batch_below}
+use Rattle.ring_core.proofs.Machines.MachineParts.{scanning, counting_on}
+
+-- what holds at the stage that a consumer is at
+pub at_stage : (p : ConsumerState) (st : Stage) → IsConsumer p → p.stage ≡ st → ConsumerIsAt st p
+at_stage p st is e = subst (λ s. ConsumerIsAt s p) e is.at
+
+-- what holds while a take scans
+abbrev AtScan : ConsumerState → Type 0
+AtScan p = IsCounted p.row p.count × IsTaking p × (p.items ≡ []) × IsScanning C (modulus_of p.shape) p.scan
+
+same_taking :
+    (p : ConsumerState) (st : Stage) (scan : ScanState) (word : ReaderState) (row : UnaryState) (items : List ℕ) (most : ℕ) → IsTaking p →
+    IsTaking (record p { stage = st; scan = scan; word = word; row = row; items = items; most = most })
+same_taking p st scan word row items most is = record { not_told = is.not_told; not_answered = is.not_answered; some = is.some; few = is.few }
+
+still_scans :
+    (p : ConsumerState) (st : Stage) (s : ScanState) (answer : Bool) → IsConsumer p → p.stage ≡ st → consumer_due_at st p ≡ due_scan p.scan → AtScan p →
+    (AtScan (record p { stage = st; scan = s }) → ConsumerIsAt st (record p { stage = st; scan = s })) → (LastBitIsDue p.shape C (due_take p) → answer ≡ true) →
+    s ≡ scan_read p.scan answer → s.found ≡ false → IsConsumer (record p { scan = s })
+still_scans p st s answer is e due (counted, taking, fresh, scans) at_scan one fed open_still =
+    let due_scans : due_take p ≡ due_scan p.scan = ap (λ t. consumer_due_at t p) e ∙ due in
+    let one' : LastBitIsDue p.shape C (due_scan p.scan) → answer ≡ true = subst (λ d. LastBitIsDue p.shape C d → answer ≡ true) due_scans one in
+    record {
+      count_below = is.count_below;
+      cell_below = is.cell_below;
+      row_side = is.row_side;
+      row_modulus = is.row_modulus;
+      at = subst (λ t. ConsumerIsAt t (record p { stage = t; scan = s })) (sym e)
+          (at_scan (counted, same_taking p st s p.word p.row p.items p.most taking, fresh, scanning p.shape C p.scan s answer scans one' fed open_still));
+    }
+
+-- a first scan that goes on
+pub scan_keeps :
+    (p : ConsumerState) (s : ScanState) (answer : Bool) → IsConsumer p → p.stage ≡ Scanning → (LastBitIsDue p.shape C (due_take p) → answer ≡ true) →
+    s ≡ scan_read p.scan answer → s.found ≡ false → IsConsumer (record p { scan = s })
+scan_keeps p s answer is e = still_scans p Scanning s answer is e refl (at_stage p Scanning is e) (λ at. at)
+
+-- a second scan that goes on
+pub rescan_keeps :
+    (p : ConsumerState) (s : ScanState) (answer : Bool) → IsConsumer p → p.stage ≡ Rescanning → (LastBitIsDue p.shape C (due_take p) → answer ≡ true) →
+    s ≡ scan_read p.scan answer → s.found ≡ false → IsConsumer (record p { scan = s })
+rescan_keeps p s answer is e = still_scans p Rescanning s answer is e refl (at_stage p Rescanning is e) (λ at. at)
+
+-- a reader without a value has digits to read
+pub no_item : (r : ReaderState) (value : Option ℕ) → value ≡ (if nat_lt r.read r.width then None else Some r.value) → value ≡ None → r.read < r.width
+no_item r value is none = by_test (nat_lt r.read r.width) refl
+  where
+    by_test : (b : Bool) → nat_lt r.read r.width ≡ b → r.read < r.width
+    by_test true e = grind (arith, nat_tests)
+    by_test false e = absurd (let clash : None ≡ Some r.value = sym none ∙ is ∙ ap (λ b. if b then None else Some r.value) e in cc)
+
+-- a scan that showed items: the first word begins
+found_keeps :
+    (p : ConsumerState) (s : ScanState) (w : ReaderState) (most : ℕ) → IsConsumer p → AtScan p → 1 ≤ most → most ≤ p.wanted →
+    w ≡ record { width = width_of p.shape; cell = p.cell; read = 0; value = 0 } → IsConsumer (record p { stage = Loading; scan = s; word = w; most = most })
+found_keeps p s w most is (counted, taking, fresh, scans) some few w_is =
+    let none : length p.items ≡ 0 = ap length fresh in
+    let here : p.cell + length p.items ≡ p.cell = omega (arith, none) in
+    let same : p.cell ≡ (p.cell + length p.items) % capacity_of p.shape = sym (ap (λ k. k % capacity_of p.shape) here ∙ mod-eq_of_lt is.cell_below) in
+    record {
+      count_below = is.count_below;
+      cell_below = is.cell_below;
+      row_side = is.row_side;
+      row_modulus = is.row_modulus;
+      at = (
+        counted,
+        same_taking p Loading s w p.row p.items most taking,
+        record { width_is = ap (λ (x : ReaderState). x.width) w_is; cell_is = ap (λ (x : ReaderState). x.cell) w_is ∙ same },
+        omega (arith, none, some),
+        few,
+        omega (arith, ap (λ (x : ReaderState). x.read) w_is, ap (λ (x : ReaderState). x.width) w_is, p.shape.has_digits),
+      );
+    }
+
+pub scan_finds :
+    (p : ConsumerState) (s : ScanState) (w : ReaderState) (most : ℕ) → IsConsumer p → p.stage ≡ Scanning → 1 ≤ most → most ≤ p.wanted →
+    w ≡ record { width = width_of p.shape; cell = p.cell; read = 0; value = 0 } → IsConsumer (record p { stage = Loading; scan = s; word = w; most = most })
+scan_finds p s w most is e = found_keeps p s w most is (at_stage p Scanning is e)
+
+pub rescan_finds :
+    (p : ConsumerState) (s : ScanState) (w : ReaderState) (most : ℕ) → IsConsumer p → p.stage ≡ Rescanning → 1 ≤ most → most ≤ p.wanted →
+    w ≡ record { width = width_of p.shape; cell = p.cell; read = 0; value = 0 } → IsConsumer (record p { stage = Loading; scan = s; word = w; most = most })
+rescan_finds p s w most is e = found_keeps p s w most is (at_stage p Rescanning is e)
+
+-- a word read that goes on
+pub word_stays :
+    (p : ConsumerState) (w : ReaderState) (answer : Bool) → IsConsumer p → p.stage ≡ Loading → w ≡ read_digit p.word answer → w.read < w.width →
+    IsConsumer (record p { word = w })
+word_stays p w answer is e fed more =
+    let (counted, taking, loads, less, few, unread) = at_stage p Loading is e in
+    record {
+      count_below = is.count_below;
+      cell_below = is.cell_below;
+      row_side = is.row_side;
+      row_modulus = is.row_modulus;
+      at = subst (λ st. ConsumerIsAt st (record p { stage = st; word = w })) (sym e) (
+        counted,
+        same_taking p Loading p.scan w p.row p.items p.most taking,
+        record { width_is = ap (λ (x : ReaderState). x.width) fed ∙ loads.width_is; cell_is = ap (λ (x : ReaderState). x.cell) fed ∙ loads.cell_is },
+        less,
+        few,
+        more,
+      );
+    }
+
+-- the next word
+pub next_keeps :
+    (p : ConsumerState) (w : ReaderState) (items : List ℕ) → IsConsumer p → p.stage ≡ Loading → length items < p.most →
+    w ≡ record { width = width_of p.shape; cell = (p.cell + length items) % capacity_of p.shape; read = 0; value = 0 } →
+    IsConsumer (record p { word = w; items = items })
+next_keeps p w items is e more w_is =
+    let (counted, taking, loads, less, few, unread) = at_stage p Loading is e in
+    record {
+      count_below = is.count_below;
+      cell_below = is.cell_below;
+      row_side = is.row_side;
+      row_modulus = is.row_modulus;
+      at = subst (λ st. ConsumerIsAt st (record p { stage = st; word = w; items = items })) (sym e) (
+        counted,
+        same_taking p Loading p.scan w p.row items p.most taking,
+        record { width_is = ap (λ (x : ReaderState). x.width) w_is; cell_is = ap (λ (x : ReaderState). x.cell) w_is },
+        more,
+        few,
+        omega (arith, ap (λ (x : ReaderState). x.read) w_is, ap (λ (x : ReaderState). x.width) w_is, p.shape.has_digits),
+      );
+    }
+
+-- the last of the items is kept
+pub kept_size :
+    (old : List ℕ) (item : ℕ) (items : List ℕ) (n most : ℕ) → items ≡ old ++ item ∷ [] → length old ≡ n → length old < most → most ≤ n + 1 → length items ≡ most
+kept_size old item items n most e len less last =
+    let long : length items ≡ length old + 1 = ap length e ∙ length-append old (item ∷ []) in
+    grind (arith, long, len, less, last)
+
+-- the words are read, and the count's write begins
+pub word_keeps :
+    (p : ConsumerState) (w : ReaderState) (row : UnaryState) (items : List ℕ) → IsConsumer p → p.stage ≡ Loading → length items ≡ p.most →
+    row ≡ record p.row { value = (p.count + p.most) % modulus_of p.shape } → IsConsumer (record p { stage = Counting; word = w; row = row; items = items })
+word_keeps p w row items is e size begun =
+    let (counted, taking, loads, less, few, unread) = at_stage p Loading is e in
+    record {
+      count_below = is.count_below;
+      cell_below = is.cell_below;
+      row_side = ap (λ (r : UnaryState). r.side) begun ∙ is.row_side;
+      row_modulus = ap (λ (r : UnaryState). r.modulus) begun ∙ is.row_modulus;
+      at = (
+        counting_on p.shape p.row row p.count items p.most counted is.count_below (sym size) (omega (arith, size, less)) (omega (arith, size, few, taking.few, take_batch_below p.shape)) begun,
+        same_taking p Counting p.scan w row items p.most taking,
+        omega (arith, less),
+        size,
+        few,
+      );
+    }
+
+-- between words, the write of the count of those that are read begins
+pub now_keeps :
+    (p : ConsumerState) (row : UnaryState) (m : ℕ) → IsConsumer p → IsBetweenWords p → length p.items ≡ m →
+    row ≡ record p.row { value = (p.count + m) % modulus_of p.shape } → IsConsumer (record p { stage = Counting; row = row; wanted = m; most = m })
+now_keeps p row m is between size begun =
+    let (counted, taking, loads, less, few, unread) = at_stage p Loading is between.stage_is in
+    record {
+      count_below = is.count_below;
+      cell_below = is.cell_below;
+      row_side = ap (λ (r : UnaryState). r.side) begun ∙ is.row_side;
+      row_modulus = ap (λ (r : UnaryState). r.modulus) begun ∙ is.row_modulus;
+      at = (
+        counting_on p.shape p.row row p.count p.items m counted is.count_below (sym size) between.some (omega (arith, less, few, taking.few, take_batch_below p.shape)) begun,
+        record { not_told = taking.not_told; not_answered = taking.not_answered; some = omega (arith, size, between.some); few = omega (arith, size, less, few, taking.few) },
+        omega (arith, size, between.some),
+        size,
+        omega arith,
+      );
+    }
+
+-- the write of the count is of a bit of it
+pub first_bit : (row : UnaryState) → row.side ≡ C → due_unary row ≢ None → (i : ℕ) × (v : Bool) × (due_unary row ≡ Some (begins.Write (R i) v))
+first_bit row side some = by_writes (due_writes row) refl
+  where
+    by_writes : (ws : List RowWrite) → due_writes row ≡ ws → (i : ℕ) × (v : Bool) × (due_unary row ≡ Some (begins.Write (R i) v))
+    by_writes [] e = absurd (some (ap (first_access (row_bit row.side)) e))
+    by_writes (x ∷ ws) e = (x.bit, x.value, ap (first_access (row_bit row.side)) e ∙ ap (λ s. Some (begins.Write (row_bit s x.bit) x.value)) side)
+
+-- what the word machine read is its value
+pub word_whole :
+    (p : ConsumerState) (w : ReaderState) (answer : Bool) (value : Option ℕ) (item : ℕ) → IsLoading p → w ≡ read_digit p.word answer → value ≡ Some item →
+    ((reads : List Made) → ReaderStands w reads → IsItemRead w.width w.cell reads value) →
+    (reads : List Made) → ReaderStands w reads → IsReadOf (width_of p.shape) ((p.cell + length p.items) % capacity_of p.shape) reads item
+word_whole p w answer value item loads fed is gives reads stands =
+    let width : w.width ≡ width_of p.shape = ap (λ (r : ReaderState). r.width) fed ∙ loads.width_is in
+    let cell : w.cell ≡ (p.cell + length p.items) % capacity_of p.shape = ap (λ (r : ReaderState). r.cell) fed ∙ loads.cell_is in
+    subst (λ j. IsReadOf (width_of p.shape) j reads item) cell
+    (subst (λ n. IsReadOf n w.cell reads item) width (subst (λ v. IsItemRead w.width w.cell reads v) is (gives reads stands)))

@@ -1,0 +1,518 @@
+-- The consumer's machine, access by access.
+use Rattle.std.proofs.Common.{◌≡◌, ◌⊎◌, inl, inr, ℕ, ◌+◌, ◌^◌, ◌%◌, ◌<◌, ◌≤◌, Bool, true, false, Option, Some, None, List, [], ◌∷◌, ◌++◌, length, refl, sym, ap, subst, ◌∙◌, arith, append_assoc, append-nil}
+use Rattle.std.proofs.lemmas.List.{append_cancel_left}
+use Rattle.bits_core.specs.declared.events.Side.TheVariants.{C}
+use Rattle.bits_core.specs.declared.events.Bit.TheVariants.{X}
+use Rattle.bits_core.specs.declared.events.Access.{Access}
+use Rattle.bits_core.specs.declared.events.Access.TheVariants as begins
+use Rattle.bits_core.specs.declared.shapes.Shape.{Shape}
+use Rattle.bits_core.specs.Shape.{AllFit, capacity_of, modulus_of, take_batch_of, width_of}
+use Rattle.bits_core.specs.Made.{Made, Read, answered}
+use Rattle.register_core.specs.Word.{digit_reads, word_read}
+use Rattle.register_core.specs.WordState.{ReaderState, ReaderStands, IsReadOf, due_read}
+use Rattle.register_core.specs.ScanState.{ScanState, ScanStands, scan_phrase, row_read_by, IsScanOf}
+use Rattle.register_core.specs.Unary.{count_writes}
+use Rattle.register_core.specs.UnaryState.{UnaryState, UnaryStands}
+use Rattle.ring_core.specs.declared.consumers.TakeReply.{TakeReply}
+use Rattle.ring_core.specs.declared.consumers.TakeReply.TheVariants as replies
+use Rattle.ring_core.specs.declared.consumers.Stage.{Stage}
+use Rattle.ring_core.specs.declared.consumers.Stage.TheVariants.{Idle, Scanning, Checking, Rescanning, Loading, Counting}
+use Rattle.ring_core.specs.Counts.{ShowsItem, distance, number_past, Count, first_count, batch_phrase}
+use Rattle.ring_core.specs.Takes.{Take, Takes, Empty, Open, count_after, words_read, take_phrase, take_phrases, SeesNone, IsTake, AreTakes}
+use Rattle.ring_core.specs.ConsumerState.{ConsumerState, IsBetweenWords, due_take, consumer_due_at, is_taking, takes_at}
+use Rattle.ring_core.specs.Items.{taken_of}
+use Rattle.ring_core.specs.ConsumerCalls.{ConsumerStands, ConsumerMadeAt, Finding, Finds, Once, Twice, finding_phrase, made_of_take, count_taken, values_taken, AreItemsOfTake, ConsumerHasMoved, items_reply, take_reply_to, and_take, and_end, HasTakeMore, IsTakeOf, IsOpenForTake, ends_closed, IsReplyToTake, IsAfterTake}
+use Rattle.ring_core.proofs.Machines.MachineParts.{ScanGoesOn, RowGoesOn, longer}
+use Rattle.ring_core.proofs.Machines.Batches.{far_from, past_so}
+use Rattle.ring_core.proofs.Machines.TakeCalls.{count-push, are-push, are-end, reply-push, items-push, program-push, values_writes-push, values-empty, values-push, words_read-push, fit-push, take_of, take_of-is, take_of-items, take_of-takes, take_of-replies, take_of-phrase}
+
+-- ---- what is known at a stage
+
+-- the accesses that were made
+pub made_at :
+    (st : Stage) (p : ConsumerState) (calls : Takes) (made : List Made) → p.stage ≡ st → ConsumerStands p calls made →
+    ConsumerMadeAt st p calls made
+made_at st p calls made e stands = subst (λ s. ConsumerMadeAt s p calls made) e stands.made_is
+
+-- whether no take was told that the ring is closed
+pub open_at : (st : Stage) (p : ConsumerState) (calls : Takes) (made : List Made) → p.stage ≡ st → ConsumerStands p calls made → IsOpenForTake (takes_at st) calls
+open_at st p calls made e stands = subst (λ s. IsOpenForTake (takes_at s) calls) e stands.not_over
+
+-- the access that is due
+pub due_is : (st : Stage) (p : ConsumerState) (access : Access) → p.stage ≡ st → due_take p ≡ Some access → consumer_due_at st p ≡ Some access
+due_is st p access e due = subst (λ s. consumer_due_at s p ≡ Some access) e due
+
+-- ---- a take goes on
+
+-- the state with the machines of its take, at a stage
+abbrev pub at_stage : ConsumerState → Stage → ScanState → ReaderState → UnaryState → List ℕ → ℕ → ConsumerState
+at_stage p st scan word row items most = record p { stage = st; scan = scan; word = word; row = row; items = items; most = most }
+
+after_on : (shape : Shape) (wanted : ℕ) (a b : Bool) (calls : Takes) → a ≡ true → b ≡ true → IsAfterTake shape wanted a b calls calls
+after_on shape wanted true true calls e f = refl
+after_on shape wanted true false calls e f = absurd (cc)
+after_on shape wanted false b calls e f = absurd (cc)
+
+after_over : (shape : Shape) (wanted : ℕ) (a : Bool) (calls more : Takes) → a ≡ true → HasTakeMore shape wanted calls more → IsAfterTake shape wanted a false calls more
+after_over shape wanted true calls more e has = has
+after_over shape wanted false calls more e has = absurd (cc)
+
+-- a take under way goes on at a stage
+pub take_goes_on :
+    (p : ConsumerState) (st now : Stage) (scan : ScanState) (word : ReaderState) (row : UnaryState) (items : List ℕ) (most : ℕ) (calls : Takes) (made more : List Made) →
+    p.stage ≡ st → takes_at st ≡ true → takes_at now ≡ true → ConsumerStands p calls made →
+    ConsumerMadeAt now (at_stage p now scan word row items most) calls more → ConsumerHasMoved p (at_stage p now scan word row items most) calls more
+take_goes_on p st now scan word row items most calls made more e before after stands made_is =
+    let was : is_taking p ≡ true = ap takes_at e ∙ before in
+    let same : is_taking p ≡ takes_at now = was ∙ sym after in (
+      calls,
+      record {
+        are = stands.are;
+        count_is = stands.count_is;
+        cell_is = stands.cell_is;
+        told_is = stands.told_is;
+        not_over = subst (λ b. IsOpenForTake b calls) same stands.not_over;
+        reply_is = subst (λ b. IsReplyToTake calls b p.reply) same stands.reply_is;
+        items_are = subst (λ b. AreItemsOfTake calls b items) (sym after) tt;
+        made_is = made_is;
+      },
+      after_on p.shape p.wanted (is_taking p) (takes_at now) calls was after,
+    )
+
+-- ---- a take is over
+
+still_open : (p : ConsumerState) (calls : Takes) → is_taking p ≡ true → IsOpenForTake (is_taking p) calls → calls.end ≡ Open
+still_open p calls was o = subst (λ b. IsOpenForTake b calls) was o
+
+-- the state of a consumer that has ended a take
+abbrev pub ended_take : ConsumerState → Option TakeReply → ℕ → ℕ → ScanState → ReaderState → UnaryState → ConsumerState
+ended_take p reply count cell scan word row = record p { count = count; cell = cell; stage = Idle; scan = scan; word = word; row = row; reply = reply }
+
+-- a take under way is over
+pub take_over :
+    (p : ConsumerState) (st : Stage) (x : Take) (reply : Option TakeReply) (count cell : ℕ) (scan : ScanState) (word : ReaderState) (row : UnaryState)
+    (calls : Takes) (made more : List Made) → p.stage ≡ st → takes_at st ≡ true → ConsumerStands p calls made →
+    IsTake p.shape (count_taken p.shape calls).number x × IsTakeOf p.shape (count_taken p.shape calls).number p.wanted x → reply ≡ Some (take_reply_to x) → p.items ≡ taken_of x →
+    count ≡ (count_after p.shape (count_taken p.shape calls) x).number % modulus_of p.shape →
+    cell ≡ (count_after p.shape (count_taken p.shape calls) x).number % capacity_of p.shape →
+    UnaryStands row (values_taken p.shape (and_take calls x)) (count_writes C (values_taken p.shape (and_take calls x))) →
+    more ≡ take_phrases p.shape first_count calls.takes ++ take_phrase p.shape (count_taken p.shape calls) x →
+    ConsumerHasMoved p (ended_take p reply count cell scan word row) calls more
+take_over p st x reply count cell scan word row calls made more e before stands (is, of) reply_is items_are count_is cell_is rests made_is =
+    let was : is_taking p ≡ true = ap takes_at e ∙ before in
+    let o : calls.end ≡ Open = still_open p calls was stands.not_over in
+    let c : count_taken p.shape (and_take calls x) ≡ count_after p.shape (count_taken p.shape calls) x = count-push p.shape first_count calls.takes x in
+    let are : AreTakes p.shape 0 (calls.takes ++ x ∷ []) Open =
+    are-push p.shape first_count calls.takes x (subst (λ d. AreTakes p.shape 0 calls.takes d) o stands.are) is in (
+      and_take calls x,
+      record {
+        are = are;
+        count_is = count_is ∙ sym (ap (λ (n : Count). n.number % modulus_of p.shape) c);
+        cell_is = cell_is ∙ sym (ap (λ (n : Count). n.number % capacity_of p.shape) c);
+        told_is = stands.told_is ∙ ap ends_closed o;
+        not_over = record {};
+        reply_is = reply_is ∙ sym (reply-push None calls.takes x);
+        items_are = items_are ∙ sym (items-push [] calls.takes x);
+        made_is = (rests, made_is ∙ sym (program-push p.shape calls x));
+      },
+      after_over p.shape p.wanted (is_taking p) calls (and_take calls x) was (record { is_one_more = inl (x, of, refl); are = are; not_over = o }),
+    )
+
+-- nothing is read yet
+begun_none : (shape : Shape) (n : ℕ) (look : Finding) (items : List ℕ) → items ≡ [] → finding_phrase look ≡ made_of_take shape n look items ++ []
+begun_none shape n look items e =
+    sym (ap (λ xs. made_of_take shape n look xs ++ []) e ∙ append-nil (finding_phrase look ++ []) ∙ append-nil (finding_phrase look))
+
+none_fit : (shape : Shape) (items : List ℕ) → items ≡ [] → AllFit shape items
+none_fit shape items e = subst (AllFit shape) (sym e) tt
+
+-- ---- the first scan
+
+-- it goes on
+pub scan_on :
+    (p : ConsumerState) (s : ScanState) (answer : Bool) → p.stage ≡ Scanning → ScanGoesOn p.scan s answer →
+    (calls : Takes) (made : List Made) (access : Access) → ConsumerStands p calls made → due_take p ≡ Some access →
+    ConsumerHasMoved p (record p { scan = s }) calls (made ++ answered access answer ∷ [])
+scan_on p s answer e goes calls made access stands due =
+    let (rests, reads, scans, made_is) = made_at Scanning p calls made e stands in
+    let x : List Made = answered access answer ∷ [] in
+    let front : List Made = take_phrases p.shape first_count calls.takes in
+    let moved : ConsumerHasMoved p (at_stage p Scanning s p.word p.row p.items p.most) calls (made ++ x) =
+    take_goes_on p Scanning Scanning s p.word p.row p.items p.most calls made (made ++ x) e refl refl stands
+    (rests, reads ++ x, goes reads access scans (due_is Scanning p access e due), ap (λ l. l ++ x) made_is ∙ append_assoc front reads x) in
+    subst (λ st. ConsumerHasMoved p (at_stage p st s p.word p.row p.items p.most) calls (made ++ x)) (sym e) moved
+
+-- it shows an item
+pub scan_item :
+    (p : ConsumerState) (s : ScanState) (w : ReaderState) (answer : Bool) (seen most : ℕ) → p.items ≡ [] → most ≤ distance (modulus_of p.shape) seen p.count →
+    most ≤ p.wanted → (most ≡ p.wanted) ⊎ (most ≡ distance (modulus_of p.shape) seen p.count) → p.stage ≡ Scanning → ScanGoesOn p.scan s answer →
+    ((reads : List Made) → ScanStands s reads → IsScanOf (row_read_by C) (modulus_of p.shape) reads seen) → ReaderStands w [] → ShowsItem p.shape seen p.count →
+    (calls : Takes) (made : List Made) (access : Access) → ConsumerStands p calls made → due_take p ≡ Some access →
+    ConsumerHasMoved p (at_stage p Loading s w p.row p.items most) calls (made ++ answered access answer ∷ [])
+scan_item p s w answer seen most fresh enough wants all e goes gives word_stands shows calls made access stands due =
+    let (rests, reads, scans, made_is) = made_at Scanning p calls made e stands in
+    let x : List Made = answered access answer ∷ [] in
+    let front : List Made = take_phrases p.shape first_count calls.takes in
+    let scan : List Made = scan_phrase (row_read_by C) seen in
+    let (below, reads_are) = gives (reads ++ x) (goes reads access scans (due_is Scanning p access e due)) in
+    let (few, room) = subst (λ k. (most ≤ distance (modulus_of p.shape) seen k) × (distance (modulus_of p.shape) seen k ≤ capacity_of p.shape)) stands.count_is (enough, shows.1) in
+    take_goes_on p Scanning Loading s w p.row p.items most calls made (made ++ x) e refl refl stands (
+      rests,
+      Once seen,
+      ((below, few, room), (wants, subst (λ k. (most ≡ p.wanted) ⊎ (most ≡ distance (modulus_of p.shape) seen k)) stands.count_is all)),
+      none_fit p.shape p.items fresh,
+      [],
+      word_stands,
+      ap (λ l. l ++ x) made_is ∙ append_assoc front reads x ∙ ap (λ l. front ++ l) (reads_are ∙ begun_none p.shape (count_taken p.shape calls).number (Once seen) p.items fresh),
+    )
+
+-- it shows none
+pub scan_none :
+    (p : ConsumerState) (s : ScanState) (answer : Bool) (seen : ℕ) → p.stage ≡ Scanning → ScanGoesOn p.scan s answer →
+    ((reads : List Made) → ScanStands s reads → IsScanOf (row_read_by C) (modulus_of p.shape) reads seen) → ¬ ShowsItem p.shape seen p.count →
+    (calls : Takes) (made : List Made) (access : Access) → ConsumerStands p calls made → due_take p ≡ Some access →
+    ConsumerHasMoved p (at_stage p Checking s p.word p.row p.items p.most) calls (made ++ answered access answer ∷ [])
+scan_none p s answer seen e goes gives none calls made access stands due =
+    let (rests, reads, scans, made_is) = made_at Scanning p calls made e stands in
+    let x : List Made = answered access answer ∷ [] in
+    let front : List Made = take_phrases p.shape first_count calls.takes in
+    let (below, reads_are) = gives (reads ++ x) (goes reads access scans (due_is Scanning p access e due)) in
+    take_goes_on p Scanning Checking s p.word p.row p.items p.most calls made (made ++ x) e refl refl stands (
+      rests,
+      seen,
+      (below, λ shows. none (subst (λ k. ShowsItem p.shape seen k) (sym stands.count_is) shows)),
+      ap (λ l. l ++ x) made_is ∙ append_assoc front reads x ∙ ap (λ l. front ++ l) reads_are,
+    )
+
+-- ---- the close bit
+
+read_x : (access : Access) (answer v : Bool) → Some (begins.Read X) ≡ Some access → answer ≡ v → answered access answer ≡ Read X v
+read_x access answer v due e =
+    let same : begins.Read X ≡ access = cc in
+    ap (λ a. answered a answer) (sym same) ∙ ap (λ b. Read X b) e
+
+-- it is 1, and the second scan begins
+pub check_one :
+    (p : ConsumerState) (s : ScanState) (answer : Bool) → p.stage ≡ Checking → ScanStands s [] → answer ≡ true →
+    (calls : Takes) (made : List Made) (access : Access) → ConsumerStands p calls made → due_take p ≡ Some access →
+    ConsumerHasMoved p (at_stage p Rescanning s p.word p.row p.items p.most) calls (made ++ answered access answer ∷ [])
+check_one p s answer e scan_stands one calls made access stands due =
+    let (rests, seen, sees, made_is) = made_at Checking p calls made e stands in
+    let x : List Made = answered access answer ∷ [] in
+    let front : List Made = take_phrases p.shape first_count calls.takes in
+    let scan : List Made = scan_phrase (row_read_by C) seen in
+    let x_is : answered access answer ≡ Read X true = read_x access answer true (due_is Checking p access e due) one in
+    take_goes_on p Checking Rescanning s p.word p.row p.items p.most calls made (made ++ x) e refl refl stands (
+      rests,
+      seen,
+      sees,
+      [],
+      scan_stands,
+      ap (λ l. l ++ x) made_is ∙ append_assoc front scan x ∙ ap (λ y. front ++ (scan ++ y ∷ [])) x_is ∙
+          ap (λ l. front ++ l) (sym (append-nil (scan ++ Read X true ∷ []))),
+    )
+
+-- it is 0, and the ring was empty
+pub check_zero :
+    (p : ConsumerState) (answer : Bool) → p.items ≡ [] → p.stage ≡ Checking → answer ≡ false →
+    (calls : Takes) (made : List Made) (access : Access) → ConsumerStands p calls made → due_take p ≡ Some access →
+    ConsumerHasMoved p (ended_take p (Some replies.Empty) p.count p.cell p.scan p.word p.row) calls (made ++ answered access answer ∷ [])
+check_zero p answer fresh e none calls made access stands due =
+    let (rests, seen, sees, made_is) = made_at Checking p calls made e stands in
+    let x : List Made = answered access answer ∷ [] in
+    let front : List Made = take_phrases p.shape first_count calls.takes in
+    let scan : List Made = scan_phrase (row_read_by C) seen in
+    let x_is : answered access answer ≡ Read X false = read_x access answer false (due_is Checking p access e due) none in
+    take_over p Checking (Empty seen) (Some replies.Empty) p.count p.cell p.scan p.word p.row calls made (made ++ x) e refl stands (sees, tt) refl fresh
+    stands.count_is stands.cell_is
+    (subst (λ l. UnaryStands p.row l (count_writes C l)) (sym (values-empty p.shape first_count calls.takes seen)) rests)
+    (ap (λ l. l ++ x) made_is ∙ append_assoc front scan x ∙ ap (λ y. front ++ (scan ++ y ∷ [])) x_is)
+
+-- ---- the second scan
+
+-- it goes on
+pub rescan_on :
+    (p : ConsumerState) (s : ScanState) (answer : Bool) → p.stage ≡ Rescanning → ScanGoesOn p.scan s answer →
+    (calls : Takes) (made : List Made) (access : Access) → ConsumerStands p calls made → due_take p ≡ Some access →
+    ConsumerHasMoved p (record p { scan = s }) calls (made ++ answered access answer ∷ [])
+rescan_on p s answer e goes calls made access stands due =
+    let (rests, seen, sees, reads, scans, made_is) = made_at Rescanning p calls made e stands in
+    let x : List Made = answered access answer ∷ [] in
+    let moved : ConsumerHasMoved p (at_stage p Rescanning s p.word p.row p.items p.most) calls (made ++ x) =
+    take_goes_on p Rescanning Rescanning s p.word p.row p.items p.most calls made (made ++ x) e refl refl stands (
+      rests,
+      seen,
+      sees,
+      reads ++ x,
+      goes reads access scans (due_is Rescanning p access e due),
+      ap (λ l. l ++ x) made_is ∙ longer (take_phrases p.shape first_count calls.takes) (scan_phrase (row_read_by C) seen ++ Read X true ∷ []) reads x,
+    ) in
+    subst (λ st. ConsumerHasMoved p (at_stage p st s p.word p.row p.items p.most) calls (made ++ x)) (sym e) moved
+
+-- the accesses once it has ended
+two_scans :
+    (front reads made x : List Made) (seen again : ℕ) → made ≡ front ++ ((scan_phrase (row_read_by C) seen ++ Read X true ∷ []) ++ reads) →
+    reads ++ x ≡ scan_phrase (row_read_by C) again → made ++ x ≡ front ++ finding_phrase (Twice seen again)
+two_scans front reads made x seen again made_is reads_are =
+    let scan : List Made = scan_phrase (row_read_by C) seen in
+    ap (λ l. l ++ x) made_is ∙ longer front (scan ++ Read X true ∷ []) reads x ∙
+    ap (λ l. front ++ ((scan ++ Read X true ∷ []) ++ l)) reads_are ∙
+    ap (λ l. front ++ l) (append_assoc scan (Read X true ∷ []) (scan_phrase (row_read_by C) again))
+
+-- it shows an item
+pub rescan_item :
+    (p : ConsumerState) (s : ScanState) (w : ReaderState) (answer : Bool) (again most : ℕ) → p.items ≡ [] → most ≤ distance (modulus_of p.shape) again p.count →
+    most ≤ p.wanted → (most ≡ p.wanted) ⊎ (most ≡ distance (modulus_of p.shape) again p.count) → p.stage ≡ Rescanning → ScanGoesOn p.scan s answer →
+    ((reads : List Made) → ScanStands s reads → IsScanOf (row_read_by C) (modulus_of p.shape) reads again) → ReaderStands w [] →
+    ShowsItem p.shape again p.count →
+    (calls : Takes) (made : List Made) (access : Access) → ConsumerStands p calls made → due_take p ≡ Some access →
+    ConsumerHasMoved p (at_stage p Loading s w p.row p.items most) calls (made ++ answered access answer ∷ [])
+rescan_item p s w answer again most fresh enough wants all e goes gives word_stands shows calls made access stands due =
+    let (rests, seen, sees, reads, scans, made_is) = made_at Rescanning p calls made e stands in
+    let x : List Made = answered access answer ∷ [] in
+    let front : List Made = take_phrases p.shape first_count calls.takes in
+    let (below, reads_are) = gives (reads ++ x) (goes reads access scans (due_is Rescanning p access e due)) in
+    let (few, room) = subst (λ k. (most ≤ distance (modulus_of p.shape) again k) × (distance (modulus_of p.shape) again k ≤ capacity_of p.shape)) stands.count_is (enough, shows.1) in
+    take_goes_on p Rescanning Loading s w p.row p.items most calls made (made ++ x) e refl refl stands (
+      rests,
+      Twice seen again,
+      (sees, (below, few, room), (wants, subst (λ k. (most ≡ p.wanted) ⊎ (most ≡ distance (modulus_of p.shape) again k)) stands.count_is all)),
+      none_fit p.shape p.items fresh,
+      [],
+      word_stands,
+      two_scans front reads made x seen again made_is reads_are ∙ ap (λ l. front ++ l) (begun_none p.shape (count_taken p.shape calls).number (Twice seen again) p.items fresh),
+    )
+
+-- it shows none, and the ring is closed
+pub rescan_none :
+    (p : ConsumerState) (s : ScanState) (answer : Bool) (again : ℕ) → p.items ≡ [] → p.stage ≡ Rescanning → ScanGoesOn p.scan s answer →
+    ((reads : List Made) → ScanStands s reads → IsScanOf (row_read_by C) (modulus_of p.shape) reads again) → ¬ ShowsItem p.shape again p.count →
+    (calls : Takes) (made : List Made) (access : Access) → ConsumerStands p calls made → due_take p ≡ Some access →
+    ConsumerHasMoved p (record p { stage = Idle; scan = s; told = true; reply = Some replies.Closed }) calls (made ++ answered access answer ∷ [])
+rescan_none p s answer again fresh e goes gives none calls made access stands due =
+    let (rests, seen, sees, reads, scans, made_is) = made_at Rescanning p calls made e stands in
+    let x : List Made = answered access answer ∷ [] in
+    let front : List Made = take_phrases p.shape first_count calls.takes in
+    let (below, reads_are) = gives (reads ++ x) (goes reads access scans (due_is Rescanning p access e due)) in
+    let o : calls.end ≡ Open = open_at Rescanning p calls made e stands in
+    let sees' : SeesNone p.shape (count_taken p.shape calls).number again = (below, λ shows. none (subst (λ k. ShowsItem p.shape again k) (sym stands.count_is) shows)) in
+    let are : AreTakes p.shape 0 calls.takes (and_end calls seen again).end =
+    are-end p.shape first_count calls.takes seen again (subst (λ d. AreTakes p.shape 0 calls.takes d) o stands.are) sees sees' in (
+      and_end calls seen again,
+      record {
+        are = are;
+        count_is = stands.count_is;
+        cell_is = stands.cell_is;
+        told_is = refl;
+        not_over = record {};
+        reply_is = refl;
+        items_are = fresh;
+        made_is = (rests, two_scans front reads made x seen again made_is reads_are);
+      },
+      after_over p.shape p.wanted (is_taking p) calls (and_end calls seen again) (ap takes_at e)
+          (record { is_one_more = inr (seen, again, refl); are = are; not_over = o }),
+    )
+
+-- ---- the word
+
+-- what the word machine stands after once the due access was made
+abbrev pub WordGoesOn : ReaderState → ReaderState → Bool → Type 0
+WordGoesOn old new answer =
+    (reads : List Made) (access : Access) → ReaderStands old reads → due_read old ≡ Some access → ReaderStands new (reads ++ answered access answer ∷ [])
+
+-- it goes on
+pub word_on :
+    (p : ConsumerState) (w : ReaderState) (answer : Bool) → p.stage ≡ Loading → WordGoesOn p.word w answer →
+    (calls : Takes) (made : List Made) (access : Access) → ConsumerStands p calls made → due_take p ≡ Some access →
+    ConsumerHasMoved p (record p { word = w }) calls (made ++ answered access answer ∷ [])
+word_on p w answer e goes calls made access stands due =
+    let (rests, look, finds, fit, reads, words, made_is) = made_at Loading p calls made e stands in
+    let x : List Made = answered access answer ∷ [] in
+    let moved : ConsumerHasMoved p (at_stage p Loading p.scan w p.row p.items p.most) calls (made ++ x) =
+    take_goes_on p Loading Loading p.scan w p.row p.items p.most calls made (made ++ x) e refl refl stands (
+      rests,
+      look,
+      finds,
+      fit,
+      reads ++ x,
+      goes reads access words (due_is Loading p access e due),
+      ap (λ l. l ++ x) made_is ∙ longer (take_phrases p.shape first_count calls.takes) (made_of_take p.shape (count_taken p.shape calls).number look p.items) reads x,
+    ) in
+    subst (λ st. ConsumerHasMoved p (at_stage p st p.scan w p.row p.items p.most) calls (made ++ x)) (sym e) moved
+
+-- the accesses made, once the word under way is whole
+whole_words :
+    (p : ConsumerState) (calls : Takes) (look : Finding) (front reads x made : List Made) (item : ℕ) →
+    p.cell ≡ (count_taken p.shape calls).number % capacity_of p.shape →
+    made ≡ front ++ (made_of_take p.shape (count_taken p.shape calls).number look p.items ++ reads) →
+    reads ++ x ≡ word_read (width_of p.shape) ((p.cell + length p.items) % capacity_of p.shape) item →
+    made ++ x ≡ front ++ (made_of_take p.shape (count_taken p.shape calls).number look (p.items ++ item ∷ []) ++ [])
+whole_words p calls look front reads x made item cell_is made_is all =
+    let n : ℕ = (count_taken p.shape calls).number in
+    let scans : List Made = finding_phrase look in
+    let words : List Made = words_read p.shape n p.items in
+    let word : List Made = word_read (width_of p.shape) ((n + length p.items) % capacity_of p.shape) item in
+    let all_is : reads ++ x ≡ word =
+    all ∙ ap (λ k. word_read (width_of p.shape) k item) (far_from p.cell n (length p.items) (capacity_of p.shape) cell_is) in
+    ap (λ l. l ++ x) made_is ∙ longer front (scans ++ words) reads x ∙ ap (λ l. front ++ ((scans ++ words) ++ l)) all_is ∙
+    ap (λ l. front ++ l) (append_assoc scans words word ∙ ap (λ l. scans ++ l) (sym (words_read-push p.shape n p.items item)) ∙
+    sym (append-nil (scans ++ words_read p.shape n (p.items ++ item ∷ []))))
+
+item_fits : (shape : Shape) (items : List ℕ) (item : ℕ) → AllFit shape items → item < 2 ^ width_of shape → AllFit shape (items ++ item ∷ [])
+item_fits shape items item fit last = fit-push shape items item fit (last, tt)
+
+-- it is over, and the next one begins
+pub word_next :
+    (p : ConsumerState) (w new : ReaderState) (answer : Bool) (item : ℕ) (items : List ℕ) → p.stage ≡ Loading → WordGoesOn p.word w answer →
+    ((reads : List Made) → ReaderStands w reads → IsReadOf (width_of p.shape) ((p.cell + length p.items) % capacity_of p.shape) reads item) →
+    items ≡ p.items ++ item ∷ [] → ReaderStands new [] →
+    (calls : Takes) (made : List Made) (access : Access) → ConsumerStands p calls made → due_take p ≡ Some access →
+    ConsumerHasMoved p (record p { word = new; items = items }) calls (made ++ answered access answer ∷ [])
+word_next p w new answer item items e goes whole items_are begins calls made access stands due =
+    let (rests, look, finds, fit, reads, words, made_is) = made_at Loading p calls made e stands in
+    let x : List Made = answered access answer ∷ [] in
+    let front : List Made = take_phrases p.shape first_count calls.takes in
+    let (fits, all) = whole (reads ++ x) (goes reads access words (due_is Loading p access e due)) in
+    let moved : ConsumerHasMoved p (at_stage p Loading p.scan new p.row (p.items ++ item ∷ []) p.most) calls (made ++ x) =
+    take_goes_on p Loading Loading p.scan new p.row (p.items ++ item ∷ []) p.most calls made (made ++ x) e refl refl stands (
+      rests,
+      look,
+      finds,
+      item_fits p.shape p.items item fit fits,
+      [],
+      begins,
+      whole_words p calls look front reads x made item stands.cell_is made_is all,
+    ) in
+    subst (λ l. ConsumerHasMoved p (record p { word = new; items = l }) calls (made ++ x)) (sym items_are)
+    (subst (λ st. ConsumerHasMoved p (at_stage p st p.scan new p.row (p.items ++ item ∷ []) p.most) calls (made ++ x)) (sym e) moved)
+
+-- the last one is over, and the count's write begins
+pub word_over :
+    (p : ConsumerState) (w : ReaderState) (row : UnaryState) (answer : Bool) (item : ℕ) (items : List ℕ) → p.stage ≡ Loading → WordGoesOn p.word w answer →
+    ((reads : List Made) → ReaderStands w reads → IsReadOf (width_of p.shape) ((p.cell + length p.items) % capacity_of p.shape) reads item) →
+    items ≡ p.items ++ item ∷ [] → length items ≡ p.most →
+    ((values : List ℕ) (made : List Made) → UnaryStands p.row values made → UnaryStands row (values ++ (p.count + p.most) % modulus_of p.shape ∷ []) made) →
+    (calls : Takes) (made : List Made) (access : Access) → ConsumerStands p calls made → due_take p ≡ Some access →
+    ConsumerHasMoved p (at_stage p Counting p.scan w row items p.most) calls (made ++ answered access answer ∷ [])
+word_over p w row answer item items e goes whole items_are size begins_row calls made access stands due =
+    let (rests, look, finds, fit, reads, words, made_is) = made_at Loading p calls made e stands in
+    let x : List Made = answered access answer ∷ [] in
+    let n : ℕ = (count_taken p.shape calls).number in
+    let front : List Made = take_phrases p.shape first_count calls.takes in
+    let values : List ℕ = values_taken p.shape calls in
+    let all_items : List ℕ = p.items ++ item ∷ [] in
+    let (fits, all) = whole (reads ++ x) (goes reads access words (due_is Loading p access e due)) in
+    let value : (p.count + p.most) % modulus_of p.shape ≡ number_past n all_items % modulus_of p.shape =
+    past_so p.count n (modulus_of p.shape) all_items p.most stands.count_is (ap length (sym items_are) ∙ size) in
+    let row_begins : UnaryStands row (values ++ number_past n all_items % modulus_of p.shape ∷ []) (count_writes C values) =
+    subst (λ v. UnaryStands row (values ++ v ∷ []) (count_writes C values)) value (begins_row values (count_writes C values) rests) in
+    let moved : ConsumerHasMoved p (at_stage p Counting p.scan w row all_items p.most) calls (made ++ x) =
+    take_goes_on p Loading Counting p.scan w row all_items p.most calls made (made ++ x) e refl refl stands (
+      look,
+      finds,
+      item_fits p.shape p.items item fit fits,
+      [],
+      subst (λ l. UnaryStands row (values ++ number_past n all_items % modulus_of p.shape ∷ []) l) (sym (append-nil (count_writes C values))) row_begins,
+      whole_words p calls look front reads x made item stands.cell_is made_is all,
+    ) in
+    subst (λ l. ConsumerHasMoved p (at_stage p Counting p.scan w row l p.most) calls (made ++ x)) (sym items_are) moved
+
+-- what shows some items shows fewer to a take that wants no more
+fewer : (shape : Shape) (k wanted : ℕ) (look : Finding) (most m : ℕ) → m ≤ most → Finds shape k wanted look most → Finds shape k m look m
+fewer shape k wanted (Once seen) most m few ((below, shows, room), all) = ((below, omega (arith, few, shows), room), (omega arith, inl refl))
+fewer shape k wanted (Twice seen again) most m few (none, (below, shows, room), all) = (none, (below, omega (arith, few, shows), room), (omega arith, inl refl))
+
+-- between words, the write of the count of those that are read begins
+pub now_counts :
+    (p : ConsumerState) (row : UnaryState) (m : ℕ) → IsBetweenWords p → length p.items < p.most → length p.items ≡ m →
+    ((values : List ℕ) (made : List Made) → UnaryStands p.row values made → UnaryStands row (values ++ (p.count + m) % modulus_of p.shape ∷ []) made) →
+    (calls : Takes) (made : List Made) → ConsumerStands p calls made → ConsumerStands (record p { stage = Counting; row = row; wanted = m; most = m }) calls made
+now_counts p row m between less size begins_row calls made stands =
+    let (rests, look, finds, fit, reads, words, made_is) = made_at Loading p calls made between.stage_is stands in
+    let n : ℕ = (count_taken p.shape calls).number in
+    let front : List Made = take_phrases p.shape first_count calls.takes in
+    let values : List ℕ = values_taken p.shape calls in
+    let none : reads ≡ [] = words.made_is ∙ ap (digit_reads p.word.cell p.word.value) between.unread in
+    let value : (p.count + m) % modulus_of p.shape ≡ number_past n p.items % modulus_of p.shape =
+    past_so p.count n (modulus_of p.shape) p.items m stands.count_is size in
+    let row_begins : UnaryStands row (values ++ number_past n p.items % modulus_of p.shape ∷ []) (count_writes C values) =
+    subst (λ v. UnaryStands row (values ++ v ∷ []) (count_writes C values)) value (begins_row values (count_writes C values) rests) in
+    record {
+      are = stands.are;
+      count_is = stands.count_is;
+      cell_is = stands.cell_is;
+      told_is = stands.told_is;
+      not_over = open_at Loading p calls made between.stage_is stands;
+      reply_is = subst (λ s. IsReplyToTake calls (takes_at s) p.reply) between.stage_is stands.reply_is;
+      items_are = tt;
+      made_is = (
+        look,
+        fewer p.shape n p.wanted look p.most m (omega (arith, size, less)) finds,
+        fit,
+        [],
+        subst (λ l. UnaryStands row (values ++ number_past n p.items % modulus_of p.shape ∷ []) l) (sym (append-nil (count_writes C values))) row_begins,
+        made_is ∙ ap (λ l. front ++ (made_of_take p.shape n look p.items ++ l)) none,
+      );
+    }
+
+-- ---- the count
+
+-- its write goes on
+pub count_on :
+    (p : ConsumerState) (row : UnaryState) (answer : Bool) → p.stage ≡ Counting → RowGoesOn p.row row answer →
+    (calls : Takes) (made : List Made) (access : Access) → ConsumerStands p calls made → due_take p ≡ Some access →
+    ConsumerHasMoved p (record p { row = row }) calls (made ++ answered access answer ∷ [])
+count_on p row answer e goes calls made access stands due =
+    let (look, finds, fit, writes, rows, made_is) = made_at Counting p calls made e stands in
+    let x : List Made = answered access answer ∷ [] in
+    let n : ℕ = (count_taken p.shape calls).number in
+    let values : List ℕ = values_taken p.shape calls ++ number_past n p.items % modulus_of p.shape ∷ [] in
+    let old : List Made = count_writes C (values_taken p.shape calls) in
+    let rows' : UnaryStands row values (old ++ (writes ++ x)) =
+    subst (λ l. UnaryStands row values l) (append_assoc old writes x) (goes values (old ++ writes) access rows (due_is Counting p access e due)) in
+    let moved : ConsumerHasMoved p (at_stage p Counting p.scan p.word row p.items p.most) calls (made ++ x) =
+    take_goes_on p Counting Counting p.scan p.word row p.items p.most calls made (made ++ x) e refl refl stands (
+      look,
+      finds,
+      fit,
+      writes ++ x,
+      rows',
+      ap (λ l. l ++ x) made_is ∙ longer (take_phrases p.shape first_count calls.takes) (made_of_take p.shape n look p.items) writes x,
+    ) in
+    subst (λ st. ConsumerHasMoved p (at_stage p st p.scan p.word row p.items p.most) calls (made ++ x)) (sym e) moved
+
+-- its write is over, and so is the take
+pub count_over :
+    (p : ConsumerState) (row : UnaryState) (answer : Bool) (reply : Option TakeReply) (count cell : ℕ) → p.stage ≡ Counting → RowGoesOn p.row row answer →
+    1 ≤ p.most → length p.items ≡ p.most → p.most ≤ take_batch_of p.shape →
+    reply ≡ Some (items_reply p.items) → count ≡ (p.count + p.most) % modulus_of p.shape → cell ≡ (p.cell + p.most) % capacity_of p.shape →
+    ((values : List ℕ) (made : List Made) → UnaryStands row values made → made ≡ count_writes C values) →
+    (calls : Takes) (made : List Made) (access : Access) → ConsumerStands p calls made → due_take p ≡ Some access →
+    ConsumerHasMoved p (ended_take p reply count cell p.scan p.word row) calls (made ++ answered access answer ∷ [])
+count_over p row answer reply count cell e goes some size few reply_is count_is cell_is whole calls made access stands due =
+    let (look, finds, fit, writes, rows, made_is) = made_at Counting p calls made e stands in
+    let x : List Made = answered access answer ∷ [] in
+    let c : Count = count_taken p.shape calls in
+    let took : Take = take_of look p.items in
+    let after : (count_after p.shape c took).number ≡ number_past c.number p.items = take_of-takes p.shape c look p.items in
+    let values : List ℕ = values_taken p.shape calls ++ number_past c.number p.items % modulus_of p.shape ∷ [] in
+    let old : List Made = count_writes C (values_taken p.shape calls) in
+    let front : List Made = take_phrases p.shape first_count calls.takes in
+    let scans : List Made = finding_phrase look in
+    let words : List Made = words_read p.shape c.number p.items in
+    let counting : List Made = batch_phrase p.shape C c p.items in
+    let rows' : UnaryStands row values (old ++ (writes ++ x)) =
+    subst (λ l. UnaryStands row values l) (append_assoc old writes x) (goes values (old ++ writes) access rows (due_is Counting p access e due)) in
+    let all : old ++ (writes ++ x) ≡ count_writes C values = whole values (old ++ (writes ++ x)) rows' in
+    let all_counted : writes ++ x ≡ counting = append_cancel_left old (writes ++ x) counting (all ∙ values_writes-push p.shape calls p.items C) in
+    let rests : UnaryStands row values (count_writes C values) = subst (λ l. UnaryStands row values l) all rows' in
+    take_over p Counting took reply count cell p.scan p.word row calls made (made ++ x) e refl stands
+    (take_of-is p.shape c.number p.wanted look p.items (subst (λ m. Finds p.shape c.number p.wanted look m) (sym size) finds)
+    (record { some = omega (arith, some, size); few = omega (arith, few, size); fit = fit }))
+    (reply_is ∙ sym (ap (λ r. Some r) (take_of-replies look p.items)))
+    (sym (take_of-items look p.items))
+    (count_is ∙ past_so p.count c.number (modulus_of p.shape) p.items p.most stands.count_is size ∙ sym (ap (λ n. n % modulus_of p.shape) after))
+    (cell_is ∙ past_so p.cell c.number (capacity_of p.shape) p.items p.most stands.cell_is size ∙ sym (ap (λ n. n % capacity_of p.shape) after))
+    (subst (λ l. UnaryStands row l (count_writes C l)) (sym (values-push p.shape first_count calls.takes look p.items)) rests)
+    (ap (λ l. l ++ x) made_is ∙ longer front (scans ++ words) writes x ∙ ap (λ l. front ++ ((scans ++ words) ++ l)) all_counted ∙
+    ap (λ l. front ++ l) (append_assoc scans words counting ∙ sym (take_of-phrase p.shape c look p.items)))

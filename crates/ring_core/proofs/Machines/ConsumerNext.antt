@@ -1,0 +1,402 @@
+-- The access that the consumer's machine has due is the next one of its take.
+use Rattle.std.proofs.Common.{◌≡◌, ◌⊎◌, inl, inr, ℕ, suc, ◌+◌, ◌-◌, ◌%◌, ◌<◌, ◌≤◌, Bool, true, false, IfSome, Option, Some, None, List, [], ◌∷◌, ◌++◌, length, refl, sym, ap, subst, ◌∙◌, arith, append_assoc, append-nil, length-append}
+use Rattle.std.proofs.Math.Nat.{mod-lt}
+use Rattle.std.proofs.lemmas.Bool.Decides.{nat_tests}
+use Rattle.std.proofs.lemmas.List.{append_cancel_left}
+use Rattle.bits_core.specs.declared.events.Side.TheVariants.{C}
+use Rattle.bits_core.specs.declared.events.Bit.TheVariants.{X, Cell}
+use Rattle.bits_core.specs.declared.events.Access.{Access}
+use Rattle.bits_core.specs.declared.events.Access.TheVariants as begins
+use Rattle.bits_core.specs.declared.shapes.Shape.{Shape}
+use Rattle.bits_core.specs.Shape.{belongs, capacity_of, modulus_of, take_batch_of, width_of}
+use Rattle.bits_core.specs.Open.{IsOpenRight}
+use Rattle.bits_core.specs.Made.{Made, Read, answered, IsBeginning}
+use Rattle.register_core.specs.Machine.{IsNext}
+use Rattle.register_core.specs.Row.{row_bit}
+use Rattle.register_core.specs.Word.{word_read}
+use Rattle.register_core.specs.WordState.{ReaderState, ReaderStands, IsNextRead, due_read}
+use Rattle.register_core.specs.ScanState.{scan_phrase, row_read_by, due_scan, LastIsDue}
+use Rattle.register_core.specs.Unary.{count_writes}
+use Rattle.register_core.specs.UnaryState.{UnaryStands, due_unary, due_writes}
+use Rattle.ring_core.specs.declared.consumers.Stage.TheVariants.{Scanning, Checking, Rescanning, Loading, Counting}
+use Rattle.ring_core.specs.Counts.{ShowsItem, distance, number_past, Count, first_count, batch_phrase}
+use Rattle.ring_core.specs.Calls.{IsScanning, EndsInZeros}
+use Rattle.ring_core.specs.Lengths.{longest_taking}
+use Rattle.ring_core.specs.Items.{taken_of}
+use Rattle.ring_core.specs.Takes.{Take, Takes, Item, ItemAfterClose, Empty, Open, Closed, words_read, items_phrase, take_phrase, take_phrases, end_phrase, take_program, IsTake, SeesItems, SeesNone, IsTakeBatch, AreTakes}
+use Rattle.ring_core.specs.ConsumerState.{ConsumerState, IsTaking, IsLoading, takes_at, is_taking}
+use Rattle.ring_core.specs.ConsumerCalls.{ConsumerStands, Finding, Twice, finding_phrase, Finds, made_of_take, count_taken, values_taken, and_take, and_end, BeginsTake, TakeGoesOn, TakesAll, IsTakeOf}
+use Rattle.ring_core.proofs.Machines.Lengths.{takes-are_short, ends-are_short, longest_up}
+use Rattle.ring_core.proofs.Machines.MachineParts.{longer}
+use Rattle.ring_core.proofs.Machines.Batches.{far_from}
+use Rattle.ring_core.proofs.Machines.NextParts.{begins_more, begins_behind, length-part, scan_due, scan_reads, scan_goes_on, answered_write, first_writes}
+use Rattle.ring_core.proofs.Machines.TakeCalls.{are-push, are-last, are-end, end-sees_none, program_open, program-push, calls_are_count, values_writes-push, words_read-append, zeros, zeros-long, zeros-fit, fit-append, take_of, take_of-is, take_of-phrase}
+use Rattle.ring_core.proofs.Machines.ConsumerMoves.{made_at, open_at}
+
+-- ---- beginnings of one take more
+
+-- accesses that begin a take
+begins_take :
+    (shape : Shape) (wanted : ℕ) (calls : Takes) (made part : List Made) (x : Take) → AreTakes shape 0 calls.takes calls.end → calls.end ≡ Open →
+    IsTake shape (count_taken shape calls).number x × IsTakeOf shape (count_taken shape calls).number wanted x → made ≡ take_phrases shape first_count calls.takes ++ part →
+    IsBeginning part (take_phrase shape (count_taken shape calls) x) → BeginsTake shape wanted calls made
+begins_take shape wanted calls made part x are o (is, of) made_is (rest, e) =
+    let front : List Made = take_phrases shape first_count calls.takes in (
+      and_take calls x,
+      record {
+        is_one_more = inl (x, of, refl);
+        are = are-push shape first_count calls.takes x (subst (λ d. AreTakes shape 0 calls.takes d) o are) is;
+        not_over = o;
+      },
+      (rest, ap (λ l. l ++ rest) made_is ∙ append_assoc front part rest ∙ ap (λ l. front ++ l) e ∙ sym (program-push shape calls x)),
+    )
+
+-- accesses that begin a take that found items so
+begins_found :
+    (shape : Shape) (wanted : ℕ) (calls : Takes) (made part : List Made) (look : Finding) (items : List ℕ) → AreTakes shape 0 calls.takes calls.end → calls.end ≡ Open →
+    Finds shape (count_taken shape calls).number wanted look (length items) → IsTakeBatch shape items → made ≡ take_phrases shape first_count calls.takes ++ part →
+    IsBeginning part (finding_phrase look ++ items_phrase shape (count_taken shape calls) items) → BeginsTake shape wanted calls made
+begins_found shape wanted calls made part look items are o finds batch made_is begins_look =
+    let c : Count = count_taken shape calls in
+    begins_take shape wanted calls made part (take_of look items) are o (take_of-is shape c.number wanted look items finds batch) made_is
+    (subst (λ l. IsBeginning part l) (sym (take_of-phrase shape c look items)) begins_look)
+
+-- items of 0 that a take of so many takes where the count shows some
+zeros_for :
+    (shape : Shape) (k wanted c : ℕ) → 1 ≤ wanted → wanted ≤ take_batch_of shape → c < modulus_of shape → ShowsItem shape c (k % modulus_of shape) →
+    (m : ℕ) × SeesItems shape k c (length (zeros m)) × IsTakeBatch shape (zeros m) × TakesAll shape k wanted c (length (zeros m))
+zeros_for shape k wanted c some few below shows =
+    let d : ℕ = distance (modulus_of shape) c (k % modulus_of shape) in
+    elim (which wanted d) [
+      | inl l ↦ let long : length (zeros wanted) ≡ wanted = zeros-long wanted in (
+        wanted,
+        (below, omega (arith, long, l), shows.1),
+        record { some = omega (arith, long, some); few = omega (arith, long, few); fit = zeros-fit shape wanted },
+        (omega (arith, long), inl long),
+      )
+      | inr l ↦ let long : length (zeros d) ≡ d = zeros-long d in (
+        d,
+        (below, omega (arith, long), shows.1),
+        record { some = omega (arith, long, shows.0); few = omega (arith, long, few, l); fit = zeros-fit shape d },
+        (omega (arith, long, l), inr long),
+      )
+    ]
+  where
+    which : (a b : ℕ) → (a ≤ b) ⊎ (b ≤ a)
+    which a b = grind arith
+
+-- accesses that begin a take that is told the ring is closed
+begins_end :
+    (shape : Shape) (wanted : ℕ) (calls : Takes) (made part : List Made) (seen again : ℕ) → AreTakes shape 0 calls.takes calls.end → calls.end ≡ Open →
+    SeesNone shape (count_taken shape calls).number seen → SeesNone shape (count_taken shape calls).number again → made ≡ take_phrases shape first_count calls.takes ++ part →
+    IsBeginning part (end_phrase (Closed seen again)) → BeginsTake shape wanted calls made
+begins_end shape wanted calls made part seen again are o none none' made_is (rest, e) =
+    let front : List Made = take_phrases shape first_count calls.takes in (
+      and_end calls seen again,
+      record {
+        is_one_more = inr (seen, again, refl);
+        are = are-end shape first_count calls.takes seen again (subst (λ d. AreTakes shape 0 calls.takes d) o are) none none';
+        not_over = o;
+      },
+      (rest, ap (λ l. l ++ rest) made_is ∙ append_assoc front part rest ∙ ap (λ l. front ++ l) e),
+    )
+
+shows_or_none : (shape : Shape) (c k : ℕ) → ShowsItem shape c k ⊎ (ShowsItem shape c k → ⊥)
+shows_or_none shape c k = between_or_not (distance (modulus_of shape) c k) (capacity_of shape)
+  where
+    between_or_not : (a b : ℕ) → ((0 < a) × (a ≤ b)) ⊎ ((0 < a) × (a ≤ b) → ⊥)
+    between_or_not a b = grind arith
+
+-- accesses that begin the first scan of a take
+begins_scan :
+    (shape : Shape) (wanted : ℕ) → 1 ≤ wanted → wanted ≤ take_batch_of shape → (calls : Takes) (made part : List Made) (c : ℕ) → AreTakes shape 0 calls.takes calls.end → calls.end ≡ Open → c < modulus_of shape →
+    made ≡ take_phrases shape first_count calls.takes ++ part → IsBeginning part (scan_phrase (row_read_by C) c) → BeginsTake shape wanted calls made
+begins_scan shape wanted some few calls made part c are o below made_is begins_c =
+    let n : Count = count_taken shape calls in
+    let k : ℕ = n.number in
+    let scan : List Made = scan_phrase (row_read_by C) c in
+    elim (shows_or_none shape c (k % modulus_of shape)) [
+      | inl shows ↦ let (m, sees, batch, all) = zeros_for shape k wanted c some few below shows in
+          begins_take shape wanted calls made part (Item c (zeros m)) are o ((sees, batch), all) made_is
+          (begins_more part scan (items_phrase shape n (zeros m)) begins_c)
+      | inr none ↦ begins_take shape wanted calls made part (Empty c) are o ((below, none), tt) made_is (begins_more part scan (Read X false ∷ []) begins_c)
+    ]
+
+-- accesses that begin the second scan of a take
+begins_rescan :
+    (shape : Shape) (wanted : ℕ) → 1 ≤ wanted → wanted ≤ take_batch_of shape → (calls : Takes) (made part : List Made) (seen again : ℕ) → AreTakes shape 0 calls.takes calls.end → calls.end ≡ Open →
+    SeesNone shape (count_taken shape calls).number seen → again < modulus_of shape → made ≡ take_phrases shape first_count calls.takes ++ part →
+    IsBeginning part (finding_phrase (Twice seen again)) → BeginsTake shape wanted calls made
+begins_rescan shape wanted some few calls made part seen again are o sees below made_is begins_scans =
+    let n : Count = count_taken shape calls in
+    let k : ℕ = n.number in
+    elim (shows_or_none shape again (k % modulus_of shape)) [
+      | inl shows ↦ let (m, sees', batch, all) = zeros_for shape k wanted again some few below shows in
+          begins_take shape wanted calls made part (ItemAfterClose seen again (zeros m)) are o ((sees, sees', batch), all) made_is
+          (begins_more part (finding_phrase (Twice seen again)) (items_phrase shape n (zeros m)) begins_scans)
+      | inr none ↦ begins_end shape wanted calls made part seen again are o sees (below, none) made_is begins_scans
+    ]
+
+-- ---- how many accesses a take has
+
+takes_few : (shape : Shape) (k wanted : ℕ) (x : Take) → IsTakeOf shape k wanted x → length (taken_of x) ≤ wanted
+takes_few shape k wanted (Item seen items) (few, all) = few
+takes_few shape k wanted (ItemAfterClose seen again items) (few, all) = few
+takes_few shape k wanted (Empty seen) of = omega arith
+
+-- a take that goes on has not had its most
+pub begins_short :
+    (shape : Shape) (wanted : ℕ) (calls : Takes) (made : List Made) (y : Made) → 1 ≤ wanted → BeginsTake shape wanted calls (made ++ y ∷ []) →
+    length made < length (take_program shape calls) + longest_taking shape wanted
+begins_short shape wanted calls made y some (more, has, (rest, e)) =
+    let n : Count = count_taken shape calls in
+    let front : List Made = take_phrases shape first_count calls.takes in
+    let program : length (take_program shape calls) ≡ length front = ap length (program_open shape calls has.not_over) in
+    elim has.is_one_more [
+      | inl (x, of, more_is) ↦
+          let is : IsTake shape n.number x = are-last shape first_count calls.takes x (subst (λ (m : Takes). AreTakes shape 0 m.takes m.end) more_is has.are) in
+          let whole : (made ++ y ∷ []) ++ rest ≡ front ++ take_phrase shape n x = e ∙ ap (take_program shape) more_is ∙ program-push shape calls x in
+          let last : List Made = take_phrase shape n x in
+          omega (
+            arith,
+            length-part made rest (front ++ last) y whole,
+            length-append front last,
+            takes-are_short shape n x (calls_are_count shape calls) is,
+            program,
+            longest_up shape (length (taken_of x)) wanted (takes_few shape n.number wanted x of),
+          )
+      | inr (seen, again, more_is) ↦
+          let sees : SeesNone shape n.number seen × SeesNone shape n.number again =
+          end-sees_none shape first_count calls.takes seen again (subst (λ (m : Takes). AreTakes shape 0 m.takes m.end) more_is has.are) in
+          let end : List Made = end_phrase (Closed seen again) in
+          let whole : (made ++ y ∷ []) ++ rest ≡ front ++ end = e ∙ ap (take_program shape) more_is in
+          omega (
+            arith,
+            length-part made rest (front ++ end) y whole,
+            length-append front end,
+            ends-are_short shape n.number seen again sees.0 sees.1,
+            program,
+            longest_up shape 1 wanted some,
+          )
+    ]
+
+-- ---- the stages
+
+-- a take is under way, and goes on with the access that is due
+pub record Going (shape : Shape) (wanted : ℕ) (taking : Bool) (calls : Takes) (made : List Made) (due : Option Access) : Type 0 where
+  pub access : Access
+  pub taking_is : taking ≡ true
+  pub due_is : due ≡ Some access
+  pub some : 1 ≤ wanted
+  pub goes_on : TakeGoesOn shape wanted calls made access
+
+pub going_rests :
+    (shape : Shape) (wanted : ℕ) (taking : Bool) (calls : Takes) (made : List Made) (due : Option Access) → Going shape wanted taking calls made due → due ≡ None →
+    (taking ≡ false) × (made ≡ take_program shape calls)
+going_rests shape wanted taking calls made due g none = absurd (let clash : Some g.access ≡ None = sym g.due_is ∙ none in cc)
+
+pub going_on :
+    (shape : Shape) (wanted : ℕ) (taking : Bool) (calls : Takes) (made : List Made) (due : Option Access) → Going shape wanted taking calls made due → (access : Access) →
+    due ≡ Some access → (taking ≡ true) × TakeGoesOn shape wanted calls made access
+going_on shape wanted taking calls made due g access e = (g.taking_is, subst (λ a. TakeGoesOn shape wanted calls made a) (some_same g.access access (sym g.due_is ∙ e)) g.goes_on)
+  where
+    some_same : (a b : Access) → Some a ≡ Some b → a ≡ b
+    some_same a b e = cc
+
+pub going_bounded :
+    (shape : Shape) (wanted : ℕ) (taking : Bool) (calls : Takes) (made : List Made) (due : Option Access) → Going shape wanted taking calls made due →
+    length made < length (take_program shape calls) + longest_taking shape wanted
+going_bounded shape wanted taking calls made due g = begins_short shape wanted calls made (answered g.access true) g.some (g.goes_on true (λ l. refl))
+
+is_next : (shape : Shape) (wanted : ℕ) (taking : Bool) (calls : Takes) (made : List Made) (due : Option Access) (access : Access) → taking ≡ true → 1 ≤ wanted → due ≡ Some access →
+    TakeGoesOn shape wanted calls made access → Going shape wanted taking calls made due
+is_next shape wanted taking calls made due access taking_is some due_is next = record { access = access; taking_is = taking_is; some = some; due_is = due_is; goes_on = next }
+
+-- the first scan
+pub next_scan :
+    (p : ConsumerState) (calls : Takes) (made : List Made) (due : Option Access) → p.stage ≡ Scanning → ConsumerStands p calls made → IsTaking p →
+    IsScanning C (modulus_of p.shape) p.scan → due ≡ due_scan p.scan → Going p.shape p.wanted (is_taking p) calls made due
+next_scan p calls made due e stands taking scans due_is =
+    let (rests, reads, scan_stands, made_is) = made_at Scanning p calls made e stands in
+    let o : calls.end ≡ Open = open_at Scanning p calls made e stands in
+    let access : Access = begins.Read (row_read_by C p.scan.zeros) in
+    is_next p.shape p.wanted (is_taking p) calls made due access (ap takes_at e) taking.some (due_is ∙ scan_due C (modulus_of p.shape) p.scan scans)
+    (λ answer one.
+    let x : List Made = answered access answer ∷ [] in
+    let (c, below, begins_c) = scan_goes_on p.shape C p.scan reads answer scans scan_stands one in
+    begins_scan p.shape p.wanted taking.some taking.few calls (made ++ x) (reads ++ x) c stands.are o below
+    (ap (λ l. l ++ x) made_is ∙ append_assoc (take_phrases p.shape first_count calls.takes) reads x) begins_c)
+
+begins_check :
+    (shape : Shape) (wanted : ℕ) → 1 ≤ wanted → wanted ≤ take_batch_of shape → (calls : Takes) (made : List Made) (seen : ℕ) (answer : Bool) → AreTakes shape 0 calls.takes calls.end → calls.end ≡ Open →
+    SeesNone shape (count_taken shape calls).number seen → made ≡ take_phrases shape first_count calls.takes ++ scan_phrase (row_read_by C) seen →
+    BeginsTake shape wanted calls (made ++ Read X answer ∷ [])
+begins_check shape wanted some few calls made seen true are o sees made_is =
+    let front : List Made = take_phrases shape first_count calls.takes in
+    let scan : List Made = scan_phrase (row_read_by C) seen in
+    let x : List Made = Read X true ∷ [] in
+    begins_rescan shape wanted some few calls (made ++ x) (scan ++ x) seen 0 are o sees (omega (arith, sees.0)) (ap (λ l. l ++ x) made_is ∙ append_assoc front scan x)
+    (scan_phrase (row_read_by C) 0, append_assoc scan x (scan_phrase (row_read_by C) 0))
+begins_check shape wanted some few calls made seen false are o sees made_is =
+    let front : List Made = take_phrases shape first_count calls.takes in
+    let scan : List Made = scan_phrase (row_read_by C) seen in
+    let x : List Made = Read X false ∷ [] in
+    begins_take shape wanted calls (made ++ x) (scan ++ x) (Empty seen) are o (sees, tt) (ap (λ l. l ++ x) made_is ∙ append_assoc front scan x) ([], append-nil (scan ++ x))
+
+-- the read of the close bit
+pub next_check :
+    (p : ConsumerState) (calls : Takes) (made : List Made) → p.stage ≡ Checking → ConsumerStands p calls made → IsTaking p →
+    Going p.shape p.wanted (is_taking p) calls made (Some (begins.Read X))
+next_check p calls made e stands taking =
+    let (rests, seen, sees, made_is) = made_at Checking p calls made e stands in
+    let o : calls.end ≡ Open = open_at Checking p calls made e stands in
+    is_next p.shape p.wanted (is_taking p) calls made (Some (begins.Read X)) (begins.Read X) (ap takes_at e) taking.some refl
+    (λ answer one. begins_check p.shape p.wanted taking.some taking.few calls made seen answer stands.are o sees made_is)
+
+-- the second scan
+pub next_rescan :
+    (p : ConsumerState) (calls : Takes) (made : List Made) (due : Option Access) → p.stage ≡ Rescanning → ConsumerStands p calls made → IsTaking p →
+    IsScanning C (modulus_of p.shape) p.scan → due ≡ due_scan p.scan → Going p.shape p.wanted (is_taking p) calls made due
+next_rescan p calls made due e stands taking scans due_is =
+    let (rests, seen, sees, reads, scan_stands, made_is) = made_at Rescanning p calls made e stands in
+    let o : calls.end ≡ Open = open_at Rescanning p calls made e stands in
+    let access : Access = begins.Read (row_read_by C p.scan.zeros) in
+    let front : List Made = take_phrases p.shape first_count calls.takes in
+    let scan : List Made = scan_phrase (row_read_by C) seen in
+    let checked : List Made = scan ++ Read X true ∷ [] in
+    is_next p.shape p.wanted (is_taking p) calls made due access (ap takes_at e) taking.some (due_is ∙ scan_due C (modulus_of p.shape) p.scan scans)
+    (λ answer one.
+    let x : List Made = answered access answer ∷ [] in
+    let (c, below, begins_c) = scan_goes_on p.shape C p.scan reads answer scans scan_stands one in
+    let again : List Made = scan_phrase (row_read_by C) c in
+    begins_rescan p.shape p.wanted taking.some taking.few calls (made ++ x) (checked ++ (reads ++ x)) seen c stands.are o sees below (ap (λ l. l ++ x) made_is ∙ longer front checked reads x)
+    (subst (λ l. IsBeginning (checked ++ (reads ++ x)) l) (append_assoc scan (Read X true ∷ []) again) (begins_behind checked (reads ++ x) again begins_c)))
+
+read_due : (r : ReaderState) → r.read < r.width → due_read r ≡ Some (begins.Read (Cell r.cell r.read))
+read_due r l = grind (arith, nat_tests)
+
+pub word_right :
+    (p : ConsumerState) (due : Option Access) → IsLoading p → p.word.read < p.word.width → due ≡ due_read p.word →
+    IfSome due (IsOpenRight p.shape C)
+word_right p due loads more due_is =
+    subst (λ d. IfSome d (IsOpenRight p.shape C)) (sym (due_is ∙ read_due p.word more)) (in_shape cell_below digit_below, refl)
+  where
+    cell_below : p.word.cell < capacity_of p.shape
+    cell_below = subst (λ j. j < capacity_of p.shape) (sym loads.cell_is) (mod-lt (p.cell + length p.items) p.shape.has_cells)
+
+    digit_below : p.word.read < width_of p.shape
+    digit_below = subst (λ n. p.word.read < n) loads.width_is more
+
+    in_shape : p.word.cell < capacity_of p.shape → p.word.read < width_of p.shape → belongs p.shape (Cell p.word.cell p.word.read) ≡ true
+    in_shape a b = grind (arith, nat_tests)
+
+-- the accesses of a take of items, of one, and of others behind it
+one_more :
+    (shape : Shape) (c : Count) (look : Finding) (items : List ℕ) (item : ℕ) (later : List ℕ) →
+    made_of_take shape c.number look items ++
+    (word_read (width_of shape) ((c.number + length items) % capacity_of shape) item ++
+    (words_read shape (suc (c.number + length items)) later ++ batch_phrase shape C c (items ++ item ∷ later))) ≡
+    finding_phrase look ++ items_phrase shape c (items ++ item ∷ later)
+one_more shape c look items item later =
+    let scans : List Made = finding_phrase look in
+    let words : List Made = words_read shape c.number items in
+    let word : List Made = word_read (width_of shape) ((c.number + length items) % capacity_of shape) item in
+    let behind : List Made = words_read shape (suc (c.number + length items)) later in
+    let count : List Made = batch_phrase shape C c (items ++ item ∷ later) in
+    append_assoc scans words (word ++ (behind ++ count)) ∙
+    ap (λ l. scans ++ l)
+    (ap (λ l. words ++ l) (sym (append_assoc word behind count)) ∙ sym (append_assoc words (word ++ behind) count) ∙
+    ap (λ l. l ++ count) (sym (words_read-append shape c.number items (item ∷ later))))
+
+-- the word
+pub next_word :
+    (p : ConsumerState) (calls : Takes) (made : List Made) (due : Option Access) → p.stage ≡ Loading → ConsumerStands p calls made → IsTaking p → IsLoading p →
+    length p.items < p.most → p.most ≤ p.wanted →
+    p.word.read < p.word.width → due ≡ due_read p.word → ((reads : List Made) → ReaderStands p.word reads → IsNextRead p.word.width p.word.cell reads due) →
+    Going p.shape p.wanted (is_taking p) calls made due
+next_word p calls made due e stands taking loads less few unread due_is next =
+    let (rests, look, finds, fit, reads, words, made_is) = made_at Loading p calls made e stands in
+    let o : calls.end ≡ Open = open_at Loading p calls made e stands in
+    let c : Count = count_taken p.shape calls in
+    let cell : ℕ = (c.number + length p.items) % capacity_of p.shape in
+    let front : List Made = take_phrases p.shape first_count calls.takes in
+    let begun : List Made = made_of_take p.shape c.number look p.items in
+    let access : Access = begins.Read (Cell p.word.cell p.word.read) in
+    let due_some : due ≡ Some access = due_is ∙ read_due p.word unread in
+    let goes_on : IsNextRead (width_of p.shape) cell reads (Some access) =
+    subst (λ d. IsNextRead (width_of p.shape) cell reads d) due_some
+    (subst (λ n. IsNextRead n cell reads due) loads.width_is
+    (subst (λ j. IsNextRead p.word.width j reads due)
+    (loads.cell_is ∙ far_from p.cell c.number (length p.items) (capacity_of p.shape) stands.cell_is) (next reads words))) in
+    is_next p.shape p.wanted (is_taking p) calls made due access (ap takes_at e) taking.some due_some
+    (λ answer one.
+    let x : List Made = answered access answer ∷ [] in
+    let (item, fits, begins_item) = goes_on answer in
+    let later : List ℕ = zeros (p.most - suc (length p.items)) in
+    let items : List ℕ = p.items ++ item ∷ later in
+    let long : length items ≡ length p.items + suc (length later) = length-append p.items (item ∷ later) in
+    let all_long : length items ≡ p.most = omega (arith, long, zeros-long (p.most - suc (length p.items)), less) in
+    let word : List Made = word_read (width_of p.shape) cell item in
+    let count : List Made = words_read p.shape (suc (c.number + length p.items)) later ++ batch_phrase p.shape C c items in
+    begins_found p.shape p.wanted calls (made ++ x) (begun ++ (reads ++ x)) look items stands.are o
+    (subst (λ m. Finds p.shape c.number p.wanted look m) (sym all_long) finds)
+    (record {
+      some = omega (arith, all_long, less);
+      few = omega (arith, all_long, few, taking.few);
+      fit = fit-append p.shape p.items (item ∷ later) fit (fits, zeros-fit p.shape (p.most - suc (length p.items)));
+    })
+    (ap (λ l. l ++ x) made_is ∙ longer front begun reads x)
+    (subst (λ l. IsBeginning (begun ++ (reads ++ x)) l) (one_more p.shape c look p.items item later)
+    (begins_behind begun (reads ++ x) (word ++ count) (begins_more (reads ++ x) word count begins_item))))
+
+-- the count
+pub next_count_write :
+    (p : ConsumerState) (calls : Takes) (made : List Made) (due : Option Access) → p.stage ≡ Counting → ConsumerStands p calls made → IsTaking p →
+    1 ≤ p.most → length p.items ≡ p.most → p.most ≤ p.wanted → p.row.side ≡ C →
+    (due_unary p.row ≡ None → ⊥) → due ≡ due_unary p.row →
+    ((values : List ℕ) (made : List Made) → UnaryStands p.row values made → IsNext (count_writes p.row.side values) made due) →
+    Going p.shape p.wanted (is_taking p) calls made due
+next_count_write p calls made due e stands taking least size few side some due_is next =
+    let (look, finds, fit, writes, rows, made_is) = made_at Counting p calls made e stands in
+    let o : calls.end ≡ Open = open_at Counting p calls made e stands in
+    let c : Count = count_taken p.shape calls in
+    let values : List ℕ = values_taken p.shape calls ++ number_past c.number p.items % modulus_of p.shape ∷ [] in
+    let front : List Made = take_phrases p.shape first_count calls.takes in
+    let old : List Made = count_writes C (values_taken p.shape calls) in
+    let count : List Made = batch_phrase p.shape C c p.items in
+    let scans : List Made = finding_phrase look in
+    let words : List Made = words_read p.shape c.number p.items in
+    let (b, v, due_some) = first_writes (row_bit p.row.side) (due_writes p.row) due due_is (λ f. some (sym due_is ∙ f)) in
+    let access : Access = begins.Write b v in
+    let (x, rest, x_is, whole) =
+    subst (λ d. IsNext (count_writes C values) (old ++ writes) d) due_some
+    (subst (λ s. IsNext (count_writes s values) (old ++ writes) due) side (next values (old ++ writes) rows)) in
+    let count_is : writes ++ x ∷ rest ≡ count =
+    append_cancel_left old (writes ++ x ∷ rest) count (sym (append_assoc old writes (x ∷ rest)) ∙ sym whole ∙ values_writes-push p.shape calls p.items C) in
+    is_next p.shape p.wanted (is_taking p) calls made due access (ap takes_at e) taking.some due_some
+    (λ answer one.
+    let y : List Made = answered access answer ∷ [] in
+    let y_is : answered access answer ≡ x = answered_write x access b v answer x_is refl in
+    let all : (writes ++ y) ++ rest ≡ count = append_assoc writes y rest ∙ ap (λ z. writes ++ z ∷ rest) y_is ∙ count_is in
+    begins_found p.shape p.wanted calls (made ++ y) ((scans ++ words) ++ (writes ++ y)) look p.items stands.are o
+    (subst (λ m. Finds p.shape c.number p.wanted look m) (sym size) finds)
+    (record { some = omega (arith, size, least); few = omega (arith, size, few, taking.few); fit = fit })
+    (ap (λ l. l ++ y) made_is ∙ longer front (scans ++ words) writes y)
+    (subst (λ l. IsBeginning ((scans ++ words) ++ (writes ++ y)) l) (append_assoc scans words count)
+    (begins_behind (scans ++ words) (writes ++ y) count (rest, all))))
+
+-- ---- the last bit of the producer's count
+
+-- where it is due in the second scan of a take, that scan has read 0 in all bits below
+pub rescan_zeros :
+    (p : ConsumerState) (calls : Takes) (made : List Made) → p.stage ≡ Rescanning → ConsumerStands p calls made → IsScanning C (modulus_of p.shape) p.scan →
+    LastIsDue p.scan → EndsInZeros p.shape C made
+rescan_zeros p calls made e stands scans (not_found, last) =
+    let (rests, seen, none, reads, scan_stands, made_is) = made_at Rescanning p calls made e stands in
+    let front : List Made = take_phrases p.shape first_count calls.takes in
+    let asked : List Made = scan_phrase (row_read_by C) seen ++ Read X true ∷ [] in (
+      front ++ asked,
+      p.scan.zeros,
+      last ∙ scans.modulus_is,
+      made_is ∙ sym (append_assoc front asked reads) ∙ ap (λ l. (front ++ asked) ++ l) (scan_reads C (modulus_of p.shape) p.scan reads scans scan_stands),
+    )

@@ -1,0 +1,158 @@
+-- How many accesses the phrases of a call have.
+use Rattle.std.proofs.Common.{◌≡◌, ℕ, zero, suc, ◌+◌, ◌*◌, ◌%◌, ◌≤◌, true, false, List, [], ◌∷◌, ◌++◌, length, refl, arith, ◌∙◌, length-append}
+use Rattle.std.proofs.lemmas.List.{length-map}
+use Rattle.std.proofs.Math.Nat.{suc-mul, mul-le-mul_right}
+use Rattle.bits_core.specs.declared.events.Side.TheVariants.{P, C}
+use Rattle.bits_core.specs.declared.events.Bit.{Bit}
+use Rattle.bits_core.specs.declared.events.Bit.TheVariants.{X, Cell}
+use Rattle.bits_core.specs.declared.shapes.Shape.{Shape}
+use Rattle.bits_core.specs.Shape.{capacity_of, modulus_of, width_of}
+use Rattle.bits_core.specs.Made.{Made, Read, Write}
+use Rattle.register_core.specs.Word.{digit_writes, word_write, word_read}
+use Rattle.register_core.specs.ScanState.{zero_reads, scan_phrase, row_read_by}
+use Rattle.ring_core.specs.Counts.{Count, IsCount, batch_phrase}
+use Rattle.ring_core.specs.Puts.{words_phrase}
+use Rattle.ring_core.specs.Takes.{Item, ItemAfterClose, Empty, words_read, items_phrase}
+use Rattle.ring_core.specs.Lengths.{longest_take, longest_taking, ItemPutsAreShort, FullPutsAreShort, PutsAreShort, TakesAreShort, EndsAreShort}
+use Rattle.ring_core.proofs.Readings.Phrases.{length-digit_reads, length-digit_writes}
+use Rattle.ring_core.proofs.CountRow.{step_short, batch_short}
+
+-- ---- phrases
+
+-- n reads of 0
+pub length-zero_reads : (row : ℕ → Bit) (n : ℕ) → length (zero_reads row n) ≡ n
+length-zero_reads row zero = refl
+length-zero_reads row (suc n) = omega (arith, length-zero_reads row n, length-append (zero_reads row n) (Read (row n) false ∷ []))
+
+-- a scan that gives c has c + 1 reads
+pub length-scan : (row : ℕ → Bit) (c : ℕ) → length (scan_phrase row c) ≡ suc c
+length-scan row c = omega (arith, length-zero_reads row c, length-append (zero_reads row c) (Read (row c) true ∷ []))
+
+-- a word write has a write for each digit
+pub length-word_write : (width cell item : ℕ) → length (word_write width cell item) ≡ width
+length-word_write width cell item = length-map (digit_writes item width) (λ w. Write (Cell cell w.bit) w.value) ∙ length-digit_writes item width
+
+-- a word read has a read for each digit
+pub length-word_read : (width cell item : ℕ) → length (word_read width cell item) ≡ width
+length-word_read width cell item = length-digit_reads cell item width
+
+-- the bound of several items is no lower than that of one
+longest_least : (shape : Shape) (n : ℕ) → longest_take shape ≤ longest_taking shape (suc (suc n))
+longest_least shape n =
+    omega (arith, suc-mul (suc n) (width_of shape), suc-mul n (width_of shape), shape.has_cells, shape.has_batch, shape.room_to_count)
+
+-- ---- calls
+
+-- words have an access for each digit
+pub length-words : (shape : Shape) (n : ℕ) (items : List ℕ) → length (words_phrase shape n items) ≡ length items * width_of shape
+length-words shape n [] = omega arith
+length-words shape n (item ∷ items) =
+    omega (
+      arith,
+      length-append (word_write (width_of shape) (n % capacity_of shape) item) (words_phrase shape (suc n) items),
+      length-word_write (width_of shape) (n % capacity_of shape) item,
+      length-words shape (suc n) items,
+      suc-mul (length items) (width_of shape),
+    )
+
+-- the parts of a put that stores
+length-stored :
+    (shape : Shape) (c : Count) (seen : ℕ) (items : List ℕ) →
+    length (scan_phrase (row_read_by P) seen ++ words_phrase shape c.number items ++ batch_phrase shape P c items) ≡
+    suc seen + length items * width_of shape + length (batch_phrase shape P c items)
+length-stored shape c seen items =
+    let scan : List Made = scan_phrase (row_read_by P) seen in
+    let words : List Made = words_phrase shape c.number items in
+    omega (
+      arith,
+      length-append (scan ++ words) (batch_phrase shape P c items),
+      length-append scan words,
+      length-scan (row_read_by P) seen,
+      length-words shape c.number items,
+    )
+
+-- no put is longer than the bounds
+pub item_puts-are_short : ItemPutsAreShort
+item_puts-are_short shape c seen item is (below, room, batch) =
+    let one : 1 * width_of shape ≡ width_of shape = omega arith in
+    omega (arith, below, length-stored shape c seen (item ∷ []), one, step_short shape P c item is)
+
+pub full_puts-are_short : FullPutsAreShort
+full_puts-are_short shape c seen (below, none) = omega (arith, below, length-scan (row_read_by P) seen)
+
+pub puts-are_short : PutsAreShort
+puts-are_short shape c seen items is (below, room, batch) = omega (arith, below, length-stored shape c seen items, batch_short shape P c items)
+
+-- two scans with a read of the close bit between them
+length-two_scans :
+    (seen again : ℕ) → length (scan_phrase (row_read_by C) seen ++ Read X true ∷ scan_phrase (row_read_by C) again) ≡ suc seen + suc (suc again)
+length-two_scans seen again =
+    omega (
+      arith,
+      length-append (scan_phrase (row_read_by C) seen) (Read X true ∷ scan_phrase (row_read_by C) again),
+      length-scan (row_read_by C) seen,
+      length-scan (row_read_by C) again,
+    )
+
+-- words that are read have an access for each digit
+length-reads : (shape : Shape) (n : ℕ) (items : List ℕ) → length (words_read shape n items) ≡ length items * width_of shape
+length-reads shape n [] = omega arith
+length-reads shape n (item ∷ items) =
+    omega (
+      arith,
+      length-append (word_read (width_of shape) (n % capacity_of shape) item) (words_read shape (suc n) items),
+      length-word_read (width_of shape) (n % capacity_of shape) item,
+      length-reads shape (suc n) items,
+      suc-mul (length items) (width_of shape),
+    )
+
+-- the accesses that take items
+length-items : (shape : Shape) (c : Count) (items : List ℕ) → length (items_phrase shape c items) ≡ length items * width_of shape + length (batch_phrase shape C c items)
+length-items shape c items =
+    omega (arith, length-append (words_read shape c.number items) (batch_phrase shape C c items), length-reads shape c.number items)
+
+-- what follows the scans of a take of items: of one its word and two writes of the count, of several a word each and a write
+items_short :
+    (shape : Shape) (c : Count) (items : List ℕ) (scans : ℕ) → IsCount shape c → 1 ≤ length items → scans ≤ 2 * modulus_of shape + 1 →
+    scans + length (items_phrase shape c items) ≤ longest_taking shape (length items)
+items_short shape c [] scans is some few = absurd (omega (arith, some))
+items_short shape c (item ∷ []) scans is some few =
+    let one : 1 * width_of shape ≡ width_of shape = omega arith in
+    omega (arith, few, length-items shape c (item ∷ []), one, step_short shape C c item is)
+items_short shape c (item ∷ next ∷ items) scans is some few =
+    omega (arith, few, length-items shape c (item ∷ next ∷ items), batch_short shape C c (item ∷ next ∷ items))
+
+-- no take is longer than the bound
+pub takes-are_short : TakesAreShort
+takes-are_short shape c (Item seen items) is ((below, few, room), batch) =
+    omega (
+      arith,
+      length-append (scan_phrase (row_read_by C) seen) (items_phrase shape c items),
+      length-scan (row_read_by C) seen,
+      items_short shape c items (suc seen) is batch.some (omega (arith, below)),
+    )
+takes-are_short shape c (ItemAfterClose seen again items) is ((below, none), (below', few, room), batch) =
+    omega (
+      arith,
+      length-append (scan_phrase (row_read_by C) seen ++ Read X true ∷ scan_phrase (row_read_by C) again) (items_phrase shape c items),
+      length-two_scans seen again,
+      items_short shape c items (suc seen + suc (suc again)) is batch.some (omega (arith, below, below')),
+    )
+takes-are_short shape c (Empty seen) is (below, none) =
+    omega (arith, below, length-append (scan_phrase (row_read_by C) seen) (Read X false ∷ []), length-scan (row_read_by C) seen)
+
+-- the bound of more items is no lower
+pub longest_up : (shape : Shape) (m n : ℕ) → m ≤ n → longest_taking shape m ≤ longest_taking shape n
+longest_up shape zero zero l = omega arith
+longest_up shape zero (suc zero) l = omega arith
+longest_up shape zero (suc (suc n)) l = longest_least shape n
+longest_up shape (suc zero) zero l = absurd (omega (arith, l))
+longest_up shape (suc zero) (suc zero) l = omega arith
+longest_up shape (suc zero) (suc (suc n)) l = longest_least shape n
+longest_up shape (suc (suc m)) zero l = absurd (omega (arith, l))
+longest_up shape (suc (suc m)) (suc zero) l = absurd (omega (arith, l))
+longest_up shape (suc (suc m)) (suc (suc n)) l = omega (arith, mul-le-mul_right (width_of shape) l)
+
+-- no take that is told the ring is closed is longer than the bound
+pub ends-are_short : EndsAreShort
+ends-are_short shape k seen again (below, none) (below', none') = omega (arith, below, below', length-two_scans seen again)

@@ -1,0 +1,153 @@
+-- What holds at each stage of the producer's machine holds after an access.
+use Rattle.std.proofs.Common.{◌≡◌, ℕ, suc, ◌+◌, ◌%◌, ◌<◌, ◌≤◌, Bool, true, false, Option, Some, None, List, length, take, refl, sym, ap, subst, ◌∙◌, arith}
+use Rattle.std.specs.Prelude.{slice_get}
+use Rattle.bits_core.specs.declared.events.Side.TheVariants.{P}
+use Rattle.bits_core.specs.declared.events.Access.{Access}
+use Rattle.bits_core.specs.Shape.{capacity_of, modulus_of, width_of}
+use Rattle.bits_core.specs.Made.{Made}
+use Rattle.register_core.specs.ScanState.{ScanState, scan_read, due_scan}
+use Rattle.register_core.specs.Machine.{IsNext}
+use Rattle.register_core.specs.Word.{word_write}
+use Rattle.register_core.specs.WordState.{WriterState, WriterStands}
+use Rattle.register_core.specs.UnaryState.{UnaryState}
+use Rattle.ring_core.specs.declared.producers.Stage.{Stage}
+use Rattle.ring_core.specs.declared.producers.Stage.TheVariants.{Scanning, Storing, Counting}
+use Rattle.ring_core.specs.Calls.{LastBitIsDue}
+use Rattle.ring_core.specs.ProducerState.{ProducerState, IsProducer, ProducerIsAt, IsPutting, IsWritingWord, due_put, producer_due_at}
+use Rattle.ring_core.proofs.CountRow.{batch_below}
+use Rattle.ring_core.proofs.Machines.MachineParts.{scanning, counting_on}
+use Rattle.ring_core.proofs.Machines.Batches.{taken_so, taken_batch}
+
+pub at_stage : (p : ProducerState) (st : Stage) → IsProducer p → p.stage ≡ st → ProducerIsAt st p
+at_stage p st is e = subst (λ s. ProducerIsAt s p) e is.at
+
+same_putting :
+    (p : ProducerState) (st : Stage) (scan : ScanState) (word : WriterState) (row : UnaryState) (most : ℕ) → IsPutting p →
+    word.width ≡ p.word.width → word.cell ≡ p.word.cell → word.item ≡ p.word.item →
+    IsPutting (record p { stage = st; scan = scan; word = word; row = row; most = most })
+same_putting p st scan word row most is e f g = record {
+  not_closed = is.not_closed;
+  not_answered = is.not_answered;
+  offers = is.offers;
+  writes = record { width_is = e ∙ is.writes.width_is; cell_is = f ∙ is.writes.cell_is; item_is = is.writes.item_is ∙ ap Some (sym g) };
+}
+
+pub scan_keeps :
+    (p : ProducerState) (s : ScanState) (answer : Bool) → IsProducer p → p.stage ≡ Scanning → (LastBitIsDue p.shape P (due_put p) → answer ≡ true) →
+    s ≡ scan_read p.scan answer → s.found ≡ false → IsProducer (record p { scan = s })
+scan_keeps p s answer is e one fed open_still =
+    let (counted, putting, fresh, start, scans) = at_stage p Scanning is e in
+    let one' : LastBitIsDue p.shape P (due_scan p.scan) → answer ≡ true = subst (λ st. LastBitIsDue p.shape P (producer_due_at st p) → answer ≡ true) e one in
+    record {
+      count_below = is.count_below;
+      cell_below = is.cell_below;
+      row_side = is.row_side;
+      row_modulus = is.row_modulus;
+      at = subst (λ st. ProducerIsAt st (record p { stage = st; scan = s })) (sym e)
+          (counted, same_putting p Scanning s p.word p.row p.most putting refl refl refl, fresh, start, scanning p.shape P p.scan s answer scans one' fed open_still);
+    }
+
+-- a scan that gave a count which leaves room
+pub room_keeps :
+    (p : ProducerState) (s : ScanState) (most : ℕ) → IsProducer p → p.stage ≡ Scanning → 1 ≤ most → most ≤ length p.items →
+    IsProducer (record p { stage = Storing; scan = s; most = most })
+room_keeps p s most is e some few =
+    let (counted, putting, fresh, start, scans) = at_stage p Scanning is e in
+    record {
+      count_below = is.count_below;
+      cell_below = is.cell_below;
+      row_side = is.row_side;
+      row_modulus = is.row_modulus;
+      at = (
+        counted,
+        same_putting p Storing s p.word p.row most putting refl refl refl,
+        (omega (arith, start, some), few),
+        omega (arith, fresh, putting.writes.width_is, p.shape.has_digits),
+      );
+    }
+
+-- a word write that goes on
+pub word_stays :
+    (p : ProducerState) (w : WriterState) → IsProducer p → p.stage ≡ Storing → w ≡ record p.word { written = suc p.word.written } →
+    w.written < w.width → IsProducer (record p { word = w })
+word_stays p w is e fed more =
+    let (counted, putting, keeping, less) = at_stage p Storing is e in
+    record {
+      count_below = is.count_below;
+      cell_below = is.cell_below;
+      row_side = is.row_side;
+      row_modulus = is.row_modulus;
+      at = subst (λ st. ProducerIsAt st (record p { stage = st; word = w })) (sym e) (
+        counted,
+        same_putting p Storing p.scan w p.row p.most putting (ap (λ (x : WriterState). x.width) fed) (ap (λ (x : WriterState). x.cell) fed) (ap (λ (x : WriterState). x.item) fed),
+        keeping,
+        more,
+      );
+    }
+
+-- the next word
+pub next_keeps :
+    (p : ProducerState) (w : WriterState) (cell item : ℕ) → IsProducer p → p.stage ≡ Storing → suc p.index < p.most →
+    cell ≡ (p.cell + suc p.index) % capacity_of p.shape → slice_get p.items (suc p.index) ≡ Some item →
+    w ≡ record { width = width_of p.shape; cell = cell; item = item; written = 0 } → IsProducer (record p { word = w; index = suc p.index })
+next_keeps p w cell item is e more cell_is item_is w_is =
+    let (counted, putting, keeping, less) = at_stage p Storing is e in
+    record {
+      count_below = is.count_below;
+      cell_below = is.cell_below;
+      row_side = is.row_side;
+      row_modulus = is.row_modulus;
+      at = subst (λ st. ProducerIsAt st (record p { stage = st; word = w; index = suc p.index })) (sym e) (
+        counted,
+        record {
+          not_closed = putting.not_closed;
+          not_answered = putting.not_answered;
+          offers = putting.offers;
+          writes = record {
+            width_is = ap (λ (x : WriterState). x.width) w_is;
+            cell_is = ap (λ (x : WriterState). x.cell) w_is ∙ cell_is;
+            item_is = item_is ∙ ap Some (sym (ap (λ (x : WriterState). x.item) w_is));
+          };
+        },
+        (more, keeping.1),
+        omega (arith, ap (λ (x : WriterState). x.written) w_is, ap (λ (x : WriterState). x.width) w_is, p.shape.has_digits),
+      );
+    }
+
+pub next_so :
+    (p : ProducerState) (w : WriterState) (cell item i : ℕ) → i ≡ suc p.index → IsProducer p → p.stage ≡ Storing → i < p.most →
+    cell ≡ (p.cell + i) % capacity_of p.shape → slice_get p.items i ≡ Some item →
+    w ≡ record { width = width_of p.shape; cell = cell; item = item; written = 0 } → IsProducer (record p { word = w; index = i })
+next_so p w cell item i so is e more cell_is item_is w_is =
+    subst (λ k. IsProducer (record p { word = w; index = k })) (sym so)
+    (next_keeps p w cell item is e (omega (arith, more, so)) (cell_is ∙ ap (λ k. (p.cell + k) % capacity_of p.shape) so)
+    (ap (slice_get p.items) (sym so) ∙ item_is) w_is)
+
+-- the words are written
+pub word_keeps :
+    (p : ProducerState) (w : WriterState) (row : UnaryState) → IsProducer p → p.stage ≡ Storing → w ≡ record p.word { written = suc p.word.written } →
+    row ≡ record p.row { value = (p.count + p.most) % modulus_of p.shape } → IsProducer (record p { stage = Counting; word = w; row = row })
+word_keeps p w row is e fed begun =
+    let (counted, putting, keeping, more) = at_stage p Storing is e in
+    let size : length (take p.most p.items) ≡ p.most = taken_so p.items p.most keeping.1 in
+    let batch = taken_batch p.shape p.items p.most (omega (arith, keeping.0)) putting.offers in
+    record {
+      count_below = is.count_below;
+      cell_below = is.cell_below;
+      row_side = ap (λ (r : UnaryState). r.side) begun ∙ is.row_side;
+      row_modulus = ap (λ (r : UnaryState). r.modulus) begun ∙ is.row_modulus;
+      at = (
+        counting_on p.shape p.row row p.count (take p.most p.items) p.most counted is.count_below (sym size) batch.some (omega (arith, batch.few, batch_below p.shape)) begun,
+        same_putting p Counting p.scan w row p.most putting (ap (λ (x : WriterState). x.width) fed) (ap (λ (x : WriterState). x.cell) fed) (ap (λ (x : WriterState). x.item) fed),
+        keeping,
+      );
+    }
+
+pub word_whole :
+    (p : ProducerState) (w : WriterState) (due : Option Access) → IsWritingWord p → w ≡ record p.word { written = suc p.word.written } → due ≡ None →
+    ((made : List Made) → WriterStands w made → IsNext (word_write w.width w.cell w.item) made due) →
+    (made : List Made) → WriterStands w made → made ≡ word_write (width_of p.shape) ((p.cell + p.index) % capacity_of p.shape) p.word.item
+word_whole p w due is fed none next made stands =
+    let whole : made ≡ word_write w.width w.cell w.item = subst (λ d. IsNext (word_write w.width w.cell w.item) made d) none (next made stands) in
+    whole ∙ ap (λ (x : WriterState). word_write x.width x.cell x.item) fed ∙ ap (λ n. word_write n p.word.cell p.word.item) is.width_is ∙
+    ap (λ n. word_write (width_of p.shape) n p.word.item) is.cell_is

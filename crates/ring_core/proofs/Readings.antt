@@ -1,0 +1,11 @@
+-- Which calls a history can be read as.
+pub mod Cuts
+pub mod ItemsRead
+pub mod Over
+pub mod Parts
+pub mod Phrases
+pub mod PutsRead
+pub mod TakenRead
+pub mod TakesFirst
+pub mod TakesRead
+pub mod WholeCalls

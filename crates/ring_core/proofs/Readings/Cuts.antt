@@ -1,0 +1,102 @@
+-- Lists of events and of accesses that two programs begin with.
+use Rattle.std.proofs.Common.{◌≡◌, ℕ, suc, ◌*◌, ◌<◌, ◌≤◌, List, [], ◌∷◌, ◌++◌, length, refl, sym, ap, ◌∙◌, arith, ◌⊎◌, append_assoc}
+use Rattle.bits_core.specs.declared.events.Side.{Side}
+use Rattle.bits_core.specs.declared.events.Event.{Event}
+use Rattle.bits_core.specs.Made.{Made, begin_event, events_of, IsBeginning}
+use Rattle.ring_core.proofs.Readings.Phrases.{same_made}
+
+-- one number is at most the other, or above it
+pub at_most_or_above : (a b : ℕ) → (a ≤ b) ⊎ (b < a)
+at_most_or_above a b = grind arith
+
+-- the next access of both programs, behind those that they both begin with, begins alike
+pub record OpenBoth (s : Side) (made left right : List Made) : Type 0 where
+  pub on_left : Made
+  pub on_right : Made
+  pub more_left : List Made
+  pub more_right : List Made
+  pub left_is : left ≡ made ++ on_left ∷ more_left
+  pub right_is : right ≡ made ++ on_right ∷ more_right
+  pub same : begin_event s on_left ≡ begin_event s on_right
+
+-- the accesses that two programs both begin with, where both begin with so many events
+pub record BeginBoth (s : Side) (t : ℕ) (left right : List Made) : Type 0 where
+  pub made : List Made
+  pub begins_left : IsBeginning made left
+  pub begins_right : IsBeginning made right
+  pub reach : t ≤ suc (2 * length made)
+  pub next : suc (2 * length made) ≤ t → OpenBoth s made left right
+
+-- programs whose events begin alike begin with the same accesses, as far as those have ended
+pub begin_both :
+    (s : Side) (es : List Event) (left right : List Made) →
+    IsBeginning es (events_of s left) → IsBeginning es (events_of s right) → BeginBoth s (length es) left right
+begin_both s [] left right p q = record {
+  made = [];
+  begins_left = (left, refl);
+  begins_right = (right, refl);
+  reach = omega arith;
+  next = λ l. absurd (omega (arith, l));
+}
+begin_both s (e ∷ []) [] right (r, p) q = absurd (cc)
+begin_both s (e ∷ []) (x ∷ left) [] p (r, q) = absurd (cc)
+begin_both s (e ∷ []) (x ∷ left) (y ∷ right) (r, p) (r', q) =
+    let same : begin_event s x ≡ begin_event s y = cc in
+    record {
+      made = [];
+      begins_left = (x ∷ left, refl);
+      begins_right = (y ∷ right, refl);
+      reach = omega arith;
+      next = λ l. record { on_left = x; on_right = y; more_left = left; more_right = right; left_is = refl; right_is = refl; same = same };
+    }
+begin_both s (e ∷ f ∷ es) [] right (r, p) q = absurd (cc)
+begin_both s (e ∷ f ∷ es) (x ∷ left) [] p (r, q) = absurd (cc)
+begin_both s (e ∷ f ∷ es) (x ∷ left) (y ∷ right) (r, p) (r', q) =
+    let same : x ≡ y = same_made s x y (cc) (cc) in
+    let on_left : es ++ r ≡ events_of s left = cc in
+    let on_right : es ++ r' ≡ events_of s right = cc in
+    let rest : BeginBoth s (length es) left right = begin_both s es left right (r, on_left) (r', on_right) in
+    record {
+      made = x ∷ rest.made;
+      begins_left = (rest.begins_left.0, ap (λ l. x ∷ l) rest.begins_left.1);
+      begins_right = (rest.begins_right.0, ap (λ l. x ∷ l) rest.begins_right.1 ∙ ap (λ z. z ∷ right) same);
+      reach = omega (arith, rest.reach);
+      next = λ l.
+          (let open_both = rest.next (omega (arith, l)) in
+          record {
+            on_left = open_both.on_left;
+            on_right = open_both.on_right;
+            more_left = open_both.more_left;
+            more_right = open_both.more_right;
+            left_is = ap (λ l. x ∷ l) open_both.left_is;
+            right_is = ap (λ z. z ∷ right) (sym same) ∙ ap (λ l. x ∷ l) open_both.right_is;
+            same = open_both.same;
+          });
+    }
+
+-- a beginning of a list that is no shorter than the list's first part has that part, and then a beginning of the rest
+pub cut :
+    {A : Type 0} → (us vs made more : List A) → length us ≤ length made → made ++ more ≡ us ++ vs →
+    (rest : List A) × (made ≡ us ++ rest) × (rest ++ more ≡ vs)
+cut [] vs made more l e = (made, refl, e)
+cut (u ∷ us) vs [] more l e = absurd (omega (arith, l))
+cut (u ∷ us) vs (m ∷ made) more l e =
+    let rest : (rest : List _) × (made ≡ us ++ rest) × (rest ++ more ≡ vs) = cut us vs made more (omega (arith, l)) (cc) in
+    let tail : made ≡ us ++ rest.0 = rest.1 in
+    let head : m ≡ u = cc in
+    (rest.0, cc, rest.2)
+
+-- another program that begins with the same accesses has their first part too
+pub also_begins :
+    (us rest made left : List Made) → made ≡ us ++ rest → IsBeginning made left → (more : List Made) × (us ++ (rest ++ more) ≡ left)
+also_begins us rest made left e (more, f) = (more, sym (append_assoc us rest more) ∙ ap (λ l. l ++ more) (sym e) ∙ f)
+
+-- accesses whose events begin those of others begin these
+pub made_first : (s : Side) (left right : List Made) → IsBeginning (events_of s left) (events_of s right) → IsBeginning left right
+made_first s [] right begins = (right, refl)
+made_first s (x ∷ left) [] (r, e) = absurd (cc)
+made_first s (x ∷ left) (y ∷ right) (r, e) =
+    let same : x ≡ y = same_made s x y (cc) (cc) in
+    let tails : events_of s left ++ r ≡ events_of s right = cc in
+    let (rest, f) = made_first s left right (r, tails) in
+    (rest, ap (λ l. x ∷ l) f ∙ ap (λ z. z ∷ right) same)

@@ -1,0 +1,160 @@
+-- Equal events of whole calls of the producer come from equal calls.
+use Rattle.std.proofs.Common.{◌≡◌, ℕ, zero, suc, ◌%◌, ◌<◌, ◌≤◌, Bool, true, false, List, [], ◌∷◌, ◌++◌, length, refl, sym, ap, subst, ◌∙◌, arith, append_assoc}
+use Rattle.std.proofs.lemmas.List.{append_cancel_left}
+use Rattle.bits_core.specs.declared.events.Side.TheVariants.{P}
+use Rattle.bits_core.specs.declared.events.Bit.{Bit}
+use Rattle.bits_core.specs.declared.events.Bit.TheVariants.{X, Cell}
+use Rattle.bits_core.specs.declared.shapes.Shape.{Shape}
+use Rattle.bits_core.specs.Shape.{AllFit, capacity_of, modulus_of, width_of}
+use Rattle.bits_core.specs.Made.{Made, Read, Write}
+use Rattle.register_core.specs.Row.{RowWrite, row_bit, writes_in}
+use Rattle.register_core.specs.Word.{digit, digit_writes, word_write, DigitsTellItems}
+use Rattle.register_core.specs.ScanState.{scan_phrase, row_read_by}
+use Rattle.ring_core.specs.Counts.{LeavesRoom, LeavesRoomFor, number_past, Count, first_count, count_bits, batch_phrase, IsCount}
+use Rattle.ring_core.specs.Puts.{Put, Puts, Stored, Full, stored_after, words_phrase, put_phrases, close_phrase, put_program, IsBatch, ArePuts}
+use Rattle.ring_core.specs.Readings.{PutsAreRead}
+use Rattle.ring_core.proofs.Readings.Phrases.{same_accesses, scan_begins, same_scan, same_word_write, joined_two, no_scan}
+use Rattle.ring_core.proofs.CountRow.{batch_below, first_is_count, counted_is_count, bits_long}
+
+-- a scan is no close
+pub no_close : (a : Bool) (bit_of : ℕ → Bit) (c : ℕ) (xs : List Made) → close_phrase a ≡ scan_phrase bit_of c ++ xs → ⊥
+no_close false bit_of c xs e = no_scan bit_of c xs e
+no_close true bit_of c xs e =
+    let begins : (v : Bool) × (rest : List Made) × (scan_phrase bit_of c ++ xs ≡ Read (bit_of 0) v ∷ rest) = scan_begins bit_of c xs in
+    let clash : Write X true ∷ [] ≡ Read (bit_of 0) begins.0 ∷ begins.1 = e ∙ begins.2 in
+    absurd (cc)
+
+same_close : (a b : Bool) → close_phrase a ≡ close_phrase b → a ≡ b
+same_close false false e = refl
+same_close true true e = refl
+same_close false true e = absurd (cc)
+same_close true false e = absurd (cc)
+
+-- a list of puts and its close, from the first put on
+pub puts_stored :
+    (shape : Shape) (c : Count) (seen : ℕ) (items : List ℕ) (puts : List Put) (close : Bool) →
+    put_phrases shape c (Stored seen items ∷ puts) ++ close_phrase close ≡
+    scan_phrase (row_read_by P) seen ++
+    (words_phrase shape c.number items ++ (batch_phrase shape P c items ++ (put_phrases shape (stored_after shape c (Stored seen items)) puts ++ close_phrase close)))
+puts_stored shape c seen items puts close =
+    joined_two (scan_phrase (row_read_by P) seen) (words_phrase shape c.number items) (batch_phrase shape P c items)
+    (put_phrases shape (stored_after shape c (Stored seen items)) puts) (close_phrase close)
+
+pub puts_full :
+    (shape : Shape) (c : Count) (seen : ℕ) (puts : List Put) (close : Bool) →
+    put_phrases shape c (Full seen ∷ puts) ++ close_phrase close ≡ scan_phrase (row_read_by P) seen ++ (put_phrases shape c puts ++ close_phrase close)
+puts_full shape c seen puts close = append_assoc (scan_phrase (row_read_by P) seen) (put_phrases shape c puts) (close_phrase close)
+
+-- a count that leaves room is no count that leaves none
+pub no_room :
+    (shape : Shape) (n c d : ℕ) (xs ys : List Made) → LeavesRoom shape (n % modulus_of shape) c → ¬ LeavesRoom shape (n % modulus_of shape) d →
+    scan_phrase (row_read_by P) c ++ xs ≡ scan_phrase (row_read_by P) d ++ ys → ⊥
+no_room shape n c d xs ys room none e =
+    none (subst (λ s. LeavesRoom shape (n % modulus_of shape) s) (same_scan (row_read_by P) c d xs ys e).0 room)
+
+-- room for some items is room
+pub some_room : (shape : Shape) (n d m : ℕ) → 1 ≤ m → LeavesRoomFor shape n d m → LeavesRoom shape n d
+some_room shape n d m some room = omega (arith, some, room)
+
+-- ---- words, and what comes behind them
+
+-- accesses that do not begin with a write to a cell
+abbrev pub NoCellFirst : List Made → Type 0
+NoCellFirst made = (j d : ℕ) (v : Bool) (rest : List Made) → made ≡ Write (Cell j d) v ∷ rest → ⊥
+
+-- a count write does not
+row_first : (writes : List RowWrite) (behind : List Made) → 1 ≤ length writes → NoCellFirst (writes_in (row_bit P) writes ++ behind)
+row_first [] behind some j d v rest e = absurd (omega (arith, some))
+row_first (w ∷ writes) behind some j d v rest e = absurd (cc)
+
+pub count_first :
+    (shape : Shape) (c : Count) (items : List ℕ) (behind : List Made) → IsCount shape c → IsBatch shape items → NoCellFirst (batch_phrase shape P c items ++ behind)
+count_first shape c items behind is batch = row_first (count_bits shape c items) behind (bits_long shape c items is batch.some (omega (arith, batch.few, batch_below shape)))
+
+-- a word does
+pub digits_first : (item w : ℕ) → 0 < w → (rest : List RowWrite) × (digit_writes item w ≡ record { bit = 0; value = digit 0 item } ∷ rest)
+digits_first item zero l = absurd (omega (arith, l))
+digits_first item (suc zero) l = ([], refl)
+digits_first item (suc (suc w)) l =
+    let (rest, e) = digits_first item (suc w) (omega arith) in
+    let last : List RowWrite = record { bit = suc w; value = digit (suc w) item } ∷ [] in
+    (rest ++ last, ap (λ ws. ws ++ last) e)
+
+pub word_first :
+    (w cell item : ℕ) (behind : List Made) → 0 < w → (rest : List Made) × (word_write w cell item ++ behind ≡ Write (Cell cell 0) (digit 0 item) ∷ rest)
+word_first w cell item behind l =
+    let (rest, e) = digits_first item w l in
+    (writes_in (Cell cell) rest ++ behind, ap (λ ws. writes_in (Cell cell) ws ++ behind) e)
+
+pub words_first :
+    (shape : Shape) (n item : ℕ) (items : List ℕ) (behind : List Made) → NoCellFirst (words_phrase shape n (item ∷ items) ++ behind) → ⊥
+words_first shape n item items behind none =
+    let word : List Made = word_write (width_of shape) (n % capacity_of shape) item in
+    let (rest, e) = word_first (width_of shape) (n % capacity_of shape) item (words_phrase shape (suc n) items ++ behind) shape.has_digits in
+    none (n % capacity_of shape) 0 (digit 0 item) rest (append_assoc word (words_phrase shape (suc n) items) behind ∙ e)
+
+module _ (tell : DigitsTellItems) where
+  -- words are read off the accesses
+  pub same_words :
+      (shape : Shape) (n : ℕ) (xs ys : List ℕ) (left right : List Made) → AllFit shape xs → AllFit shape ys → NoCellFirst left → NoCellFirst right →
+      words_phrase shape n xs ++ left ≡ words_phrase shape n ys ++ right → (xs ≡ ys) × (left ≡ right)
+  same_words shape n [] [] left right f g l r e = (refl, e)
+  same_words shape n [] (y ∷ ys) left right f g l r e = absurd (words_first shape n y ys right (λ j d v rest is. l j d v rest (e ∙ is)))
+  same_words shape n (x ∷ xs) [] left right f g l r e = absurd (words_first shape n x xs left (λ j d v rest is. r j d v rest (sym e ∙ is)))
+  same_words shape n (x ∷ xs) (y ∷ ys) left right f g l r e =
+      let w : ℕ → List Made = word_write (width_of shape) (n % capacity_of shape) in
+      let first : (x ≡ y) × (words_phrase shape (suc n) xs ++ left ≡ words_phrase shape (suc n) ys ++ right) =
+      same_word_write tell (width_of shape) (n % capacity_of shape) x y _ _ f.0 g.0
+      (sym (append_assoc (w x) (words_phrase shape (suc n) xs) left) ∙ e ∙ append_assoc (w y) (words_phrase shape (suc n) ys) right) in
+      let rest : (xs ≡ ys) × (left ≡ right) = same_words shape (suc n) xs ys left right f.1 g.1 l r first.1 in
+      let head : x ≡ y = first.0 in
+      let tail : xs ≡ ys = rest.0 in
+      (cc, rest.1)
+
+  same_puts :
+      (shape : Shape) (c : Count) (xs ys : List Put) (a b : Bool) → IsCount shape c → ArePuts shape c.number xs → ArePuts shape c.number ys →
+      put_phrases shape c xs ++ close_phrase a ≡ put_phrases shape c ys ++ close_phrase b → (xs ≡ ys) × (a ≡ b)
+  same_puts shape c [] [] a b is p q e = (refl, same_close a b e)
+  same_puts shape c [] (Stored v j ∷ ys) a b is p q e = absurd (no_close a (row_read_by P) v _ (e ∙ puts_stored shape c v j ys b))
+  same_puts shape c [] (Full v ∷ ys) a b is p q e = absurd (no_close a (row_read_by P) v _ (e ∙ puts_full shape c v ys b))
+  same_puts shape c (Stored u i ∷ xs) [] a b is p q e = absurd (no_close b (row_read_by P) u _ (sym e ∙ puts_stored shape c u i xs a))
+  same_puts shape c (Full u ∷ xs) [] a b is p q e = absurd (no_close b (row_read_by P) u _ (sym e ∙ puts_full shape c u xs a))
+  same_puts shape c (Stored u i ∷ xs) (Full v ∷ ys) a b is ((below, room, batch), p) ((below', none), q) e =
+      absurd (no_room shape c.number u v _ _ (some_room shape (c.number % modulus_of shape) u (length i) batch.some room) none
+      (sym (puts_stored shape c u i xs a) ∙ e ∙ puts_full shape c v ys b))
+  same_puts shape c (Full u ∷ xs) (Stored v j ∷ ys) a b is ((below, none), p) ((below', room, batch), q) e =
+      absurd (no_room shape c.number v u _ _ (some_room shape (c.number % modulus_of shape) v (length j) batch.some room) none
+      (sym (puts_stored shape c v j ys b) ∙ sym e ∙ puts_full shape c u xs a))
+  same_puts shape c (Full u ∷ xs) (Full v ∷ ys) a b is (here, p) (here', q) e =
+      let scans : (u ≡ v) × (put_phrases shape c xs ++ close_phrase a ≡ put_phrases shape c ys ++ close_phrase b) =
+      same_scan (row_read_by P) u v _ _ (sym (puts_full shape c u xs a) ∙ e ∙ puts_full shape c v ys b) in
+      let rest : (xs ≡ ys) × (a ≡ b) = same_puts shape c xs ys a b is p q scans.1 in
+      let seen : u ≡ v = scans.0 in
+      let more : xs ≡ ys = rest.0 in
+      (cc, rest.1)
+  same_puts shape c (Stored u i ∷ xs) (Stored v j ∷ ys) a b is ((below, room, batch), p) ((below', room', batch'), q) e =
+      let w : List ℕ → List Made = words_phrase shape c.number in
+      let k : List ℕ → List Made = batch_phrase shape P c in
+      let after : List ℕ → List Put → Bool → List Made = λ l zs z. put_phrases shape (stored_after shape c (Stored u l)) zs ++ close_phrase z in
+      let scans : (u ≡ v) × (w i ++ (k i ++ after i xs a) ≡ w j ++ (k j ++ after j ys b)) =
+      same_scan (row_read_by P) u v _ _ (sym (puts_stored shape c u i xs a) ∙ e ∙ puts_stored shape c v j ys b) in
+      let words : (i ≡ j) × (k i ++ after i xs a ≡ k j ++ after j ys b) =
+      same_words shape c.number i j (k i ++ after i xs a) (k j ++ after j ys b) batch.fit batch'.fit
+      (count_first shape c i (after i xs a) is batch) (count_first shape c j (after j ys b) is batch') scans.1 in
+      let items : i ≡ j = words.0 in
+      let same : k i ++ after i xs a ≡ k i ++ after i ys b = words.1 ∙ ap (λ (l : List ℕ). k l ++ after l ys b) (sym items) in
+      let are : ArePuts shape (number_past c.number i) ys = subst (λ (l : List ℕ). ArePuts shape (number_past c.number l) ys) (sym items) q in
+      let rest : (xs ≡ ys) × (a ≡ b) =
+      same_puts shape (stored_after shape c (Stored u i)) xs ys a b (counted_is_count shape c i) p are (append_cancel_left (k i) (after i xs a) (after i ys b) same) in
+      let seen : u ≡ v = scans.0 in
+      let more : xs ≡ ys = rest.0 in
+      (cc, rest.1)
+
+  abbrev puts_of : List Put → Bool → Puts
+  puts_of puts closes = record { puts = puts; closes = closes }
+
+  pub puts-are_read : PutsAreRead
+  puts-are_read shape a b p q e =
+      let same : (a.puts ≡ b.puts) × (a.closes ≡ b.closes) =
+      same_puts shape first_count a.puts b.puts a.closes b.closes (first_is_count shape) p q (same_accesses P (put_program shape a) (put_program shape b) e) in
+      ap (λ l. puts_of l a.closes) same.0 ∙ ap (puts_of b.puts) same.1

@@ -1,0 +1,38 @@
+-- Takes and their end, from the first take on.
+use Rattle.std.proofs.Common.{◌≡◌, ℕ, true, false, List, [], ◌∷◌, ◌++◌, sym, ap, append-nil}
+use Rattle.bits_core.specs.declared.events.Side.TheVariants.{C}
+use Rattle.bits_core.specs.declared.events.Bit.TheVariants.{X}
+use Rattle.bits_core.specs.declared.shapes.Shape.{Shape}
+use Rattle.bits_core.specs.Made.{Made, Read}
+use Rattle.register_core.specs.ScanState.{scan_phrase, row_read_by}
+use Rattle.ring_core.specs.Counts.{Count}
+use Rattle.ring_core.specs.Takes.{Take, End, Item, ItemAfterClose, Empty, Closed, count_after, items_phrase, take_phrases, end_phrase}
+use Rattle.ring_core.proofs.Readings.Phrases.{joined, joined_two}
+
+-- the consumer's scan of a count
+abbrev pub scan : ℕ → List Made
+scan c = scan_phrase (row_read_by C) c
+
+-- the takes behind a count, and their end
+abbrev pub calls_from : Shape → Count → List Take → End → List Made
+calls_from shape c takes end = take_phrases shape c takes ++ end_phrase end
+
+pub item_first :
+    (shape : Shape) (c : Count) (seen : ℕ) (items : List ℕ) (takes : List Take) (end : End) →
+    calls_from shape c (Item seen items ∷ takes) end ≡ scan seen ++ (items_phrase shape c items ++ calls_from shape (count_after shape c (Item seen items)) takes end)
+item_first shape c seen items takes end = joined (scan seen) (items_phrase shape c items) (take_phrases shape (count_after shape c (Item seen items)) takes) (end_phrase end)
+
+pub after_first :
+    (shape : Shape) (c : Count) (seen again : ℕ) (items : List ℕ) (takes : List Take) (end : End) →
+    calls_from shape c (ItemAfterClose seen again items ∷ takes) end ≡
+    scan seen ++ (Read X true ∷ (scan again ++ (items_phrase shape c items ++ calls_from shape (count_after shape c (ItemAfterClose seen again items)) takes end)))
+after_first shape c seen again items takes end =
+    joined_two (scan seen) (Read X true ∷ scan again) (items_phrase shape c items) (take_phrases shape (count_after shape c (ItemAfterClose seen again items)) takes) (end_phrase end)
+
+pub empty_first :
+    (shape : Shape) (c : Count) (seen : ℕ) (takes : List Take) (end : End) →
+    calls_from shape c (Empty seen ∷ takes) end ≡ scan seen ++ (Read X false ∷ calls_from shape c takes end)
+empty_first shape c seen takes end = joined (scan seen) (Read X false ∷ []) (take_phrases shape c takes) (end_phrase end)
+
+pub closed_first : (shape : Shape) (c : Count) (seen again : ℕ) → calls_from shape c [] (Closed seen again) ≡ scan seen ++ (Read X true ∷ (scan again ++ []))
+closed_first shape c seen again = ap (λ l. scan seen ++ (Read X true ∷ l)) (sym (append-nil (scan again)))

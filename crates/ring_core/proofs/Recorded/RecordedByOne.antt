@@ -1,0 +1,204 @@
+-- What one own event of a side tells of its calls.
+use Rattle.std.proofs.Common.{◌≡◌, inl, inr, ℕ, suc, ◌+◌, ◌-◌, ◌*◌, ◌<◌, ◌≤◌, Bool, true, false, List, [], ◌∷◌, ◌++◌, length, refl, sym, ap, subst, ◌∙◌, arith, length-append}
+use Rattle.queue_calls.specs.Calls.{Event, PutBegin, CloseBegin, CloseEnd, TakeBegin, TakeClosed}
+use Rattle.bits_core.specs.declared.events.Side.TheVariants.{P, C}
+use Rattle.bits_core.specs.declared.events.Bit.TheVariants.{X}
+use Rattle.bits_core.specs.declared.shapes.Shape.{Shape}
+use Rattle.bits_core.specs.Made.{Made, Read}
+use Rattle.register_core.specs.ScanState.{scan_phrase, row_read_by}
+use Rattle.ring_core.specs.Counts.{Count, first_count, batch_phrase}
+use Rattle.ring_core.specs.Items as items
+use Rattle.ring_core.specs.Items.{events_in}
+use Rattle.ring_core.specs.Over.{puts_over, takes_over}
+use Rattle.ring_core.specs.Puts.{Put, Stored, Full, Puts, close_phrase, put_phrase, put_phrases, put_program, stored_after, words_phrase}
+use Rattle.ring_core.specs.Recorded.{put_answer, put_told, take_answer, take_told, told_or_behind}
+use Rattle.ring_core.specs.RecordedByOne.{events_of_puts, events_of_takes, PutTells, PutsTellByOne, TakeTells, TakesTellByOne}
+use Rattle.ring_core.specs.Takes.{Take, Item, ItemAfterClose, Empty, End, Open, Closed, Takes, end_phrase, items_phrase, take_phrase, take_phrases, take_program, count_after}
+use Rattle.ring_core.proofs.Machines.Lengths.{length-scan}
+use Rattle.ring_core.proofs.Readings.Over.{total, puts_total, takes_total}
+use Rattle.ring_core.proofs.Recorded.TellsByOne.{IsFirst, IsBetween, IsLast, IsBehind, place, first_told, between_told, last_told, told, Tells, Begins, Ends, Goes, Behind, tells}
+
+-- ---- puts
+
+-- a put has its first event and another
+put_long : (shape : Shape) (c : Count) (x : Put) → 2 ≤ events_in (put_phrase shape c x)
+put_long shape c (Stored seen items) =
+    let scan : List Made = scan_phrase (row_read_by P) seen in
+    let words : List Made = words_phrase shape c.number items in
+    omega (arith, length-append (scan ++ words) (batch_phrase shape P c items), length-append scan words, length-scan (row_read_by P) seen)
+put_long shape c (Full seen) = omega (arith, length-scan (row_read_by P) seen)
+
+-- what an event behind all puts tells
+abbrev put_last : Bool → ℕ → List Event
+put_last false i = []
+put_last true i = told_or_behind (events_in (close_phrase true)) CloseBegin CloseEnd i []
+
+abbrev put_events : Shape → Count → Put → ℕ
+put_events shape c x = events_in (put_phrase shape c x)
+
+abbrev put_begin : (ℕ → List ℕ) → ℕ → Event
+put_begin offers j = PutBegin (offers j)
+
+put_told_is :
+    (shape : Shape) (offers : ℕ → List ℕ) (j : ℕ) (c : Count) (puts : List Put) (closes : Bool) (i : ℕ) →
+    put_told shape offers j c puts closes i ≡ told (put_events shape) (stored_after shape) (put_begin offers) put_answer (put_last closes) j c puts i
+put_told_is shape offers j c [] false i = refl
+put_told_is shape offers j c [] true i = refl
+put_told_is shape offers j c (x ∷ puts) closes i =
+    let long : ℕ = put_events shape c x in
+    ap (λ l. told_or_behind long (put_begin offers j) (put_answer x) i l) (put_told_is shape offers (suc j) (stored_after shape c x) puts closes (i - long))
+
+-- what an event tells of the puts, in the words of any calls
+abbrev PutsTell : Shape → (ℕ → List ℕ) → Puts → ℕ → List Put → List Put → List Event → Type 0
+PutsTell shape offers calls i before after told =
+    Tells (put_events shape) (stored_after shape) (put_begin offers) put_answer (put_last calls.closes) 0 first_count calls.puts i before after told
+
+-- the program's events are those of the puts, and of the close
+put_program_is : (shape : Shape) (calls : Puts) → events_in (put_program shape calls) ≡ events_of_puts shape calls.puts + 2 * length (close_phrase calls.closes)
+put_program_is shape calls = omega (arith, length-append (put_phrases shape first_count calls.puts) (close_phrase calls.closes))
+
+-- an event behind all puts is one of the close
+close_tells :
+    (shape : Shape) (offers : ℕ → List ℕ) (calls : Puts) (i : ℕ) (before after : List Put) (told : List Event) (closes : Bool) → calls.closes ≡ closes →
+    i < events_in (put_program shape calls) → after ≡ before → before ≡ calls.puts → events_of_puts shape before ≤ i → events_of_puts shape before ≡ events_of_puts shape calls.puts →
+    told ≡ put_last closes (i - events_of_puts shape before) → PutTells shape offers calls i before after told
+close_tells shape offers calls i before after told false e l same all past whole is =
+    let none : length (close_phrase calls.closes) ≡ 0 = ap (λ b. length (close_phrase b)) e in
+    absurd (omega (arith, l, past, none, whole, put_program_is shape calls))
+close_tells shape offers calls i before after told true e l same all past whole is =
+    let first : ℕ = events_of_puts shape before in
+    let two : length (close_phrase calls.closes) ≡ 1 = ap (λ b. length (close_phrase b)) e in
+    elim (place 2 (i - first) (omega arith)) [
+      | IsFirst at ↦ inl (same, omega (arith, past, at), inr (all, e, is ∙ first_told 2 CloseBegin CloseEnd (i - first) [] (omega arith) at))
+      | IsBetween some more ↦ absurd (omega (arith, some, more))
+      | IsLast some at ↦ inr (inr (inl (same, all, e, omega (arith, some), omega (arith, at, two, whole, put_program_is shape calls), is ∙ last_told 2 CloseBegin CloseEnd (i - first) [] some at)))
+      | IsBehind more ↦ absurd (omega (arith, more, l, past, two, whole, put_program_is shape calls))
+    ]
+
+-- the same in the words of the puts
+in_puts :
+    (shape : Shape) (offers : ℕ → List ℕ) (calls : Puts) (i : ℕ) (before after : List Put) (told : List Event) → i < events_in (put_program shape calls) →
+    PutsTell shape offers calls i before after told → PutTells shape offers calls i before after told
+in_puts shape offers calls i before after told l (Begins same at fewer is) =
+    let number : 0 + length before ≡ length before = omega arith in
+    inl (same, at ∙ puts_total shape first_count before, inl (fewer, is ∙ ap (λ n. PutBegin (offers n) ∷ []) number))
+in_puts shape offers calls i before after told l (Ends x one under at is) =
+    inr (inl (x, one, omega (arith, under, puts_total shape first_count before), at ∙ puts_total shape first_count after, is))
+in_puts shape offers calls i before after told l (Goes same under within is) =
+    inr (inr (inr (same, omega (arith, under, puts_total shape first_count before), λ _. omega (arith, within, puts_total shape first_count calls.puts, put_program_is shape calls), is)))
+in_puts shape offers calls i before after told l (Behind same all past is) =
+    let whole : events_of_puts shape before ≡ events_of_puts shape calls.puts = ap (events_of_puts shape) all in
+    let total_is : total (put_events shape) (stored_after shape) first_count calls.puts ≡ events_of_puts shape before = omega (arith, whole, puts_total shape first_count calls.puts) in
+    close_tells shape offers calls i before after told calls.closes refl l same all (omega (arith, past, total_is)) whole (is ∙ ap (λ n. put_last calls.closes (i - n)) total_is)
+
+pub puts-tell : PutsTellByOne
+puts-tell shape offers calls i l =
+    let before : List Put = puts_over shape first_count calls.puts i in
+    let after : List Put = puts_over shape first_count calls.puts (suc i) in
+    subst (PutTells shape offers calls i before after) (sym (put_told_is shape offers 0 first_count calls.puts calls.closes i))
+    (in_puts shape offers calls i before after _ l
+    (tells (put_events shape) (stored_after shape) (put_begin offers) put_answer (put_last calls.closes) (put_long shape) 0 first_count calls.puts i))
+
+-- ---- takes
+
+-- a take has its first event and another
+take_long : (shape : Shape) (c : Count) (x : Take) → 2 ≤ events_in (take_phrase shape c x)
+take_long shape c (Item seen items) =
+    let scan : List Made = scan_phrase (row_read_by C) seen in
+    omega (arith, length-append scan (items_phrase shape c items), length-scan (row_read_by C) seen)
+take_long shape c (ItemAfterClose seen again items) =
+    let scan : List Made = scan_phrase (row_read_by C) seen in
+    let more : List Made = Read X true ∷ scan_phrase (row_read_by C) again in
+    omega (arith, length-append (scan ++ more) (items_phrase shape c items), length-append scan more, length-scan (row_read_by C) seen)
+take_long shape c (Empty seen) = omega (arith, length-append (scan_phrase (row_read_by C) seen) (Read X false ∷ []), length-scan (row_read_by C) seen)
+
+end_long : (seen again : ℕ) → 2 ≤ events_in (end_phrase (Closed seen again))
+end_long seen again = omega (arith, length-append (scan_phrase (row_read_by C) seen) (Read X true ∷ scan_phrase (row_read_by C) again), length-scan (row_read_by C) seen)
+
+abbrev take_events : Shape → Count → Take → ℕ
+take_events shape c x = events_in (take_phrase shape c x)
+
+abbrev take_begin : (ℕ → ℕ) → ℕ → Event
+take_begin wants j = TakeBegin (wants j)
+
+-- what an event behind all takes, which are so many, tells
+abbrev take_last : (ℕ → ℕ) → ℕ → End → ℕ → List Event
+take_last wants j Open i = []
+take_last wants j (Closed seen again) i = told_or_behind (events_in (end_phrase (Closed seen again))) (take_begin wants j) TakeClosed i []
+
+take_told_is :
+    (shape : Shape) (wants : ℕ → ℕ) (j : ℕ) (c : Count) (takes : List Take) (end : End) (i : ℕ) →
+    take_told shape wants j c takes end i ≡ told (take_events shape) (count_after shape) (take_begin wants) take_answer (take_last wants (j + length takes) end) j c takes i
+take_told_is shape wants j c [] Open i = refl
+take_told_is shape wants j c [] (Closed seen again) i =
+    let here : j ≡ j + 0 = omega arith in
+    ap (λ n. told_or_behind (events_in (end_phrase (Closed seen again))) (take_begin wants n) TakeClosed i []) here
+take_told_is shape wants j c (x ∷ takes) end i =
+    let long : ℕ = take_events shape c x in
+    let next : suc j + length takes ≡ j + suc (length takes) = omega arith in
+    ap (λ l. told_or_behind long (take_begin wants j) (take_answer x) i l)
+    (take_told_is shape wants (suc j) (count_after shape c x) takes end (i - long) ∙
+    ap (λ n. told (take_events shape) (count_after shape) (take_begin wants) take_answer (take_last wants n end) (suc j) (count_after shape c x) takes (i - long)) next)
+
+-- what an event tells of the takes, in the words of any calls
+abbrev TakesTell : Shape → (ℕ → ℕ) → Takes → ℕ → List Take → List Take → List Event → Type 0
+TakesTell shape wants calls i before after told =
+    Tells (take_events shape) (count_after shape) (take_begin wants) take_answer (take_last wants (0 + length calls.takes) calls.end) 0 first_count calls.takes i before after told
+
+-- the program's events are those of the takes, and of the last that is told the ring is closed
+take_program_is : (shape : Shape) (calls : Takes) → events_in (take_program shape calls) ≡ events_of_takes shape calls.takes + events_in (end_phrase calls.end)
+take_program_is shape calls = omega (arith, length-append (take_phrases shape first_count calls.takes) (end_phrase calls.end))
+
+-- an event behind all takes is one of that one
+end_tells :
+    (shape : Shape) (wants : ℕ → ℕ) (calls : Takes) (i : ℕ) (before after : List Take) (told : List Event) (end : End) → calls.end ≡ end →
+    i < events_in (take_program shape calls) → after ≡ before → events_of_takes shape before ≤ i → events_of_takes shape before ≡ events_of_takes shape calls.takes →
+    told ≡ take_last wants (length before) end (i - events_of_takes shape before) → TakeTells shape wants calls i before after told
+end_tells shape wants calls i before after told Open e l same past whole is =
+    let none : events_in (end_phrase calls.end) ≡ 0 = ap (λ b. events_in (end_phrase b)) e in
+    absurd (omega (arith, l, past, none, whole, take_program_is shape calls))
+end_tells shape wants calls i before after told (Closed seen again) e l same past whole is =
+    let first : ℕ = events_of_takes shape before in
+    let begins : Event = take_begin wants (length before) in
+    let long : ℕ = events_in (end_phrase (Closed seen again)) in
+    let long_is : events_in (end_phrase calls.end) ≡ long = ap (λ b. events_in (end_phrase b)) e in
+    elim (place long (i - first) (end_long seen again)) [
+      | IsFirst at ↦ inl (same, omega (arith, past, at), is ∙ first_told long begins TakeClosed (i - first) [] (end_long seen again) at)
+      | IsBetween some more ↦
+          inr (inr (inr (same, omega (arith, some), (λ _. omega (arith, more, long_is, whole, take_program_is shape calls)), is ∙ between_told long begins TakeClosed (i - first) [] some more)))
+      | IsLast some at ↦
+          inr (inr (inl (
+            same,
+            subst items.Tells (sym e) tt,
+            omega (arith, some),
+            omega (arith, at, long_is, whole, take_program_is shape calls),
+            is ∙ last_told long begins TakeClosed (i - first) [] some at,
+          )))
+      | IsBehind more ↦ absurd (omega (arith, more, l, past, long_is, whole, take_program_is shape calls))
+    ]
+
+-- the same in the words of the takes
+in_takes :
+    (shape : Shape) (wants : ℕ → ℕ) (calls : Takes) (i : ℕ) (before after : List Take) (told : List Event) → i < events_in (take_program shape calls) →
+    TakesTell shape wants calls i before after told → TakeTells shape wants calls i before after told
+in_takes shape wants calls i before after told l (Begins same at fewer is) =
+    let number : 0 + length before ≡ length before = omega arith in
+    inl (same, at ∙ takes_total shape first_count before, is ∙ ap (λ n. take_begin wants n ∷ []) number)
+in_takes shape wants calls i before after told l (Ends x one under at is) =
+    inr (inl (x, one, omega (arith, under, takes_total shape first_count before), at ∙ takes_total shape first_count after, is))
+in_takes shape wants calls i before after told l (Goes same under within is) =
+    inr (inr (inr (same, omega (arith, under, takes_total shape first_count before), λ _. omega (arith, within, takes_total shape first_count calls.takes, take_program_is shape calls), is)))
+in_takes shape wants calls i before after told l (Behind same all past is) =
+    let whole : events_of_takes shape before ≡ events_of_takes shape calls.takes = ap (events_of_takes shape) all in
+    let total_is : total (take_events shape) (count_after shape) first_count calls.takes ≡ events_of_takes shape before = omega (arith, whole, takes_total shape first_count calls.takes) in
+    let number : 0 + length calls.takes ≡ length before = omega (arith, ap length all) in
+    end_tells shape wants calls i before after told calls.end refl l same (omega (arith, past, total_is)) whole
+    (is ∙ ap (λ n. take_last wants (0 + length calls.takes) calls.end (i - n)) total_is ∙ ap (λ n. take_last wants n calls.end (i - events_of_takes shape before)) number)
+
+pub takes-tell : TakesTellByOne
+takes-tell shape wants calls i l =
+    let before : List Take = takes_over shape first_count calls.takes i in
+    let after : List Take = takes_over shape first_count calls.takes (suc i) in
+    subst (TakeTells shape wants calls i before after) (sym (take_told_is shape wants 0 first_count calls.takes calls.end i))
+    (in_takes shape wants calls i before after _ l
+    (tells (take_events shape) (count_after shape) (take_begin wants) take_answer (take_last wants (0 + length calls.takes) calls.end) (take_long shape) 0 first_count calls.takes i))

@@ -1,0 +1,221 @@
+-- The calls of each side behind its first ones: what their own events tell.
+use Rattle.std.proofs.Common.{◌≡◌, ℕ, suc, ◌+◌, ◌-◌, ◌<◌, ◌≤◌, Bool, true, false, nat_eq, if◌then◌else◌, List, [], ◌∷◌, ◌++◌, length, refl, sym, ap, subst, ◌∙◌, arith, append_assoc, append-nil, length-append}
+use Rattle.std.proofs.lemmas.Bool.Decides.{nat_tests}
+use Rattle.queue_calls.specs.Calls as calls
+use Rattle.queue_calls.specs.Calls.{PutBegin, TakeBegin}
+use Rattle.bits_core.specs.declared.events.Side.TheVariants.{P, C}
+use Rattle.bits_core.specs.declared.shapes.Shape.{Shape}
+use Rattle.bits_core.specs.Shape.{batch_of, take_batch_of}
+use Rattle.ring_core.specs.Counts.{Count, first_count}
+use Rattle.ring_core.specs.Puts.{Put, Stored, Full, Puts, number_after, stored_after, put_phrase, put_phrases, ArePuts}
+use Rattle.ring_core.specs.Takes.{Take, Item, ItemAfterClose, Empty, End, Takes, taken_after, count_after, take_phrase, take_phrases, end_phrase, take_program, AreTakes}
+use Rattle.ring_core.specs.Items.{events_in, all_put, taken_of}
+use Rattle.ring_core.specs.Recorded.{call_told, told_or_behind, put_answer, take_answer, put_told, take_told, AreOffered}
+use Rattle.ring_core.specs.GoingOn.{AreWanted}
+use Rattle.ring_core.proofs.OverSpans.Spans.{Passes, Stops, Asks, whole}
+use Rattle.ring_core.proofs.OverSpans.LookSpans.{look, put_looks, take_looks, span_of, spans, put_spans, take_spans}
+use Rattle.ring_core.proofs.OverSpans.Looks.{proper_puts, proper_takes}
+use Rattle.ring_core.proofs.CountRow.{past_is}
+use Rattle.ring_core.proofs.OverSpans.CallSpans.{take_phrase-item, take_phrase-after, take_phrase-empty}
+use Rattle.ring_core.proofs.Linear.PutTurns.{lt_is, lt_not, put_long}
+use Rattle.ring_core.proofs.Linear.PutTurnFacts.{long_is}
+use Rattle.ring_core.proofs.Linear.TakeTurns.{take_long}
+use Rattle.ring_core.proofs.Recorded.RecordedSpans.{SpansBehind, spans_first, spans_past}
+
+-- ---- what the events of one call tell
+
+eq_is : (a b : ℕ) → a ≡ b → nat_eq a b ≡ true
+eq_is a b e = grind (arith, nat_tests)
+
+eq_not : (a b : ℕ) → ¬ (a ≡ b) → nat_eq a b ≡ false
+eq_not a b e = grind (arith, nat_tests)
+
+told_in : (long : ℕ) (begins ends : calls.Event) (i : ℕ) (behind : List calls.Event) → i < long → told_or_behind long begins ends i behind ≡ call_told long begins ends i
+told_in long begins ends i behind l = ap (λ (b : Bool). if b then call_told long begins ends i else behind) (lt_is i long l)
+
+-- the first tells the begin
+pub told_first : (long : ℕ) (begins ends : calls.Event) (behind : List calls.Event) → 0 < long → told_or_behind long begins ends 0 behind ≡ begins ∷ []
+told_first long begins ends behind l =
+    told_in long begins ends 0 behind l ∙ ap (λ (b : Bool). if b then begins ∷ [] else if nat_eq (suc 0) long then ends ∷ [] else []) (eq_is 0 0 refl)
+
+not_first : (long : ℕ) (begins ends : calls.Event) (i : ℕ) → 0 < i → call_told long begins ends i ≡ (if nat_eq (suc i) long then ends ∷ [] else [])
+not_first long begins ends i some =
+    ap (λ (b : Bool). if b then begins ∷ [] else if nat_eq (suc i) long then ends ∷ [] else []) (eq_not i 0 (λ e. omega (arith, e, some)))
+
+-- those between nothing
+pub told_between : (long : ℕ) (begins ends : calls.Event) (i : ℕ) (behind : List calls.Event) → 0 < i → suc i < long →
+    told_or_behind long begins ends i behind ≡ []
+told_between long begins ends i behind some l =
+    told_in long begins ends i behind (omega (arith, l)) ∙ not_first long begins ends i some ∙
+    ap (λ (b : Bool). if b then ends ∷ [] else []) (eq_not (suc i) long (λ e. omega (arith, e, l)))
+
+-- the last tells the end
+pub told_last : (long : ℕ) (begins ends : calls.Event) (i : ℕ) (behind : List calls.Event) → 0 < i → suc i ≡ long →
+    told_or_behind long begins ends i behind ≡ ends ∷ []
+told_last long begins ends i behind some e =
+    told_in long begins ends i behind (omega (arith, e)) ∙ not_first long begins ends i some ∙
+    ap (λ (b : Bool). if b then ends ∷ [] else []) (eq_is (suc i) long e)
+
+-- and those past them what is behind
+told_past : (long : ℕ) (begins ends : calls.Event) (i : ℕ) (behind : List calls.Event) → long ≤ i → told_or_behind long begins ends i behind ≡ behind
+told_past long begins ends i behind l = ap (λ (b : Bool). if b then call_told long begins ends i else behind) (lt_not i long l)
+
+-- ---- puts
+
+-- the items that a put stores
+abbrev pub put_items : Put → List ℕ
+put_items (Stored seen items) = items
+put_items (Full seen) = []
+
+-- behind the first of all puts, which were so many with so many events and stored these items, come the rest
+pub record PutsBehind (shape : Shape) (offers : ℕ → List ℕ) (puts : Puts) (c : Count) (start : ℕ) (stored : List ℕ) (rest : List Put) : Type 0 where
+  pub spans_are : SpansBehind (batch_of shape) (put_spans shape puts) start stored (spans P shape c (put_looks rest))
+  pub made : ℕ
+  pub told : (j : ℕ) → put_told shape offers 0 first_count puts.puts puts.closes (start + j) ≡ put_told shape offers made c rest puts.closes j
+  pub number : c.number ≡ length stored
+  pub are : ArePuts shape c.number rest
+  pub offered : AreOffered shape offers made c.number rest
+  pub all : events_in (put_phrases shape first_count puts.puts) ≡ start + events_in (put_phrases shape c rest)
+  pub items : all_put puts.puts ≡ stored ++ all_put rest
+
+pub puts_first : (shape : Shape) (offers : ℕ → List ℕ) (puts : Puts) → ArePuts shape 0 puts.puts → AreOffered shape offers 0 0 puts.puts →
+    PutsBehind shape offers puts first_count 0 [] puts.puts
+puts_first shape offers puts are offered = record {
+  spans_are = spans_first (batch_of shape) (put_spans shape puts) (proper_puts shape puts are);
+  made = 0;
+  told = λ j. (let same : 0 + j ≡ j = omega arith in ap (put_told shape offers 0 first_count puts.puts puts.closes) same);
+  number = refl;
+  are = are;
+  offered = offered;
+  all = omega arith;
+  items = refl;
+}
+
+put_told_past : (shape : Shape) (offers : ℕ → List ℕ) (made : ℕ) (c : Count) (x : Put) (rest : List Put) (closes : Bool) (j : ℕ) →
+    put_told shape offers made c (x ∷ rest) closes (put_long shape c x + j) ≡ put_told shape offers (suc made) (stored_after shape c x) rest closes j
+put_told_past shape offers made c x rest closes j =
+    let back : put_long shape c x + j - put_long shape c x ≡ j = omega arith in
+    told_past (put_long shape c x) (PutBegin (offers made)) (put_answer x) (put_long shape c x + j)
+    (put_told shape offers (suc made) (stored_after shape c x) rest closes (put_long shape c x + j - put_long shape c x)) (omega arith) ∙
+    ap (put_told shape offers (suc made) (stored_after shape c x) rest closes) back
+
+put_spans_past : (shape : Shape) (puts : Puts) (c : Count) (start : ℕ) (stored : List ℕ) (x : Put) (rest : List Put) →
+    SpansBehind (batch_of shape) (put_spans shape puts) start stored (spans P shape c (put_looks (x ∷ rest))) →
+    SpansBehind (batch_of shape) (put_spans shape puts) (start + put_long shape c x) (stored ++ put_items x) (spans P shape (stored_after shape c x) (put_looks rest))
+put_spans_past shape puts c start stored (Stored seen items) rest b =
+    spans_past (batch_of shape) (put_spans shape puts) start (start + put_long shape c (Stored seen items)) stored (span_of P shape c (look seen (Passes items))) _
+    (omega (arith, long_is shape c seen items)) b
+put_spans_past shape puts c start stored (Full seen) rest b =
+    spans_past (batch_of shape) (put_spans shape puts) start (start + put_long shape c (Full seen)) stored (span_of P shape c (look seen Stops)) _ (omega arith) b
+
+number_past : (n : ℕ) (stored : List ℕ) (x : Put) → n ≡ length stored → number_after n x ≡ length (stored ++ put_items x)
+number_past n stored (Stored seen items) e = omega (arith, e, past_is n items, length-append stored items)
+number_past n stored (Full seen) e = omega (arith, e, ap length (append-nil stored))
+
+items_past : (stored : List ℕ) (x : Put) (rest : List Put) → stored ++ all_put (x ∷ rest) ≡ (stored ++ put_items x) ++ all_put rest
+items_past stored (Stored seen items) rest = sym (append_assoc stored items (all_put rest))
+items_past stored (Full seen) rest = ap (λ l. l ++ all_put rest) (sym (append-nil stored))
+
+-- behind one put more
+pub puts_past : (shape : Shape) (offers : ℕ → List ℕ) (puts : Puts) (c : Count) (start stop : ℕ) (stored : List ℕ) (x : Put) (rest : List Put) →
+    stop ≡ start + put_long shape c x →
+    PutsBehind shape offers puts c start stored (x ∷ rest) → PutsBehind shape offers puts (stored_after shape c x) stop (stored ++ put_items x) rest
+puts_past shape offers puts c start stop stored x rest e b = record {
+  spans_are = subst (λ s. SpansBehind (batch_of shape) (put_spans shape puts) s (stored ++ put_items x) (spans P shape (stored_after shape c x) (put_looks rest))) (sym e)
+      (put_spans_past shape puts c start stored x rest b.spans_are);
+  made = suc b.made;
+  told = λ j.
+      (let on : stop + j ≡ start + (put_long shape c x + j) = omega (arith, e) in
+      ap (put_told shape offers 0 first_count puts.puts puts.closes) on ∙ b.told (put_long shape c x + j) ∙ put_told_past shape offers b.made c x rest puts.closes j);
+  number = number_past c.number stored x b.number;
+  are = b.are.1;
+  offered = b.offered.2;
+  all = omega (arith, e, b.all, length-append (put_phrase shape c x) (put_phrases shape (stored_after shape c x) rest));
+  items = b.items ∙ items_past stored x rest;
+}
+
+-- ---- takes
+
+-- behind the first of all takes, which were so many with so many events and took these items, come the rest
+pub record TakesBehind (shape : Shape) (wants : ℕ → ℕ) (takes : Takes) (c : Count) (start : ℕ) (taken : List ℕ) (rest : List Take) : Type 0 where
+  pub spans_are : SpansBehind (take_batch_of shape) (take_spans shape takes) start taken (spans C shape c (take_looks rest takes.end))
+  pub made : ℕ
+  pub told : (j : ℕ) → take_told shape wants 0 first_count takes.takes takes.end (start + j) ≡ take_told shape wants made c rest takes.end j
+  pub number : c.number ≡ length taken
+  pub are : AreTakes shape c.number rest takes.end
+  pub wanted : AreWanted shape wants made c.number rest
+  pub among : length takes.takes ≡ made + length rest
+  pub all : events_in (take_program shape takes) ≡ start + events_in (take_phrases shape c rest ++ end_phrase takes.end)
+
+pub takes_first : (shape : Shape) (wants : ℕ → ℕ) (takes : Takes) → AreTakes shape 0 takes.takes takes.end → AreWanted shape wants 0 0 takes.takes →
+    TakesBehind shape wants takes first_count 0 [] takes.takes
+takes_first shape wants takes are wanted = record {
+  spans_are = spans_first (take_batch_of shape) (take_spans shape takes) (proper_takes shape takes are);
+  made = 0;
+  told = λ j. (let same : 0 + j ≡ j = omega arith in ap (take_told shape wants 0 first_count takes.takes takes.end) same);
+  number = refl;
+  are = are;
+  wanted = wanted;
+  among = omega arith;
+  all = omega arith;
+}
+
+take_told_past : (shape : Shape) (wants : ℕ → ℕ) (made : ℕ) (c : Count) (x : Take) (rest : List Take) (end : End) (j : ℕ) →
+    take_told shape wants made c (x ∷ rest) end (take_long shape c x + j) ≡ take_told shape wants (suc made) (count_after shape c x) rest end j
+take_told_past shape wants made c x rest end j =
+    let back : take_long shape c x + j - take_long shape c x ≡ j = omega arith in
+    told_past (take_long shape c x) (TakeBegin (wants made)) (take_answer x) (take_long shape c x + j)
+    (take_told shape wants (suc made) (count_after shape c x) rest end (take_long shape c x + j - take_long shape c x)) (omega arith) ∙
+    ap (take_told shape wants (suc made) (count_after shape c x) rest end) back
+
+take_spans_past : (shape : Shape) (takes : Takes) (c : Count) (start : ℕ) (taken : List ℕ) (x : Take) (rest : List Take) →
+    SpansBehind (take_batch_of shape) (take_spans shape takes) start taken (spans C shape c (take_looks (x ∷ rest) takes.end)) →
+    SpansBehind (take_batch_of shape) (take_spans shape takes) (start + take_long shape c x) (taken ++ taken_of x) (spans C shape (count_after shape c x) (take_looks rest takes.end))
+take_spans_past shape takes c start taken (Item seen items) rest b =
+    spans_past (take_batch_of shape) (take_spans shape takes) start (start + take_long shape c (Item seen items)) taken (span_of C shape c (look seen (Passes items))) _
+    (omega (arith, take_phrase-item shape c seen items)) b
+take_spans_past shape takes c start taken (ItemAfterClose seen again items) rest b =
+    let most : ℕ = take_batch_of shape in
+    let next : Count = count_after shape c (ItemAfterClose seen again items) in
+    let y = span_of C shape c (look seen (Asks true)) in
+    let z = span_of C shape c (look again (Passes items)) in
+    let one = spans_past most (take_spans shape takes) start (start + whole y) taken y (z ∷ spans C shape next (take_looks rest takes.end)) refl b in
+    let two = spans_past most (take_spans shape takes) (start + whole y) (start + take_long shape c (ItemAfterClose seen again items)) (taken ++ []) z _
+    (omega (arith, take_phrase-after shape c seen again items)) one in
+    subst (λ l. SpansBehind most (take_spans shape takes) (start + take_long shape c (ItemAfterClose seen again items)) (l ++ items)
+    (spans C shape next (take_looks rest takes.end))) (append-nil taken) two
+take_spans_past shape takes c start taken (Empty seen) rest b =
+    spans_past (take_batch_of shape) (take_spans shape takes) start (start + take_long shape c (Empty seen)) taken (span_of C shape c (look seen (Asks false))) _
+    (omega (arith, take_phrase-empty shape c seen)) b
+
+taken_past : (k : ℕ) (taken : List ℕ) (x : Take) → k ≡ length taken → taken_after k x ≡ length (taken ++ taken_of x)
+taken_past k taken (Item seen items) e = omega (arith, e, past_is k items, length-append taken items)
+taken_past k taken (ItemAfterClose seen again items) e = omega (arith, e, past_is k items, length-append taken items)
+taken_past k taken (Empty seen) e = omega (arith, e, ap length (append-nil taken))
+
+-- behind one take more
+pub takes_past : (shape : Shape) (wants : ℕ → ℕ) (takes : Takes) (c : Count) (start stop : ℕ) (taken : List ℕ) (x : Take) (rest : List Take) →
+    stop ≡ start + take_long shape c x →
+    TakesBehind shape wants takes c start taken (x ∷ rest) → TakesBehind shape wants takes (count_after shape c x) stop (taken ++ taken_of x) rest
+takes_past shape wants takes c start stop taken x rest e b = record {
+  spans_are = subst (λ s. SpansBehind (take_batch_of shape) (take_spans shape takes) s (taken ++ taken_of x) (spans C shape (count_after shape c x) (take_looks rest takes.end))) (sym e)
+      (take_spans_past shape takes c start taken x rest b.spans_are);
+  made = suc b.made;
+  told = λ j.
+      (let on : stop + j ≡ start + (take_long shape c x + j) = omega (arith, e) in
+      ap (take_told shape wants 0 first_count takes.takes takes.end) on ∙ b.told (take_long shape c x + j) ∙ take_told_past shape wants b.made c x rest takes.end j);
+  number = taken_past c.number taken x b.number;
+  are = b.are.1;
+  wanted = b.wanted.1;
+  among = omega (arith, b.among);
+  all =
+      let more = take_phrases shape (count_after shape c x) rest in
+      omega (
+        arith,
+        e,
+        b.all,
+        length-append (take_phrase shape c x ++ more) (end_phrase takes.end),
+        length-append (take_phrase shape c x) more,
+        length-append more (end_phrase takes.end),
+      );
+}

@@ -1,0 +1,157 @@
+-- A moment of a run: what comes behind it, and what an auditor of the recorded calls keeps there.
+use Rattle.std.proofs.Common.{◌≡◌, ◌⊎◌, ℕ, suc, ◌+◌, ◌<◌, ◌≤◌, true, List, [], ◌∷◌, ◌++◌, length, sym, ap, subst, ◌∙◌, arith, length-append}
+use Rattle.queue_calls.specs.Queue.{Capacity, exactly}
+use Rattle.queue_calls.specs.Calls as calls
+use Rattle.queue_calls.specs.Counting.{Kept, Counts, AreCounted}
+use Rattle.bits_core.specs.declared.events.Side.{Side}
+use Rattle.bits_core.specs.declared.events.Side.TheVariants.{P, C}
+use Rattle.bits_core.specs.declared.events.Event.{Event}
+use Rattle.bits_core.specs.declared.shapes.Shape.{Shape}
+use Rattle.bits_core.specs.Shape.{capacity_of}
+use Rattle.bits_core.specs.Bits.{same_side}
+use Rattle.bits_core.specs.Made.{own, clock, IsPlaceOf, IsBeginning, events_of}
+use Rattle.ring_core.specs.Counts.{first_count}
+use Rattle.ring_core.specs.Puts.{Puts, put_phrases, close_phrase, put_program, FollowsPuts}
+use Rattle.ring_core.specs.Takes.{Takes, take_program, FollowsTakes}
+use Rattle.ring_core.specs.Items.{events_in}
+use Rattle.ring_core.proofs.OverSpans.Spans.{counts_begun, begun_items, ended_items}
+use Rattle.ring_core.proofs.OverSpans.LookSpans.{put_spans, take_spans}
+use Rattle.ring_core.proofs.OverSpans.Looks.{puts_items, takes_items}
+use Rattle.ring_core.proofs.OverSpans.RingOfSpans.{LawOfSpans}
+use Rattle.ring_core.proofs.Machines.Following.{length-events}
+use Rattle.ring_core.proofs.HistoryClocks.{clock-yes, clock-no, clock-zero}
+use Rattle.ring_core.proofs.OwnEvents.{one_place, clock_within}
+use Rattle.ring_core.proofs.CloseReads.{OwnFacts}
+use Rattle.ring_core.proofs.Recorded.RecordedStates.{before_close, PutAt, TakeAt}
+
+-- ---- the clocks
+
+-- behind p events of the producer and q of the consumer, at place t, comes the rest of the history
+pub record Moment (h : List Event) (t p q : ℕ) (rest : List Event) : Type 0 where
+  pub puts : (j : ℕ) → clock P h (t + j) ≡ p + clock P rest j
+  pub takes : (j : ℕ) → clock C h (t + j) ≡ q + clock C rest j
+
+pub moment_first : (h : List Event) → Moment h 0 0 0 h
+moment_first h = record { puts = λ j. same P j; takes = λ j. same C j }
+  where
+    same : (s : Side) (j : ℕ) → clock s h (0 + j) ≡ 0 + clock s h j
+    same s j =
+        let e : 0 + j ≡ j = omega arith in
+        omega (arith, ap (clock s h) e)
+
+pub at_p : (h : List Event) (t p q : ℕ) (rest : List Event) → Moment h t p q rest → clock P h t ≡ p
+at_p h t p q rest m =
+    let e : t + 0 ≡ t = omega arith in
+    omega (arith, m.puts 0, ap (clock P h) e, clock-zero P rest)
+
+pub at_q : (h : List Event) (t p q : ℕ) (rest : List Event) → Moment h t p q rest → clock C h t ≡ q
+at_q h t p q rest m =
+    let e : t + 0 ≡ t = omega arith in
+    omega (arith, m.takes 0, ap (clock C h) e, clock-zero C rest)
+
+pub past_p : (h : List Event) (t p q : ℕ) (e : Event) (rest : List Event) → e.side ≡ P → Moment h t p q (e ∷ rest) → Moment h (suc t) (suc p) q rest
+past_p h t p q e rest by m = record {
+  puts = λ j. (let on : suc t + j ≡ t + suc j = omega arith in omega (arith, ap (clock P h) on, m.puts (suc j), clock-yes P e rest j (ap (same_side P) by)));
+  takes = λ j. (let on : suc t + j ≡ t + suc j = omega arith in omega (arith, ap (clock C h) on, m.takes (suc j), clock-no C e rest j (ap (same_side C) by)));
+}
+
+pub past_q : (h : List Event) (t p q : ℕ) (e : Event) (rest : List Event) → e.side ≡ C → Moment h t p q (e ∷ rest) → Moment h (suc t) p (suc q) rest
+past_q h t p q e rest by m = record {
+  puts = λ j. (let on : suc t + j ≡ t + suc j = omega arith in omega (arith, ap (clock P h) on, m.puts (suc j), clock-no P e rest j (ap (same_side P) by)));
+  takes = λ j. (let on : suc t + j ≡ t + suc j = omega arith in omega (arith, ap (clock C h) on, m.takes (suc j), clock-yes C e rest j (ap (same_side C) by)));
+}
+
+-- the next event is one of the side's own
+pub next_p : (h : List Event) (t p q : ℕ) (e : Event) (rest : List Event) → e.side ≡ P → Moment h t p q (e ∷ rest) → p < length (own P h)
+next_p h t p q e rest by m = omega (arith, at_p h (suc t) (suc p) q rest (past_p h t p q e rest by m), clock_within P h (suc t))
+
+pub next_q : (h : List Event) (t p q : ℕ) (e : Event) (rest : List Event) → e.side ≡ C → Moment h t p q (e ∷ rest) → q < length (own C h)
+next_q h t p q e rest by m = omega (arith, at_q h (suc t) p (suc q) rest (past_q h t p q e rest by m), clock_within C h (suc t))
+
+-- and stands there
+place_here : OwnFacts → (s : Side) (h : List Event) (t i : ℕ) → clock s h t ≡ i → clock s h (suc t) ≡ suc i → IsPlaceOf s h i t
+place_here facts s h t i here past =
+    subst (IsPlaceOf s h i) (sym (one_place facts.has_place s h i t (here, past))) (facts.has_place s h i (omega (arith, past, clock_within s h (suc t))))
+
+pub place_p : OwnFacts → (h : List Event) (t p q : ℕ) (e : Event) (rest : List Event) → e.side ≡ P → Moment h t p q (e ∷ rest) → IsPlaceOf P h p t
+place_p facts h t p q e rest by m = place_here facts P h t p (at_p h t p q (e ∷ rest) m) (at_p h (suc t) (suc p) q rest (past_p h t p q e rest by m))
+
+pub place_q : OwnFacts → (h : List Event) (t p q : ℕ) (e : Event) (rest : List Event) → e.side ≡ C → Moment h t p q (e ∷ rest) → IsPlaceOf C h q t
+place_q facts h t p q e rest by m = place_here facts C h t q (at_q h t p q (e ∷ rest) m) (at_q h (suc t) p (suc q) rest (past_q h t p q e rest by m))
+
+-- a side has no more events than its calls
+few_own : (s : Side) (own all : List Event) → IsBeginning own all → length own ≤ length all
+few_own s own all (more, e) = omega (arith, ap length e, length-append own more)
+
+pub few_puts : (shape : Shape) (h : List Event) (puts : Puts) → FollowsPuts shape h puts → length (own P h) ≤ before_close shape puts + events_in (close_phrase puts.closes)
+few_puts shape h puts follows =
+    omega (
+      arith,
+      few_own P (own P h) (events_of P (put_program shape puts)) follows.events,
+      length-events P (put_program shape puts),
+      length-append (put_phrases shape first_count puts.puts) (close_phrase puts.closes),
+    )
+
+pub few_takes : (shape : Shape) (h : List Event) (takes : Takes) → FollowsTakes shape h takes → length (own C h) ≤ events_in (take_program shape takes)
+few_takes shape h takes follows =
+    omega (arith, few_own C (own C h) (events_of C (take_program shape takes)) follows.events, length-events C (take_program shape takes))
+
+-- ---- the law at a moment
+
+pub within_at :
+    (shape : Shape) (h : List Event) (puts : Puts) (takes : Takes) → LawOfSpans shape h puts takes → (t p q : ℕ) (rest : List Event) → Moment h t p q rest →
+    counts_begun (put_spans shape puts) p ≤ counts_begun (take_spans shape takes) q + capacity_of shape
+within_at shape h puts takes law t p q rest m =
+    omega (
+      arith,
+      (law.within t).1,
+      ap (counts_begun (put_spans shape puts)) (at_p h t p q rest m),
+      ap (counts_begun (take_spans shape takes)) (at_q h t p q rest m),
+    )
+
+pub prefix_at :
+    (shape : Shape) (h : List Event) (puts : Puts) (takes : Takes) → LawOfSpans shape h puts takes → (t p q : ℕ) (rest : List Event) → Moment h t p q rest →
+    IsBeginning (ended_items (take_spans shape takes) q) (begun_items (put_spans shape puts) p)
+prefix_at shape h puts takes law t p q rest m =
+    let (more, e) = law.prefix t in (
+      more,
+      ap (λ l. l ++ more) (ap (ended_items (take_spans shape takes)) (sym (at_q h t p q rest m)) ∙ sym (takes_items shape first_count takes.takes takes.end (clock C h t))) ∙ e ∙
+          puts_items shape first_count puts.puts (clock P h t) ∙ ap (begun_items (put_spans shape puts)) (at_p h t p q rest m),
+    )
+
+-- ---- what is kept at a moment
+
+pub record Now (shape : Shape) (offers : ℕ → List ℕ) (wants : ℕ → ℕ) (h : List Event) (puts : Puts) (takes : Takes) (t p q : ℕ) (rest : List Event) (k : Kept) : Type 0 where
+  pub stored : List ℕ
+  pub left : List ℕ
+  pub taken : List ℕ
+  pub moment : Moment h t p q rest
+  pub put : PutAt shape offers h puts p stored left k.put
+  pub take : TakeAt shape wants h takes q taken k.take
+  pub items : taken ++ k.inside ≡ stored ++ left
+  pub shut : k.shut ≡ true → (before_close shape puts < p) × ((before_close shape puts + 2 ≤ p) ⊎ (events_in (take_program shape takes) ≤ q))
+  pub closed : before_close shape puts + 2 ≤ p → k.shut ≡ true
+
+-- at most one event is told, and it can be counted
+abbrev pub Moves : Capacity → Kept → List calls.Event → Kept → Type 0
+Moves capacity k [] after = after ≡ k
+Moves capacity k (event ∷ []) after = Counts capacity k event after
+Moves capacity k (event ∷ other ∷ events) after = ⊥
+
+pub move_on : (capacity : Capacity) (k after : Kept) (events more : List calls.Event) → Moves capacity k events after → AreCounted capacity after more →
+    AreCounted capacity k (events ++ more)
+move_on capacity k after [] more m r = subst (λ j. AreCounted capacity j more) m r
+move_on capacity k after (event ∷ []) more m r = (after, m, r)
+move_on capacity k after (event ∷ other ∷ events) more m r = absurd m
+
+-- a step of one side
+pub record Stepped (shape : Shape) (offers : ℕ → List ℕ) (wants : ℕ → ℕ) (h : List Event) (puts : Puts) (takes : Takes) (t p q : ℕ) (rest : List Event) (k : Kept)
+    (events : List calls.Event) : Type 0 where
+  pub after : Kept
+  pub moves : Moves (exactly (capacity_of shape)) k events after
+  pub now : Now shape offers wants h puts takes t p q rest after
+
+pub by_events :
+    (shape : Shape) (offers : ℕ → List ℕ) (wants : ℕ → ℕ) (h : List Event) (puts : Puts) (takes : Takes) (t p q : ℕ) (rest : List Event) (k : Kept) (events told : List calls.Event) →
+    told ≡ events → Stepped shape offers wants h puts takes t p q rest k events → Stepped shape offers wants h puts takes t p q rest k told
+by_events shape offers wants h puts takes t p q rest k events told e s = subst (Stepped shape offers wants h puts takes t p q rest k) (sym e) s

@@ -1,0 +1,113 @@
+-- The spans of a side behind its first ones: what had begun and ended there, and in the course of the next one.
+use Rattle.std.proofs.Common.{◌≡◌, inl, inr, ℕ, ◌+◌, ◌-◌, ◌≤◌, List, [], ◌∷◌, ◌++◌, length, refl, sym, ap, ◌∙◌, arith, append_assoc, append-nil, length-append}
+use Rattle.bits_core.specs.Made.{IsBeginning}
+use Rattle.ring_core.proofs.OverSpans.Spans.{Span, counts, items_of, before_count, whole, counts_begun, counts_ended, begun_items, ended_items, IsSpanAt}
+use Rattle.ring_core.proofs.OverSpans.Timeline.{AllProper, counts-items, begun_items_past, begun_items_cons, begun_items_first, ended_items_cons, length-begun_items, length-ended_items, none_begun}
+use Rattle.ring_core.proofs.Readings.Cuts.{at_most_or_above}
+use Rattle.ring_core.proofs.OverSpans.CallSpans.{stands_at}
+
+-- behind the first of all spans, which have so many events and passed these items, come the rest
+pub record SpansBehind (most : ℕ) (all : List Span) (start : ℕ) (passed : List ℕ) (rest : List Span) : Type 0 where
+  pub begun : (j : ℕ) → begun_items all (start + j) ≡ passed ++ begun_items rest j
+  pub ended : (j : ℕ) → ended_items all (start + j) ≡ passed ++ ended_items rest j
+  pub stands : (s n : ℕ) (x : Span) → IsSpanAt rest s n x → IsSpanAt all (start + s) (length passed + n) x
+  pub proper : AllProper most rest
+
+-- behind none
+pub spans_first : (most : ℕ) (all : List Span) → AllProper most all → SpansBehind most all 0 [] all
+spans_first most all proper = record {
+  begun = λ j. ap (begun_items all) (same j);
+  ended = λ j. ap (ended_items all) (same j);
+  stands = λ s n x st. stands_at all s (0 + s) n (0 + n) x (omega arith) (omega arith) st;
+  proper = proper;
+}
+  where
+    same : (j : ℕ) → 0 + j ≡ j
+    same j = omega arith
+
+-- behind one more
+pub spans_past :
+    (most : ℕ) (all : List Span) (start stop : ℕ) (passed : List ℕ) (x : Span) (rest : List Span) → stop ≡ start + whole x →
+    SpansBehind most all start passed (x ∷ rest) → SpansBehind most all stop (passed ++ items_of x.outcome) rest
+spans_past most all start stop passed x rest e b = record {
+  begun = λ j.
+      (let on : stop + j ≡ start + (whole x + j) = omega (arith, e) in
+      let back : whole x + j - whole x ≡ j = omega arith in
+      ap (begun_items all) on ∙ b.begun (whole x + j) ∙
+      ap (λ l. passed ++ l) (begun_items_past most x rest (whole x + j) b.proper.0 (omega arith) ∙ ap (λ i. items_of x.outcome ++ begun_items rest i) back) ∙
+      sym (append_assoc passed (items_of x.outcome) (begun_items rest j)));
+  ended = λ j.
+      (let on : stop + j ≡ start + (whole x + j) = omega (arith, e) in
+      let back : whole x + j - whole x ≡ j = omega arith in
+      ap (ended_items all) on ∙ b.ended (whole x + j) ∙
+      ap (λ l. passed ++ l) (ended_items_cons x rest (whole x + j) (omega arith) ∙ ap (λ i. items_of x.outcome ++ ended_items rest i) back) ∙
+      sym (append_assoc passed (items_of x.outcome) (ended_items rest j)));
+  stands = λ s n y st.
+      stands_at all (start + (whole x + s)) (stop + s) (length passed + (counts x.outcome + n)) (length (passed ++ items_of x.outcome) + n) y (omega (arith, e))
+      (omega (arith, length-append passed (items_of x.outcome), counts-items x.outcome))
+      (b.stands (whole x + s) (counts x.outcome + n) y (inr (s, n, refl, refl, st)));
+  proper = b.proper.1;
+}
+
+-- the next one stands there
+pub stands_next : (most : ℕ) (all : List Span) (start : ℕ) (passed : List ℕ) (x : Span) (rest : List Span) →
+    SpansBehind most all start passed (x ∷ rest) → IsSpanAt all start (length passed) x
+stands_next most all start passed x rest b =
+    stands_at all (start + 0) start (length passed + 0) (length passed) x (omega arith) (omega arith) (b.stands 0 0 x (inl (refl, refl, refl)))
+
+-- ---- what had begun and ended
+
+-- no fewer had than were passed
+pub passed_begun : (most : ℕ) (all : List Span) (start : ℕ) (passed : List ℕ) (rest : List Span) (i : ℕ) → start ≤ i →
+    SpansBehind most all start passed rest → length passed ≤ counts_begun all i
+passed_begun most all start passed rest i l b =
+    let at : start + (i - start) ≡ i = omega (arith, l) in
+    omega (
+      arith,
+      length-begun_items all i,
+      ap (λ j. length (begun_items all j)) at,
+      ap length (b.begun (i - start)),
+      length-append passed (begun_items rest (i - start)),
+    )
+
+pub passed_ended : (most : ℕ) (all : List Span) (start : ℕ) (passed : List ℕ) (rest : List Span) (i : ℕ) → start ≤ i →
+    SpansBehind most all start passed rest → length passed ≤ counts_ended all i
+passed_ended most all start passed rest i l b =
+    let at : start + (i - start) ≡ i = omega (arith, l) in
+    omega (
+      arith,
+      length-ended_items all i,
+      ap (λ j. length (ended_items all j)) at,
+      ap length (b.ended (i - start)),
+      length-append passed (ended_items rest (i - start)),
+    )
+
+-- between two, just those
+pub begun_here : (most : ℕ) (all : List Span) (start : ℕ) (passed : List ℕ) (rest : List Span) →
+    SpansBehind most all start passed rest → begun_items all start ≡ passed
+begun_here most all start passed rest b =
+    let at : start ≡ start + 0 = omega arith in
+    ap (begun_items all) at ∙ b.begun 0 ∙ ap (λ l. passed ++ l) (none_begun rest) ∙ append-nil passed
+
+pub counted_here : (most : ℕ) (all : List Span) (start : ℕ) (passed : List ℕ) (rest : List Span) →
+    SpansBehind most all start passed rest → counts_begun all start ≡ length passed
+counted_here most all start passed rest b = sym (length-begun_items all start) ∙ ap length (begun_here most all start passed rest b)
+
+-- in the course of the next one, those and perhaps its own
+first_begun : (x : Span) (rest : List Span) (j : ℕ) → j ≤ whole x → IsBeginning (begun_items (x ∷ rest) j) (items_of x.outcome)
+first_begun x rest j l = elim (at_most_or_above j (before_count x)) [
+  | inl m ↦ (items_of x.outcome, ap (λ l. l ++ items_of x.outcome) (begun_items_first x rest j m (omega arith)))
+  | inr m ↦ (
+      let none : j - whole x ≡ 0 = omega (arith, l) in
+      ([], append-nil _ ∙ begun_items_cons x rest j m ∙ ap (λ i. items_of x.outcome ++ begun_items rest i) none ∙ ap (λ l. items_of x.outcome ++ l) (none_begun rest) ∙ append-nil (items_of x.outcome)))
+]
+
+pub begun_within : (most : ℕ) (all : List Span) (start : ℕ) (passed : List ℕ) (x : Span) (rest : List Span) (i : ℕ) → start ≤ i → i ≤ start + whole x →
+    SpansBehind most all start passed (x ∷ rest) → IsBeginning (begun_items all i) (passed ++ items_of x.outcome)
+begun_within most all start passed x rest i l m b =
+    let j : ℕ = i - start in
+    let at : i ≡ start + j = omega (arith, l) in
+    let (more, e) = first_begun x rest j (omega (arith, m)) in (
+      more,
+      ap (λ l. l ++ more) (ap (begun_items all) at ∙ b.begun j) ∙ append_assoc passed (begun_items (x ∷ rest) j) more ∙ ap (λ l. passed ++ l) e,
+    )

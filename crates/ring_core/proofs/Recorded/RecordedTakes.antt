@@ -1,0 +1,485 @@
+-- The next event of a run is one of the consumer's: what it tells can be counted.
+use Rattle.std.proofs.Common.{◌≡◌, ◌⊎◌, inl, inr, ℕ, suc, ◌+◌, ◌-◌, ◌%◌, ◌<◌, ◌≤◌, Bool, true, false, List, [], ◌∷◌, ◌++◌, length, drop, refl, sym, ap, subst, ◌∙◌, arith, append_assoc, append-nil, length-append}
+use Rattle.std.proofs.lemmas.List.{append_cancel_left}
+use Rattle.std.proofs.Math.Seq.{drop-append_seam}
+use Rattle.queue_calls.specs.Queue.{exactly}
+use Rattle.queue_calls.specs.Calls as calls
+use Rattle.queue_calls.specs.Calls.{TakeBegin, TakeClosed}
+use Rattle.queue_calls.specs.State.{offered_by, has_closed}
+use Rattle.queue_calls.specs.Counting.{Kept, kept, EndsTake}
+use Rattle.queue_calls.specs.declared.turns.TakeTurn.TheVariants.{Rests, Waits}
+use Rattle.bits_core.specs.declared.events.Side.TheVariants.{P, C}
+use Rattle.bits_core.specs.declared.events.Event.{Event}
+use Rattle.bits_core.specs.declared.shapes.Shape.{Shape}
+use Rattle.bits_core.specs.Shape.{batch_of, capacity_of, modulus_of, take_batch_of}
+use Rattle.bits_core.specs.Made.{own, clock, place_of, IsPlaceOf}
+use Rattle.register_core.specs.ScanState.{row_read_by}
+use Rattle.ring_core.specs.Counts.{distance, Count, first_count}
+use Rattle.ring_core.specs.Puts.{Puts}
+use Rattle.ring_core.specs.Takes.{Take, Item, ItemAfterClose, Empty, End, Open, Closed, Takes, count_after, end_phrase, take_program}
+use Rattle.ring_core.specs.Items.{events_in, all_put, taken_of, Tells}
+use Rattle.ring_core.specs.RingLaw.{IsRun}
+use Rattle.ring_core.specs.Recorded.{take_answer, take_told}
+use Rattle.ring_core.proofs.OverSpans.Spans.{Span, Passes, Asks, whole, counts_ended, ended_items, IsSpanAt}
+use Rattle.ring_core.proofs.OverSpans.LookSpans.{look, take_looks, span_of, spans, put_spans, take_spans}
+use Rattle.ring_core.proofs.OverSpans.Looks.{proper_puts, proper_takes, takes_items}
+use Rattle.ring_core.proofs.OverSpans.Timeline.{ended_at, ended_up}
+use Rattle.ring_core.proofs.Readings.Cuts.{at_most_or_above}
+use Rattle.ring_core.proofs.OverSpans.RingOfSpans.{LawOfSpans}
+use Rattle.ring_core.proofs.Machines.Lengths.{length-scan}
+use Rattle.ring_core.proofs.OwnEvents.{clock_rises}
+use Rattle.ring_core.proofs.OverSpans.CallSpans.{stands_at, take_phrase-item, take_phrase-after, take_phrase-empty}
+use Rattle.ring_core.proofs.CallCounts.{phrase_some}
+use Rattle.ring_core.proofs.CloseReads.{OwnFacts}
+use Rattle.ring_core.proofs.Linear.PutTurns.{by_test}
+use Rattle.ring_core.proofs.Linear.TakeTurns.{take_long, end_long, end_some}
+use Rattle.ring_core.proofs.Recorded.RecordedSpans.{stands_next, counted_here}
+use Rattle.ring_core.proofs.Recorded.RecordedCalls.{told_first, told_between, told_last, TakesBehind, takes_past}
+use Rattle.ring_core.proofs.Recorded.RecordedStates.{before_close, IsClosing, TakeRuns, TakeEnds, put_view, end_ended}
+use Rattle.ring_core.proofs.Recorded.RecordedMoments.{at_p, at_q, past_q, next_q, place_q, few_takes, within_at, prefix_at, Now, Stepped, by_events}
+
+-- a take has two events
+take_two : (shape : Shape) (c : Count) (x : Take) → 2 ≤ take_long shape c x
+take_two shape c x = omega (arith, phrase_some shape c x)
+
+end_two : (seen again : ℕ) → 2 ≤ end_long seen again
+end_two seen again = omega (arith, end_some seen again)
+
+-- a take of fewer items than it wants takes all that its scan showed
+takes_shown : (wanted shown m : ℕ) → (m ≡ wanted) ⊎ (m ≡ shown) → m < wanted → shown ≡ m
+takes_shown wanted shown m (inl e) l = absurd (omega (arith, e, l))
+takes_shown wanted shown m (inr e) l = sym e
+
+-- every take wants an item, also the one that is told the ring is closed
+module _ (facts : OwnFacts) (shape : Shape) (offers : ℕ → List ℕ) (wants : ℕ → ℕ) (h : List Event) (puts : Puts) (takes : Takes) (run : IsRun shape h puts takes)
+    (law : LawOfSpans shape h puts takes) (some_wanted : (j : ℕ) → 0 < wants j) where
+  abbrev Here : ℕ → ℕ → ℕ → List Event → Kept → Type 0
+  Here = Now shape offers wants h puts takes
+
+  -- what the consumer's next event tells
+  abbrev told : ℕ → List calls.Event
+  told q = take_told shape wants 0 first_count takes.takes takes.end q
+
+  -- the close has come, or the consumer was told so, also an event later
+  shut_later :
+      (p q : ℕ) → (before_close shape puts < p) × ((before_close shape puts + 2 ≤ p) ⊎ (events_in (take_program shape takes) ≤ q)) →
+      (before_close shape puts < p) × ((before_close shape puts + 2 ≤ p) ⊎ (events_in (take_program shape takes) ≤ suc q))
+  shut_later p q (l, inl m) = (l, inl m)
+  shut_later p q (l, inr m) = (l, inr (omega (arith, m)))
+
+  -- where a take begins that will find nothing
+  none_inside :
+      (c : Count) (taken : List ℕ) (seen : ℕ) (more : List Take) (t p q stored inside : ℕ) → TakesBehind shape wants takes c q taken (Empty seen ∷ more) → IsPlaceOf C h q t →
+      clock P h t ≡ p → clock C h t ≡ q → stored ≤ counts_ended (put_spans shape puts) p → inside ≡ stored - length taken →
+      q + take_long shape c (Empty seen) ≤ length (own C h) → (inside ≡ 0) × (p < before_close shape puts + 2)
+  none_inside c taken seen more t p q stored inside b place ep eq ended l over =
+      let y = span_of C shape c (look seen (Asks false)) in
+      let most : ℕ = take_batch_of shape in
+      let st = stands_next most (take_spans shape takes) q taken y _ b.spans_are in
+      let long = take_phrase-empty shape c seen in
+      let (fresh, opened) = law.empty q (length taken) y st refl (omega (arith, over, long)) t place in
+      let some = take_two shape c (Empty seen) in
+      let here : q + 0 ≡ q = omega arith in
+      let taken_is : counts_ended (take_spans shape takes) q ≡ length taken =
+      ap (counts_ended (take_spans shape takes)) (sym here) ∙
+      ended_at most (take_spans shape takes) (proper_takes shape takes run.takes_follow.are) q (length taken) y st 0 (omega (arith, some, long)) in (
+        omega (arith, ended, l, fresh, ap (counts_ended (put_spans shape puts)) ep, ap (counts_ended (take_spans shape takes)) eq, taken_is),
+        omega (arith, opened, ep),
+      )
+
+  -- where a scan begins whose items are all taken, and before, no more items were stored than taken up to and with these
+  drained :
+      (c : Count) (taken : List ℕ) (seen : ℕ) (items : List ℕ) (t s : ℕ) → IsSpanAt (take_spans shape takes) s (length taken) (span_of C shape c (look seen (Passes items))) →
+      c.number ≡ length taken → distance (modulus_of shape) seen (c.number % modulus_of shape) ≡ length items → 1 ≤ length items →
+      s + whole (span_of C shape c (look seen (Passes items))) ≤ length (own C h) → clock C h t ≤ s →
+      counts_ended (put_spans shape puts) (clock P h t) ≤ length taken + length items
+  drained c taken seen items t s st number shown some over l =
+      let z : Span = span_of C shape c (look seen (Passes items)) in
+      let there : ℕ = place_of C h s in
+      let place : IsPlaceOf C h s there = facts.has_place C h s (omega (arith, over, length-scan (row_read_by C) seen)) in
+      let shown' = ap (λ n. distance (modulus_of shape) seen (n % modulus_of shape)) (sym number) ∙ shown in
+      let few = law.drain s (length taken) z st some shown' (omega (arith, over)) there place in
+      let order : t ≤ there =
+      elim (at_most_or_above t there) [
+        | inl m ↦ m
+        | inr m ↦ absurd (omega (arith, clock_rises C h (suc there) t m, place.past, l))
+      ] in
+      omega (arith, few, ended_up (batch_of shape) (put_spans shape puts) (proper_puts shape puts run.puts_follow.are) (clock P h t) (clock P h there) (clock_rises P h t there order))
+
+  -- where a take begins that will take fewer items than it wants, no more are inside
+  lacks :
+      (c : Count) (taken : List ℕ) (x : Take) (more : List Take) (t p q stored inside : ℕ) → (b : TakesBehind shape wants takes c q taken (x ∷ more)) → IsPlaceOf C h q t →
+      clock P h t ≡ p → clock C h t ≡ q → stored ≤ counts_ended (put_spans shape puts) p → inside ≡ stored - length taken →
+      q + take_long shape c x ≤ length (own C h) → length (taken_of x) < wants b.made → inside ≤ length (taken_of x)
+  lacks c taken (Item seen items) more t p q stored inside b place ep eq ended l over fewer =
+      let y = span_of C shape c (look seen (Passes items)) in
+      let st = stands_next (take_batch_of shape) (take_spans shape takes) q taken y _ b.spans_are in
+      let shown : distance (modulus_of shape) seen (c.number % modulus_of shape) ≡ length items = takes_shown _ _ _ b.wanted.0.1 fewer in
+      let few = drained c taken seen items t q st b.number shown b.are.0.1.some (omega (arith, over, take_phrase-item shape c seen items)) (omega (arith, eq)) in
+      omega (arith, few, ended, l, ap (counts_ended (put_spans shape puts)) ep)
+  lacks c taken (ItemAfterClose seen again items) more t p q stored inside b place ep eq ended l over fewer =
+      let y = span_of C shape c (look seen (Asks true)) in
+      let z = span_of C shape c (look again (Passes items)) in
+      let st =
+      stands_at (take_spans shape takes) (q + whole y) (q + whole y) (length taken + 0) (length taken) z refl (omega arith)
+      (b.spans_are.stands (whole y) 0 z (inr (0, 0, omega arith, refl, inl (refl, refl, refl)))) in
+      let shown : distance (modulus_of shape) again (c.number % modulus_of shape) ≡ length items = takes_shown _ _ _ b.wanted.0.1 fewer in
+      let few = drained c taken again items t (q + whole y) st b.number shown b.are.0.2.some (omega (arith, over, take_phrase-after shape c seen again items)) (omega (arith, eq)) in
+      omega (arith, few, ended, l, ap (counts_ended (put_spans shape puts)) ep)
+  lacks c taken (Empty seen) more t p q stored inside b place ep eq ended l over fewer =
+      omega (arith, (none_inside c taken seen more t p q stored inside b place ep eq ended l over).0)
+
+  -- where a take begins that will find nothing, the ring is open
+  opened :
+      (c : Count) (taken : List ℕ) (x : Take) (more : List Take) (t p q stored inside : ℕ) (shut : Bool) → TakesBehind shape wants takes c q taken (x ∷ more) → IsPlaceOf C h q t →
+      clock P h t ≡ p → clock C h t ≡ q → stored ≤ counts_ended (put_spans shape puts) p → inside ≡ stored - length taken →
+      (shut ≡ true → (before_close shape puts < p) × ((before_close shape puts + 2 ≤ p) ⊎ (events_in (take_program shape takes) ≤ q))) →
+      q < length (own C h) → q + take_long shape c x ≤ length (own C h) → taken_of x ≡ [] → shut ≡ false
+  opened c taken (Item seen items) more t p q stored inside shut b place ep eq ended l is_shut next over none = absurd (omega (arith, b.are.0.1.some, ap length none))
+  opened c taken (ItemAfterClose seen again items) more t p q stored inside shut b place ep eq ended l is_shut next over none =
+      absurd (omega (arith, b.are.0.2.some, ap length none))
+  opened c taken (Empty seen) more t p q stored inside shut b place ep eq ended l is_shut next over none =
+      let early = (none_inside c taken seen more t p q stored inside b place ep eq ended l over).1 in
+      by_test shut
+      (λ s. elim (is_shut s).1 [
+        | inl m ↦ absurd (omega (arith, m, early))
+        | inr m ↦ absurd (omega (arith, m, next, few_takes shape h takes run.takes_follow))
+      ])
+      (λ s. s)
+
+  -- a take begins
+  take_begins :
+      (t p q : ℕ) (e : Event) (rest : List Event) (k : Kept) → e.side ≡ C → (now : Here t p q (e ∷ rest) k) →
+      (c : Count) (x : Take) (more : List Take) → TakesBehind shape wants takes c q now.taken (x ∷ more) → k.take ≡ Rests →
+      Stepped shape offers wants h puts takes (suc t) p (suc q) rest k (told q)
+  take_begins t p q e rest k by now c x more b rests =
+      let wanted : ℕ = wants b.made in
+      let two = take_two shape c x in
+      let view = put_view shape offers h puts p now.stored now.left k.put now.put in
+      let here : q ≡ q + 0 = omega arith in
+      let before : ℕ = length k.inside - offered_by k.put in
+      let size : before ≡ length now.stored - length now.taken =
+      omega (arith, view.left_by, ap length now.items, length-append now.taken k.inside, length-append now.stored now.left) in
+      let here_p = at_p h t p q (e ∷ rest) now.moment in
+      let here_q = at_q h t p q (e ∷ rest) now.moment in
+      let place = place_q facts h t p q e rest by now.moment in
+      by_events shape offers wants h puts takes (suc t) p (suc q) rest k (TakeBegin wanted ∷ []) (told q)
+      (ap told here ∙ b.told 0 ∙ told_first (take_long shape c x) (TakeBegin wanted) (take_answer x) _ (omega (arith, two)))
+      (record {
+        after = kept k.inside k.put (Waits wanted before k.shut) k.shut;
+        moves = (rests, some_wanted b.made, refl);
+        now = record {
+          stored = now.stored;
+          left = now.left;
+          taken = now.taken;
+          moment = past_q h t p q e rest by now.moment;
+          put = now.put;
+          take = inr (inl (record {
+            count = c;
+            start = q;
+            call = x;
+            rest = more;
+            before = before;
+            shut = k.shut;
+            behind = b;
+            begun = omega arith;
+            not_ended = omega (arith, two);
+            take_is = refl;
+            no_more = lacks c now.taken x more t p q (length now.stored) before b place here_p here_q view.ended size;
+            open_then = opened c now.taken x more t p q (length now.stored) before k.shut b place here_p here_q view.ended size now.shut (next_q h t p q e rest by now.moment);
+          }));
+          items = now.items;
+          shut = λ s. shut_later p q (now.shut s);
+          closed = now.closed;
+        };
+      })
+
+  -- the consumer goes on in a take
+  take_goes_on :
+      (t p q : ℕ) (e : Event) (rest : List Event) (k : Kept) → e.side ≡ C → (now : Here t p q (e ∷ rest) k) →
+      (r : TakeRuns shape wants h takes q now.taken k.take) → suc q < r.start + take_long shape r.count r.call →
+      Stepped shape offers wants h puts takes (suc t) p (suc q) rest k (told q)
+  take_goes_on t p q e rest k by now r l =
+      let j : ℕ = q - r.start in
+      let on : q ≡ r.start + j = omega (arith, r.begun) in
+      by_events shape offers wants h puts takes (suc t) p (suc q) rest k [] (told q)
+      (ap told on ∙ r.behind.told j ∙ told_between (take_long shape r.count r.call) (TakeBegin (wants r.behind.made)) (take_answer r.call) j _ (omega (arith, r.begun)) (omega (arith, l, r.begun)))
+      (record {
+        after = k;
+        moves = refl;
+        now = record {
+          stored = now.stored;
+          left = now.left;
+          taken = now.taken;
+          moment = past_q h t p q e rest by now.moment;
+          put = now.put;
+          take = inr (inl (record {
+            count = r.count;
+            start = r.start;
+            call = r.call;
+            rest = r.rest;
+            before = r.before;
+            shut = r.shut;
+            behind = r.behind;
+            begun = omega (arith, r.begun);
+            not_ended = l;
+            take_is = r.take_is;
+            no_more = r.no_more;
+            open_then = r.open_then;
+          }));
+          items = now.items;
+          shut = λ s. shut_later p q (now.shut s);
+          closed = now.closed;
+        };
+      })
+
+  -- what a take leaves that ends
+  record TakeLeft (t p q : ℕ) (rest : List Event) (k : Kept) (items : List ℕ) : Type 0 where
+    pub more : List ℕ
+    pub next : k.inside ≡ items ++ more
+    pub ends : EndsTake (exactly (capacity_of shape)) k (length items) (kept (drop (length items) k.inside) k.put Rests k.shut)
+    pub now : Here t p q rest (kept (drop (length items) k.inside) k.put Rests k.shut)
+
+  take_leaves :
+      (t p q : ℕ) (e : Event) (rest : List Event) (k : Kept) → e.side ≡ C → (now : Here t p q (e ∷ rest) k) →
+      (r : TakeRuns shape wants h takes q now.taken k.take) → suc q ≡ r.start + take_long shape r.count r.call →
+      TakeLeft (suc t) p (suc q) rest k (taken_of r.call)
+  take_leaves t p q e rest k by now r stop =
+      let items : List ℕ = taken_of r.call in
+      let m = past_q h t p q e rest by now.moment in
+      let view = put_view shape offers h puts p now.stored now.left k.put now.put in
+      let next = takes_past shape wants takes r.count r.start (suc q) now.taken r.call r.rest stop r.behind in
+      let at : suc q + 0 ≡ suc q = omega arith in
+      let ended = next.spans_are.ended 0 in
+      let others = ended_items (spans C shape (count_after shape r.count r.call) (take_looks r.rest takes.end)) 0 in
+      let (b, prefix) = prefix_at shape h puts takes law (suc t) p (suc q) rest m in
+      let (d, begun) = view.begun in
+      let first : (((now.taken ++ items) ++ others) ++ b) ++ d ≡ now.stored ++ now.left =
+      ap (λ l. (l ++ b) ++ d) (sym ended ∙ ap (ended_items (take_spans shape takes)) at) ∙ ap (λ l. l ++ d) prefix ∙ begun in
+      let more : List ℕ = others ++ (b ++ d) in
+      let all : (now.taken ++ items) ++ more ≡ now.stored ++ now.left = sym (simp append_assoc) ∙ first in
+      let inside : k.inside ≡ items ++ more = append_cancel_left now.taken k.inside (items ++ more) (now.items ∙ sym all ∙ append_assoc now.taken items more) in
+      let drop_is : drop (length items) k.inside ≡ more = ap (drop (length items)) inside ∙ drop-append_seam items more in
+      let within = within_at shape h puts takes law (suc t) p (suc q) rest m in
+      let counted = counted_here (take_batch_of shape) (take_spans shape takes) (suc q) (now.taken ++ items) _ next.spans_are in
+      record {
+        more = more;
+        next = inside;
+        ends = (
+          omega (arith, within, counted, view.few, view.left_by, length-append now.taken items, ap length now.items, length-append now.taken k.inside, length-append now.stored now.left),
+          refl,
+        );
+        now = record {
+          stored = now.stored;
+          left = now.left;
+          taken = now.taken ++ items;
+          moment = m;
+          put = now.put;
+          take = inl (record { count = count_after shape r.count r.call; rest = r.rest; behind = next; take_is = refl });
+          items = ap (λ l. (now.taken ++ items) ++ l) drop_is ∙ all;
+          shut = λ s. shut_later p q (now.shut s);
+          closed = now.closed;
+        };
+      }
+
+  -- the last event of a take tells its end
+  take_told_end :
+      (t p q : ℕ) (rest : List Event) (k : Kept) (c : Count) (start : ℕ) (taken : List ℕ) (before : ℕ) (shut : Bool) (x : Take) (more : List Take) →
+      (b : TakesBehind shape wants takes c start taken (x ∷ more)) → k.take ≡ Waits (wants b.made) before shut → 0 < wants b.made →
+      (length (taken_of x) < wants b.made → before ≤ length (taken_of x)) → (taken_of x ≡ [] → shut ≡ false) → TakeLeft t p q rest k (taken_of x) →
+      Stepped shape offers wants h puts takes t p q rest k (take_answer x ∷ [])
+  take_told_end t p q rest k c start taken before shut (Item seen items) more b waits some few open_then r = record {
+    after = kept (drop (length items) k.inside) k.put Rests k.shut;
+    moves = (wants b.made, before, shut, waits, b.are.0.1.some, b.wanted.0.0, (λ says l. few l), (r.more, r.next), r.ends);
+    now = r.now;
+  }
+  take_told_end t p q rest k c start taken before shut (ItemAfterClose seen again items) more b waits some few open_then r = record {
+    after = kept (drop (length items) k.inside) k.put Rests k.shut;
+    moves = (wants b.made, before, shut, waits, b.are.0.2.some, b.wanted.0.0, (λ says l. few l), (r.more, r.next), r.ends);
+    now = r.now;
+  }
+  take_told_end t p q rest k c start taken before shut (Empty seen) more b waits some few open_then r = record {
+    after = kept (drop 0 k.inside) k.put Rests k.shut;
+    moves = (wants b.made, before, waits ∙ ap (λ d. Waits (wants b.made) before d) (open_then refl), omega (arith, few some), r.ends);
+    now = r.now;
+  }
+
+  take_ends :
+      (t p q : ℕ) (e : Event) (rest : List Event) (k : Kept) → e.side ≡ C → (now : Here t p q (e ∷ rest) k) →
+      (r : TakeRuns shape wants h takes q now.taken k.take) → suc q ≡ r.start + take_long shape r.count r.call →
+      Stepped shape offers wants h puts takes (suc t) p (suc q) rest k (told q)
+  take_ends t p q e rest k by now r stop =
+      let j : ℕ = q - r.start in
+      let on : q ≡ r.start + j = omega (arith, r.begun) in
+      let over : r.start + take_long shape r.count r.call ≤ length (own C h) = omega (arith, stop, next_q h t p q e rest by now.moment) in
+      by_events shape offers wants h puts takes (suc t) p (suc q) rest k (take_answer r.call ∷ []) (told q)
+      (ap told on ∙ r.behind.told j ∙
+      told_last (take_long shape r.count r.call) (TakeBegin (wants r.behind.made)) (take_answer r.call) j _ (omega (arith, r.begun)) (omega (arith, stop, r.begun)))
+      (take_told_end (suc t) p (suc q) rest k r.count r.start now.taken r.before r.shut r.call r.rest r.behind r.take_is (some_wanted r.behind.made)
+      (r.no_more over) (r.open_then over) (take_leaves t p q e rest k by now r stop))
+
+  -- ---- the take that is told the ring is closed
+
+  end_told :
+      (made : ℕ) (c : Count) (end : End) (seen again j : ℕ) → end ≡ Closed seen again →
+      take_told shape wants made c [] end j ≡ take_told shape wants made c [] (Closed seen again) j
+  end_told made c end seen again j e = ap (λ d. take_told shape wants made c [] d j) e
+
+  -- it begins
+  end_begins :
+      (t p q : ℕ) (e : Event) (rest : List Event) (k : Kept) → e.side ≡ C → (now : Here t p q (e ∷ rest) k) →
+      (c : Count) (seen again : ℕ) → takes.end ≡ Closed seen again → TakesBehind shape wants takes c q now.taken [] → k.take ≡ Rests →
+      Stepped shape offers wants h puts takes (suc t) p (suc q) rest k (told q)
+  end_begins t p q e rest k by now c seen again is b rests =
+      let wanted : ℕ = wants b.made in
+      let here : q ≡ q + 0 = omega arith in
+      let two = end_two seen again in
+      let before : ℕ = length k.inside - offered_by k.put in
+      by_events shape offers wants h puts takes (suc t) p (suc q) rest k (TakeBegin wanted ∷ []) (told q)
+      (ap told here ∙ b.told 0 ∙ end_told b.made c takes.end seen again 0 is ∙ told_first (end_long seen again) (TakeBegin wanted) TakeClosed [] (omega (arith, two)))
+      (record {
+        after = kept k.inside k.put (Waits wanted before k.shut) k.shut;
+        moves = (rests, some_wanted b.made, refl);
+        now = record {
+          stored = now.stored;
+          left = now.left;
+          taken = now.taken;
+          moment = past_q h t p q e rest by now.moment;
+          put = now.put;
+          take = inr (inr (inl (record {
+            count = c;
+            start = q;
+            seen = seen;
+            again = again;
+            before = before;
+            shut = k.shut;
+            behind = b;
+            end_is = is;
+            begun = omega arith;
+            not_ended = omega (arith, two);
+            take_is = refl;
+          })));
+          items = now.items;
+          shut = λ s. shut_later p q (now.shut s);
+          closed = now.closed;
+        };
+      })
+
+  -- it goes on
+  end_goes_on :
+      (t p q : ℕ) (e : Event) (rest : List Event) (k : Kept) → e.side ≡ C → (now : Here t p q (e ∷ rest) k) →
+      (r : TakeEnds shape wants takes q now.taken k.take) → suc q < r.start + end_long r.seen r.again → Stepped shape offers wants h puts takes (suc t) p (suc q) rest k (told q)
+  end_goes_on t p q e rest k by now r l =
+      let j : ℕ = q - r.start in
+      let on : q ≡ r.start + j = omega (arith, r.begun) in
+      by_events shape offers wants h puts takes (suc t) p (suc q) rest k [] (told q)
+      (ap told on ∙ r.behind.told j ∙ end_told r.behind.made r.count takes.end r.seen r.again j r.end_is ∙
+      told_between (end_long r.seen r.again) (TakeBegin (wants r.behind.made)) TakeClosed j [] (omega (arith, r.begun)) (omega (arith, l, r.begun)))
+      (record {
+        after = k;
+        moves = refl;
+        now = record {
+          stored = now.stored;
+          left = now.left;
+          taken = now.taken;
+          moment = past_q h t p q e rest by now.moment;
+          put = now.put;
+          take = inr (inr (inl (record {
+            count = r.count;
+            start = r.start;
+            seen = r.seen;
+            again = r.again;
+            before = r.before;
+            shut = r.shut;
+            behind = r.behind;
+            end_is = r.end_is;
+            begun = omega (arith, r.begun);
+            not_ended = l;
+            take_is = r.take_is;
+          })));
+          items = now.items;
+          shut = λ s. shut_later p q (now.shut s);
+          closed = now.closed;
+        };
+      })
+
+  -- it ends: nothing is inside, and the close has begun
+  tells : (end : End) (seen again : ℕ) → end ≡ Closed seen again → Tells end
+  tells end seen again e = subst Tells (sym e) tt
+
+  is_closed : (k : Kept) (p : ℕ) → IsClosing shape puts p k.put → (before_close shape puts + 2 ≤ p → k.shut ≡ true) → has_closed k.put k.shut ≡ true
+  is_closed k p (inl (again, e)) closed = ap (λ x. has_closed x k.shut) e
+  is_closed k p (inr (l, e)) closed = ap (λ x. has_closed x k.shut) e ∙ closed l
+
+  nothing : (front inside : List ℕ) → front ++ inside ≡ front → inside ≡ []
+  nothing front inside e = append_cancel_left front inside [] (e ∙ sym (append-nil front))
+
+  end_ends :
+      (t p q : ℕ) (e : Event) (rest : List Event) (k : Kept) → e.side ≡ C → (now : Here t p q (e ∷ rest) k) →
+      (r : TakeEnds shape wants takes q now.taken k.take) → suc q ≡ r.start + end_long r.seen r.again → Stepped shape offers wants h puts takes (suc t) p (suc q) rest k (told q)
+  end_ends t p q e rest k by now r stop =
+      let j : ℕ = q - r.start in
+      let on : q ≡ r.start + j = omega (arith, r.begun) in
+      let m = past_q h t p q e rest by now.moment in
+      let view = put_view shape offers h puts p now.stored now.left k.put now.put in
+      let at = at_q h (suc t) p (suc q) rest m in
+      let at' = at_p h (suc t) p (suc q) rest m in
+      let long : events_in (end_phrase takes.end) ≡ end_long r.seen r.again = ap (λ d. events_in (end_phrase d)) r.end_is in
+      let over : events_in (take_program shape takes) ≤ suc q = omega (arith, r.behind.all, stop, long) in
+      let (_, taken_all, _, behind) = law.closed (suc t) (suc t) (tells takes.end r.seen r.again r.end_is, omega (arith, over, at)) (omega arith) in
+      let past : before_close shape puts < p = omega (arith, behind, at') in
+      let (none, stored_all, closing) = view.over past in
+      let last : suc q ≡ r.start + suc j = omega (arith, on) in
+      let taken_is : now.taken ≡ all_put puts.puts =
+      sym (append-nil now.taken) ∙ sym (ap (λ l. now.taken ++ l) (end_ended shape r.count takes.end (suc j))) ∙ sym (r.behind.spans_are.ended (suc j)) ∙
+      ap (ended_items (take_spans shape takes)) (sym last ∙ sym at) ∙ sym (takes_items shape first_count takes.takes takes.end (clock C h (suc t))) ∙ taken_all in
+      let empty : k.inside ≡ [] =
+      nothing now.taken k.inside (now.items ∙ ap (λ l. now.stored ++ l) none ∙ append-nil now.stored ∙ stored_all ∙ sym taken_is) in
+      by_events shape offers wants h puts takes (suc t) p (suc q) rest k (TakeClosed ∷ []) (told q)
+      (ap told on ∙ r.behind.told j ∙ end_told r.behind.made r.count takes.end r.seen r.again j r.end_is ∙
+      told_last (end_long r.seen r.again) (TakeBegin (wants r.behind.made)) TakeClosed j [] (omega (arith, r.begun)) (omega (arith, stop, r.begun)))
+      (record {
+        after = kept [] k.put Rests true;
+        moves = (wants r.behind.made, r.before, r.shut, r.take_is, empty, is_closed k p closing now.closed, refl);
+        now = record {
+          stored = now.stored;
+          left = now.left;
+          taken = now.taken;
+          moment = m;
+          put = now.put;
+          take = inr (inr (inr (record { count = r.count; start = r.start; behind = r.behind; begun = omega (arith, r.begun); ended = over; take_is = refl })));
+          items = ap (λ l. now.taken ++ l) (sym empty) ∙ now.items;
+          shut = λ s. (past, inr over);
+          closed = λ l. refl;
+        };
+      })
+
+  -- ---- all of them
+
+  take_idle :
+      (t p q : ℕ) (e : Event) (rest : List Event) (k : Kept) → e.side ≡ C → (now : Here t p q (e ∷ rest) k) →
+      (c : Count) (more : List Take) → TakesBehind shape wants takes c q now.taken more → k.take ≡ Rests → Stepped shape offers wants h puts takes (suc t) p (suc q) rest k (told q)
+  take_idle t p q e rest k by now c [] b rests = elim (is_end takes.end) [
+    | inl none ↦ absurd (omega (arith, next_q h t p q e rest by now.moment, few_takes shape h takes run.takes_follow, b.all, ap (λ d. events_in (end_phrase d)) none))
+    | inr (seen, again, is) ↦ end_begins t p q e rest k by now c seen again is b rests
+  ]
+    where
+      is_end : (end : End) → (end ≡ Open) ⊎ ((seen : ℕ) × (again : ℕ) × (end ≡ Closed seen again))
+      is_end Open = inl refl
+      is_end (Closed seen again) = inr (seen, again, refl)
+  take_idle t p q e rest k by now c (x ∷ more) b rests = take_begins t p q e rest k by now c x more b rests
+
+  pub take_step :
+      (t p q : ℕ) (e : Event) (rest : List Event) (k : Kept) → e.side ≡ C → Here t p q (e ∷ rest) k → Stepped shape offers wants h puts takes (suc t) p (suc q) rest k (told q)
+  take_step t p q e rest k by now = elim now.take [
+    | inl r ↦ take_idle t p q e rest k by now r.count r.rest r.behind r.take_is
+    | inr (inl r) ↦ elim (at_most_or_above (r.start + take_long shape r.count r.call) (suc q)) [
+      | inl l ↦ take_ends t p q e rest k by now r (omega (arith, l, r.not_ended))
+      | inr l ↦ take_goes_on t p q e rest k by now r l
+    ]
+    | inr (inr (inl r)) ↦ elim (at_most_or_above (r.start + end_long r.seen r.again) (suc q)) [
+      | inl l ↦ end_ends t p q e rest k by now r (omega (arith, l, r.not_ended))
+      | inr l ↦ end_goes_on t p q e rest k by now r l
+    ]
+    | inr (inr (inr r)) ↦ absurd (omega (arith, r.ended, next_q h t p q e rest by now.moment, few_takes shape h takes run.takes_follow))
+  ]

@@ -1,0 +1,145 @@
+-- What one event tells of calls that follow one another, by those of them that are over before it and with it.
+use Rattle.std.proofs.Common.{◌≡◌, inl, inr, ℕ, suc, ◌+◌, ◌-◌, ◌<◌, ◌≤◌, Bool, true, false, nat_eq, nat_le, nat_lt, if◌then◌else◌, List, [], ◌∷◌, ◌++◌, length, refl, ap, ◌∙◌, arith}
+use Rattle.std.proofs.lemmas.Bool.Decides.{nat_tests}
+use Rattle.queue_calls.specs.Calls.{Event}
+use Rattle.ring_core.specs.Over.{over}
+use Rattle.ring_core.specs.Recorded.{call_told, told_or_behind}
+use Rattle.ring_core.proofs.Readings.Cuts.{at_most_or_above}
+use Rattle.ring_core.proofs.Readings.Over.{total}
+
+-- ---- tests
+
+le_is : (a b : ℕ) → a ≤ b → nat_le a b ≡ true
+le_is a b l = grind (arith, nat_tests)
+
+le_not : (a b : ℕ) → b < a → nat_le a b ≡ false
+le_not a b l = grind (arith, nat_tests)
+
+lt_is : (a b : ℕ) → a < b → nat_lt a b ≡ true
+lt_is a b l = grind (arith, nat_tests)
+
+lt_not : (a b : ℕ) → b ≤ a → nat_lt a b ≡ false
+lt_not a b l = grind (arith, nat_tests)
+
+eq_is : (a b : ℕ) → a ≡ b → nat_eq a b ≡ true
+eq_is a b e = grind (arith, nat_tests)
+
+eq_not : (a b : ℕ) → a < b → nat_eq a b ≡ false
+eq_not a b l = grind (arith, nat_tests)
+
+not_first : (i : ℕ) → 0 < i → nat_eq i 0 ≡ false
+not_first i l = grind (arith, nat_tests)
+
+-- where an event of a call stands: it is the first, one between, the last, or behind the call
+pub data Place (long i : ℕ) : Type 0 where
+  IsFirst : i ≡ 0 → Place long i
+  IsBetween : 0 < i → suc i < long → Place long i
+  IsLast : 0 < i → suc i ≡ long → Place long i
+  IsBehind : long ≤ i → Place long i
+
+pub place : (long i : ℕ) → 2 ≤ long → Place long i
+place long i some = elim (at_most_or_above long i) [
+  | inl l ↦ IsBehind l
+  | inr l ↦ elim (at_most_or_above i 0) [
+    | inl none ↦ IsFirst (omega (arith, none))
+    | inr more ↦ elim (at_most_or_above long (suc i)) [ inl m ↦ IsLast more (omega (arith, l, m)) | inr m ↦ IsBetween more m ]
+  ]
+]
+
+-- ---- what an event of one call tells
+
+pub first_told : (long : ℕ) (begins ends : Event) (i : ℕ) (behind : List Event) → 2 ≤ long → i ≡ 0 → told_or_behind long begins ends i behind ≡ begins ∷ []
+first_told long begins ends i behind some e =
+    ap (λ (b : Bool). if b then call_told long begins ends i else behind) (lt_is i long (omega (arith, some, e))) ∙
+    ap (λ (b : Bool). if b then begins ∷ [] else if nat_eq (suc i) long then ends ∷ [] else []) (eq_is i 0 e)
+
+pub between_told :
+    (long : ℕ) (begins ends : Event) (i : ℕ) (behind : List Event) → 0 < i → suc i < long → told_or_behind long begins ends i behind ≡ []
+between_told long begins ends i behind l m =
+    ap (λ (b : Bool). if b then call_told long begins ends i else behind) (lt_is i long (omega (arith, m))) ∙
+    ap (λ (b : Bool). if b then begins ∷ [] else if nat_eq (suc i) long then ends ∷ [] else []) (not_first i l) ∙
+    ap (λ (b : Bool). if b then ends ∷ [] else []) (eq_not (suc i) long m)
+
+pub last_told :
+    (long : ℕ) (begins ends : Event) (i : ℕ) (behind : List Event) → 0 < i → suc i ≡ long → told_or_behind long begins ends i behind ≡ ends ∷ []
+last_told long begins ends i behind l e =
+    ap (λ (b : Bool). if b then call_told long begins ends i else behind) (lt_is i long (omega (arith, e))) ∙
+    ap (λ (b : Bool). if b then begins ∷ [] else if nat_eq (suc i) long then ends ∷ [] else []) (not_first i l) ∙
+    ap (λ (b : Bool). if b then ends ∷ [] else []) (eq_is (suc i) long e)
+
+pub behind_told : (long : ℕ) (begins ends : Event) (i : ℕ) (behind : List Event) → long ≤ i → told_or_behind long begins ends i behind ≡ behind
+behind_told long begins ends i behind l = ap (λ (b : Bool). if b then call_told long begins ends i else behind) (lt_not i long l)
+
+-- ---- what an event of calls that follow one another tells
+
+module _ {S X : Type 0} (events : S → X → ℕ) (after : S → X → S) (begins : ℕ → Event) (answer : X → Event) (last : ℕ → List Event) where
+  -- the calls, from number j on, and what comes behind them
+  abbrev pub told : ℕ → S → List X → ℕ → List Event
+  told j s [] i = last i
+  told j s (x ∷ xs) i = told_or_behind (events s x) (begins j) (answer x) i (told (suc j) (after s x) xs (i - events s x))
+
+  -- it begins a call, ends one, tells nothing within one, or comes behind them all
+  pub data Tells (j : ℕ) (s : S) (xs : List X) (i : ℕ) (before with_it : List X) (tells : List Event) : Type 0 where
+    Begins : with_it ≡ before → i ≡ total events after s before → length before < length xs → tells ≡ begins (j + length before) ∷ [] → Tells j s xs i before with_it tells
+    Ends : (x : X) → with_it ≡ before ++ x ∷ [] → total events after s before < i → suc i ≡ total events after s with_it → tells ≡ answer x ∷ [] →
+        Tells j s xs i before with_it tells
+    Goes : with_it ≡ before → total events after s before < i → suc i < total events after s xs → tells ≡ [] → Tells j s xs i before with_it tells
+    Behind : with_it ≡ before → before ≡ xs → total events after s xs ≤ i → tells ≡ last (i - total events after s xs) → Tells j s xs i before with_it tells
+
+  none_over : (s : S) (x : X) (xs : List X) (t : ℕ) → t < events s x → over events after s (x ∷ xs) t ≡ []
+  none_over s x xs t l = ap (λ (b : Bool). if b then x ∷ over events after (after s x) xs (t - events s x) else []) (le_not (events s x) t l)
+
+  one_over : (s : S) (x : X) (xs : List X) (t n : ℕ) → events s x ≤ t → t - events s x ≡ n → over events after s (x ∷ xs) t ≡ x ∷ over events after (after s x) xs n
+  one_over s x xs t n l e =
+      ap (λ (b : Bool). if b then x ∷ over events after (after s x) xs (t - events s x) else []) (le_is (events s x) t l) ∙
+      ap (λ n. x ∷ over events after (after s x) xs n) e
+
+  -- within no event no call is over
+  over_at_first : ((s : S) (x : X) → 2 ≤ events s x) → (s : S) (xs : List X) → over events after s xs 0 ≡ []
+  over_at_first long s [] = refl
+  over_at_first long s (x ∷ xs) = none_over s x xs 0 (omega (arith, long s x))
+
+  -- the same, by equal lists
+  by_same :
+      (j : ℕ) (s : S) (xs : List X) (i : ℕ) (b b' w w' : List X) (t t' : List Event) → b ≡ b' → w ≡ w' → t ≡ t' → Tells j s xs i b' w' t' → Tells j s xs i b w t
+  by_same j s xs i b b' w w' t t' e f g h = rw (e, f, g) h
+
+  -- behind a first call
+  behind_one :
+      (j : ℕ) (s : S) (x : X) (xs : List X) (i : ℕ) (b w : List X) (t : List Event) → events s x ≤ i → Tells (suc j) (after s x) xs (i - events s x) b w t →
+      Tells j s (x ∷ xs) i (x ∷ b) (x ∷ w) t
+  behind_one j s x xs i b w t l (Begins e begun fewer is) =
+      let next : suc j + length b ≡ j + suc (length b) = omega arith in
+      Begins (ap (λ l. x ∷ l) e) (omega (arith, l, begun)) (omega (arith, fewer)) (is ∙ ap (λ n. begins n ∷ []) next)
+  behind_one j s x xs i b w t l (Ends y e under ended is) = Ends y (ap (λ l. x ∷ l) e) (omega (arith, l, under)) (omega (arith, l, ended)) is
+  behind_one j s x xs i b w t l (Goes e under within is) = Goes (ap (λ l. x ∷ l) e) (omega (arith, l, under)) (omega (arith, l, within)) is
+  behind_one j s x xs i b w t l (Behind e all past is) =
+      let left : i - events s x - total events after (after s x) xs ≡ i - (events s x + total events after (after s x) xs) = omega arith in
+      Behind (ap (λ l. x ∷ l) e) (ap (λ l. x ∷ l) all) (omega (arith, l, past)) (is ∙ ap last left)
+
+  -- an event of calls of which the first has some events
+  at :
+      ((s : S) (x : X) → 2 ≤ events s x) → (j : ℕ) (s : S) (x : X) (xs : List X) (i : ℕ) → Place (events s x) i →
+      Tells (suc j) (after s x) xs (i - events s x) (over events after (after s x) xs (i - events s x)) (over events after (after s x) xs (suc (i - events s x)))
+      (told (suc j) (after s x) xs (i - events s x)) →
+      Tells j s (x ∷ xs) i (over events after s (x ∷ xs) i) (over events after s (x ∷ xs) (suc i)) (told j s (x ∷ xs) i)
+  at long j s x xs i (IsFirst e) more =
+      let first : j ≡ j + 0 = omega arith in
+      by_same j s (x ∷ xs) i _ [] _ [] _ (begins j ∷ []) (none_over s x xs i (omega (arith, e, long s x))) (none_over s x xs (suc i) (omega (arith, e, long s x)))
+      (first_told (events s x) (begins j) (answer x) i _ (long s x) e) (Begins refl e (omega arith) (ap (λ n. begins n ∷ []) first))
+  at long j s x xs i (IsBetween l m) more =
+      by_same j s (x ∷ xs) i _ [] _ [] _ [] (none_over s x xs i (omega (arith, m))) (none_over s x xs (suc i) m)
+      (between_told (events s x) (begins j) (answer x) i _ l m) (Goes refl l (omega (arith, m)) refl)
+  at long j s x xs i (IsLast l e) more =
+      by_same j s (x ∷ xs) i _ [] _ (x ∷ []) _ (answer x ∷ []) (none_over s x xs i (omega (arith, e)))
+      (one_over s x xs (suc i) 0 (omega (arith, e)) (omega (arith, e)) ∙ ap (λ l. x ∷ l) (over_at_first long (after s x) xs))
+      (last_told (events s x) (begins j) (answer x) i _ l e) (Ends x refl l (omega (arith, e)) refl)
+  at long j s x xs i (IsBehind l) more =
+      let left : ℕ = i - events s x in
+      by_same j s (x ∷ xs) i _ (x ∷ over events after (after s x) xs left) _ (x ∷ over events after (after s x) xs (suc left)) _ (told (suc j) (after s x) xs left)
+      (one_over s x xs i left l refl) (one_over s x xs (suc i) (suc left) (omega (arith, l)) (omega (arith, l)))
+      (behind_told (events s x) (begins j) (answer x) i _ l) (behind_one j s x xs i _ _ _ l more)
+
+  pub tells : ((s : S) (x : X) → 2 ≤ events s x) → (j : ℕ) (s : S) (xs : List X) (i : ℕ) → Tells j s xs i (over events after s xs i) (over events after s xs (suc i)) (told j s xs i)
+  tells long j s [] i = let whole : i ≡ i - 0 = omega arith in Behind refl refl (omega arith) (ap last whole)
+  tells long j s (x ∷ xs) i = at long j s x xs i (place (events s x) i (long s x)) (tells long (suc j) (after s x) xs (i - events s x))
