@@ -1,6 +1,6 @@
 //! The lines of recorded calls, as they are written.
 ghost use Rattle.std.specs.Prelude.{◌≡◌, ◌++◌, IfErr, OnOk, string_bytes};
-ghost use Rattle.queue_calls.specs.Lines.{AreSmall};
+ghost use Rattle.call_lines.specs.Lines.{AreSmall};
 ghost use Rattle.queue_calls.specs.Recordings.{begun_after, text_of};
 ghost use Rattle.queue_calls.specs.Tellings.{line_of, numbers_in, offered_last};
 ghost use Rattle.queue_calls.specs.Told.{told};

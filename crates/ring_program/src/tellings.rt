@@ -2,7 +2,7 @@
 ghost use Rattle.std.specs.Prelude.{◌≡◌, IfErr, IfOk, OnOk, string_bytes};
 ghost use Rattle.bits_core.specs.Shape.{capacity_of};
 ghost use Rattle.queue_calls.specs.Calls.{IsLinearizable};
-ghost use Rattle.queue_calls.specs.Lines.{AreSmall};
+ghost use Rattle.call_lines.specs.Lines.{AreSmall};
 ghost use Rattle.queue_calls.specs.Queue.{exactly};
 ghost use Rattle.queue_calls.specs.Recordings.{IsRecording};
 ghost use Rattle.queue_calls.specs.Tellings.{TellsSmall};
