@@ -11,7 +11,7 @@ ghost use Rattle.ring_player.specs.Plays.{offered};
 ghost use Rattle.ring_player.specs.Tellings.{call_events};
 ghost use Rattle.ring_program.specs.Texts.{told_calls, told_text_of};
 
-use crate::call_lines::{begun_behind, push_event};
+use crate::call_writing::{begun_behind, push_event};
 use crate::faults::AppFault;
 use crate::lines::push_list;
 use queue_calls::laws::{history_has_a_recording, linearizable_is_in_turn};
