@@ -13,7 +13,7 @@ use crate::events::{Access, Act, Bit, Event, Side};
 use crate::marks::Marks;
 use crate::oracles::Oracle;
 use crate::shapes::Shape;
-use crate::stores::Store;
+use lists::Store;
 use std::alloc::{AllocError, AllocFailed, Allocator};
 use std::error::Error;
 use std::fmt;

@@ -7,7 +7,7 @@ ghost use Rattle.bits_core.specs.Trace.{BeginsWithEvent, BeginsWithMore, BeginsW
 use crate::events::Event;
 use crate::reading::{event_at, shape_at};
 use crate::shapes::{Shape, ShapeFault};
-use crate::stores::{Filled, Store};
+use lists::{Filled, Store};
 use std::alloc::{AllocError, AllocFailed, Allocator};
 use std::error::Error;
 use std::fmt;

@@ -4,17 +4,17 @@ use Rattle.std.specs.Prelude.{All}
 use Rattle.std.proofs.lemmas.List.Elements.{All-append, All-cons, All-head, All-nil, All-tail}
 use Rattle.std.proofs.lemmas.Option.{none-some}
 use Rattle.queue_calls.specs.Calls.{Event}
-use Rattle.queue_calls.specs.Lines.{IsLine}
+use Rattle.call_lines.specs.Lines.{IsLine}
 use Rattle.queue_calls.specs.Recordings.{Line, line, first_word, IsOfFormat, IsFurther, AreLines, capacity_told, event_told, begun_after, begun_behind, and_then, events_told}
 use Rattle.queue_calls.specs.RecordingStates.{HasHeard, HeardLines, ContinuesLines}
-use Rattle.queue_calls.specs.declared.lines.Word.{Word}
-use Rattle.queue_calls.specs.declared.lines.Word.TheVariants.{Queue, Cut, Put, Stored, PutSome, Full, Short, PutNothing, PutClosed, Close, Take, Item, TakeSome, Empty, TakeShort, TakeNothing, TakeClosed}
+use Rattle.call_lines.specs.declared.lines.Word.{Word}
+use Rattle.call_lines.specs.declared.lines.Word.TheVariants.{Queue, Cut, Put, Stored, PutSome, Full, Short, PutNothing, PutClosed, Close, Take, Item, TakeSome, Empty, TakeShort, TakeNothing, TakeClosed}
 use Rattle.queue_calls.specs.declared.hearings.Begun.{Begun}
 use Rattle.queue_calls.specs.declared.hearings.Begun.TheVariants as begun
 use Rattle.queue_calls.specs.declared.entries.Offered.{Offered}
 use Rattle.queue_calls.specs.declared.entries.Taken.{Taken}
 use Rattle.queue_calls.specs.declared.hearings.Hearing.{Hearing}
-use Rattle.queue_calls.proofs.LineLemmas.{line_same}
+use Rattle.call_lines.proofs.LineLemmas.{line_same}
 
 -- ---- events
 

@@ -6,7 +6,7 @@ use Rattle.queue_calls.specs.Queue.{Capacity}
 use Rattle.queue_calls.specs.Calls.{Event, IsLinearizable}
 use Rattle.queue_calls.specs.Counting.{Kept, kept}
 use Rattle.queue_calls.specs.State.{IsProper, offered_by}
-use Rattle.queue_calls.specs.Lines.{AllowsQueue}
+use Rattle.call_lines.specs.Lines.{AllowsQueue}
 use Rattle.queue_calls.specs.Recordings.{capacity_told, IsFoundWithin, StopsAt}
 use Rattle.queue_calls.specs.RecordingStates.{IsFaultSoFar}
 use Rattle.queue_calls.specs.Reporting.{as_number, IsReport, IsSurelyInside, IsPerhapsInside}

@@ -1,5 +1,4 @@
 pub mod Rooms
-pub mod RingLemmas
 pub mod Points
 pub mod Effects
 pub mod TurnLemmas
@@ -14,9 +13,6 @@ pub mod TakeBegins
 pub mod OrderOf
 pub mod MomentsOf
 mod Examples
-pub mod NumberReading
-pub mod LineReadings
-pub mod LineLemmas
 pub mod TalliesFollow
 pub mod InsideMoments
 pub mod HearingLemmas
@@ -31,7 +27,6 @@ pub mod CountsFollow
 pub mod EndLemmas
 pub mod Decided
 pub mod Tellings
-mod Stretches
 pub mod Agrees
 pub mod Agreeing
 pub mod Coming

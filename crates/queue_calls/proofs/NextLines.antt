@@ -5,7 +5,7 @@ use Rattle.std.proofs.lemmas.Bool.{false≢true}
 use Rattle.queue_calls.specs.Calls.{Event}
 use Rattle.queue_calls.specs.Queue.{Capacity}
 use Rattle.queue_calls.specs.Noting.{OutgrowsLists}
-use Rattle.queue_calls.specs.Lines.{line_text, Allows, AreSmall}
+use Rattle.call_lines.specs.Lines.{line_text, Allows, AreSmall}
 use Rattle.queue_calls.specs.Recordings.{Line, line, lines_text, AreLines, and_then, begun_after, begun_behind, capacity_told, event_told, events_told, IsRecording, IsFoundWithin, IsFindingWithin}
 use Rattle.queue_calls.specs.RecordingStates.{IsFaultSoFar}
 use Rattle.queue_calls.specs.Rooms.{HasLongHistory}
@@ -14,7 +14,7 @@ use Rattle.queue_calls.specs.declared.entries.Offered.{Offered}
 use Rattle.queue_calls.specs.declared.entries.Taken.{Taken}
 use Rattle.queue_calls.specs.declared.hearings.Begun.TheVariants as begun
 use Rattle.queue_calls.specs.declared.hearings.Hearing.{Hearing}
-use Rattle.queue_calls.specs.declared.lines.Word.{Word}
+use Rattle.call_lines.specs.declared.lines.Word.{Word}
 use Rattle.queue_calls.specs.declared.recordings.CallsFinding.{CallsFinding}
 use Rattle.queue_calls.specs.declared.recordings.CallsFinding.TheVariants.{Lawful, OutOfTurn, NotLinearizable}
 use Rattle.queue_calls.specs.declared.reports.Tally.{Tally}

@@ -3,7 +3,7 @@ use Rattle.std.proofs.Common.{◌≡◌, ◌≢◌, Bool, true, false, ℕ, ◌+
 use Rattle.std.specs.Prelude.{All}
 use Rattle.std.proofs.lemmas.List.{append-nil}
 use Rattle.std.proofs.lemmas.List.Elements.{All-cons, All-head, All-nil, All-tail}
-use Rattle.queue_calls.specs.Lines.{line_text, IsLine}
+use Rattle.call_lines.specs.Lines.{line_text, IsLine}
 use Rattle.queue_calls.specs.Recordings.{Line, line, first_word, text_of, lines_text, IsOfFormat, IsFurther, AreLines, capacity_told, events_told, IsRecording, IsBadLine}
 use Rattle.queue_calls.specs.RecordingStates.{HasNoFeed, HasRead, HeardLines}
 use Rattle.queue_calls.specs.RecordingLaws.{RecordingIsOne, RecordingHasNoBadLine}
@@ -11,12 +11,12 @@ use Rattle.queue_calls.specs.Calls.{Event}
 use Rattle.queue_calls.specs.Queue.{Capacity}
 use Rattle.queue_calls.specs.declared.entries.Offered.{Offered}
 use Rattle.queue_calls.specs.declared.entries.Taken.{Taken}
-use Rattle.queue_calls.specs.declared.lines.Word.{Word}
-use Rattle.queue_calls.specs.declared.lines.Word.TheVariants as word
+use Rattle.call_lines.specs.declared.lines.Word.{Word}
+use Rattle.call_lines.specs.declared.lines.Word.TheVariants as word
 use Rattle.queue_calls.specs.declared.hearings.Begun.TheVariants.{Nothing}
 use Rattle.queue_calls.specs.declared.hearings.Hearing.{Hearing}
 use Rattle.queue_calls.specs.declared.recordings.RecordingIn.{RecordingIn}
-use Rattle.queue_calls.proofs.LineLemmas.{line_same, line_no_feed}
+use Rattle.call_lines.proofs.LineLemmas.{line_same, line_no_feed}
 use Rattle.queue_calls.proofs.RecordingLemmas.{cut_same, feedless, line_and}
 
 -- lines as they have to be are of the format

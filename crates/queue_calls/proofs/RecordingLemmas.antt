@@ -3,7 +3,7 @@ use Rattle.std.proofs.Common.{◌≡◌, ◌≢◌, Bool, Option, Some, None, �
 use Rattle.std.proofs.lemmas.Grind.{flat_map-append}
 use Rattle.std.proofs.lemmas.List.{append-nil}
 use Rattle.std.proofs.lemmas.List.Elements.{All-append, All-head, All-nil, All-tail}
-use Rattle.queue_calls.specs.Lines.{line_text}
+use Rattle.call_lines.specs.Lines.{line_text}
 use Rattle.queue_calls.specs.Queue.{Capacity}
 use Rattle.queue_calls.specs.Calls.{Event}
 use Rattle.queue_calls.specs.Recordings.{Line, text_of, lines_text, AreLines, capacity_told, events_told, IsBadLine, RefusesText, IsFoundWithin, IsFindingOf, IsFindingWithin, IsFaultOf}
@@ -19,7 +19,7 @@ use Rattle.queue_calls.specs.declared.recordings.Lines.{Lines}
 use Rattle.queue_calls.specs.declared.recordings.RecordingIn.{RecordingIn}
 use Rattle.queue_calls.specs.declared.recordings.RecordingFault.{RecordingFault}
 use Rattle.queue_calls.specs.declared.recordings.RecordingFault.TheVariants.{BadLine, TooLong, OutOfMemory}
-use Rattle.queue_calls.proofs.LineLemmas.{line_no_feed}
+use Rattle.call_lines.proofs.LineLemmas.{line_no_feed}
 use Rattle.queue_calls.proofs.HeardLines.{is_line}
 use Rattle.queue_calls.proofs.HearingLemmas.{report_of, heard_lawful}
 

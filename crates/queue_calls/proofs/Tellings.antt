@@ -5,10 +5,10 @@ use Rattle.std.proofs.lemmas.Bool.{ltb-true, ltb-false}
 use Rattle.std.proofs.lemmas.List.Elements.{All-cons, All-nil}
 use Rattle.queue_calls.specs.Calls.{Event, PutBegin, PutStored, PutFull, PutShort, PutNothing, PutClosed, CloseBegin, CloseEnd, TakeBegin, TakeItems, TakeEmpty, TakeShort, TakeNothing, TakeClosed}
 use Rattle.queue_calls.specs.InTurn.{UnderWay, NoCall, APut, AClose, ATake, Sides, sides, MovesSides, Turns}
-use Rattle.queue_calls.specs.Lines.{Allows, AreSmall}
+use Rattle.call_lines.specs.Lines.{Allows, AreSmall}
 use Rattle.queue_calls.specs.Recordings.{first_word, Line, line, IsOfFormat, IsFurther, event_told, begun_after, and_then, events_told}
 use Rattle.queue_calls.specs.Tellings.{line_of, lines_of, numbers_in, TellsSmall, HistoryHasARecording}
-use Rattle.queue_calls.specs.declared.lines.Word.TheVariants as word
+use Rattle.call_lines.specs.declared.lines.Word.TheVariants as word
 use Rattle.queue_calls.specs.declared.hearings.Begun.{Begun}
 use Rattle.queue_calls.specs.declared.hearings.Begun.TheVariants as begun
 use Rattle.queue_calls.proofs.HeardLines.{not_first}

@@ -13,7 +13,7 @@ use Rattle.queue_calls.specs.declared.entries.Offered.{Offered}
 use Rattle.queue_calls.specs.declared.entries.Taken.{Taken}
 use Rattle.queue_calls.specs.declared.hearings.Hearing.{Hearing}
 use Rattle.queue_calls.specs.declared.hearings.HearingState.{HearingState}
-use Rattle.queue_calls.specs.declared.lines.Word.{Word}
+use Rattle.call_lines.specs.declared.lines.Word.{Word}
 use Rattle.queue_calls.specs.declared.recordings.CallsFinding.{CallsFinding}
 use Rattle.queue_calls.specs.declared.recordings.CallsFinding.TheVariants.{Lawful, OutOfTurn, NotLinearizable}
 use Rattle.queue_calls.specs.declared.recordings.RecordingFault.{RecordingFault}

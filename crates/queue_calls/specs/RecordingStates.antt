@@ -2,7 +2,7 @@
 use Rattle.std.specs.Prelude.{◌≡◌, ◌≢◌, ℕ, ◌+◌, ◌-◌, ◌^◌, List, [], ◌∷◌, ◌++◌, Bool, Option, Some, None, length, All}
 use Rattle.queue_calls.specs.Queue.{Capacity}
 use Rattle.queue_calls.specs.Calls.{Event}
-use Rattle.queue_calls.specs.Lines.{line_text}
+use Rattle.call_lines.specs.Lines.{line_text}
 use Rattle.queue_calls.specs.Witnesses.{Remembers}
 use Rattle.queue_calls.specs.Tallying.{IsTallied}
 use Rattle.queue_calls.specs.Recordings.{Line, line, first_word, lines_text, AreLines, capacity_told, events_told, begun_behind, IsFoundWithin}

@@ -5,10 +5,10 @@ use Rattle.queue_calls.specs.Calls.{Event, PutBegin, PutStored, PutFull, PutShor
 use Rattle.queue_calls.specs.InTurn.{CallsAreInTurn}
 use Rattle.queue_calls.specs.Reasons.{IsCause}
 use Rattle.queue_calls.specs.Reporting.{IsReport}
-use Rattle.queue_calls.specs.Lines.{line_text, Allows, AreSmall}
+use Rattle.call_lines.specs.Lines.{line_text, Allows, AreSmall}
 use Rattle.queue_calls.specs.declared.entries.TheConstants.{TAKEN_LIMIT}
-use Rattle.queue_calls.specs.declared.lines.Word.{Word}
-use Rattle.queue_calls.specs.declared.lines.Word.TheVariants as word
+use Rattle.call_lines.specs.declared.lines.Word.{Word}
+use Rattle.call_lines.specs.declared.lines.Word.TheVariants as word
 use Rattle.queue_calls.specs.declared.hearings.Begun.{Begun}
 use Rattle.queue_calls.specs.declared.hearings.Begun.TheVariants as begun
 use Rattle.queue_calls.specs.declared.recordings.CallsFinding.{CallsFinding}

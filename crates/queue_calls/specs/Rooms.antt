@@ -3,11 +3,10 @@ use Rattle.std.specs.Prelude.{◌≡◌, ◌⊎◌, ℕ, ◌<◌, List, ◌++◌
 use Rattle.queue_calls.specs.Queue.{Capacity}
 use Rattle.queue_calls.specs.Calls.{Event}
 use Rattle.queue_calls.specs.Noting.{OutgrowsLists}
-use Rattle.queue_calls.specs.Lines.{line_text, AreSmall}
+use Rattle.call_lines.specs.Lines.{BeginsWithNumbers}
 use Rattle.queue_calls.specs.Recordings.{Line, lines_text, IsRecording}
 use Rattle.queue_calls.specs.RecordingStates.{HasNoFeed}
 use Rattle.queue_calls.specs.declared.entries.TheConstants.{TAKEN_LIMIT}
-use Rattle.queue_calls.specs.declared.lines.Word.{Word}
 use Rattle.queue_calls.specs.declared.recordings.RecordingIn.{RecordingIn}
 
 -- the text begins with the recording of such a history
@@ -19,15 +18,6 @@ pub record HasLongHistory (limit offered taken : ℕ) (text : List ℕ) : Type 0
   pub parts : text ≡ first ++ rest
   pub recording : IsRecording first capacity events
   pub needs : OutgrowsLists limit offered taken capacity events
-
--- bytes begin with a word and more numbers than there is room for
-pub record BeginsWithNumbers (room : ℕ) (bytes : List ℕ) : Type 0 where
-  pub word : Word
-  pub numbers : List ℕ
-  pub rest : List ℕ
-  pub parts : bytes ≡ line_text word numbers ++ rest
-  pub small : AreSmall numbers
-  pub more : room < length numbers
 
 -- those behind some lines of the text do
 abbrev pub HasManyNumbers : ℕ → List ℕ → Type 0

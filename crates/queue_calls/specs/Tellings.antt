@@ -3,9 +3,9 @@ use Rattle.std.specs.Prelude.{◌≡◌, ℕ, Bool, true, false, ◌^◌, ◌<�
 use Rattle.queue_calls.specs.Queue.{Capacity, exactly}
 use Rattle.queue_calls.specs.Calls.{Event, PutBegin, PutStored, PutFull, PutShort, PutNothing, PutClosed, CloseBegin, CloseEnd, TakeBegin, TakeItems, TakeEmpty, TakeShort, TakeNothing, TakeClosed, IsLinearizable}
 use Rattle.queue_calls.specs.InTurn.{CallsAreInTurn}
-use Rattle.queue_calls.specs.Lines.{AreSmall}
+use Rattle.call_lines.specs.Lines.{AreSmall}
 use Rattle.queue_calls.specs.Recordings.{Line, line, first_word, lines_text, begun_after, IsRecording}
-use Rattle.queue_calls.specs.declared.lines.Word.TheVariants as word
+use Rattle.call_lines.specs.declared.lines.Word.TheVariants as word
 use Rattle.queue_calls.specs.declared.hearings.Begun.{Begun}
 use Rattle.queue_calls.specs.declared.hearings.Begun.TheVariants as begun
 

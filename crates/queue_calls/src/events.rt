@@ -6,7 +6,7 @@ ghost use Rattle.queue_calls.specs.Tellings.{line_of};
 ghost use Rattle.queue_calls.specs.Told.{event_by, told};
 ghost use Rattle.queue_calls.specs.declared.hearings.Begun.{Begun};
 
-use crate::lines::Word;
+use call_lines::Word;
 
 /// An event of a history of calls: a call begins, or it ends with an answer. A `P` tells the items that a put offers, and a `T` those
 /// that a take took.

@@ -2,7 +2,7 @@
 ghost use Rattle.std.specs.Prelude.{◌≡◌, ℕ, ◌+◌, ◌∷◌, ◌++◌, [], List, IfErr, None, OnOk, length, option_map};
 ghost use Rattle.queue_calls.specs.Calls.{Event as AnEvent};
 ghost use Rattle.queue_calls.specs.Hearings.{HasHeardAll, HearsLine, HearsNext, hearing_of};
-ghost use Rattle.queue_calls.specs.Lines.{AllowsQueue};
+ghost use Rattle.call_lines.specs.Lines.{AllowsQueue};
 ghost use Rattle.queue_calls.specs.Noting.{OutgrowsLists};
 ghost use Rattle.queue_calls.specs.Queue.{Capacity as ACapacity};
 ghost use Rattle.queue_calls.specs.Recordings.{IsFoundWithin, begun_after, capacity_told, event_told, some_told, stored_told, wanted_told};
@@ -15,11 +15,11 @@ use crate::entries::Taken;
 use crate::events::Event;
 use crate::faults::Fault;
 use crate::insides::Lined;
-use crate::lines::{Word, allows};
 use crate::recordings::{CallsFinding, RecordingFault};
 use crate::reports::{Report, Tally};
 use crate::storage::Storage;
 use crate::witnesses::Witness;
+use call_lines::{Word, allows};
 
 /// What the producer began last: it tells apart the two ends `P closed`, and how many items `P stored` says.
 ///

@@ -2,7 +2,7 @@
 ghost use Rattle.std.specs.Prelude.{map};
 
 use crate::entries::Offered;
-use crate::fifos::Fifo;
+use lists::Fifo;
 use std::alloc::AllocError;
 
 /// The items inside of a queue, in order, each kept as an entry: a list of items, as each [`Fifo`] of them is, or one that keeps more

@@ -1,8 +1,7 @@
 //! Where the lists of a recording lie.
 
 use crate::entries::{Offered, Taken};
-use crate::fifos::{Fifo, Row};
-use crate::slots::{Front, Slots};
+use lists::{Fifo, Filled, Slots, Store};
 use std::alloc::Allocator;
 use std::collections::VecDeque;
 use std::marker::PhantomData;
@@ -16,9 +15,9 @@ pub trait Storage {
     /// The items taken last, with the lines of their take.
     type Taken: Fifo<Taken>;
     /// The numbers of a line.
-    type Numbers: Row<u64>;
+    type Numbers: Store<u64>;
     /// The bytes of a line.
-    type Bytes: Row<u8>;
+    type Bytes: Store<u8>;
 }
 
 /// Lists in memory of an allocator, which grow as they have to.
@@ -52,9 +51,9 @@ impl<'a> Storage for Lent<'a> {
 
     type Taken = Slots<'a, Taken>;
 
-    type Numbers = Front<'a, u64>;
+    type Numbers = Filled<'a, u64>;
 
-    type Bytes = Front<'a, u8>;
+    type Bytes = Filled<'a, u8>;
 }
 
 /// The lists of a recording, all together.

@@ -15,10 +15,10 @@ use crate::causes::Cause;
 use crate::entries::{Offered, Taken};
 use crate::events::Event;
 use crate::faults::Fault;
-use crate::fifos::Fifo;
 use crate::insides::{Inside, Lined};
 use crate::storage::Storage;
 use crate::turns::{PutTurn, TakeTurn};
+use lists::Fifo;
 
 // A history of a queue, with the lines of its events.
 #[derive(Drop)]

@@ -2,11 +2,11 @@
 use Rattle.std.proofs.Common.{Bool, List}
 use Rattle.queue_calls.specs.Hearings.{FollowsLines, hearing_of}
 use Rattle.queue_calls.specs.Recordings.{Line}
-use Rattle.queue_calls.specs.Rings.{ring_items}
+use Rattle.lists.specs.Rings.{ring_items}
 use Rattle.queue_calls.specs.declared.entries.Offered.{Offered}
 use Rattle.queue_calls.specs.declared.entries.Taken.{Taken}
 use Rattle.queue_calls.specs.declared.hearings.HearingState.{HearingState}
-use Rattle.queue_calls.specs.declared.slots.Slots.{Slots}
+use Rattle.lists.specs.declared.slots.Slots.{Slots}
 
 module _ {S N B : Type 0} (state : HearingState) (o : Slots Offered) (t : Slots Taken) (is_cut : Bool) (lines : List Line) where
   pub in_lists :

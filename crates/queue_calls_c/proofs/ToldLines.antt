@@ -2,15 +2,15 @@
 use Rattle.std.proofs.Common.{◌≡◌, ◌≢◌, ◌∙◌, ℕ, zero, suc, ◌+◌, ◌<◌, ◌≤◌, false, List, [], ◌∷◌, ◌++◌, Option, Some, None, Result, Ok, Err, length, take, drop, get_or, refl, sym, ap, ap₂, subst, arith}
 use Rattle.std.proofs.lemmas.Option.{same_Some}
 use Rattle.queue_calls.specs.Hearings.{FollowsLines, HearsLine}
-use Rattle.queue_calls.specs.Lines.{line_text, word_of, AllowsQueue, AreSmall}
+use Rattle.call_lines.specs.Lines.{line_text, word_of, AllowsQueue, AreSmall}
 use Rattle.queue_calls.specs.Recordings.{Line, line, AreLines, capacity_told}
 use Rattle.queue_calls.specs.RecordingStates.{HasHeard}
 use Rattle.queue_calls.specs.declared.entries.Offered.{Offered}
 use Rattle.queue_calls.specs.declared.entries.Taken.{Taken}
 use Rattle.queue_calls.specs.declared.hearings.Hearing.{Hearing}
 use Rattle.queue_calls.specs.declared.hearings.Begun.TheVariants.{Nothing}
-use Rattle.queue_calls.specs.declared.lines.Word.{Word}
-use Rattle.queue_calls.specs.declared.lines.Word.TheVariants.{Queue}
+use Rattle.call_lines.specs.declared.lines.Word.{Word}
+use Rattle.call_lines.specs.declared.lines.Word.TheVariants.{Queue}
 use Rattle.queue_calls.specs.declared.recordings.CallsFinding.{CallsFinding}
 use Rattle.queue_calls.specs.declared.recordings.RecordingFault.{RecordingFault}
 use Rattle.queue_calls.specs.declared.recordings.RecordingFault.TheVariants.{BadLine, TooLong, OutOfMemory}

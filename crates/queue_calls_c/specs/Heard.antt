@@ -2,7 +2,7 @@
 use Rattle.std.specs.Prelude.{◌≡◌, ◌≢◌, ℕ, ◌+◌, ◌-◌, ◌^◌, ◌≤◌, Bool, true, false, List, [], ◌∷◌, ◌++◌, Option, Some, None, Result, Ok, Err, length, take, drop, min, unwrap_or}
 use Rattle.queue_calls.specs.Causes.{cause_line, cause_words}
 use Rattle.queue_calls.specs.Hearings.{FollowsLines, IsNotLawful, hearing_of}
-use Rattle.queue_calls.specs.Lines.{word_of}
+use Rattle.call_lines.specs.Lines.{word_of}
 use Rattle.queue_calls.specs.Recordings.{Line, lines_text, AreLines, IsFindingWithin}
 use Rattle.queue_calls.specs.Rooms.{HasLongHistory}
 use Rattle.queue_calls.specs.Words.{written}
@@ -14,7 +14,7 @@ use Rattle.queue_calls.specs.declared.recordings.CallsFinding.TheVariants.{Lawfu
 use Rattle.queue_calls.specs.declared.recordings.RecordingFault.{RecordingFault}
 use Rattle.queue_calls.specs.declared.recordings.RecordingFault.TheVariants.{BadLine, TooLong, OutOfMemory}
 use Rattle.queue_calls.specs.declared.reports.Report.{Report}
-use Rattle.queue_calls.specs.declared.slots.Slots.{Slots}
+use Rattle.lists.specs.declared.slots.Slots.{Slots}
 use Rattle.queue_calls_c.specs.States.{offered_there, state_of, taken_there}
 use Rattle.queue_calls_c.specs.declared.states.Audit.{Audit}
 use Rattle.queue_calls_c.specs.declared.found.Found.{Found}

@@ -1,6 +1,6 @@
 -- What the numbers of an audit mean.
 use Rattle.std.specs.Prelude.{◌==◌, if◌then◌else◌, List, Some, None, take}
-use Rattle.queue_calls.specs.Rings.{round_from}
+use Rattle.lists.specs.Rings.{round_from}
 use Rattle.queue_calls.specs.declared.auditors.AuditorState.{AuditorState}
 use Rattle.queue_calls.specs.declared.capacities.Capacity.{Capacity}
 use Rattle.queue_calls.specs.declared.capacities.Capacity.TheVariants.{Unbounded, Between}

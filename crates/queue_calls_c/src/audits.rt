@@ -1,10 +1,10 @@
 //! The audit of recorded calls, line by line.
 ghost use Rattle.std.specs.Prelude.{◌≡◌, ◌∷◌, [], IfSome, IsNone, IsTrue, List, None, false, length};
 ghost use Rattle.queue_calls.specs.Hearings.{FollowsLines};
-ghost use Rattle.queue_calls.specs.Lines.{AllowsQueue};
+ghost use Rattle.call_lines.specs.Lines.{AllowsQueue};
 ghost use Rattle.queue_calls.specs.Recordings.{Line as ALine, line};
-ghost use Rattle.queue_calls.specs.Rings.{ring_items};
-ghost use Rattle.queue_calls.specs.declared.lines.Word.TheVariants.{Queue};
+ghost use Rattle.lists.specs.Rings.{ring_items};
+ghost use Rattle.call_lines.specs.declared.lines.Word.TheVariants.{Queue};
 ghost use Rattle.queue_calls_c.specs.Heard.{FitsSlots, HasHeardLines, HearsLines, ReportsOn, heard_by, offered_room, taken_room};
 
 use crate::found::{Found, found_of};

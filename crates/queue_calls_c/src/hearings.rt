@@ -2,7 +2,7 @@
 ghost use Rattle.std.specs.Prelude.{◌≡◌, ◌+◌, ◌↔◌, IsTrue, List, None, Ok, false, length, take, drop};
 ghost use Rattle.queue_calls.specs.Hearings.{FollowsLines};
 ghost use Rattle.queue_calls.specs.Recordings.{Line as ALine};
-ghost use Rattle.queue_calls.specs.Rings.{ring_items};
+ghost use Rattle.lists.specs.Rings.{ring_items};
 ghost use Rattle.queue_calls_c.specs.Heard.{HearsSome, SaysOf, offered_room, taken_room};
 
 use queue_calls::{CallsFinding, Hearing, Lent, RecordingFault, Word};

@@ -4,11 +4,11 @@ use Rattle.std.proofs.lemmas.List.{reverse-append}
 use Rattle.std.proofs.lemmas.Bool.{false≢true, true≢false}
 use Rattle.queue_calls.specs.Queue.{Capacity, Does}
 use Rattle.queue_calls.specs.Calls.{Event, Mark, Happens, Effect, Point, Leads, LeadTo}
-use Rattle.queue_calls.specs.Moments.{Accepts, PutsIn, point_of, puts_in}
+use Rattle.queue_points.specs.Points.{Accepts, PutsIn, point_of, puts_in}
 use Rattle.queue_calls.specs.Recordings.{Line, line, begun_after, event_told}
 use Rattle.queue_calls.specs.Told.{meant}
-use Rattle.queue_calls.specs.declared.lines.Word.{Word}
-use Rattle.queue_calls.specs.declared.moments.Moments.{Moments}
+use Rattle.call_lines.specs.declared.lines.Word.{Word}
+use Rattle.queue_points.specs.declared.points.LinearizationPoints.{LinearizationPoints}
 use Rattle.ring_page.specs.declared.orders.Came.{Came}
 use Rattle.queue_calls.specs.declared.hearings.Begun.{Begun}
 use Rattle.queue_calls.specs.declared.hearings.Begun.TheVariants.{Nothing}
@@ -33,7 +33,7 @@ put_one [] mark = omega arith
 put_one (m ∷ order) mark = let rest = put_one order mark in omega (arith, rest)
 
 -- one more came
-pub came_one : (numbers items : List ℕ) (before : List Came) (c : Came) (capacity : Capacity) (mark : Mark) (old new : Moments) (b after : Begun) →
+pub came_one : (numbers items : List ℕ) (before : List Came) (c : Came) (capacity : Capacity) (mark : Mark) (old new : LinearizationPoints) (b after : Begun) →
     HaveCome numbers items before capacity old b → TellsMark b numbers c mark → after ≡ begun_with b (line_in numbers c) → Accepts old mark true new
     → HaveCome numbers items (before ++ c ∷ []) capacity new after
 came_one numbers items before c capacity mark old new b after h one begun accepts =
@@ -52,7 +52,7 @@ came_one numbers items before c capacity mark old new b after h one begun accept
     }
 
 -- where it was accepted
-pub came_so : (numbers items : List ℕ) (before : List Came) (c : Came) (capacity : Capacity) (mark : Mark) (result : Bool) (old new : Moments) (b after : Begun) →
+pub came_so : (numbers items : List ℕ) (before : List Came) (c : Came) (capacity : Capacity) (mark : Mark) (result : Bool) (old new : LinearizationPoints) (b after : Begun) →
     HaveCome numbers items before capacity old b → TellsMark b numbers c mark → after ≡ begun_with b (line_in numbers c) → Accepts old mark result new → IsTrue result
     → HaveCome numbers items (before ++ c ∷ []) capacity new after
 came_so numbers items before c capacity mark true old new b after h one begun accepts is = came_one numbers items before c capacity mark old new b after h one begun accepts
@@ -62,7 +62,7 @@ told_is_one : {mark other : Mark} → Some mark ≡ Some other → mark ≡ othe
 told_is_one same = cc
 
 -- where it was refused, no mark that is told leads on
-pub refused_so : (b : Begun) (numbers : List ℕ) (c : Came) (mark : Mark) (result : Bool) (old new : Moments) → TellsMark b numbers c mark → Accepts old mark result new →
+pub refused_so : (b : Begun) (numbers : List ℕ) (c : Came) (mark : Mark) (result : Bool) (old new : LinearizationPoints) → TellsMark b numbers c mark → Accepts old mark result new →
     result ≡ false → LeadsNowhere b numbers old.row.now c (meant old.capacity) (point_of old) old.tail
 refused_so b numbers c mark true old new one accepts is = absurd (true≢false is)
 refused_so b numbers c mark false old new one accepts is =
@@ -73,7 +73,7 @@ refused_so b numbers c mark false old new one accepts is =
 
 module _ (numbers : List ℕ) (c : Came) (b : Begun) (word : Word) (told : List ℕ) (is_line : line_in numbers c ≡ Some (line word told)) where
   -- one that came
-  pub line_came : (items : List ℕ) (before : List Came) (capacity : Capacity) (result : Bool) (old new : Moments) (after : Begun) →
+  pub line_came : (items : List ℕ) (before : List Came) (capacity : Capacity) (result : Bool) (old new : LinearizationPoints) (after : Begun) →
       (IsTrue result → (event : Event) × (event_told b word told ≡ Some event) × Accepts old (Happens event) true new) →
       after ≡ (if result then begun_after b word told else b) → HaveCome numbers items before capacity old b → IsTrue result
       → HaveCome numbers items (before ++ c ∷ []) capacity new after
@@ -89,7 +89,7 @@ module _ (numbers : List ℕ) (c : Came) (b : Begun) (word : Word) (told : List 
   happens_one (Some event) mark is = (event, refl, told_is_one is)
 
   -- one that was refused
-  pub line_refused : (old new : Moments) → ((event : Event) → event_told b word told ≡ Some event → Accepts old (Happens event) false new)
+  pub line_refused : (old new : LinearizationPoints) → ((event : Event) → event_told b word told ≡ Some event → Accepts old (Happens event) false new)
       → LeadsNowhere b numbers old.row.now c (meant old.capacity) (point_of old) old.tail
   line_refused old new refused =
       λ mark tells. (let (event, told_is, same) = happens_one (event_told b word told) mark (sym (ap (λ (l : Option Line). mark_told b l (does_in c)) is_line) ∙ tells) in
@@ -101,19 +101,19 @@ tells_effect numbers c b does none is =
     ap (λ (l : Option Line). mark_told b l (does_in c)) none ∙ ap (λ (x : Option Does). option_map (λ d. Effect d) x) is
 
 -- and where they tell none, nothing leads on
-pub tells_nothing : (numbers : List ℕ) (c : Came) (b : Begun) (old : Moments) → line_in numbers c ≡ None → does_in c ≡ None
+pub tells_nothing : (numbers : List ℕ) (c : Came) (b : Begun) (old : LinearizationPoints) → line_in numbers c ≡ None → does_in c ≡ None
     → LeadsNowhere b numbers old.row.now c (meant old.capacity) (point_of old) old.tail
 tells_nothing numbers c b old none is =
     λ mark tells. (let clash : None ≡ Some mark =
     sym (ap (λ (l : Option Line). mark_told b l (does_in c)) none ∙ ap (λ (x : Option Does). option_map (λ d. Effect d) x) is) ∙ tells in absurd (cc))
 
 -- and nothing changed
-pub kept_so : (mark : Mark) (result : Bool) (old new : Moments) → Accepts old mark result new → result ≡ false → new ≡ old
+pub kept_so : (mark : Mark) (result : Bool) (old new : LinearizationPoints) → Accepts old mark result new → result ≡ false → new ≡ old
 kept_so mark true old new accepts is = absurd (true≢false is)
 kept_so mark false old new accepts is = accepts.0
 
 -- said of what has come
-pub nowhere_behind : (numbers items : List ℕ) (before : List Came) (c next : Came) (capacity : Capacity) (m : Moments) (b : Begun) (h : HaveCome numbers items before capacity m b) → c ≡ next →
+pub nowhere_behind : (numbers items : List ℕ) (before : List Came) (c next : Came) (capacity : Capacity) (m : LinearizationPoints) (b : Begun) (h : HaveCome numbers items before capacity m b) → c ≡ next →
     LeadsNowhere b numbers m.row.now c (meant m.capacity) (point_of m) m.tail
     → LeadsNowhere (begun_last Nothing numbers before) numbers items next capacity (point_of m) (count_put h.order)
 nowhere_behind numbers items before c next capacity m b h same nowhere =

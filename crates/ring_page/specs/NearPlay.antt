@@ -5,13 +5,13 @@ use Rattle.near_misses.specs.Misses.{near_modulus}
 use Rattle.near_misses.specs.NearPlays.{IsNearPlay}
 use Rattle.near_misses.specs.declared.misses.NearMiss.{NearMiss}
 use Rattle.near_misses.specs.declared.misses.NearMiss.TheVariants.{CountBeforeCell, NoSecondScan, SmallModulus, ClearsFirst, ClearsUpwards}
-use Rattle.queue_calls.specs.Lines.{word_of}
+use Rattle.call_lines.specs.Lines.{word_of}
 use Rattle.queue_calls.specs.Tellings.{line_of}
 use Rattle.queue_calls.specs.Told.{event_by}
 use Rattle.queue_calls.specs.declared.events.CallEvent.{CallEvent}
 use Rattle.queue_calls.specs.declared.events.CallEvent.TheVariants.{PutBegins, PutStored, PutSome, TakeBegins, TakeItems, TakeSome}
 use Rattle.queue_calls.specs.declared.hearings.Begun.TheVariants.{Nothing}
-use Rattle.queue_calls.specs.declared.lines.Word.{Word}
+use Rattle.call_lines.specs.declared.lines.Word.{Word}
 use Rattle.ring_script.specs.Content.{Content}
 use Rattle.ring_script.specs.Script.{HeldFields, HoldsFields, IsContentOf, IsScript}
 use Rattle.ring_page.specs.Audit.{AreMarksOf}

@@ -2,10 +2,10 @@
 use Rattle.std.specs.Prelude.{◌≡◌, ◌==◌, ℕ, List, [], ◌∷◌, Option, Some, None, option_map, nat_eq, nat_le, if◌then◌else◌, reverse, slice_get, take, drop, length, ◌≤◌, ◌+◌}
 use Rattle.queue_calls.specs.Queue.{Capacity, Unbounded, Between, Does, Enqueue, FindNoRoom, FindShut, Close, Dequeue, FindFewer, FindClosed}
 use Rattle.queue_calls.specs.Calls.{Mark, Happens, Effect, Point, Leads, LeadTo}
-use Rattle.queue_calls.specs.Lines.{word_of}
-use Rattle.queue_calls.specs.declared.lines.Word.{Word}
-use Rattle.queue_calls.specs.declared.moments.Moments.{Moments}
-use Rattle.queue_calls.specs.Moments.{HasFollowed, PutsIn, puts_in}
+use Rattle.call_lines.specs.Lines.{word_of}
+use Rattle.call_lines.specs.declared.lines.Word.{Word}
+use Rattle.queue_points.specs.declared.points.LinearizationPoints.{LinearizationPoints}
+use Rattle.queue_points.specs.Points.{HasFollowed, PutsIn, puts_in}
 use Rattle.queue_calls.specs.Recordings.{Line, line, begun_after, event_told}
 use Rattle.queue_calls.specs.Told.{meant}
 use Rattle.queue_calls.specs.declared.hearings.Begun.{Begun}
@@ -74,7 +74,7 @@ count_put (mark ∷ order) = puts_in mark + count_put order
 
 -- marks came, which these numbers tell, behind which the producer began this last, and were followed; each item that they put in was the
 -- next of the items
-pub record HaveCome (numbers items : List ℕ) (came : List Came) (capacity : Capacity) (m : Moments) (b : Begun) : Type 0 where
+pub record HaveCome (numbers items : List ℕ) (came : List Came) (capacity : Capacity) (m : LinearizationPoints) (b : Begun) : Type 0 where
   pub order : List Mark
   pub told : TellMarks Nothing numbers came order
   pub begun_is : b ≡ begun_last Nothing numbers came

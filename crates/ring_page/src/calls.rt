@@ -7,7 +7,7 @@ ghost use Rattle.ring_page.specs.Calls.{HasShortWords, IsFindingIn, TellsRecordi
 
 use crate::marks::bit_number;
 use queue_calls::{
-    CallsFinding, Front, Lent, Lists, Offered, RecordingFault, RecordingIn, Report, Slots, Taken,
+    CallsFinding, Filled, Lent, Lists, Offered, RecordingFault, RecordingIn, Report, Slots, Taken,
     write_cause,
 };
 
@@ -164,8 +164,8 @@ pub extern "C" fn page_calls(
     let lists = Lists {
         offered: Slots::new(offered),
         taken: Slots::new(taken),
-        numbers: Front::new(numbers),
-        bytes: Front::new(bytes),
+        numbers: Filled::new(numbers),
+        bytes: Filled::new(bytes),
     };
     *told = match found_in(text, lists) {
         Ok((finding, is_cut)) => told_finding(finding, is_cut, words),

@@ -1,23 +1,24 @@
 //! The order in which the operations of recorded calls take effect.
 ghost use Rattle.std.specs.Prelude.{◌≡◌, ◌∷◌, ◌++◌, ℕ, List, [], IsTrue, Some, true, false, if◌then◌else◌, option_map};
 ghost use Rattle.queue_calls.specs.Calls.{Event as AnEvent, Happens};
-ghost use Rattle.queue_calls.specs.Lines.{word_of};
-ghost use Rattle.queue_calls.specs.Moments.{Accepts, point_of};
+ghost use Rattle.call_lines.specs.Lines.{word_of};
+ghost use Rattle.queue_points.specs.Points.{Accepts, point_of};
 ghost use Rattle.queue_calls.specs.Queue.{Capacity as ACapacity};
 ghost use Rattle.queue_calls.specs.Recordings.{begun_after, event_told, line};
-ghost use Rattle.queue_calls.specs.Steps.{done};
+ghost use Rattle.queue_points.specs.Steps.{done};
 ghost use Rattle.queue_calls.specs.Told.{meant};
 ghost use Rattle.ring_page.specs.declared.orders.Came.{Came};
 ghost use Rattle.ring_page.specs.Order.{HaveCome, LeadsNowhere, TellsOrder, capacity_in, does_in, line_in, listed_in};
 
-use queue_calls::{Begun, Capacity, Does, Moments, Word, begun_after, event_told};
+use queue_calls::{Begun, Capacity, Word, begun_after, event_told};
+use queue_points::{LinearizationPoints, Operation};
 
 /// A mark of a history of calls, as numbers: a line of recorded calls, or that an operation takes effect.
 #[repr(C)]
 #[derive(Clone, Copy, PartialEq, Eq, Debug)]
 pub struct Came {
     /// From 0 to 14 a line, by the number of its word (`queue_calls::Word`); from 17 to 23 an operation, in the order of
-    /// `queue_calls::Does`.
+    /// `queue_points::Operation`.
     pub kind: u64,
     /// The item of an operation; where in the list of numbers those of a line begin.
     pub value: u64,
@@ -80,38 +81,38 @@ fn line_in<'a>(numbers: &'a [u64], came: &Came) -> Option<(Word, &'a [u64])>
 }
 
 // The operation that they tell.
-fn does_in(came: &Came) -> Option<Does>
+fn does_in(came: &Came) -> Option<Operation>
     ensures { option_map done result ≡ does_in came.now }
 {
     let count = came.count as usize;
     match came.kind {
-        17 => Some(Does::Enqueue(came.value)),
-        18 => Some(Does::FindNoRoom(count)),
-        19 => Some(Does::FindShut),
-        20 => Some(Does::Close),
-        21 => Some(Does::Dequeue(came.value)),
-        22 => Some(Does::FindFewer(count)),
-        23 => Some(Does::FindClosed),
+        17 => Some(Operation::Enqueue(came.value)),
+        18 => Some(Operation::FindNoRoom(count)),
+        19 => Some(Operation::FindShut),
+        20 => Some(Operation::Close),
+        21 => Some(Operation::Dequeue(came.value)),
+        22 => Some(Operation::FindFewer(count)),
+        23 => Some(Operation::FindClosed),
         _ => None,
     }
 }
 
 // The event of a line comes next, where the producer began this last. Whether it can.
 fn follow_line<'a>(
-    moments: &mut Moments<'a>,
+    points: &mut LinearizationPoints<'a>,
     begun: &mut Begun,
     word: Word,
     told: &'a [u64],
 ) -> bool
-    ensures followed { IsTrue result → (event : AnEvent) × (event_told begun.old word told.entry.now ≡ Some event) × Accepts moments.old (Happens event) true moments.new }
+    ensures followed { IsTrue result → (event : AnEvent) × (event_told begun.old word told.entry.now ≡ Some event) × Accepts points.old (Happens event) true points.new }
     ensures begun { begun.new ≡ (if result then begun_after begun.old word told.entry.now else begun.old) }
-    ensures not { result ≡ false → (event : AnEvent) → event_told begun.old word told.entry.now ≡ Some event → Accepts moments.old (Happens event) false moments.new }
-    ensures same { result ≡ false → moments.new ≡ moments.old }
+    ensures not { result ≡ false → (event : AnEvent) → event_told begun.old word told.entry.now ≡ Some event → Accepts points.old (Happens event) false points.new }
+    ensures same { result ≡ false → points.new ≡ points.old }
 {
     let Some(event) = event_told(*begun, word, told) else {
         return false;
     };
-    if !moments.happens(event) {
+    if !points.happens(event) {
         return false;
     }
     *begun = begun_after(*begun, word, told);
@@ -119,23 +120,28 @@ fn follow_line<'a>(
 }
 
 // The next mark comes, where the producer began this last. Whether it can.
-fn follow<'a>(moments: &mut Moments<'a>, begun: &mut Begun, numbers: &'a [u64], came: &Came) -> bool
-    ensures came { (items : List ℕ) (before : List Came) (capacity : ACapacity) → HaveCome numbers.entry.now items before capacity moments.old begun.old →
-        IsTrue result → HaveCome numbers.entry.now items (before ++ came.now ∷ []) capacity moments.new begun.new }
-    ensures not { result ≡ false → LeadsNowhere begun.old numbers.entry.now moments.old.row.now came.now (meant moments.old.capacity) (point_of moments.old) moments.old.tail }
-    ensures same { result ≡ false → (moments.new ≡ moments.old) × (begun.new ≡ begun.old) }
+fn follow<'a>(
+    points: &mut LinearizationPoints<'a>,
+    begun: &mut Begun,
+    numbers: &'a [u64],
+    came: &Came,
+) -> bool
+    ensures came { (items : List ℕ) (before : List Came) (capacity : ACapacity) → HaveCome numbers.entry.now items before capacity points.old begun.old →
+        IsTrue result → HaveCome numbers.entry.now items (before ++ came.now ∷ []) capacity points.new begun.new }
+    ensures not { result ≡ false → LeadsNowhere begun.old numbers.entry.now points.old.row.now came.now (meant points.old.capacity) (point_of points.old) points.old.tail }
+    ensures same { result ≡ false → (points.new ≡ points.old) × (begun.new ≡ begun.old) }
 {
     if let Some((word, told)) = line_in(numbers, came) {
-        return follow_line(moments, begun, word, told);
+        return follow_line(points, begun, word, told);
     }
     match does_in(came) {
-        Some(does) => moments.takes_effect(does),
+        Some(does) => points.takes_effect(does),
         None => false,
     }
 }
 
 /// Tells how many of the first marks of a history of calls can come one after the other, at a queue of this capacity, and no more. Where
-/// these are all, the history of the events among them is linearizable, and the operations take effect at the moments at which they stand.
+/// these are all, the history of the events among them is linearizable, and the operations take effect at the points at which they stand.
 ///
 /// The items are those that the operations put in, in their order: an operation that puts in another item than the next of them is not
 /// counted either. The numbers are those of the lines. It takes no memory.
@@ -149,10 +155,10 @@ pub extern "C" fn page_order(
 )
     ensures { TellsOrder numbers.now items.now marks.now (capacity_in holds.now) count.new }
 {
-    let mut moments = Moments::new(capacity_in(holds), items);
+    let mut points = LinearizationPoints::new(capacity_in(holds), items);
     let mut begun = Begun::Nothing;
     for place in 0..marks.len() {
-        if !follow(&mut moments, &mut begun, numbers, &marks[place]) {
+        if !follow(&mut points, &mut begun, numbers, &marks[place]) {
             *count = place as u64;
             return;
         }

@@ -6,7 +6,7 @@ use Rattle.std.specs.Prelude.{drop}
 use Rattle.std.proofs.lemmas.List.{append-nil}
 use Rattle.std.proofs.lemmas.List.Elements.{All-cons, All-head, All-nil, All-tail}
 use Rattle.queue_calls.specs.Calls.{Event}
-use Rattle.queue_calls.specs.Lines.{line_text}
+use Rattle.call_lines.specs.Lines.{line_text}
 use Rattle.queue_calls.specs.Queue.{Capacity}
 use Rattle.queue_calls.specs.Recordings.{IsFaultOf, IsRecording, Line, first_word, line, lines_text, text_of}
 use Rattle.queue_calls.specs.RecordingStates.{HasNoFeed}

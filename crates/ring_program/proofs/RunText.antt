@@ -8,7 +8,7 @@ use Rattle.bits_core.specs.Shape.{batch_of, capacity_of, take_batch_of}
 use Rattle.bits_core.specs.declared.shapes.Shape.{Shape}
 use Rattle.queue_calls.specs.Audits.{Audits}
 use Rattle.queue_calls.specs.Calls.{Event, IsLinearizable}
-use Rattle.queue_calls.specs.Lines.{AreSmall, word_text}
+use Rattle.call_lines.specs.Lines.{AreSmall, word_text}
 use Rattle.queue_calls.specs.Order.{P, C}
 use Rattle.queue_calls.specs.Queue.{exactly}
 use Rattle.queue_calls.specs.Recordings.{Line, begun_after, begun_behind, first_word, line, lines_text, text_of}

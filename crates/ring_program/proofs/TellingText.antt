@@ -3,11 +3,11 @@ use Rattle.std.proofs.Common.{◌≡◌, ◌∙◌, ℕ, Bool, ◌<◌, ◌≤�
 use Rattle.std.proofs.lemmas.List.{append-nil}
 use Rattle.queue_calls.specs.Calls.{Event}
 use Rattle.queue_calls.specs.InTurn.{CallsAreInTurn}
-use Rattle.queue_calls.specs.Lines.{AreSmall, word_text}
+use Rattle.call_lines.specs.Lines.{AreSmall, word_text}
 use Rattle.queue_calls.specs.Queue.{exactly}
 use Rattle.queue_calls.specs.Recordings.{IsRecording, begun_after, first_word, line, lines_text, text_of}
 use Rattle.queue_calls.specs.Tellings.{HistoryHasARecording, TellsSmall, line_of, lines_of, numbers_in}
-use Rattle.queue_calls.specs.declared.lines.Word.TheVariants.{Queue}
+use Rattle.call_lines.specs.declared.lines.Word.TheVariants.{Queue}
 use Rattle.queue_calls.specs.declared.hearings.Begun.{Begun}
 use Rattle.queue_calls.specs.declared.hearings.Begun.TheVariants as begun
 use Rattle.ring_program.specs.Texts.{list_line}

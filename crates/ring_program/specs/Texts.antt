@@ -12,7 +12,7 @@ use Rattle.queue_calls.specs.Causes.{cause_words}
 use Rattle.queue_calls.specs.Recordings.{line, lines_text}
 use Rattle.queue_calls.specs.Tellings.{lines_of}
 use Rattle.queue_calls.specs.Told.{event_by}
-use Rattle.queue_calls.specs.declared.lines.Word.TheVariants as word
+use Rattle.call_lines.specs.declared.lines.Word.TheVariants as word
 use Rattle.queue_calls.specs.declared.hearings.Begun.TheVariants as begun
 use Rattle.queue_calls.specs.declared.recordings.CallsFinding.{CallsFinding}
 use Rattle.queue_calls.specs.declared.recordings.CallsFinding.TheVariants as calls

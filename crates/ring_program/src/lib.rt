@@ -3,7 +3,7 @@
 #![tactic(auto)]
 
 mod answers;
-mod call_lines;
+mod call_writing;
 mod causes;
 mod command_line;
 mod faults;

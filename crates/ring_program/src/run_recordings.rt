@@ -9,7 +9,7 @@ ghost use Rattle.queue_calls.specs.Told.{meant, told};
 ghost use Rattle.ring_program.specs.RunRecordings.{IsOfRun, RecordsRun, nothing_left, room_with, run_counts};
 ghost use Rattle.ring_program.specs.Untold.{TakesOff, left_of};
 
-use crate::call_lines::{begun_behind, push_event};
+use crate::call_writing::{begun_behind, push_event};
 use crate::faults::AppFault;
 use crate::lines::push_list;
 use bits_core::Shape;

@@ -2,7 +2,7 @@
 ghost use Rattle.std.specs.Prelude.{◌≡◌, IfErr, IfOk, OnOk, string_bytes};
 ghost use Rattle.bits_core.specs.Shape.{capacity_of};
 ghost use Rattle.queue_calls.specs.Calls.{IsLinearizable};
-ghost use Rattle.queue_calls.specs.Lines.{AreSmall};
+ghost use Rattle.call_lines.specs.Lines.{AreSmall};
 ghost use Rattle.queue_calls.specs.Queue.{exactly};
 ghost use Rattle.queue_calls.specs.Recordings.{IsRecording};
 ghost use Rattle.queue_calls.specs.Tellings.{TellsSmall};
@@ -11,7 +11,7 @@ ghost use Rattle.ring_player.specs.Plays.{offered};
 ghost use Rattle.ring_player.specs.Tellings.{call_events};
 ghost use Rattle.ring_program.specs.Texts.{told_calls, told_text_of};
 
-use crate::call_lines::{begun_behind, push_event};
+use crate::call_writing::{begun_behind, push_event};
 use crate::faults::AppFault;
 use crate::lines::push_list;
 use queue_calls::laws::{history_has_a_recording, linearizable_is_in_turn};

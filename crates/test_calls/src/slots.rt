@@ -1,6 +1,6 @@
 use crate::recordings::{REFUSED, REPORT, TEXT};
 use queue_calls::{
-    CallAuditor, CallsFinding, Cause, Event, Fault, Front, Lent, Lists, Offered, RecordingFault,
+    CallAuditor, CallsFinding, Cause, Event, Fault, Filled, Lent, Lists, Offered, RecordingFault,
     RecordingIn, Slots, Taken, exactly,
 };
 use std::process::Abort;
@@ -88,8 +88,8 @@ fn found(text: &[u8], size: usize, room: Room) -> Result<CallsFinding, Recording
     let lists: Lists<Lent<'_>> = Lists {
         offered: Slots::new(&mut offered[..room.offered.min(8)]),
         taken: Slots::new(&mut taken[..room.taken.min(8)]),
-        numbers: Front::new(&mut numbers[..room.numbers.min(8)]),
-        bytes: Front::new(&mut bytes[..room.bytes.min(40)]),
+        numbers: Filled::new(&mut numbers[..room.numbers.min(8)]),
+        bytes: Filled::new(&mut bytes[..room.bytes.min(40)]),
     };
     let mut recording = RecordingIn::within(lists);
     for piece in text.chunks(size.max(1)) {

@@ -1,6 +1,6 @@
 //! Uses of plays, of histories that are audited, and of recorded calls.
 use bits_core::{Act, Bit, Event, Shape, Side};
-use queue_calls::{CallsFinding, Event as Call, Front, Lent, Lists, Offered, Slots, Taken, Word};
+use queue_calls::{CallsFinding, Event as Call, Filled, Lent, Lists, Offered, Slots, Taken, Word};
 use ring_audit::audit;
 use std::alloc::AllocGlobal;
 use std::rt::HostRuntime;
@@ -101,8 +101,8 @@ fn a_recording_is_read_in_slots(rt: HostRuntime) -> Result<(), Fail> {
     let lists: Lists<Lent<'_>> = Lists {
         offered: Slots::new(&mut offered),
         taken: Slots::new(&mut taken),
-        numbers: Front::new(&mut numbers),
-        bytes: Front::new(&mut []),
+        numbers: Filled::new(&mut numbers),
+        bytes: Filled::new(&mut []),
     };
     assert!(rt; matches!(found_in_slots(lists, text), Ok(CallsFinding::Lawful(_))));
     Ok(())

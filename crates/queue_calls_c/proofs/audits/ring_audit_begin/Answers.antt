@@ -1,8 +1,8 @@
 use Rattle.std.proofs.Common.{◌∙◌, ◌<◌, ◌^◌, refl, sym, arith}
 use Rattle.std.proofs.lemmas.List.Elements.{All-from_get_or}
 use Rattle.std.proofs.lemmas.Bool.{false≢true}
-use Rattle.queue_calls.specs.Lines.{AreSmall}
-use Rattle.queue_calls.specs.Rings.{ring_items}
+use Rattle.call_lines.specs.Lines.{AreSmall}
+use Rattle.lists.specs.Rings.{ring_items}
 use Rattle.queue_calls_c.proofs.ToldLines.{begins_with}
 use Rattle.queue_calls_c.proofs.audits.ring_audit_begin.Goals as goal
 

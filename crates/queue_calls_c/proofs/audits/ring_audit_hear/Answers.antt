@@ -1,7 +1,7 @@
 use Rattle.std.proofs.Common.{◌≡◌, ◌∙◌, List, false, length, refl, subst}
 use Rattle.queue_calls.specs.Hearings.{FollowsLines}
 use Rattle.queue_calls.specs.Recordings.{Line as ALine}
-use Rattle.queue_calls.specs.Rings.{ring_items}
+use Rattle.lists.specs.Rings.{ring_items}
 use Rattle.queue_calls_c.specs.Heard.{HearsSome, taken_room}
 use Rattle.queue_calls_c.proofs.ToldLines.{some_map}
 use Rattle.queue_calls_c.proofs.audits.ring_audit_hear.Goals as goal

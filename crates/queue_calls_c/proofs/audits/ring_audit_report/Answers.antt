@@ -1,7 +1,7 @@
 use Rattle.std.proofs.Common.{◌∙◌, append-nil, false, refl, subst, sym}
 use Rattle.queue_calls.specs.Recordings.{lines_text, IsFindingWithin}
 use Rattle.queue_calls.specs.RecordingStates.{IsFaultSoFar}
-use Rattle.queue_calls.specs.Rings.{ring_items}
+use Rattle.lists.specs.Rings.{ring_items}
 use Rattle.queue_calls.specs.declared.recordings.CallsFinding.TheVariants.{Lawful}
 use Rattle.queue_calls.proofs.RecordingLemmas.{found}
 use Rattle.queue_calls_c.proofs.audits.ring_audit_report.Goals as goal

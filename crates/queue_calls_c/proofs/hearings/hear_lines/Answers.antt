@@ -2,7 +2,7 @@ use Rattle.std.proofs.Common.{◌≡◌, ◌∙◌, ◌+◌, ◌≢◌, suc, Lis
 use Rattle.std.proofs.lemmas.Bool.{false≢true}
 use Rattle.queue_calls.specs.Hearings.{FollowsLines}
 use Rattle.queue_calls.specs.Recordings.{Line as ALine}
-use Rattle.queue_calls.specs.Rings.{ring_items}
+use Rattle.lists.specs.Rings.{ring_items}
 use Rattle.queue_calls_c.specs.Heard.{TellLines, SaysOf, offered_room, taken_room}
 use Rattle.queue_calls_c.proofs.ToldLines.{says_map, stops_at, stops_none, told_more, with_next}
 use Rattle.queue_calls_c.proofs.hearings.hear_lines.Goals as goal

@@ -1,7 +1,7 @@
 use Rattle.std.proofs.Common.{length, ◌-◌, ◌≡◌, ◌≤◌, List, ◌++◌, false, take}
 use Rattle.queue_calls.specs.Hearings.{FollowsLines}
 use Rattle.queue_calls.specs.Recordings.{Line as ALine}
-use Rattle.queue_calls.specs.Rings.{ring_items}
+use Rattle.lists.specs.Rings.{ring_items}
 use Rattle.queue_calls_c.specs.Heard.{TellLines, offered_room, taken_room}
 use Rattle.queue_calls_c.proofs.hearings.hear_lines.Given as goal
 

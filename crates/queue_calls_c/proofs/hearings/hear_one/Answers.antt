@@ -1,5 +1,5 @@
 use Rattle.std.proofs.Common.{sym}
-use Rattle.queue_calls.specs.Rings.{ring_items}
+use Rattle.lists.specs.Rings.{ring_items}
 use Rattle.queue_calls_c.specs.Heard.{offered_room, taken_room}
 use Rattle.queue_calls_c.proofs.ToldLines.{says_of}
 use Rattle.queue_calls_c.proofs.hearings.hear_one.Goals as goal

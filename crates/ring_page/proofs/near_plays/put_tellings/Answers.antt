@@ -2,7 +2,7 @@ use Rattle.std.proofs.Common.{◌≡◌, ◌∙◌, ◌<◌, inl, inr, ℕ, Opti
 use Rattle.std.proofs.lemmas.Bool.{cases_lt}
 use Rattle.std.proofs.lemmas.List.{length-set, map-append, take_all, take_more, take_more_set}
 use Rattle.queue_calls.specs.declared.events.CallEvent.{CallEvent}
-use Rattle.queue_calls.specs.declared.lines.Word.{Word}
+use Rattle.call_lines.specs.declared.lines.Word.{Word}
 use Rattle.ring_page.specs.NearPlay.{said_by, said_in}
 use Rattle.ring_page.specs.declared.near_plays.Telling.{Telling}
 use Rattle.ring_page.proofs.near_plays.put_tellings.Goals as goal

@@ -1,7 +1,7 @@
 use Rattle.std.proofs.Common.{◌∙◌, ◌<◌, ◌^◌, Some, None, refl, sym, ap, subst, arith}
 use Rattle.std.proofs.lemmas.List.Elements.{All-from_get_or}
 use Rattle.queue_calls.specs.Hearings.{RefusesNextLine}
-use Rattle.queue_calls.specs.Lines.{AreSmall}
+use Rattle.call_lines.specs.Lines.{AreSmall}
 use Rattle.queue_calls.specs.Recordings.{line, begun_after}
 use Rattle.queue_calls.specs.Told.{told}
 use Rattle.queue_calls.proofs.NextLines.{has_heard, line_at_fault, line_heard, line_outgrows, heard_as, number_is, tells_none}

@@ -1,12 +1,12 @@
 use Rattle.std.proofs.Common.{◌≡◌, ◌≢◌, true, false, ap, ◌∙◌, ℕ, ◌+◌, List, [], ◌∷◌, ◌++◌, length, Option, Some, Result, Ok, Err, OnOk, IfErr, IfSome, inl, length-append, ap₂, sym, subst, arith}
 use Rattle.std.proofs.lemmas.List.{nil_from_length}
-use Rattle.queue_calls.specs.Lines.{IsLine}
+use Rattle.call_lines.specs.Lines.{IsLine}
 use Rattle.queue_calls.specs.Noting.{OutgrowsLists}
 use Rattle.queue_calls.specs.Recordings.{Line, line, first_word, begun_after, begun_behind, capacity_told, event_told, events_told}
 use Rattle.queue_calls.specs.RecordingStates.{HasHeard}
 use Rattle.queue_calls.specs.Told.{told}
 use Rattle.queue_calls.specs.declared.entries.TheConstants.{TAKEN_LIMIT}
-use Rattle.queue_calls.specs.declared.lines.Word.{Word}
+use Rattle.call_lines.specs.declared.lines.Word.{Word}
 use Rattle.queue_calls.specs.declared.hearings.Begun.TheVariants as begun
 use Rattle.queue_calls.proofs.HeardLines.{IsFirst, first_line, is_line, first_heard, further_line, count_is, further_heard, not_the_first, not_further}
 use Rattle.queue_calls.proofs.NotingLemmas.{line_long}
@@ -30,7 +30,7 @@ some_lines before l none = omega (arith, ap length none, length-append before (l
 
 pub returns-clause-read : goal.returns-clause-read
 returns-clause-read g c = then_ok c.hear.result c.hear.ensures.heard (λ heard before has.
-    let numbers : List ℕ = g.S.Numbers.Row.items c.read_line.new.numbers in
+    let numbers : List ℕ = g.S.Numbers.Store.items c.read_line.new.numbers in
     let is : IsLine c.args.line.now c.in-Some-2.word numbers = read_is _ _ _ _ c.in-Some-2.is c.in_ok-word.ensures.line in
     let some : before ≢ [] = λ none. c.if-count-eq1.false (omega (arith, has.count, c.in-Some.ensures.1, ap length none)) in
     let lines = has.heard some in
@@ -55,7 +55,7 @@ returns-clause-read g c = then_ok c.hear.result c.hear.ensures.heard (λ heard b
 
 pub returns-then-count-eq1-clause-read : goal.returns-then-count-eq1-clause-read
 returns-then-count-eq1-clause-read g c before has =
-    let numbers : List ℕ = g.S.Numbers.Row.items c.read_line.new.numbers in
+    let numbers : List ℕ = g.S.Numbers.Store.items c.read_line.new.numbers in
     let is_cut = c.eq-self.result in
     let word_is : c.in-Some-2.word ≡ first_word is_cut = elim c.else-ne.branch [
       | else-ne-via-then-ne+else-ne-2 w ↦ grind (arith, c.eq-self.ensures, w.ne-then-ne.ensures, w.if-ne-2.false)
@@ -103,7 +103,7 @@ then_err (Err e) p q = q e p
 
 pub returns-clause-full : goal.returns-clause-full
 returns-clause-full g c = then_err c.hear.result c.hear.ensures.full (λ e needs short before has.
-    let numbers : List ℕ = g.S.Numbers.Row.items c.read_line.new.numbers in
+    let numbers : List ℕ = g.S.Numbers.Store.items c.read_line.new.numbers in
     let is : IsLine c.args.line.now c.in-Some-2.word numbers = read_is _ _ _ _ c.in-Some-2.is c.in_ok-word.ensures.line in
     let some : before ≢ [] = λ none. c.if-count-eq1.false (omega (arith, has.count, c.in-Some.ensures.1, ap length none)) in
     let lines = has.heard some in

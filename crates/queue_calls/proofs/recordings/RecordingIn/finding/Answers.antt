@@ -8,7 +8,7 @@ use Rattle.queue_calls.proofs.recordings.RecordingIn.finding.Goals.{else-self-gt
 
 pub returns-then-is_empty-clause-found : goal.returns-then-is_empty-clause-found
 returns-then-is_empty-clause-found g c bytes has =
-    let cut : List ℕ = g.S.Bytes.Row.items c.args.self.now.cut in
+    let cut : List ℕ = g.S.Bytes.Store.items c.args.self.now.cut in
     let some : has.ended ≢ [] = λ none. absurd (omega (arith, c.if-self-gt0.true, has.lines.count, ap length none)) in
     let h = c.args.self.now.lines.hearing in
     subst (λ n. IsFindingWithin n bytes c.finding.result) has.lines.limit
@@ -17,7 +17,7 @@ returns-then-is_empty-clause-found g c bytes has =
 
 pub returns-in-Some-clause-refused : goal.returns-in-Some-clause-refused
 returns-in-Some-clause-refused g c bytes has =
-    let cut : List ℕ = g.S.Bytes.Row.items c.args.self.now.cut in
+    let cut : List ℕ = g.S.Bytes.Store.items c.args.self.now.cut in
     cut_refused has.ended bytes cut c.in-Some.line has.text has.lines.are has.no_feed (omega (arith, has.lines.count, c.in-Some.ensures.1))
     (λ none. elim c.else-self-gt0.branch [
       | else-self-gt0-via-then-self-gt0+else-is_empty w ↦ absurd (false≢true (sym w.if-is_empty.false ∙ w.is_empty.ensures ∙ eq-eqb _ 0 (ap length none)))
@@ -25,4 +25,4 @@ returns-in-Some-clause-refused g c bytes has =
     ])
 
 pub returns-in-None-clause-refused : goal.returns-in-None-clause-refused
-returns-in-None-clause-refused g c bytes has = too_long has.ended bytes (g.S.Bytes.Row.items c.args.self.now.cut) has.text (omega (arith, has.lines.count, c.in-None.ensures))
+returns-in-None-clause-refused g c bytes has = too_long has.ended bytes (g.S.Bytes.Store.items c.args.self.now.cut) has.text (omega (arith, has.lines.count, c.in-None.ensures))

@@ -25,14 +25,14 @@ line_refused bytes piece read rest end left more one two =
 pub returns-in_err-read_end-clause-refused : goal.returns-in_err-read_end-clause-refused
 returns-in_err-read_end-clause-refused g c =
     let read = c.loop-end.invariant in
-    let refused : (bytes more : List ℕ) → HasRead g.S.Offered.Fifo.items g.S.Taken.Fifo.items g.S.Bytes.Row.items c.args.self.now bytes → RefusesText c.in_err-read_end.field-0.0 (bytes ++ (c.args.piece.now ++ more)) =
+    let refused : (bytes more : List ℕ) → HasRead g.S.Offered.Fifo.items g.S.Taken.Fifo.items g.S.Bytes.Store.items c.args.self.now bytes → RefusesText c.in_err-read_end.field-0.0 (bytes ++ (c.args.piece.now ++ more)) =
     λ bytes more has.
     subst (RefusesText c.in_err-read_end.field-0.0) (line_refused bytes c.args.piece.now read.0 c.loop-end.rest.now c.in-Some.end.now c.in-Some.more.now more read.1 c.in-Some.ensures.1)
     (c.in_err-read_end.ensures.refused (bytes ++ read.0) (c.in-Some.more.now ++ more) (read.2 bytes has)) in
     search (rules, refused)
 
 pub loop-end-init : goal.loop-end-init
-loop-end-init g c = ([], refl, λ bytes has. subst (λ t. HasRead g.S.Offered.Fifo.items g.S.Taken.Fifo.items g.S.Bytes.Row.items c.args.self.now t) (sym (append-nil bytes)) has, refl)
+loop-end-init g c = ([], refl, λ bytes has. subst (λ t. HasRead g.S.Offered.Fifo.items g.S.Taken.Fifo.items g.S.Bytes.Store.items c.args.self.now t) (sym (append-nil bytes)) has, refl)
 
 pub loop-end-preserved : goal.loop-end-preserved
 loop-end-preserved g c =
@@ -40,7 +40,7 @@ loop-end-preserved g c =
     let line : List ℕ = c.in-Some.end.now ++ 10 ∷ [] in (
       read.0 ++ line,
       line_read c.args.piece.now read.0 c.loop-end.rest.now c.in-Some.end.now c.in-Some.more.now read.1 c.in-Some.ensures.1,
-      λ bytes has. subst (λ t. HasRead g.S.Offered.Fifo.items g.S.Taken.Fifo.items g.S.Bytes.Row.items c.read_end.new.self t) (append_assoc (bytes ++ read.0) c.in-Some.end.now (10 ∷ []) ∙ append_assoc bytes read.0 line) (c.in_ok-read_end.ensures.read (bytes ++ read.0) (read.2 bytes has)),
+      λ bytes has. subst (λ t. HasRead g.S.Offered.Fifo.items g.S.Taken.Fifo.items g.S.Bytes.Store.items c.read_end.new.self t) (append_assoc (bytes ++ read.0) c.in-Some.end.now (10 ∷ []) ∙ append_assoc bytes read.0 line) (c.in_ok-read_end.ensures.read (bytes ++ read.0) (read.2 bytes has)),
       (let r = c.read_end.ensures.rooms in rooms_same _ _ _ _ _ _ _ _ r.0 r.1 r.2 r.3) ∙ read.3,
     )
 
@@ -48,12 +48,12 @@ pub returns-clause-read : goal.returns-clause-read
 returns-clause-read g c bytes has =
     let read = c.loop-end.invariant in
     let so_far = read.2 bytes has in
-    let cut : g.S.Bytes.Row.items c.extend_from_slice.new.self ≡ g.S.Bytes.Row.items c.loop-end.self.cut ++ c.loop-end.rest.now = c.in_ok-extend_from_slice.ensures.items in
+    let cut : g.S.Bytes.Store.items c.extend_from_slice.new.self ≡ g.S.Bytes.Store.items c.loop-end.self.cut ++ c.loop-end.rest.now = c.in_ok-extend_from_slice.ensures.items in
     record {
       ended = so_far.ended;
       text = ap (λ (t : List ℕ). bytes ++ t) read.1 ∙ sym (append_assoc bytes read.0 c.loop-end.rest.now) ∙ ap (λ (t : List ℕ). t ++ c.loop-end.rest.now) so_far.text
-          ∙ append_assoc (lines_text so_far.ended) (g.S.Bytes.Row.items c.loop-end.self.cut) c.loop-end.rest.now ∙ ap (λ (t : List ℕ). lines_text so_far.ended ++ t) (sym cut);
-      no_feed = subst HasNoFeed (sym cut) (All-append (λ b. b ≢ 10) (g.S.Bytes.Row.items c.loop-end.self.cut) c.loop-end.rest.now so_far.no_feed c.in_default.ensures);
+          ∙ append_assoc (lines_text so_far.ended) (g.S.Bytes.Store.items c.loop-end.self.cut) c.loop-end.rest.now ∙ ap (λ (t : List ℕ). lines_text so_far.ended ++ t) (sym cut);
+      no_feed = subst HasNoFeed (sym cut) (All-append (λ b. b ≢ 10) (g.S.Bytes.Store.items c.loop-end.self.cut) c.loop-end.rest.now so_far.no_feed c.in_default.ensures);
       lines = so_far.lines;
     }
 
@@ -68,8 +68,8 @@ if_err (Err e) q = q e
 pub returns-in_err-read_end-clause-full : goal.returns-in_err-read_end-clause-full
 returns-in_err-read_end-clause-full g c =
     let read = c.loop-end.invariant in
-    let Short : RecordingFault → Type 0 = λ e. e ≡ OutOfMemory → (bytes : List ℕ) → HasRead g.S.Offered.Fifo.items g.S.Taken.Fifo.items g.S.Bytes.Row.items c.args.self.now bytes →
-    AreTooShort (rooms_in g.S.Offered.Fifo.room g.S.Taken.Fifo.room g.S.Numbers.Row.room g.S.Bytes.Row.room c.args.self.now) (bytes ++ c.args.piece.now) in
+    let Short : RecordingFault → Type 0 = λ e. e ≡ OutOfMemory → (bytes : List ℕ) → HasRead g.S.Offered.Fifo.items g.S.Taken.Fifo.items g.S.Bytes.Store.items c.args.self.now bytes →
+    AreTooShort (rooms_in g.S.Offered.Fifo.room g.S.Taken.Fifo.room g.S.Numbers.Store.room g.S.Bytes.Store.room c.args.self.now) (bytes ++ c.args.piece.now) in
     let full : Short c.in_err-read_end.field-0.0 =
     λ short bytes has.
     let end : List ℕ = c.in-Some.end.now ++ 10 ∷ [] in
@@ -84,7 +84,7 @@ pub returns-in_err-extend_from_slice-clause-full : goal.returns-in_err-extend_fr
 returns-in_err-extend_from_slice-clause-full g c = if_err c.from_residual-in_err-extend_from_slice.result (λ e short bytes has.
     let read = c.loop-end.invariant in
     let so_far = read.2 bytes has in
-    let cut : List ℕ = g.S.Bytes.Row.items c.loop-end.self.cut in
+    let cut : List ℕ = g.S.Bytes.Store.items c.loop-end.self.cut in
     let rest : List ℕ = c.loop-end.rest.now in
     subst (λ r. AreTooShort r (bytes ++ c.args.piece.now)) read.3 (inr (inr (record {
       lines = so_far.ended;

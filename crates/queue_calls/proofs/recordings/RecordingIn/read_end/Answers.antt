@@ -31,41 +31,41 @@ if_err (Err e) q = q e
 
 pub returns-in-Ok-clause-read : goal.returns-in-Ok-clause-read
 returns-in-Ok-clause-read g c bytes has =
-    let cut : List ℕ = g.S.Bytes.Row.items c.args.self.now.cut in
+    let cut : List ℕ = g.S.Bytes.Store.items c.args.self.now.cut in
     let none : cut ≡ [] = nil_from_length cut (eqb-true _ 0 (sym c.is_empty.ensures ∙ c.if-is_empty.true)) in
     let (l, on, lines) = c.in-Ok.ensures.read has.ended has.lines in
-    line_ended g.S.Offered.Fifo.items g.S.Taken.Fifo.items g.S.Bytes.Row.items c.args.self.now _ bytes c.args.end.now has l (ap (λ (t : List ℕ). t ++ c.args.end.now) none ∙ on.1) none lines
+    line_ended g.S.Offered.Fifo.items g.S.Taken.Fifo.items g.S.Bytes.Store.items c.args.self.now _ bytes c.args.end.now has l (ap (λ (t : List ℕ). t ++ c.args.end.now) none ∙ on.1) none lines
 
 pub returns-clause-read : goal.returns-clause-read
 returns-clause-read g c bytes has =
     let (l, on, lines) = c.in_ok-read.ensures.read has.ended has.lines in
-    line_ended g.S.Offered.Fifo.items g.S.Taken.Fifo.items g.S.Bytes.Row.items c.args.self.now _ bytes c.args.end.now has l (sym (c.as_slice.ensures ∙ c.in_ok-extend_from_slice.ensures.items) ∙ on.1) c.clear.ensures.items lines
+    line_ended g.S.Offered.Fifo.items g.S.Taken.Fifo.items g.S.Bytes.Store.items c.args.self.now _ bytes c.args.end.now has l (sym (c.as_slice.ensures ∙ c.in_ok-extend_from_slice.ensures.items) ∙ on.1) c.clear.ensures.items lines
 
 pub returns-in-Err-clause-refused : goal.returns-in-Err-clause-refused
 returns-in-Err-clause-refused g c bytes more has =
-    let cut : List ℕ = (g.S.Bytes.Row.items c.args.self.now.cut) in
+    let cut : List ℕ = (g.S.Bytes.Store.items c.args.self.now.cut) in
     let none : cut ≡ [] = nil_from_length cut (eqb-true _ 0 (sym c.is_empty.ensures ∙ c.if-is_empty.true)) in
     end_refused c.in-Err.fault has.ended bytes cut c.args.end.now more has.text has.lines.are has.no_feed c.requires
     (subst (λ t. RefusesLine c.in-Err.fault has.ended t) (sym (ap (λ (t : List ℕ). t ++ c.args.end.now) none)) (c.in-Err.ensures.refused has.ended has.lines))
 
 pub returns-in_err-read-clause-refused : goal.returns-in_err-read-clause-refused
 returns-in_err-read-clause-refused g c =
-    let refused : (bytes more : List ℕ) → HasRead g.S.Offered.Fifo.items g.S.Taken.Fifo.items g.S.Bytes.Row.items c.args.self.now bytes → RefusesText c.in_err-read.field-0.0 (bytes ++ (c.args.end.now ++ 10 ∷ more)) =
+    let refused : (bytes more : List ℕ) → HasRead g.S.Offered.Fifo.items g.S.Taken.Fifo.items g.S.Bytes.Store.items c.args.self.now bytes → RefusesText c.in_err-read.field-0.0 (bytes ++ (c.args.end.now ++ 10 ∷ more)) =
     λ bytes more has.
-    end_refused c.in_err-read.field-0.0 has.ended bytes (g.S.Bytes.Row.items c.args.self.now.cut) c.args.end.now more has.text has.lines.are has.no_feed c.requires
+    end_refused c.in_err-read.field-0.0 has.ended bytes (g.S.Bytes.Store.items c.args.self.now.cut) c.args.end.now more has.text has.lines.are has.no_feed c.requires
     (subst (λ t. RefusesLine c.in_err-read.field-0.0 has.ended t) (c.as_slice.ensures ∙ c.in_ok-extend_from_slice.ensures.items) (c.in_err-read.ensures.refused has.ended has.lines)) in
     search (rules, refused)
 
 pub returns-in-Err-clause-full : goal.returns-in-Err-clause-full
 returns-in-Err-clause-full g c short bytes has =
-    let cut : List ℕ = (g.S.Bytes.Row.items c.args.self.now.cut) in
+    let cut : List ℕ = (g.S.Bytes.Store.items c.args.self.now.cut) in
     let none : cut ≡ [] = nil_from_length cut (eqb-true _ 0 (sym c.is_empty.ensures ∙ c.if-is_empty.true)) in
-    line_short (rooms_in g.S.Offered.Fifo.room g.S.Taken.Fifo.room g.S.Numbers.Row.room g.S.Bytes.Row.room c.args.self.now) has.ended c.args.end.now (bytes ++ (c.args.end.now ++ 10 ∷ []))
+    line_short (rooms_in g.S.Offered.Fifo.room g.S.Taken.Fifo.room g.S.Numbers.Store.room g.S.Bytes.Store.room c.args.self.now) has.ended c.args.end.now (bytes ++ (c.args.end.now ++ 10 ∷ []))
     (ended_text has.ended bytes cut c.args.end.now [] has.text ∙ ap (λ (t : List ℕ). lines_text has.ended ++ ((t ++ c.args.end.now) ++ 10 ∷ [])) none) (c.in-Err.ensures.full short has.ended has.lines)
 
 pub returns-in_err-extend_from_slice-clause-full : goal.returns-in_err-extend_from_slice-clause-full
 returns-in_err-extend_from_slice-clause-full g c = if_err c.from_residual.result (λ e short bytes has.
-    let cut : List ℕ = (g.S.Bytes.Row.items c.args.self.now.cut) in
+    let cut : List ℕ = (g.S.Bytes.Store.items c.args.self.now.cut) in
     inr (inr (record {
       lines = has.ended;
       bytes = cut ++ c.args.end.now;
@@ -77,12 +77,12 @@ returns-in_err-extend_from_slice-clause-full g c = if_err c.from_residual.result
 
 pub returns-in_err-read-clause-full : goal.returns-in_err-read-clause-full
 returns-in_err-read-clause-full g c =
-    let Short : RecordingFault → Type 0 = λ e. e ≡ OutOfMemory → (bytes : List ℕ) → HasRead g.S.Offered.Fifo.items g.S.Taken.Fifo.items g.S.Bytes.Row.items c.args.self.now bytes →
-    AreTooShort (rooms_in g.S.Offered.Fifo.room g.S.Taken.Fifo.room g.S.Numbers.Row.room g.S.Bytes.Row.room c.args.self.now) (bytes ++ (c.args.end.now ++ 10 ∷ [])) in
+    let Short : RecordingFault → Type 0 = λ e. e ≡ OutOfMemory → (bytes : List ℕ) → HasRead g.S.Offered.Fifo.items g.S.Taken.Fifo.items g.S.Bytes.Store.items c.args.self.now bytes →
+    AreTooShort (rooms_in g.S.Offered.Fifo.room g.S.Taken.Fifo.room g.S.Numbers.Store.room g.S.Bytes.Store.room c.args.self.now) (bytes ++ (c.args.end.now ++ 10 ∷ [])) in
     let full : Short c.in_err-read.field-0.0 =
     λ short bytes has.
-    let cut : List ℕ = (g.S.Bytes.Row.items c.args.self.now.cut) in
+    let cut : List ℕ = (g.S.Bytes.Store.items c.args.self.now.cut) in
     let line_is : c.as_slice.result.now ≡ cut ++ c.args.end.now = c.as_slice.ensures ∙ c.in_ok-extend_from_slice.ensures.items in
-    line_short (rooms_in g.S.Offered.Fifo.room g.S.Taken.Fifo.room g.S.Numbers.Row.room g.S.Bytes.Row.room c.args.self.now) has.ended c.as_slice.result.now (bytes ++ (c.args.end.now ++ 10 ∷ []))
+    line_short (rooms_in g.S.Offered.Fifo.room g.S.Taken.Fifo.room g.S.Numbers.Store.room g.S.Bytes.Store.room c.args.self.now) has.ended c.as_slice.result.now (bytes ++ (c.args.end.now ++ 10 ∷ []))
     (ended_text has.ended bytes cut c.args.end.now [] has.text ∙ ap (λ (t : List ℕ). lines_text has.ended ++ (t ++ 10 ∷ [])) (sym line_is)) (c.in_err-read.ensures.full short has.ended has.lines) in
     of_err Short c.from_residual-in_err-read.result c.in_err-read.field-0.0 (search rules) full

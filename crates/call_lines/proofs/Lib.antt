@@ -1,0 +1,3 @@
+mod NumberReading
+mod LineReadings
+pub mod LineLemmas

@@ -1,0 +1,53 @@
+-- What a side of a history is in, as it is kept where operations take effect at moments that are told.
+use Rattle.std.specs.Prelude.{ℕ, List, take, drop}
+use Rattle.queue_calls.specs.Queue as queues
+use Rattle.queue_calls.specs.Calls.{Producer, Consumer}
+use Rattle.queue_calls.specs.Calls as calls
+use Rattle.queue_points.specs.declared.steps.Operation.{Operation}
+use Rattle.queue_points.specs.declared.steps.Operation.TheVariants.{Enqueue, FindNoRoom, FindShut, Close, Dequeue, FindFewer, FindClosed}
+use Rattle.queue_points.specs.declared.steps.Putter.{Putter}
+use Rattle.queue_points.specs.declared.steps.Putter.TheVariants.{Idle, Putting, FoundShut, Closing}
+use Rattle.queue_points.specs.declared.steps.Taker.{Taker}
+use Rattle.queue_points.specs.declared.steps.Taker.TheVariants.{Resting, Taking, FoundClosed}
+
+-- an operation as one of a queue
+abbrev pub done : Operation → queues.Does
+done (Enqueue item) = queues.Enqueue item
+done (FindNoRoom count) = queues.FindNoRoom count
+done FindShut = queues.FindShut
+done Close = queues.Close
+done (Dequeue item) = queues.Dequeue item
+done (FindFewer count) = queues.FindFewer count
+done FindClosed = queues.FindClosed
+
+-- the items of a row from one place up to another
+abbrev pub stretch : List ℕ → ℕ → ℕ → List ℕ
+stretch row from to = drop from (take to row)
+
+-- what the sides are in: a take has taken the items of the row from a place on, up to those still inside
+abbrev pub producer_of : Putter → Producer
+producer_of Idle = calls.Idle
+producer_of (Putting lacked stored items) = calls.Putting lacked stored (drop stored items.now)
+producer_of FoundShut = calls.FoundShut
+producer_of (Closing stored) = calls.Closing stored
+
+abbrev pub consumer_of : List ℕ → ℕ → Taker → Consumer
+consumer_of row head Resting = calls.Resting
+consumer_of row head (Taking lacked from left) = calls.Taking lacked (stretch row from head) left
+consumer_of row head FoundClosed = calls.FoundClosed
+
+-- where in the row the take under way began
+abbrev pub began_at : Taker → ℕ
+began_at Resting = 0
+began_at (Taking lacked from left) = from
+began_at FoundClosed = 0
+
+-- an operation puts no item in, and takes none out
+abbrev pub IsNoItem : Operation → Type 0
+IsNoItem (Enqueue item) = ⊥
+IsNoItem (FindNoRoom count) = Unit {0}
+IsNoItem FindShut = Unit {0}
+IsNoItem Close = Unit {0}
+IsNoItem (Dequeue item) = ⊥
+IsNoItem (FindFewer count) = Unit {0}
+IsNoItem FindClosed = Unit {0}

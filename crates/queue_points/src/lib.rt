@@ -1,0 +1,8 @@
+//! Linearization points: histories of calls that are told with the moments at which their operations take effect.
+#![tactic(auto)]
+
+mod points;
+mod steps;
+
+pub use points::LinearizationPoints;
+pub use steps::Operation;

@@ -1,0 +1,233 @@
+//! What the sides of a history are in, and the operations that lead from one to another.
+ghost use Rattle.std.specs.Prelude.{◌≡◌, ◌<◌, ◌≤◌, ◌↔◌, IfSome, IsNone, IsTrue, get_or, length, suc};
+ghost use Rattle.queue_calls.specs.Queue.{Dequeue};
+ghost use Rattle.queue_calls.specs.Calls.{Happens, Effect, Producer, Consumer, TakeItems, Taking, ProducerStep, ConsumerStep, short_of};
+ghost use Rattle.queue_points.specs.Steps.{IsNoItem, began_at, consumer_of, done, producer_of, stretch};
+ghost use Rattle.queue_calls.specs.Told.{told};
+
+use queue_calls::Event;
+
+/// What an operation of a queue does.
+///
+/// For example, `Operation::FindNoRoom(1)` is what a put does that finds the queue full.
+#[derive(Clone, Copy, PartialEq, Eq, Debug)]
+pub enum Operation {
+    /// It puts the item in.
+    Enqueue(u64),
+    /// It finds no room for so many items.
+    FindNoRoom(usize),
+    /// A put finds the queue closed.
+    FindShut,
+    /// It closes the queue.
+    Close,
+    /// It takes the item out.
+    Dequeue(u64),
+    /// It finds fewer than so many items, and more may come.
+    FindFewer(usize),
+    /// A take finds the queue empty and closed.
+    FindClosed,
+}
+
+// What the producer is in, as `specs/Calls` has it.
+#[derive(Clone, Copy)]
+pub enum Putter<'a> {
+    Idle,
+    // how many items it found no room for, how many are stored, and all that it offers
+    Putting(usize, usize, &'a [u64]),
+    FoundShut,
+    Closing(bool),
+}
+
+// What the consumer is in.
+#[derive(Clone, Copy)]
+pub enum Taker {
+    Resting,
+    // how many items it found fewer than, the place in the row at which it began, and how many more it may take
+    Taking(usize, usize, usize),
+    FoundClosed,
+}
+
+// Whether so many is the reason for which a call passed so many items and left so many: one more than it passed, where it left some
+// and tells why.
+fn is_short_of(lacked: usize, why: bool, count: usize, left: usize) -> bool
+    ensures { IsTrue result ↔ (lacked ≡ short_of why count left) }
+{
+    if left == 0 || !why {
+        lacked == 0
+    } else {
+        lacked > 0 && lacked - 1 == count
+    }
+}
+
+// What the producer is in behind an event.
+pub fn put_event<'a>(put: Putter<'a>, event: Event<'a>) -> Option<Putter<'a>>
+    ensures step { IfSome result (λ after. ProducerStep (producer_of put.entry) (Happens (told event.entry)) (producer_of after)) }
+    ensures exact { IsNone result → (after : Producer) → ¬ ProducerStep (producer_of put.entry) (Happens (told event.entry)) after }
+{
+    match (event, put) {
+        (Event::PutBegins(items), Putter::Idle) if !items.is_empty() => Some(Putter::Putting(
+            0, 0, items,
+        )),
+        (Event::PutStored(count), Putter::Putting(lacked, stored, items))
+            if count > 0
+                && stored == count
+                && is_short_of(lacked, true, count, items.len().saturating_sub(count)) => Some(
+            Putter::Idle,
+        ),
+        (Event::PutSome(count), Putter::Putting(0, stored, _)) if count > 0 && stored == count =>
+            Some(Putter::Idle),
+        (Event::PutFull, Putter::Putting(1, 0, _)) => Some(Putter::Idle),
+        (Event::PutShort, Putter::Putting(lacked, 0, items))
+            if items.len() > 1 && lacked == items.len() => Some(Putter::Idle),
+        (Event::PutNothing, Putter::Putting(0, 0, _)) => Some(Putter::Idle),
+        (Event::PutClosed, Putter::FoundShut) => Some(Putter::Idle),
+        (Event::CloseBegins, Putter::Idle) => Some(Putter::Closing(false)),
+        (Event::CloseEnds, Putter::Closing(true)) => Some(Putter::Idle),
+        (
+            Event::TakeBegins(_)
+            | Event::TakeItems(_)
+            | Event::TakeSome(_)
+            | Event::TakeEmpty
+            | Event::TakeShort
+            | Event::TakeNothing
+            | Event::TakeClosed,
+            _,
+        ) => Some(put),
+        _ => None,
+    }
+}
+
+// What the producer is in behind an operation.
+pub fn put_effect(put: Putter<'_>, does: Operation) -> Option<Putter<'_>>
+    ensures step { IfSome result (λ after. ProducerStep (producer_of put.entry) (Effect (done does)) (producer_of after)) }
+    ensures exact { IsNone result → (after : Producer) → ¬ ProducerStep (producer_of put.entry) (Effect (done does)) after }
+{
+    match (does, put) {
+        (Operation::Enqueue(item), Putter::Putting(lacked, stored, items))
+            if items.get(stored) == Some(&item) => Some(Putter::Putting(lacked, stored + 1, items)),
+        (Operation::FindNoRoom(count), Putter::Putting(0, 0, items)) => Some(Putter::Putting(
+            count, 0, items,
+        )),
+        (Operation::FindShut, Putter::Putting(0, 0, _)) => Some(Putter::FoundShut),
+        (Operation::Close, Putter::Closing(false)) => Some(Putter::Closing(true)),
+        (Operation::Dequeue(_) | Operation::FindFewer(_) | Operation::FindClosed, _) => Some(put),
+        _ => None,
+    }
+}
+
+// The items of a row from one place up to another.
+pub fn stretch(row: &[u64], from: usize, to: usize) -> &[u64]
+    requires order { from ≤ to }
+    requires within { to ≤ length row.now }
+    ensures { result.now ≡ stretch row.now from to }
+{
+    &row[from..to]
+}
+
+// What the consumer is in behind a take of these items.
+fn items_event(
+    row: &[u64],
+    head: usize,
+    items: &[u64],
+    why: bool,
+    lacked: usize,
+    from: usize,
+    left: usize,
+) -> Option<Taker>
+    requires began { from ≤ head }
+    requires within { head ≤ length row.now }
+    ensures step { IfSome result (λ after. ConsumerStep (Taking lacked (stretch row.now from head) left) (Happens (TakeItems items.now why)) (consumer_of row.now head after)) }
+    ensures exact { IsNone result → (after : Consumer) → ¬ ConsumerStep (Taking lacked (stretch row.now from head) left) (Happens (TakeItems items.now why)) after }
+    ensures began { IfSome result (λ after. began_at after ≤ head) }
+{
+    if items.is_empty()
+        || stretch(row, from, head) != items
+        || !is_short_of(lacked, why, items.len(), left)
+    {
+        return None;
+    }
+    Some(Taker::Resting)
+}
+
+// What the consumer is in behind an event, with so many items of the row taken out.
+pub fn take_event(row: &[u64], head: usize, take: Taker, event: Event<'_>) -> Option<Taker>
+    requires began { began_at take ≤ head }
+    requires within { head ≤ length row.now }
+    ensures step { IfSome result (λ after. ConsumerStep (consumer_of row.now head take) (Happens (told event.entry)) (consumer_of row.now head after)) }
+    ensures exact { IsNone result → (after : Consumer) → ¬ ConsumerStep (consumer_of row.now head take) (Happens (told event.entry)) after }
+    ensures began { IfSome result (λ after. began_at after ≤ head) }
+{
+    match (event, take) {
+        (Event::TakeBegins(wanted), Taker::Resting) if wanted > 0 => Some(Taker::Taking(
+            0, head, wanted,
+        )),
+        (Event::TakeItems(items), Taker::Taking(lacked, from, left)) => items_event(
+            row, head, items, true, lacked, from, left,
+        ),
+        (Event::TakeSome(items), Taker::Taking(lacked, from, left)) => items_event(
+            row, head, items, false, lacked, from, left,
+        ),
+        (Event::TakeEmpty, Taker::Taking(1, from, _)) if stretch(row, from, head).is_empty() =>
+            Some(Taker::Resting),
+        (Event::TakeShort, Taker::Taking(lacked, from, left))
+            if stretch(row, from, head).is_empty() && lacked == left && left > 1 => Some(
+            Taker::Resting,
+        ),
+        (Event::TakeNothing, Taker::Taking(0, from, _)) if stretch(row, from, head).is_empty() =>
+            Some(Taker::Resting),
+        (Event::TakeClosed, Taker::FoundClosed) => Some(Taker::Resting),
+        (
+            Event::PutBegins(_)
+            | Event::PutStored(_)
+            | Event::PutSome(_)
+            | Event::PutFull
+            | Event::PutShort
+            | Event::PutNothing
+            | Event::PutClosed
+            | Event::CloseBegins
+            | Event::CloseEnds,
+            _,
+        ) => Some(take),
+        _ => None,
+    }
+}
+
+// What the consumer is in where its take has taken one item more, that at the head.
+pub fn take_one(row: &[u64], head: usize, take: Taker) -> Option<Taker>
+    requires began { began_at take ≤ head }
+    requires within { head < length row.now }
+    ensures step { IfSome result (λ after. ConsumerStep (consumer_of row.now head take) (Effect (Dequeue (get_or row.now head 0))) (consumer_of row.now (suc head) after)) }
+    ensures exact { IsNone result → (after : Consumer) → ¬ ConsumerStep (consumer_of row.now head take) (Effect (Dequeue (get_or row.now head 0))) after }
+    ensures began { IfSome result (λ after. began_at after ≤ suc head) }
+{
+    match take {
+        Taker::Taking(lacked, from, left) if left > 0 => {
+            Some(Taker::Taking(lacked, from, left - 1))
+        }
+        _ => None,
+    }
+}
+
+// What the consumer is in behind an operation that takes no item.
+pub fn take_effect(row: &[u64], head: usize, take: Taker, does: Operation) -> Option<Taker>
+    requires began { began_at take ≤ head }
+    requires within { head ≤ length row.now }
+    ensures step { IfSome result (λ after. ConsumerStep (consumer_of row.now head take) (Effect (done does)) (consumer_of row.now head after)) }
+    ensures exact { IsNone result → IsNoItem does → (after : Consumer) → ¬ ConsumerStep (consumer_of row.now head take) (Effect (done does)) after }
+    ensures began { IfSome result (λ after. began_at after ≤ head) }
+{
+    match (does, take) {
+        (Operation::FindFewer(count), Taker::Taking(0, from, left))
+            if stretch(row, from, head).is_empty() => { Some(Taker::Taking(count, from, left)) }
+        (Operation::FindClosed, Taker::Taking(0, from, _)) if stretch(row, from, head).is_empty() =>
+            Some(Taker::FoundClosed),
+        (
+            Operation::Enqueue(_)
+            | Operation::FindNoRoom(_)
+            | Operation::FindShut
+            | Operation::Close,
+            _,
+        ) => Some(take),
+        _ => None,
+    }
+}
