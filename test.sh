@@ -2,7 +2,7 @@
 # The tests: the program on each example, what it prints and how it ends, and what it says of faults in random histories; the launcher,
 # tools/install, the documents; and each #[test], with no proof of its own. The program is the one that ./lamport_ring runs: the shipped
 # one where it is of these sources. With --prove it is first built here by its proof. What cannot be tried here, for want of the kit or of
-# Python, is told and left out. ./gate has the whole: every proof from nothing, the tests' too, and the wrong bodies. The last line is
+# Python, is told and left out. ./gate has the whole: every proof from nothing, the tests' too, and the mutants. The last line is
 # `N passed, M failed`.
 set -u
 name=test.sh

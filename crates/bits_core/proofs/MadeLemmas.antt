@@ -7,11 +7,11 @@ use Rattle.bits_core.specs.declared.events.Access.{Access}
 use Rattle.bits_core.specs.declared.events.Event.{Event}
 use Rattle.bits_core.specs.Bits.{same_side, is_by, begun_by}
 use Rattle.bits_core.specs.Intervals.{end_of, IsAccess}
-use Rattle.bits_core.specs.Made.{Made, Read, Write, access_of, begin_event, end_event, events_of, IsBeginning, own, clock, place_of, IsPlaceOf, IsMadeAt}
+use Rattle.bits_core.specs.Made.{Made, Read, Write, access_of, begin_event, end_event, events_of, IsPrefix, subhistory, clock, place_of, IsPlaceOf, IsMadeAt}
 use Rattle.bits_core.specs.Laws.{MadeIsAccess, AccessIsMade}
 use Rattle.bits_core.proofs.Places.{slice_get-append, slice_get-take}
 use Rattle.bits_core.proofs.Changes.{same_side-same}
-use Rattle.bits_core.proofs.OwnEvents.{own_has_place, own_has_one_place, place-next, IsOwn, own_at}
+use Rattle.bits_core.proofs.OwnEvents.{subhistory_has_place, subhistory_has_one_place, place-next, IsOwn, own_at}
 
 -- the two events of an access
 begin_by : (s : Side) (x : Made) → (begin_event s x).side ≡ s
@@ -58,30 +58,30 @@ begun_get s (x ∷ made) (suc (suc i)) e access at begins =
     record { number = suc r.number; made_access = r.made_access; is_begin = omega (arith, r.is_begin); is_made = r.is_made; same_access = r.same_access }
 
 -- an event of the accesses that has happened is one of the side's own
-own_get : (s : Side) (h : List Event) (made : List Made) → IsBeginning (own s h) (events_of s made) → (i : ℕ) (e : Event) → slice_get (events_of s made) i ≡ Some e → i < length (own s h) → slice_get (own s h) i ≡ Some e
+own_get : (s : Side) (h : List Event) (made : List Made) → IsPrefix (subhistory s h) (events_of s made) → (i : ℕ) (e : Event) → slice_get (events_of s made) i ≡ Some e → i < length (subhistory s h) → slice_get (subhistory s h) i ≡ Some e
 own_get s h made follows i e at within =
-    let there : slice_get (own s h ++ follows.0) i ≡ Some e = ap (λ l. slice_get l i) follows.1 ∙ at in
-    subst (λ l. slice_get l i ≡ Some e) (take_at (own s h) follows.0 (length (own s h)) refl) (slice_get-take (own s h ++ follows.0) (length (own s h)) i e there within)
+    let there : slice_get (subhistory s h ++ follows.0) i ≡ Some e = ap (λ l. slice_get l i) follows.1 ∙ at in
+    subst (λ l. slice_get l i ≡ Some e) (take_at (subhistory s h) follows.0 (length (subhistory s h)) refl) (slice_get-take (subhistory s h ++ follows.0) (length (subhistory s h)) i e there within)
 
 -- an access of the history whose begin is that of an access that was made ends with its end
-made_at : (s : Side) (h : List Event) (made : List Made) → IsBeginning (own s h) (events_of s made) → (n : ℕ) (x : Made) → slice_get made n ≡ Some x
+made_at : (s : Side) (h : List Event) (made : List Made) → IsPrefix (subhistory s h) (events_of s made) → (n : ℕ) (x : Made) → slice_get made n ≡ Some x
     → (start stop : ℕ) → IsAccess h s (access_of x) start stop → IsPlaceOf s h (2 * n) start → IsMadeAt s h n x start stop
 made_at s h made follows n x at start stop a p = record {
   access = a;
   start_is = p;
   ended = λ within.
-      let is_start : start ≡ place_of s h (2 * n) = own_has_one_place s h (2 * n) start p in
+      let is_start : start ≡ place_of s h (2 * n) = subhistory_has_one_place s h (2 * n) start p in
       let plus : place_of s h (2 * n) + 1 ≡ suc (place_of s h (2 * n)) = omega arith in
       let next : place_of s h (suc (2 * n)) ≡ end_of s h (place_of s h (2 * n)) = rw plus (place-next s h (2 * n) within) in
       let is_stop : place_of s h (suc (2 * n)) ≡ stop = next ∙ ap (end_of s h) (sym is_start) ∙ sym a.ends in
-      let q : IsPlaceOf s h (suc (2 * n)) stop = subst (IsPlaceOf s h (suc (2 * n))) is_stop (own_has_place s h (suc (2 * n)) within) in
+      let q : IsPlaceOf s h (suc (2 * n)) stop = subst (IsPlaceOf s h (suc (2 * n))) is_stop (subhistory_has_place s h (suc (2 * n)) within) in
       (q, q.at_place ∙ own_get s h made follows (suc (2 * n)) (end_event s x) (end_get s made n x at) within);
 }
 
 pub made_is_access : MadeIsAccess
 made_is_access s h made follows n x at within =
     let start : ℕ = place_of s h (2 * n) in
-    let p : IsPlaceOf s h (2 * n) start = own_has_place s h (2 * n) within in
+    let p : IsPlaceOf s h (2 * n) start = subhistory_has_place s h (2 * n) within in
     let a : IsAccess h s (access_of x) start (end_of s h start) = record {
       event = begin_event s x;
       at_start = p.at_place ∙ own_get s h made follows (2 * n) (begin_event s x) (begin_get s made n x at) within;
@@ -96,10 +96,10 @@ access_is_made s h made follows access start stop a =
     let by : is_by s a.event ≡ true = ap (same_side s) a.by_side ∙ same_side-same s in
     let o : IsOwn s h start a.event = own_at s h start a.event a.at_start by in
     let there : slice_get (events_of s made) (clock s h start) ≡ Some a.event =
-    ap (λ l. slice_get l (clock s h start)) (sym follows.1) ∙ slice_get-append (own s h) follows.0 (clock s h start) a.event o.own_event in
+    ap (λ l. slice_get l (clock s h start)) (sym follows.1) ∙ slice_get-append (subhistory s h) follows.0 (clock s h start) a.event o.own_event in
     let r : IsBegun made (clock s h start) access = begun_get s made (clock s h start) a.event access there a.begins in
     let p : IsPlaceOf s h (2 * r.number) start = record {
-      at_place = a.at_start ∙ sym o.own_event ∙ ap (slice_get (own s h)) r.is_begin;
+      at_place = a.at_start ∙ sym o.own_event ∙ ap (slice_get (subhistory s h)) r.is_begin;
       before = r.is_begin;
       past = o.tick ∙ ap suc r.is_begin;
     } in (

@@ -6,24 +6,24 @@ use Rattle.bits_core.specs.declared.events.Side.{Side}
 use Rattle.bits_core.specs.declared.events.Event.{Event}
 use Rattle.bits_core.specs.Bits.{is_by}
 use Rattle.bits_core.specs.Intervals.{first_place}
-use Rattle.bits_core.specs.Made.{own, clock, place_of, IsPlaceOf}
-use Rattle.bits_core.specs.Laws.{OwnChanges, OwnHasPlace, OwnHasOnePlace, ClockCountsPlaces}
+use Rattle.bits_core.specs.Made.{subhistory, clock, place_of, IsPlaceOf}
+use Rattle.bits_core.specs.Laws.{SubhistoryChanges, SubhistoryHasPlace, SubhistoryHasOnePlace, ClockCountsPlaces}
 
 -- by a test, with what it gave
 pub by_case : {G : Type 0} → (b : Bool) → (b ≡ true → G) → (b ≡ false → G) → G
 by_case true if_true if_false = if_true refl
 by_case false if_true if_false = if_false refl
 
-pub own_changes : OwnChanges
-own_changes s h e =
+pub subhistory_changes : SubhistoryChanges
+subhistory_changes s h e =
     filter-append (is_by s) h (e ∷ [])
-    ∙ elim (is_by s e) as (λ t. own s h ++ cond t (e ∷ []) [] ≡ (if t then own s h ++ e ∷ [] else own s h)) [ true ↦ refl | false ↦ append-nil (own s h) ]
+    ∙ elim (is_by s e) as (λ t. subhistory s h ++ cond t (e ∷ []) [] ≡ (if t then subhistory s h ++ e ∷ [] else subhistory s h)) [ true ↦ refl | false ↦ append-nil (subhistory s h) ]
 
 -- the own events behind a first event, and the clock
-pub own-yes : (s : Side) (e : Event) (h : List Event) → is_by s e ≡ true → own s (e ∷ h) ≡ e ∷ own s h
+pub own-yes : (s : Side) (e : Event) (h : List Event) → is_by s e ≡ true → subhistory s (e ∷ h) ≡ e ∷ subhistory s h
 own-yes s e h by = rw by refl
 
-pub own-no : (s : Side) (e : Event) (h : List Event) → is_by s e ≡ false → own s (e ∷ h) ≡ own s h
+pub own-no : (s : Side) (e : Event) (h : List Event) → is_by s e ≡ false → subhistory s (e ∷ h) ≡ subhistory s h
 own-no s e h by = rw by refl
 
 pub clock-yes : (s : Side) (e : Event) (h : List Event) (place : ℕ) → is_by s e ≡ true → clock s (e ∷ h) (suc place) ≡ suc (clock s h place)
@@ -57,18 +57,18 @@ behind_other s e h i place by p = record {
   past = clock-no s e h (suc place) by ∙ p.past;
 }
 
-pub own_has_place : OwnHasPlace
-own_has_place s [] i within = absurd (omega arith)
-own_has_place s (e ∷ h) zero within =
+pub subhistory_has_place : SubhistoryHasPlace
+subhistory_has_place s [] i within = absurd (omega arith)
+subhistory_has_place s (e ∷ h) zero within =
     by_case (is_by s e)
     (λ by. rw by (record { at_place = ap (λ l. slice_get l 0) (sym (own-yes s e h by)); before = refl; past = clock-yes s e h 0 by }))
-    (λ by. rw by (behind_other s e h 0 (place_of s h 0) by (own_has_place s h 0 (omega (arith, ap length (own-no s e h by))))))
-own_has_place s (e ∷ h) (suc i) within =
+    (λ by. rw by (behind_other s e h 0 (place_of s h 0) by (subhistory_has_place s h 0 (omega (arith, ap length (own-no s e h by))))))
+subhistory_has_place s (e ∷ h) (suc i) within =
     by_case (is_by s e)
-    (λ by. rw by (behind_own s e h i (place_of s h i) by (own_has_place s h i (omega (arith, ap length (own-yes s e h by))))))
-    (λ by. rw by (behind_other s e h (suc i) (place_of s h (suc i)) by (own_has_place s h (suc i) (omega (arith, ap length (own-no s e h by))))))
+    (λ by. rw by (behind_own s e h i (place_of s h i) by (subhistory_has_place s h i (omega (arith, ap length (own-yes s e h by))))))
+    (λ by. rw by (behind_other s e h (suc i) (place_of s h (suc i)) by (subhistory_has_place s h (suc i) (omega (arith, ap length (own-no s e h by))))))
 
-clock_within : (s : Side) (h : List Event) (t : ℕ) → clock s h t ≤ length (own s h)
+clock_within : (s : Side) (h : List Event) (t : ℕ) → clock s h t ≤ length (subhistory s h)
 clock_within s [] zero = omega arith
 clock_within s [] (suc t) = omega arith
 clock_within s (e ∷ h) zero = omega (arith, clock_rises s (e ∷ h) 0 0)
@@ -77,9 +77,9 @@ clock_within s (e ∷ h) (suc t) =
     (λ by. omega (arith, clock-yes s e h t by, ap length (own-yes s e h by), clock_within s h t))
     (λ by. omega (arith, clock-no s e h t by, ap length (own-no s e h by), clock_within s h t))
 
-pub own_has_one_place : OwnHasOnePlace
-own_has_one_place s h i place p =
-    let q : IsPlaceOf s h i (place_of s h i) = own_has_place s h i (omega (arith, p.past, clock_within s h (suc place))) in
+pub subhistory_has_one_place : SubhistoryHasOnePlace
+subhistory_has_one_place s h i place p =
+    let q : IsPlaceOf s h i (place_of s h i) = subhistory_has_place s h i (omega (arith, p.past, clock_within s h (suc place))) in
     elim (split (place_of s h i) place) [
       | inl le ↦ elim (split place (place_of s h i)) [
         | inl ge ↦ omega arith
@@ -96,7 +96,7 @@ place-first : (s : Side) (h : List Event) → place_of s h 0 ≡ first_place s h
 place-first s [] = refl
 place-first s (e ∷ h) = ap (λ (n : ℕ). if is_by s e then 0 else suc n) (place-first s h)
 
-pub place-next : (s : Side) (h : List Event) (i : ℕ) → suc i < length (own s h) → place_of s h (suc i) ≡ suc (place_of s h i) + first_place s (drop (suc (place_of s h i)) h)
+pub place-next : (s : Side) (h : List Event) (i : ℕ) → suc i < length (subhistory s h) → place_of s h (suc i) ≡ suc (place_of s h i) + first_place s (drop (suc (place_of s h i)) h)
 place-next s [] i within = absurd (omega arith)
 place-next s (e ∷ h) zero within =
     by_case (is_by s e)
@@ -109,7 +109,7 @@ place-next s (e ∷ h) (suc i) within =
 
 -- an event of the side, as one of its own
 pub record IsOwn (s : Side) (h : List Event) (place : ℕ) (e : Event) : Type 0 where
-  pub own_event : slice_get (own s h) (clock s h place) ≡ Some e
+  pub own_event : slice_get (subhistory s h) (clock s h place) ≡ Some e
   pub tick : clock s h (suc place) ≡ suc (clock s h place)
 
 pub own_at : (s : Side) (h : List Event) (place : ℕ) (e : Event) → slice_get h place ≡ Some e → is_by s e ≡ true → IsOwn s h place e
@@ -133,7 +133,7 @@ own_at s (x ∷ h) (suc place) e at by =
 -- an own event stands before a place exactly where its number is below the clock there
 pub clock_counts_places : ClockCountsPlaces
 clock_counts_places s h i place within =
-    let q : IsPlaceOf s h i (place_of s h i) = own_has_place s h i within in (
+    let q : IsPlaceOf s h i (place_of s h i) = subhistory_has_place s h i within in (
       (λ before. omega (arith, q.past, clock_rises s h (suc (place_of s h i)) place before)),
       (λ below. elim (split place (place_of s h i)) [
         | inl le ↦ absurd (omega (arith, q.before, below, clock_rises s h place (place_of s h i) le))

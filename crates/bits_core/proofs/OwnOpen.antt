@@ -10,12 +10,12 @@ use Rattle.bits_core.specs.declared.shapes.Shape.{Shape}
 use Rattle.bits_core.specs.Bits.{other, writer, reader, same_side, is_by, begun_by, write_of}
 use Rattle.bits_core.specs.History.{before_last, open_access, open_write, held, is_overlapped}
 use Rattle.bits_core.specs.Lawful.{IsLawful}
-use Rattle.bits_core.specs.Made.{Made, Read, Write, begin_event, end_event, events_of, own}
+use Rattle.bits_core.specs.Made.{Made, Read, Write, begin_event, end_event, events_of, subhistory}
 use Rattle.bits_core.specs.Laws.{OpenFromOwn, MadeLeaveNoneOpen, QuietIsHeld}
 use Rattle.bits_core.proofs.Histories.{before_last-push, open_access-push}
 use Rattle.bits_core.proofs.Changes.{same_side-same, open_write-push, is_overlapped-push}
 use Rattle.bits_core.proofs.LawProofs.{lawful_by_one_more, held_changes}
-use Rattle.bits_core.proofs.OwnEvents.{by_case, own_changes}
+use Rattle.bits_core.proofs.OwnEvents.{by_case, subhistory_changes}
 
 -- by one event more
 grow : (Q : List Event → Type 0) → ((h : List Event) (e : Event) → Q h → Q (h ++ e ∷ [])) → (h more : List Event) → Q h → Q (h ++ more)
@@ -30,14 +30,14 @@ pick t v x y e = ap (λ b. if b then x else y) e
 
 -- the open access of a side, from its own events
 pub open_from_own : OpenFromOwn
-open_from_own s = by_events (λ h. open_access s h ≡ open_access s (own s h)) refl
+open_from_own s = by_events (λ h. open_access s h ≡ open_access s (subhistory s h)) refl
     (λ h e was. by_case (is_by s e)
     (λ by.
     (open_access-push s h e ∙ pick (is_by s e) true (begun_by e) (open_access s h) by) ∙
-    sym (ap (open_access s) (own_changes s h e ∙ pick (is_by s e) true (own s h ++ e ∷ []) (own s h) by) ∙ open_access-push s (own s h) e ∙ pick (is_by s e) true (begun_by e) (open_access s (own s h)) by))
+    sym (ap (open_access s) (subhistory_changes s h e ∙ pick (is_by s e) true (subhistory s h ++ e ∷ []) (subhistory s h) by) ∙ open_access-push s (subhistory s h) e ∙ pick (is_by s e) true (begun_by e) (open_access s (subhistory s h)) by))
     (λ by.
     (open_access-push s h e ∙ pick (is_by s e) false (begun_by e) (open_access s h) by) ∙ was ∙
-    sym (ap (open_access s) (own_changes s h e ∙ pick (is_by s e) false (own s h ++ e ∷ []) (own s h) by))))
+    sym (ap (open_access s) (subhistory_changes s h e ∙ pick (is_by s e) false (subhistory s h ++ e ∷ []) (subhistory s h) by))))
 
 -- whole accesses
 by_end : (s : Side) (x : Made) → is_by s (end_event s x) ≡ true

@@ -13,8 +13,8 @@ use Rattle.bits_core.specs.declared.events.Bit.{Bit}
 use Rattle.bits_core.specs.declared.events.Bit.TheVariants.{S, R, X, Cell}
 use Rattle.bits_core.specs.declared.events.Act.{Act}
 use Rattle.bits_core.specs.declared.events.Act.TheVariants.{ReadBegin, ReadEnd, WriteBegin, WriteEnd}
-use Rattle.bits_core.specs.declared.reading.Word.{Word}
-use Rattle.bits_core.specs.declared.reading.Word.TheVariants.{Read, Got, Write, Wrote}
+use Rattle.bits_core.specs.declared.reading.ActWord.{ActWord}
+use Rattle.bits_core.specs.declared.reading.ActWord.TheVariants.{Read, Got, Write, Wrote}
 use Rattle.bits_core.specs.TraceText.{side_text, act_text, bit_text, digit_text, value_text}
 use Rattle.bits_core.specs.TraceReading.{◌>>=◌, or_else, after, named, side_at, word_at, digit_at, number_at, index_at, cell_at, bit_at, act_at}
 use Rattle.bits_core.proofs.Digits.{EndsDigits, number_at-text, number_at-decimal}
@@ -70,13 +70,13 @@ side_at-again P rest = refl
 side_at-again C rest = refl
 
 -- the text of a word
-abbrev pub word_text : Word → List ℕ
+abbrev pub word_text : ActWord → List ℕ
 word_text Read = codes "read "
 word_text Got = codes "got "
 word_text Write = codes "write "
 word_text Wrote = codes "wrote "
 
-pub word_at-text : (bytes : List ℕ) (x : Word × List ℕ) → word_at bytes ≡ Some x → Begins word_text bytes x
+pub word_at-text : (bytes : List ℕ) (x : ActWord × List ℕ) → word_at bytes ≡ Some x → Begins word_text bytes x
 word_at-text bytes x e =
     elim (or_else_some (named Read (codes "read ") bytes) _ x e) [
       | inl k ↦ named-begins word_text Read bytes x k
@@ -89,7 +89,7 @@ word_at-text bytes x e =
       ]
     ]
 
-pub word_at-again : (w : Word) (rest : List ℕ) → word_at (word_text w ++ rest) ≡ Some (w, rest)
+pub word_at-again : (w : ActWord) (rest : List ℕ) → word_at (word_text w ++ rest) ≡ Some (w, rest)
 word_at-again Read rest = refl
 word_at-again Got rest = refl
 word_at-again Write rest = refl
@@ -186,7 +186,7 @@ bit_at-again (Cell j i) rest small ends = cell_at-again j i rest small.0 small.1
 -- ---- acts
 
 -- an act goes with its word, and its value stands after the bit
-pub act_at-text : (w : Word) (bytes : List ℕ) (x : Act × List ℕ) → act_at w bytes ≡ Some x → (word_text w ≡ act_text x.0) × Begins value_text bytes x
+pub act_at-text : (w : ActWord) (bytes : List ℕ) (x : Act × List ℕ) → act_at w bytes ≡ Some x → (word_text w ≡ act_text x.0) × Begins value_text bytes x
 unfolding act_at
 act_at-text Read bytes x e = subst (λ (y : Act × List ℕ). (word_text Read ≡ act_text y.0) × Begins value_text bytes y) (same_Some (ReadBegin, bytes) x e) (refl, refl)
 act_at-text Got bytes x e =
@@ -198,7 +198,7 @@ act_at-text Write bytes x e =
 act_at-text Wrote bytes x e = subst (λ (y : Act × List ℕ). (word_text Wrote ≡ act_text y.0) × Begins value_text bytes y) (same_Some (WriteEnd, bytes) x e) (refl, refl)
 
 -- the word of an act
-abbrev pub word_of : Act → Word
+abbrev pub word_of : Act → ActWord
 word_of ReadBegin = Read
 word_of (ReadEnd v) = Got
 word_of (WriteBegin v) = Write

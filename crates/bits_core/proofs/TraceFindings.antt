@@ -9,7 +9,7 @@ use Rattle.bits_core.specs.declared.audits.Verdict.{Verdict}
 use Rattle.bits_core.specs.declared.audits.Verdict.TheVariants.{Lawful, Fault}
 use Rattle.bits_core.specs.declared.events.Event.{Event}
 use Rattle.bits_core.specs.declared.shapes.Shape.{Shape}
-use Rattle.bits_core.specs.declared.trace_audits.Hearing.{Hearing}
+use Rattle.bits_core.specs.declared.trace_audits.TraceHearing.{TraceHearing}
 use Rattle.bits_core.specs.Audit.{IsFaultAfter, IsFirstFault, IsVerdict}
 use Rattle.bits_core.specs.Steps.{EachMayFollow}
 use Rattle.bits_core.specs.Trace.{IsTraceText}
@@ -34,7 +34,7 @@ found_is_verdict : (verdict : Verdict) (auditor : BitAuditor) (shape : Shape) (e
 found_is_verdict Lawful auditor shape events found = found.marks.lawful
 found_is_verdict (Fault place kind) auditor shape events found = BreaksAt-first shape events place kind found
 
-pub verdict_told : (h : Option Hearing) (heard : Hearing) (bytes ended cut : List ℕ) → h ≡ Some heard → bytes ≡ ended ++ cut → cut ≡ [] → HasEnded h ended
+pub verdict_told : (h : Option TraceHearing) (heard : TraceHearing) (bytes ended cut : List ℕ) → h ≡ Some heard → bytes ≡ ended ++ cut → cut ≡ [] → HasEnded h ended
     → (shape : Shape) × (events : List Event) × IsTraceText bytes shape events × IsVerdict shape events heard.verdict
 verdict_told None heard bytes ended cut is text none lines = absurd (none-some heard is)
 verdict_told (Some hearing) heard bytes ended cut is text none lines =
@@ -42,5 +42,5 @@ verdict_told (Some hearing) heard bytes ended cut is text none lines =
       lines.shape,
       lines.events,
       record { text = text ∙ ap (λ (t : List ℕ). ended ++ t) none ∙ append-nil ended ∙ lines.is.text; of_shape = lines.is.of_shape },
-      subst (λ (x : Hearing). IsVerdict lines.shape lines.events x.verdict) same (found_is_verdict hearing.verdict hearing.auditor lines.shape lines.events lines.heard.found),
+      subst (λ (x : TraceHearing). IsVerdict lines.shape lines.events x.verdict) same (found_is_verdict hearing.verdict hearing.auditor lines.shape lines.events lines.heard.found),
     )

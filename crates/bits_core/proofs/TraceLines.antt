@@ -9,7 +9,7 @@ use Rattle.bits_core.specs.declared.events.Bit.TheVariants.{S, R, X, Cell}
 use Rattle.bits_core.specs.declared.events.Act.{Act}
 use Rattle.bits_core.specs.declared.events.Event.{Event}
 use Rattle.bits_core.specs.declared.reading.Numbers.{Numbers}
-use Rattle.bits_core.specs.declared.reading.Word.{Word}
+use Rattle.bits_core.specs.declared.reading.ActWord.{ActWord}
 use Rattle.bits_core.specs.declared.shapes.Shape.{Shape}
 use Rattle.bits_core.specs.declared.shapes.ShapeFault.{ShapeFault}
 use Rattle.bits_core.specs.Shape.{HasBatches, IsRefusedBatches, batch_of, belongs, capacity_of, modulus_of, width_of}
@@ -26,7 +26,7 @@ parts_of_event : (s : Side) (b : Bit) (a : Act) (rest : List ℕ)
     → event_line (record { side = s; bit = b; act = a }) ++ rest ≡ side_text s ++ (act_text a ++ (bit_text b ++ (value_text a ++ (codes "\n" ++ rest))))
 parts_of_event s b a rest = simp append_assoc
 
-event_joined : (bytes r1 r2 r3 r4 rest : List ℕ) (s : Side) (w : Word) (b : Bit) (a : Act)
+event_joined : (bytes r1 r2 r3 r4 rest : List ℕ) (s : Side) (w : ActWord) (b : Bit) (a : Act)
     → bytes ≡ side_text s ++ r1 → r1 ≡ word_text w ++ r2 → r2 ≡ bit_text b ++ r3 → (word_text w ≡ act_text a) × (r3 ≡ value_text a ++ r4) → r4 ≡ codes "\n" ++ rest
     → bytes ≡ event_line (record { side = s; bit = b; act = a }) ++ rest
 event_joined bytes r1 r2 r3 r4 rest s w b a e1 e2 e3 e4 e5 =

@@ -8,7 +8,7 @@ use Rattle.std.proofs.lemmas.Option.{none-some, same_Some}
 use Rattle.bits_core.specs.declared.events.Event.{Event}
 use Rattle.bits_core.specs.declared.shapes.Shape.{Shape}
 use Rattle.bits_core.specs.declared.shapes.ShapeFault.{ShapeFault}
-use Rattle.bits_core.specs.declared.trace_audits.Hearing.{Hearing}
+use Rattle.bits_core.specs.declared.trace_audits.TraceHearing.{TraceHearing}
 use Rattle.bits_core.specs.declared.traces.TraceFault.{TraceFault}
 use Rattle.bits_core.specs.declared.traces.TraceFault.TheVariants.{BadShape, BadLine, TooLong, OutOfMemory}
 use Rattle.bits_core.specs.Shape.{batch_of, belongs, capacity_of, modulus_of, take_batch_of, width_of}
@@ -40,7 +40,7 @@ text_bytes text shape events is =
 
 -- ---- bytes that begin with no line
 
-pub no_line_more : (h : Option Hearing) (bytes line behind more : List ℕ) → EndsAtFeed line → bytes ≡ line ++ behind → BeginsWithNoLine h bytes → BeginsWithNoLine h (bytes ++ more)
+pub no_line_more : (h : Option TraceHearing) (bytes line behind more : List ℕ) → EndsAtFeed line → bytes ≡ line ++ behind → BeginsWithNoLine h bytes → BeginsWithNoLine h (bytes ++ more)
 no_line_more None bytes line behind more ends text none = λ c m w g h has.
     let parts : bytes ≡ ends.front ++ 10 ∷ behind = text ∙ ap (λ (t : List ℕ). t ++ behind) ends.text ∙ append_assoc ends.front (10 ∷ []) behind in
     none c m w g h (record {
@@ -56,13 +56,13 @@ no_line_more (Some hearing) bytes line behind more ends text none = λ e rest be
     let parts : bytes ≡ ends.front ++ 10 ∷ behind = text ∙ ap (λ (t : List ℕ). t ++ behind) ends.text ∙ append_assoc ends.front (10 ∷ []) behind in
     none e behind (begins.0, line_before_more bytes ends.front behind more (event_line e) rest parts ends.feedless (event_line_ends e (small_indices hearing.shape e.bit begins.0)).ends begins.1)
 
-pub no_line_long : (h : Option Hearing) (bytes more : List ℕ) → IsFeedless bytes → 31 ≤ length bytes → BeginsWithNoLine h (bytes ++ more)
+pub no_line_long : (h : Option TraceHearing) (bytes more : List ℕ) → IsFeedless bytes → 31 ≤ length bytes → BeginsWithNoLine h (bytes ++ more)
 no_line_long None bytes more none long = λ c m w g h has.
     too_long_a_line bytes more (shape_line c m w g h) has.rest none long (shape_line_ends c m w g h has.short_capacity has.short_modulus has.short_width has.short_batch has.short_take_batch) has.text
 no_line_long (Some hearing) bytes more none long = λ e rest begins.
     too_long_a_line bytes more (event_line e) rest none long (event_line_ends e (small_indices hearing.shape e.bit begins.0)) begins.1
 
-pub no_line_unended : (h : Option Hearing) (bytes : List ℕ) → IsFeedless bytes → BeginsWithNoLine h bytes
+pub no_line_unended : (h : Option TraceHearing) (bytes : List ℕ) → IsFeedless bytes → BeginsWithNoLine h bytes
 no_line_unended None bytes none = λ c m w g h has.
     no_line_ended bytes (shape_line c m w g h) has.rest none (shape_line_ends c m w g h has.short_capacity has.short_modulus has.short_width has.short_batch has.short_take_batch).ends has.text
 no_line_unended (Some hearing) bytes none = λ e rest begins.
@@ -84,20 +84,20 @@ behind_events (BadLine line) shape events text rest is fault none more = inr (re
 behind_events TooLong shape events text rest is fault none more = omega (arith, fault, text_bytes text shape events is, length-append text rest)
 behind_events OutOfMemory shape events text rest is fault none more = absurd fault
 
-pub nothing_ended : (h : Option Hearing) (text rest : List ℕ) → h ≡ None → HasEnded h text → BeginsWithNoLine h rest → RefusesTraceText (text ++ rest) (BadLine 1)
+pub nothing_ended : (h : Option TraceHearing) (text rest : List ℕ) → h ≡ None → HasEnded h text → BeginsWithNoLine h rest → RefusesTraceText (text ++ rest) (BadLine 1)
 nothing_ended None text rest is ended none = subst (λ (t : List ℕ). RefusesTraceText (t ++ rest) (BadLine 1)) (sym ended) (inl (refl, none))
 nothing_ended (Some hearing) text rest is ended none = absurd (none-some hearing (sym is))
 
-pub behind_ended : (h : Option Hearing) (heard : Hearing) (fault : TraceFault) (text rest : List ℕ) → h ≡ Some heard → IsFaultBehind heard.count fault → HasEnded h text → BeginsWithNoLine h rest → (rest ≡ [] → h ≡ None)
+pub behind_ended : (h : Option TraceHearing) (heard : TraceHearing) (fault : TraceFault) (text rest : List ℕ) → h ≡ Some heard → IsFaultBehind heard.count fault → HasEnded h text → BeginsWithNoLine h rest → (rest ≡ [] → h ≡ None)
     → RefusesTraceText (text ++ rest) fault
 behind_ended None heard fault text rest is behind ended none there = absurd (none-some heard is)
 behind_ended (Some hearing) heard fault text rest is behind ended none there =
     let same : heard ≡ hearing = same_Some heard hearing (sym is) in
-    let counted : IsFaultBehind (length ended.events) fault = subst (λ (n : ℕ). IsFaultBehind n fault) (ap (λ (x : Hearing). x.count) same ∙ ended.heard.count) behind in
+    let counted : IsFaultBehind (length ended.events) fault = subst (λ (n : ℕ). IsFaultBehind n fault) (ap (λ (x : TraceHearing). x.count) same ∙ ended.heard.count) behind in
     behind_events fault ended.shape ended.events text rest ended.is counted (subst (λ (s : Shape). HasNoEvent s rest) ended.heard.of_shape none) (λ nothing. none-some hearing (sym (there nothing)))
 
 -- a line that has ended and is none
-pub no_line_refused : (fault : TraceFault) (h : Option Hearing) (bytes line behind text more : List ℕ)
+pub no_line_refused : (fault : TraceFault) (h : Option TraceHearing) (bytes line behind text more : List ℕ)
     → ((rest : List ℕ) → BeginsWithNoLine h rest → (rest ≡ [] → h ≡ None) → RefusesTraceText (text ++ rest) fault)
     → EndsAtFeed line → bytes ≡ line ++ behind → BeginsWithNoLine h bytes → RefusesTraceText (text ++ (bytes ++ more)) fault
 no_line_refused fault h bytes line behind text more refuses ends parts none =
@@ -124,11 +124,11 @@ bad_shape_more fault text bytes more none bad = subst (λ (t : List ℕ). HasBad
 })
 
 -- so many lines were heard that one more cannot be counted
-pub too_many : (h : Option Hearing) (heard : Hearing) (text rest : List ℕ) → h ≡ Some heard → heard.count ≡ 2 ^ 64 - 1 → HasEnded h text → RefusesTraceText (text ++ rest) TooLong
+pub too_many : (h : Option TraceHearing) (heard : TraceHearing) (text rest : List ℕ) → h ≡ Some heard → heard.count ≡ 2 ^ 64 - 1 → HasEnded h text → RefusesTraceText (text ++ rest) TooLong
 too_many None heard text rest is full ended = absurd (none-some heard is)
 too_many (Some hearing) heard text rest is full ended =
     let same : heard ≡ hearing = same_Some heard hearing (sym is) in
-    omega (arith, full, ap (λ (x : Hearing). x.count) same, ended.heard.count, text_bytes text ended.shape ended.events ended.is, length-append text rest)
+    omega (arith, full, ap (λ (x : TraceHearing). x.count) same, ended.heard.count, text_bytes text ended.shape ended.events ended.is, length-append text rest)
 
 -- ---- one line more
 
@@ -140,7 +140,7 @@ shape_ends shape =
 pub event_ends : (shape : Shape) (e : Event) → belongs shape e.bit ≡ true → EndsAtFeed (event_line e)
 event_ends shape e inside = (event_line_ends e (small_indices shape e.bit inside)).ends
 
-pub first_ended : (h : Option Hearing) (hearing : Hearing) (shape : Shape) (text : List ℕ) → h ≡ None → HasEnded h text → HeardTrace hearing shape []
+pub first_ended : (h : Option TraceHearing) (hearing : TraceHearing) (shape : Shape) (text : List ℕ) → h ≡ None → HasEnded h text → HeardTrace hearing shape []
     → EndedLines hearing (text ++ shape_line (capacity_of shape) (modulus_of shape) (width_of shape) (batch_of shape) (take_batch_of shape))
 first_ended None hearing shape text is ended heard =
     let line : List ℕ = shape_line (capacity_of shape) (modulus_of shape) (width_of shape) (batch_of shape) (take_batch_of shape) in
@@ -152,14 +152,14 @@ first_ended None hearing shape text is ended heard =
     }
 first_ended (Some before) hearing shape text is ended heard = absurd (none-some before (sym is))
 
-pub next_ended : (h : Option Hearing) (before after : Hearing) (e : Event) (text : List ℕ) → h ≡ Some before → HasEnded h text → belongs before.shape e.bit ≡ true
+pub next_ended : (h : Option TraceHearing) (before after : TraceHearing) (e : Event) (text : List ℕ) → h ≡ Some before → HasEnded h text → belongs before.shape e.bit ≡ true
     → ((shape : Shape) (events : List Event) → HeardTrace before shape events → HeardTrace after shape (events ++ e ∷ [])) → EndedLines after (text ++ event_line e)
 next_ended None before after e text is ended inside heard = absurd (none-some before is)
 next_ended (Some hearing) before after e text is ended inside heard =
     let same : before ≡ hearing = same_Some before hearing (sym is) in
     let shape : Shape = ended.shape in
     let line : List ℕ = shape_line (capacity_of shape) (modulus_of shape) (width_of shape) (batch_of shape) (take_batch_of shape) in
-    let of : before.shape ≡ shape = ap (λ (x : Hearing). x.shape) same ∙ ended.heard.of_shape in
+    let of : before.shape ≡ shape = ap (λ (x : TraceHearing). x.shape) same ∙ ended.heard.of_shape in
     record {
       shape = shape;
       events = ended.events ++ e ∷ [];
@@ -167,13 +167,13 @@ next_ended (Some hearing) before after e text is ended inside heard =
         text = ap (λ (t : List ℕ). t ++ event_line e) ended.is.text ∙ flat_map_more event_line line ended.events e;
         of_shape = AreOfShape-push shape ended.events e ended.is.of_shape (subst (λ (s : Shape). belongs s e.bit ≡ true) of inside);
       };
-      heard = heard shape ended.events (subst (λ (x : Hearing). HeardTrace x shape ended.events) (sym same) ended.heard);
+      heard = heard shape ended.events (subst (λ (x : TraceHearing). HeardTrace x shape ended.events) (sym same) ended.heard);
     }
 
 -- ---- lines that were cut
 
 -- what is kept of a line is too long for one
-pub kept_refused : (fault : TraceFault) (h : Option Hearing) (before ended cut rest more : List ℕ) → before ≡ ended ++ cut → HasEnded h ended → IsFeedless cut → IsFeedless rest → 31 ≤ length cut + length rest
+pub kept_refused : (fault : TraceFault) (h : Option TraceHearing) (before ended cut rest more : List ℕ) → before ≡ ended ++ cut → HasEnded h ended → IsFeedless cut → IsFeedless rest → 31 ≤ length cut + length rest
     → ((text others : List ℕ) → HasEnded h text → BeginsWithNoLine h others → (others ≡ [] → h ≡ None) → RefusesTraceText (text ++ others) fault) → RefusesTraceText (before ++ (rest ++ more)) fault
 kept_refused fault h before ended cut rest more text lines none free long refuses =
     let all : length ((cut ++ rest) ++ more) ≡ (length cut + length rest) + length more = length-append (cut ++ rest) more ∙ ap (λ (n : ℕ). n + length more) (length-append cut rest) in
@@ -184,7 +184,7 @@ kept_refused fault h before ended cut rest more text lines none free long refuse
     (λ nothing. absurd (omega (arith, ap length nothing, all, long))))
 
 -- a line that has ended was read to its end
-pub whole_line : {R : Type 0} (found : Option R) (now : R → List ℕ) (old new : Option Hearing) (bytes front : List ℕ) → IsFeedless front → bytes ≡ front ++ 10 ∷ []
+pub whole_line : {R : Type 0} (found : Option R) (now : R → List ℕ) (old new : Option TraceHearing) (bytes front : List ℕ) → IsFeedless front → bytes ≡ front ++ 10 ∷ []
     → MatchOption found (IsFeedless bytes × (new ≡ old)) (λ rest. (line : List ℕ) × EndsAtFeed line × (bytes ≡ line ++ now rest) × ((text : List ℕ) → HasEnded old text → HasEnded new (text ++ line)))
     → (text : List ℕ) → HasEnded old text → HasEnded new (text ++ bytes)
 whole_line None now old new bytes front free whole read text ended = absurd (feed_nowhere bytes front [] read.0 whole)

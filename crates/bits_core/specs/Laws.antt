@@ -18,7 +18,7 @@ use Rattle.bits_core.specs.Intervals.{IsAccess, IsHeld, IsOpenAt, IsRead, HasOve
 use Rattle.bits_core.specs.Lawful.{IsLawful}
 use Rattle.bits_core.specs.Memory.{EndsOverlappedRead, is_flicker_at}
 use Rattle.bits_core.specs.Steps.{MayFollow}
-use Rattle.bits_core.specs.Made.{Made, access_of, events_of, IsBeginning, own, clock, place_of, IsPlaceOf, IsMadeAt}
+use Rattle.bits_core.specs.Made.{Made, access_of, events_of, IsPrefix, subhistory, clock, place_of, IsPlaceOf, IsMadeAt}
 
 -- nothing has happened
 abbrev pub EmptyIsLawful : Type 0
@@ -103,32 +103,32 @@ abbrev pub FlickerIsByInterval : Type 0
 FlickerIsByInterval = (shape : Shape) (h : List Event) → IsLawful shape h → (place : ℕ) → (is_flicker_at h place ≡ true) ↔ EndsOverlappedRead h place
 
 -- a side's own events, by one event more
-abbrev pub OwnChanges : Type 0
-OwnChanges = (s : Side) (h : List Event) (e : Event) → own s (h ++ e ∷ []) ≡ (if is_by s e then own s h ++ e ∷ [] else own s h)
+abbrev pub SubhistoryChanges : Type 0
+SubhistoryChanges = (s : Side) (h : List Event) (e : Event) → subhistory s (h ++ e ∷ []) ≡ (if is_by s e then subhistory s h ++ e ∷ [] else subhistory s h)
 
 -- each own event has its place
-abbrev pub OwnHasPlace : Type 0
-OwnHasPlace = (s : Side) (h : List Event) (i : ℕ) → i < length (own s h) → IsPlaceOf s h i (place_of s h i)
+abbrev pub SubhistoryHasPlace : Type 0
+SubhistoryHasPlace = (s : Side) (h : List Event) (i : ℕ) → i < length (subhistory s h) → IsPlaceOf s h i (place_of s h i)
 
 -- and that is its only place
-abbrev pub OwnHasOnePlace : Type 0
-OwnHasOnePlace = (s : Side) (h : List Event) (i place : ℕ) → IsPlaceOf s h i place → place ≡ place_of s h i
+abbrev pub SubhistoryHasOnePlace : Type 0
+SubhistoryHasOnePlace = (s : Side) (h : List Event) (i place : ℕ) → IsPlaceOf s h i place → place ≡ place_of s h i
 
 -- an own event stands before a place exactly where its number is below the clock there
 abbrev pub ClockCountsPlaces : Type 0
-ClockCountsPlaces = (s : Side) (h : List Event) (i place : ℕ) → i < length (own s h) → (place_of s h i < place) ↔ (i < clock s h place)
+ClockCountsPlaces = (s : Side) (h : List Event) (i place : ℕ) → i < length (subhistory s h) → (place_of s h i < place) ↔ (i < clock s h place)
 
 -- where a side's events are a beginning of the events of accesses that were made, each of these that began is an access of the history
 abbrev pub MadeIsAccess : Type 0
 MadeIsAccess =
-    (s : Side) (h : List Event) (made : List Made) → IsBeginning (own s h) (events_of s made) →
-    (n : ℕ) (x : Made) → slice_get made n ≡ Some x → 2 * n < length (own s h) →
+    (s : Side) (h : List Event) (made : List Made) → IsPrefix (subhistory s h) (events_of s made) →
+    (n : ℕ) (x : Made) → slice_get made n ≡ Some x → 2 * n < length (subhistory s h) →
     (stop : ℕ) × IsMadeAt s h n x (place_of s h (2 * n)) stop
 
 -- and each access of the side in the history is one of these
 abbrev pub AccessIsMade : Type 0
 AccessIsMade =
-    (s : Side) (h : List Event) (made : List Made) → IsBeginning (own s h) (events_of s made) →
+    (s : Side) (h : List Event) (made : List Made) → IsPrefix (subhistory s h) (events_of s made) →
     (access : Access) (start stop : ℕ) → IsAccess h s access start stop →
     (n : ℕ) × (x : Made) × (slice_get made n ≡ Some x) × (access_of x ≡ access) × IsMadeAt s h n x start stop
 
@@ -138,7 +138,7 @@ BeforeLastChanges = (s : Side) (h : List Event) (e : Event) → before_last s (h
 
 -- the open access of a side follows from its own events
 abbrev pub OpenFromOwn : Type 0
-OpenFromOwn = (s : Side) (h : List Event) → open_access s h ≡ open_access s (own s h)
+OpenFromOwn = (s : Side) (h : List Event) → open_access s h ≡ open_access s (subhistory s h)
 
 -- whole accesses, one after the other, leave none open
 abbrev pub MadeLeaveNoneOpen : Type 0

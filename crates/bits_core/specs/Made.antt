@@ -44,16 +44,16 @@ events_of s [] = []
 events_of s (x ∷ made) = begin_event s x ∷ end_event s x ∷ events_of s made
 
 -- xs is a beginning of ys
-abbrev pub IsBeginning : {A : Type 0} → List A → List A → Type 0
-IsBeginning {A = A} xs ys = (rest : List A) × (xs ++ rest ≡ ys)
+abbrev pub IsPrefix : {A : Type 0} → List A → List A → Type 0
+IsPrefix {A = A} xs ys = (rest : List A) × (xs ++ rest ≡ ys)
 
 -- the events of one side, in order
-abbrev pub own : Side → List Event → List Event
-own s h = filter (is_by s) h
+abbrev pub subhistory : Side → List Event → List Event
+subhistory s h = filter (is_by s) h
 
 -- how many events of the side stand before a place
 abbrev pub clock : Side → List Event → ℕ → ℕ
-clock s h place = length (own s (take place h))
+clock s h place = length (subhistory s (take place h))
 
 -- the place of the side's own event number i
 abbrev pub place_of : Side → List Event → ℕ → ℕ
@@ -63,7 +63,7 @@ place_of s (e ∷ h) (suc i) = (if is_by s e then suc (place_of s h i) else suc 
 
 -- the own event number i stands at the place, behind i others
 pub record IsPlaceOf (s : Side) (h : List Event) (i place : ℕ) : Type 0 where
-  pub at_place : slice_get h place ≡ slice_get (own s h) i
+  pub at_place : slice_get h place ≡ slice_get (subhistory s h) i
   pub before : clock s h place ≡ i
   pub past : clock s h (suc place) ≡ suc i
 
@@ -71,4 +71,4 @@ pub record IsPlaceOf (s : Side) (h : List Event) (i place : ℕ) : Type 0 where
 pub record IsMadeAt (s : Side) (h : List Event) (n : ℕ) (x : Made) (start stop : ℕ) : Type 0 where
   pub access : IsAccess h s (access_of x) start stop
   pub start_is : IsPlaceOf s h (2 * n) start
-  pub ended : suc (2 * n) < length (own s h) → IsPlaceOf s h (suc (2 * n)) stop × (slice_get h stop ≡ Some (end_event s x))
+  pub ended : suc (2 * n) < length (subhistory s h) → IsPlaceOf s h (suc (2 * n)) stop × (slice_get h stop ≡ Some (end_event s x))

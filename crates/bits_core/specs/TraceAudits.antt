@@ -6,7 +6,7 @@ use Rattle.bits_core.specs.declared.audits.Verdict.{Verdict}
 use Rattle.bits_core.specs.declared.audits.Verdict.TheVariants.{Lawful, Fault}
 use Rattle.bits_core.specs.declared.events.Event.{Event}
 use Rattle.bits_core.specs.declared.shapes.Shape.{Shape}
-use Rattle.bits_core.specs.declared.trace_audits.Hearing.{Hearing}
+use Rattle.bits_core.specs.declared.trace_audits.TraceHearing.{TraceHearing}
 use Rattle.bits_core.specs.declared.trace_audits.TraceAudit.{TraceAudit}
 use Rattle.bits_core.specs.declared.traces.TraceFault.{TraceFault}
 use Rattle.bits_core.specs.declared.traces.TraceFault.TheVariants.{BadShape, BadLine, TooLong, OutOfMemory}
@@ -32,24 +32,24 @@ IsFoundSoFar Lawful auditor shape events = HeardEvents auditor shape events
 IsFoundSoFar (Fault place kind) auditor shape events = BreaksAt shape events place kind
 
 -- these events were heard, of a trace of this shape
-pub record HeardTrace (hearing : Hearing) (shape : Shape) (events : List Event) : Type 0 where
+pub record HeardTrace (hearing : TraceHearing) (shape : Shape) (events : List Event) : Type 0 where
   pub of_shape : hearing.shape ≡ shape
   pub count : hearing.count ≡ length events
   pub found : IsFoundSoFar hearing.verdict hearing.auditor shape events
 
 -- the lines that have ended: none, or those of a shape and of events of it
-pub record EndedLines (hearing : Hearing) (text : List ℕ) : Type 0 where
+pub record EndedLines (hearing : TraceHearing) (text : List ℕ) : Type 0 where
   pub shape : Shape
   pub events : List Event
   pub is : IsTraceText text shape events
   pub heard : HeardTrace hearing shape events
 
-abbrev pub HasEnded : Option Hearing → List ℕ → Type 0
+abbrev pub HasEnded : Option TraceHearing → List ℕ → Type 0
 HasEnded None text = text ≡ []
 HasEnded (Some hearing) text = EndedLines hearing text
 
 -- no line that may come next stands at the front of the bytes
-abbrev pub BeginsWithNoLine : Option Hearing → List ℕ → Type 0
+abbrev pub BeginsWithNoLine : Option TraceHearing → List ℕ → Type 0
 BeginsWithNoLine None bytes = (capacity modulus width batch take_batch : ℕ) → ¬ HasShapeLine bytes capacity modulus width batch take_batch
 BeginsWithNoLine (Some hearing) bytes = HasNoEvent hearing.shape bytes
 

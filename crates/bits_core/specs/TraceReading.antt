@@ -10,8 +10,8 @@ use Rattle.bits_core.specs.declared.events.Act.{Act}
 use Rattle.bits_core.specs.declared.events.Act.TheVariants.{ReadBegin, ReadEnd, WriteBegin, WriteEnd}
 use Rattle.bits_core.specs.declared.events.Event.{Event}
 use Rattle.bits_core.specs.declared.reading.Numbers.{Numbers}
-use Rattle.bits_core.specs.declared.reading.Word.{Word}
-use Rattle.bits_core.specs.declared.reading.Word.TheVariants.{Read, Got, Write, Wrote}
+use Rattle.bits_core.specs.declared.reading.ActWord.{ActWord}
+use Rattle.bits_core.specs.declared.reading.ActWord.TheVariants.{Read, Got, Write, Wrote}
 
 infixl 10 ◌>>=◌
 abbrev pub ◌>>=◌ : {A B : Type 0} → Option A → (A → Option B) → Option B
@@ -34,7 +34,7 @@ named value text bytes = after text bytes >>= λ rest. Some (value, rest)
 abbrev pub side_at : List ℕ → Option (Side × List ℕ)
 side_at bytes = or_else (named P (codes "P ") bytes) (named C (codes "C ") bytes)
 
-abbrev pub word_at : List ℕ → Option (Word × List ℕ)
+abbrev pub word_at : List ℕ → Option (ActWord × List ℕ)
 word_at bytes = or_else (named Read (codes "read ") bytes) (or_else (named Got (codes "got ") bytes)
     (or_else (named Write (codes "write ") bytes) (named Wrote (codes "wrote ") bytes)))
 
@@ -72,7 +72,7 @@ bit_at (b ∷ rest) =
     else (if b == 99 then cell_at rest else None)))
 
 -- the act of a word, with the value that stands after the bit
-unfoldable pub act_at : Word → List ℕ → Option (Act × List ℕ)
+unfoldable pub act_at : ActWord → List ℕ → Option (Act × List ℕ)
 act_at Read bytes = Some (ReadBegin, bytes)
 act_at Got bytes = digit_at bytes >>= λ v. Some (ReadEnd v.0, v.1)
 act_at Write bytes = digit_at bytes >>= λ v. Some (WriteBegin v.0, v.1)

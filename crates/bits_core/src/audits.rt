@@ -124,7 +124,8 @@ fn fits_open(bit: Bit, act: Act, opened: Option<Access>) -> bool
 
 // Whether the event is in turn.
 pub fn is_in_turn(marks: &Marks, event: Event) -> bool
-    ensures { (shape : Shape) (past : List Event) → AreMarks shape past marks.now → IsTrue result ↔ IsInTurn past event }
+    ensures { (shape : Shape) (past : List Event) → AreMarks shape past marks.now → IsTrue result ↔
+        IsInTurn past event }
 {
     fits_open(event.bit, event.act, marks.open_access(event.side))
 }
@@ -132,7 +133,8 @@ pub fn is_in_turn(marks: &Marks, event: Event) -> bool
 // Whether the answer is permitted, where the event is a read's end and in turn.
 pub fn is_permitted(marks: &Marks, event: Event) -> bool
     requires { IsInTable event.bit }
-    ensures { (shape : Shape) (past : List Event) → AreMarks shape past marks.now → IsInTurn past event → IsTrue result ↔ IsPermitted past event }
+    ensures { (shape : Shape) (past : List Event) → AreMarks shape past marks.now → IsInTurn past event →
+        IsTrue result ↔ IsPermitted past event }
 {
     match event.act {
         Act::ReadEnd(value) => match marks.settled(event.side, event.bit) {
@@ -145,7 +147,8 @@ pub fn is_permitted(marks: &Marks, event: Event) -> bool
 
 // What is wrong with an event after the events before it.
 pub fn fault_of(shape: &Shape, marks: &Marks, event: Event) -> Option<Kind>
-    ensures found { (past : List Event) → AreMarks shape.now past marks.now → MatchOption result (MayFollow shape.now past event) (IsFaultAfter shape.now past event) }
+    ensures found { (past : List Event) → AreMarks shape.now past marks.now →
+        MatchOption result (MayFollow shape.now past event) (IsFaultAfter shape.now past event) }
     ensures in_table { IfNone result (IsInTable event.bit) }
 {
     if !is_by_right_side(shape, event) {
@@ -189,9 +192,12 @@ impl BitAuditor {
     /// heard it.
     pub fn feed(&mut self, event: Event) -> Option<Kind>
         // It is accepted exactly where it may follow.
-        ensures accepts { (shape : Shape) (past : List Event) → HeardEvents self.old shape past → (result ≡ None) ↔ MayFollow shape past event }
-        ensures kind { (shape : Shape) (past : List Event) → HeardEvents self.old shape past → IfSome result (IsFaultAfter shape past event) }
-        ensures heard { IfNone result ((shape : Shape) (past : List Event) → HeardEvents self.old shape past → HeardEvents self.new shape (past ++ event ∷ [])) }
+        ensures accepts { (shape : Shape) (past : List Event) → HeardEvents self.old shape past → (result ≡ None) ↔
+            MayFollow shape past event }
+        ensures kind { (shape : Shape) (past : List Event) → HeardEvents self.old shape past →
+            IfSome result (IsFaultAfter shape past event) }
+        ensures heard { IfNone result ((shape : Shape) (past : List Event) → HeardEvents self.old shape past →
+            HeardEvents self.new shape (past ++ event ∷ [])) }
         ensures unchanged { IfSome result (λ kind. self.new ≡ self.old) }
     {
         match fault_of(&self.shape, &self.marks, event) {
@@ -230,7 +236,8 @@ pub fn audit_bits(shape: &Shape, events: &[Event]) -> Verdict
 // Whether the event, which may follow, ends a read that a write overlapped.
 fn ends_overlapped(marks: &Marks, event: Event) -> bool
     requires { IsInTable event.bit }
-    ensures { (shape : Shape) (past : List Event) → AreMarks shape past marks.now → MayFollow shape past event → result ≡ is_flicker past event }
+    ensures { (shape : Shape) (past : List Event) → AreMarks shape past marks.now → MayFollow shape past event →
+        result ≡ is_flicker past event }
 {
     match event.act {
         Act::ReadEnd(_) => marks.settled(event.side, event.bit).is_none(),
@@ -241,8 +248,10 @@ fn ends_overlapped(marks: &Marks, event: Event) -> bool
 // Goes on to the history with an event more, which may follow, and tells what is seen there.
 fn see(marks: &mut Marks, event: Event) -> Seen
     requires { IsInTable event.bit }
-    ensures marks { (shape : Shape) (past : List Event) → AreMarks shape past marks.old → MayFollow shape past event → AreMarks shape (past ++ event ∷ []) marks.new }
-    ensures seen { (shape : Shape) (past : List Event) → AreMarks shape past marks.old → MayFollow shape past event → IsSeen past event result }
+    ensures marks { (shape : Shape) (past : List Event) → AreMarks shape past marks.old → MayFollow shape past event →
+        AreMarks shape (past ++ event ∷ []) marks.new }
+    ensures seen { (shape : Shape) (past : List Event) → AreMarks shape past marks.old → MayFollow shape past event →
+        IsSeen past event result }
 {
     let overlapped = ends_overlapped(marks, event);
     marks.record(event);

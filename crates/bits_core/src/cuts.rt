@@ -8,12 +8,12 @@ pub const LINE_LIMIT: usize = 31;
 
 /// The first bytes of a line, as far as they have come. They are seen as a list, which has room for a whole line.
 #[derive(Drop)]
-pub struct Cut {
+pub struct LineFront {
     room: [u8; LINE_LIMIT],
     used: usize,
 }
 
-impl Model for Cut {
+impl Model for LineFront {
     ghost Value = { List ℕ };
 
     ghost view = { λ c. take c.used c.room };
@@ -21,12 +21,12 @@ impl Model for Cut {
     ghost invariant = { λ c. c.used ≤ 31 };
 }
 
-impl Cut {
+impl LineFront {
     /// No bytes.
-    pub fn new() -> Cut
+    pub fn new() -> LineFront
         ensures { result ≡ [] }
     {
-        Cut {
+        LineFront {
             room: [0; LINE_LIMIT],
             used: 0,
         }

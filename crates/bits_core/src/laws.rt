@@ -2,14 +2,14 @@
 //! nothing: a body that calls it has the statement at hand in its proof.
 //!
 //! - Of a history with one event more: `lawful_by_one_more`, and what changes by it: `open_changes`, `open_write_changes`,
-//!   `held_changes`, `held_at_begin_changes`, `overlap_changes`, `own_changes`, `before_last_changes`. For who keeps something event
+//!   `held_changes`, `held_at_begin_changes`, `overlap_changes`, `subhistory_changes`, `before_last_changes`. For who keeps something event
 //!   by event, as `uses::by_hand` does.
 //! - Of intervals: `open_is_by_interval`, `held_is_by_interval`, `overlap_is_by_interval`, `flicker_is_by_interval`. For who
 //!   states something of a history and not of its working words.
-//! - Of a side's own events and accesses: `own_has_place`, `clock_counts_places`, `made_is_access`, `access_is_made`, `made_leave_none_open`. For who has a machine that makes them.
+//! - Of a side's own events and accesses: `subhistory_has_place`, `clock_counts_places`, `made_is_access`, `access_is_made`, `made_leave_none_open`. For who has a machine that makes them.
 //! - Of verdicts and of text: `one_verdict`, `fault_breaks`, `one_reading` to `refused_is_no_text`. For who reads a verdict, or
 //!   a trace.
-ghost use Rattle.bits_core.specs.Laws.{AccessIsMade, BeforeLastChanges, BeginningIsLawful, ClockCountsPlaces, EmptyIsLawful, FaultBreaks, FaultyIsNoTrace, FlickerIsByInterval, HeldAtBeginChanges, HeldChanges, HeldIsByInterval, LawfulByOneMore, MadeIsAccess, MadeLeaveNoneOpen, OneFault, OneReading, OneTextReading, OneVerdict, OpenChanges, OpenFromOwn, OpenIsByInterval, OpenWriteChanges, OverlapChanges, OverlapIsByInterval, OverlapIsDecidable, OwnChanges, OwnHasOnePlace, OwnHasPlace, QuietIsHeld, RefusedIsNoText, TraceIsText, TraceOrFault};
+ghost use Rattle.bits_core.specs.Laws.{AccessIsMade, BeforeLastChanges, BeginningIsLawful, ClockCountsPlaces, EmptyIsLawful, FaultBreaks, FaultyIsNoTrace, FlickerIsByInterval, HeldAtBeginChanges, HeldChanges, HeldIsByInterval, LawfulByOneMore, MadeIsAccess, MadeLeaveNoneOpen, OneFault, OneReading, OneTextReading, OneVerdict, OpenChanges, OpenFromOwn, OpenIsByInterval, OpenWriteChanges, OverlapChanges, OverlapIsByInterval, OverlapIsDecidable, SubhistoryChanges, SubhistoryHasOnePlace, SubhistoryHasPlace, QuietIsHeld, RefusedIsNoText, TraceIsText, TraceOrFault};
 
 /// The history with no event is lawful.
 pub fn empty_is_lawful()
@@ -122,18 +122,18 @@ pub fn flicker_is_by_interval()
 {}
 
 /// How a side's own events change by one event.
-pub fn own_changes()
-    ensures { OwnChanges }
+pub fn subhistory_changes()
+    ensures { SubhistoryChanges }
 {}
 
 /// Each own event of a side has its place in the history.
-pub fn own_has_place()
-    ensures { OwnHasPlace }
+pub fn subhistory_has_place()
+    ensures { SubhistoryHasPlace }
 {}
 
 /// An own event of a side has no other place.
-pub fn own_has_one_place()
-    ensures { OwnHasOnePlace }
+pub fn subhistory_has_one_place()
+    ensures { SubhistoryHasOnePlace }
 {}
 
 /// The clock of a side counts its own events before a place.

@@ -187,7 +187,8 @@ impl Marks {
     /// The access that the side has open.
     pub fn open_access(&self, side: Side) -> Option<Access>
         ensures mark { result ≡ (side_mark side self.now).opened }
-        ensures access { (shape : Shape) (past : List Event) → AreMarks shape past self.now → result ≡ open_access side past }
+        ensures access { (shape : Shape) (past : List Event) → AreMarks shape past self.now →
+            result ≡ open_access side past }
     {
         self.of(side).opened
     }
@@ -196,7 +197,8 @@ impl Marks {
     /// or nothing where a write overlaps it, since then it may answer anything.
     pub fn settled(&self, side: Side, bit: Bit) -> Option<bool>
         requires { IsInTable bit }
-        ensures { (shape : Shape) (past : List Event) → AreMarks shape past self.now → open_access side past ≡ Some (Read bit) → result ≡ settled side bit past }
+        ensures { (shape : Shape) (past : List Event) → AreMarks shape past self.now →
+            open_access side past ≡ Some (Read bit) → result ≡ settled side bit past }
     {
         if self.of(side).overlapped {
             None
@@ -223,7 +225,8 @@ impl Marks {
     /// Goes on to the history with an event more, which may follow.
     pub fn record(&mut self, event: Event)
         requires { IsInTable event.bit }
-        ensures { (shape : Shape) (past : List Event) → AreMarks shape past self.old → MayFollow shape past event → AreMarks shape (past ++ event ∷ []) self.new }
+        ensures { (shape : Shape) (past : List Event) → AreMarks shape past self.old → MayFollow shape past event →
+            AreMarks shape (past ++ event ∷ []) self.new }
     {
         let Event { side, bit, act } = event;
         match act {

@@ -88,9 +88,15 @@ impl<S: Store<Event>> Model for Memory<S> {
 
     ghost Value = { MemoryState };
 
-    ghost view = { λ m. record { shape = m.shape; events = S.items m.events; flickers = m.flickers; room = S.room m.events } };
+    ghost view = { λ m. record {
+      shape = m.shape;
+      events = S.items m.events;
+      flickers = m.flickers;
+      room = S.room m.events;
+    } };
 
-    ghost invariant = { λ m. IsRecord m.shape (S.items m.events) m.flickers × AreMarks m.shape (S.items m.events) m.marks };
+    ghost invariant = { λ m. IsRecord m.shape (S.items m.events) m.flickers ×
+        AreMarks m.shape (S.items m.events) m.marks };
 }
 
 impl<S: Store<Event>> fmt::Debug for Memory<S> {
@@ -243,11 +249,14 @@ impl<S: Store<Event>> Memory<S> {
     pub fn end_read<O: Oracle>(&mut self, side: Side, oracle: &mut O) -> Result<bool, MemoryFault>
         requires open { IsReading (open_access side self.old.events) }
         ensures ok { IfOk result (λ v. self.new ≡ with_answer self.old side v) }
-        ensures answer { IfOk result (λ v. v ≡ (if is_read_overlapped side self.old.events then O.answers oracle.old 0 else held_for_read side self.old.events)) }
-        ensures asked { OnOk result (is_read_overlapped side self.old.events ≡ true → (i : ℕ) → O.answers oracle.new i ≡ O.answers oracle.old (i + 1)) }
+        ensures answer { IfOk result (λ v. v ≡ (if is_read_overlapped side self.old.events then O.answers oracle.old 0
+            else held_for_read side self.old.events)) }
+        ensures asked { OnOk result (is_read_overlapped side self.old.events ≡ true → (i : ℕ) →
+            O.answers oracle.new i ≡ O.answers oracle.old (i + 1)) }
         ensures not_asked { is_read_overlapped side self.old.events ≡ false → oracle.new ≡ oracle.old }
         // It was overlapped where the read that ends here is, by the intervals of the history.
-        ensures overlap { OnOk result ((is_read_overlapped side self.old.events ≡ true) ↔ EndsOverlappedRead self.new.events (length self.old.events)) }
+        ensures overlap { OnOk result ((is_read_overlapped side self.old.events ≡ true) ↔
+            EndsOverlappedRead self.new.events (length self.old.events)) }
         ensures err { OnErr result ((self.new ≡ self.old) × (oracle.new ≡ oracle.old)) }
         ensures full { OnErr result (self.old.room ≤ length self.old.events) }
     {

@@ -6,7 +6,7 @@ use crate::events::{Act, Bit, Event, Side};
 
 /// What the word of a line says of the access.
 #[derive(Clone, Copy)]
-pub enum Word {
+pub enum ActWord {
     Read,
     Got,
     Write,
@@ -40,20 +40,20 @@ fn side_at(bytes: &[u8]) -> Option<(Side, &[u8])>
     Some((Side::C, rest))
 }
 
-fn word_at(bytes: &[u8]) -> Option<(Word, &[u8])>
+fn word_at(bytes: &[u8]) -> Option<(ActWord, &[u8])>
     ensures { option_map (λ x. (x.0, x.1.now)) result ≡ word_at bytes.now }
 {
     if let Some(rest) = after(bytes, "read ") {
-        return Some((Word::Read, rest));
+        return Some((ActWord::Read, rest));
     }
     if let Some(rest) = after(bytes, "got ") {
-        return Some((Word::Got, rest));
+        return Some((ActWord::Got, rest));
     }
     if let Some(rest) = after(bytes, "write ") {
-        return Some((Word::Write, rest));
+        return Some((ActWord::Write, rest));
     }
     let rest = after(bytes, "wrote ")?;
-    Some((Word::Wrote, rest))
+    Some((ActWord::Wrote, rest))
 }
 
 fn digit_at(bytes: &[u8]) -> Option<(bool, &[u8])>
@@ -142,20 +142,20 @@ fn bit_at(bytes: &[u8]) -> Option<(Bit, &[u8])>
 }
 
 #[tactic(auto, unfolding(crate::specs::TraceReading::act_at))]
-fn act_at(word: Word, bytes: &[u8]) -> Option<(Act, &[u8])>
+fn act_at(word: ActWord, bytes: &[u8]) -> Option<(Act, &[u8])>
     ensures { option_map (λ x. (x.0, x.1.now)) result ≡ act_at word bytes.now }
 {
     match word {
-        Word::Read => Some((Act::ReadBegin, bytes)),
-        Word::Got => {
+        ActWord::Read => Some((Act::ReadBegin, bytes)),
+        ActWord::Got => {
             let (value, rest) = digit_at(bytes)?;
             Some((Act::ReadEnd(value), rest))
         }
-        Word::Write => {
+        ActWord::Write => {
             let (value, rest) = digit_at(bytes)?;
             Some((Act::WriteBegin(value), rest))
         }
-        Word::Wrote => Some((Act::WriteEnd, bytes)),
+        ActWord::Wrote => Some((Act::WriteEnd, bytes)),
     }
 }
 

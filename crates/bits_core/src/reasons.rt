@@ -1,7 +1,6 @@
 //! Why an event may not follow the events before it.
 ghost use Rattle.std.specs.Prelude.{◌≡◌, ◌≢◌, ℕ, false, List, MatchOption, Some, IfSome};
 ghost use Rattle.std.specs.List.{list_any};
-ghost use Rattle.bits_core.specs.declared.events.Event.{Event as AnEvent};
 ghost use Rattle.bits_core.specs.History.{IsLastPlace, has_event};
 ghost use Rattle.bits_core.specs.Lawful.{IsLawful};
 ghost use Rattle.bits_core.specs.Marks.{AreMarks, IsInTable};
@@ -91,7 +90,7 @@ fn marks_of(shape: &Shape, events: &[Event]) -> Option<Marks>
 // Why the event is not by the right side.
 fn side_reason(shape: &Shape, event: Event) -> Reason
     requires { ¬ IsByRightSide shape.now event }
-    ensures { (past : List AnEvent) → IsReasonBehind shape.now past event result }
+    ensures { (past : List Event) → IsReasonBehind shape.now past event result }
 {
     if shape.has(event.bit) {
         Reason::OnlyBy(doer(event.bit, event.act))
@@ -144,7 +143,8 @@ fn answer_reason(shape: &Shape, marks: &Marks, past: &[Event], event: Event) -> 
 /// In use: `lamport_ring audit --why`, which prints it.
 pub fn reason_behind(shape: &Shape, past: &[Event], event: Event) -> Option<Reason>
     ensures none { result ≡ None → IsLawful shape.now past.now → MayFollow shape.now past.now event }
-    ensures reason { IfSome result (λ reason. IsLawful shape.now past.now × (¬ MayFollow shape.now past.now event) × IsReasonBehind shape.now past.now event reason) }
+    ensures reason { IfSome result (λ reason. IsLawful shape.now past.now × (¬ MayFollow shape.now past.now event) ×
+        IsReasonBehind shape.now past.now event reason) }
 {
     let marks = marks_of(shape, past)?;
     if !is_by_right_side(shape, event) {

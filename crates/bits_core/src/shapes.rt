@@ -109,7 +109,8 @@ impl Shape {
         width: u64,
         batch: u64,
     ) -> Result<Shape, ShapeFault>
-        ensures { MatchResult result (HasBatch capacity modulus width batch) (IsRefusedBatch capacity modulus width batch) }
+        ensures { MatchResult result (HasBatch capacity modulus width batch)
+            (IsRefusedBatch capacity modulus width batch) }
     {
         Shape::with_batches(capacity, modulus, width, batch, 1)
     }
@@ -125,7 +126,8 @@ impl Shape {
         batch: u64,
         take_batch: u64,
     ) -> Result<Shape, ShapeFault>
-        ensures { MatchResult result (HasBatches capacity modulus width batch take_batch) (IsRefusedBatches capacity modulus width batch take_batch) }
+        ensures { MatchResult result (HasBatches capacity modulus width batch take_batch)
+            (IsRefusedBatches capacity modulus width batch take_batch) }
     {
         if capacity == 0 || capacity > 64 {
             return Err(ShapeFault::Capacity);

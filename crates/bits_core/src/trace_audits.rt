@@ -1,21 +1,19 @@
 //! The audit of the bits of a trace of any length, whose text is read in pieces.
 ghost use Rattle.std.specs.Prelude.{◌≡◌, ◌+◌, ◌-◌, ◌^◌, ◌≤◌, ℕ, List, [], ◌∷◌, ◌++◌, None, IfErr, IfOk, OnOk, MatchOption};
-ghost use Rattle.bits_core.specs.declared.events.Event.{Event as AnEvent};
-ghost use Rattle.bits_core.specs.declared.shapes.Shape.{Shape as AShape};
 ghost use Rattle.bits_core.specs.Audit.{IsVerdict};
 ghost use Rattle.bits_core.specs.Trace.{IsTraceText, RefusesTraceText};
 ghost use Rattle.bits_core.specs.TraceAudits.{BeginsWithNoLine, HasEnded, HasReadTrace, HeardTrace, IsFaultBehind};
 ghost use Rattle.bits_core.specs.TraceLines.{EndsAtFeed, IsFeedless};
 
 use crate::audits::{BitAuditor, Verdict};
-use crate::cuts::Cut;
+use crate::cuts::LineFront;
 use crate::events::Event;
 use crate::shapes::Shape;
 use crate::traces::{TraceFault, first_shape, read_event};
 
 // The events of the lines that have ended, with what is found of them so far.
 #[derive(Drop)]
-struct Hearing {
+struct TraceHearing {
     shape: Shape,
     auditor: BitAuditor,
     // how many there are
@@ -24,11 +22,11 @@ struct Hearing {
     verdict: Verdict,
 }
 
-impl Hearing {
-    fn new(shape: Shape) -> Hearing
+impl TraceHearing {
+    fn new(shape: Shape) -> TraceHearing
         ensures { HeardTrace result shape [] }
     {
-        Hearing {
+        TraceHearing {
             shape,
             auditor: BitAuditor::new(&shape),
             count: 0,
@@ -38,7 +36,8 @@ impl Hearing {
 
     // Hears the event of the next line. Behind a fault the auditor is asked nothing.
     fn hear(&mut self, event: Event) -> Result<(), TraceFault>
-        ensures heard { OnOk result ((shape : AShape) (events : List AnEvent) → HeardTrace self.old shape events → HeardTrace self.new shape (events ++ event ∷ [])) }
+        ensures heard { OnOk result ((shape : Shape) (events : List Event) → HeardTrace self.old shape events →
+            HeardTrace self.new shape (events ++ event ∷ [])) }
         ensures refused { IfErr result (λ e. (e ≡ TraceFault.TooLong) × (self.old.count ≡ 2 ^ 64 - 1)) }
     {
         let Some(count) = self.count.checked_add(1) else {
@@ -71,8 +70,9 @@ fn fault_behind(count: u64) -> TraceFault
 }
 
 // The fault of what stands behind the lines that have ended, and is no line.
-fn next_fault(hearing: &Option<Hearing>) -> TraceFault
-    ensures { (text rest : List ℕ) → HasEnded hearing.now text → BeginsWithNoLine hearing.now rest → (rest ≡ [] → hearing.now ≡ None) → RefusesTraceText (text ++ rest) result }
+fn next_fault(hearing: &Option<TraceHearing>) -> TraceFault
+    ensures { (text rest : List ℕ) → HasEnded hearing.now text → BeginsWithNoLine hearing.now rest →
+        (rest ≡ [] → hearing.now ≡ None) → RefusesTraceText (text ++ rest) result }
 {
     match hearing {
         None => TraceFault::BadLine(1),
@@ -95,7 +95,8 @@ fn split_line(bytes: &[u8]) -> Option<(&[u8], &[u8])>
 // Of bytes that begin with no line: nothing where their first line has not ended, and else the fault.
 fn unread(bytes: &[u8], fault: TraceFault) -> Result<(), TraceFault>
     ensures unended { OnOk result (IsFeedless bytes.now) }
-    ensures refused { IfErr result (λ e. (line : List ℕ) × (rest : List ℕ) × (e ≡ fault) × EndsAtFeed line × (bytes.now ≡ line ++ rest)) }
+    ensures refused { IfErr result (λ e. (line : List ℕ) × (rest : List ℕ) × (e ≡ fault) × EndsAtFeed line ×
+        (bytes.now ≡ line ++ rest)) }
 {
     match split_line(bytes) {
         None => Ok(()),
@@ -105,17 +106,19 @@ fn unread(bytes: &[u8], fault: TraceFault) -> Result<(), TraceFault>
 
 // Reads the line at the front of the bytes, and gives those behind it; nothing where it has not ended.
 fn read_line<'a>(
-    hearing: &mut Option<Hearing>,
+    hearing: &mut Option<TraceHearing>,
     bytes: &'a [u8],
 ) -> Result<Option<&'a [u8]>, TraceFault>
     ensures read { IfOk result (λ found. MatchOption found (IsFeedless bytes.now × (hearing.new ≡ hearing.old))
-        (λ rest. (line : List ℕ) × EndsAtFeed line × (bytes.now ≡ line ++ rest.now) × ((text : List ℕ) → HasEnded hearing.old text → HasEnded hearing.new (text ++ line)))) }
-    ensures refused { IfErr result (λ e. (text more : List ℕ) → HasEnded hearing.old text → RefusesTraceText (text ++ (bytes.now ++ more)) e) }
+        (λ rest. (line : List ℕ) × EndsAtFeed line × (bytes.now ≡ line ++ rest.now) ×
+        ((text : List ℕ) → HasEnded hearing.old text → HasEnded hearing.new (text ++ line)))) }
+    ensures refused { IfErr result (λ e. (text more : List ℕ) → HasEnded hearing.old text →
+        RefusesTraceText (text ++ (bytes.now ++ more)) e) }
 {
     match hearing {
         None => match first_shape(bytes) {
             Ok(Some((shape, rest))) => {
-                *hearing = Some(Hearing::new(shape));
+                *hearing = Some(TraceHearing::new(shape));
                 Ok(Some(rest))
             }
             Ok(None) => {
@@ -138,9 +141,15 @@ fn read_line<'a>(
 }
 
 // Reads the lines that end in the bytes, and gives those behind them.
-fn read_lines<'a>(hearing: &mut Option<Hearing>, bytes: &'a [u8]) -> Result<&'a [u8], TraceFault>
-    ensures read { IfOk result (λ rest. IsFeedless rest.now × ((ended : List ℕ) × (bytes.now ≡ ended ++ rest.now) × ((text : List ℕ) → HasEnded hearing.old text → HasEnded hearing.new (text ++ ended)))) }
-    ensures refused { IfErr result (λ e. (text more : List ℕ) → HasEnded hearing.old text → RefusesTraceText (text ++ (bytes.now ++ more)) e) }
+fn read_lines<'a>(
+    hearing: &mut Option<TraceHearing>,
+    bytes: &'a [u8],
+) -> Result<&'a [u8], TraceFault>
+    ensures read { IfOk result (λ rest. IsFeedless rest.now ×
+        ((ended : List ℕ) × (bytes.now ≡ ended ++ rest.now) ×
+        ((text : List ℕ) → HasEnded hearing.old text → HasEnded hearing.new (text ++ ended)))) }
+    ensures refused { IfErr result (λ e. (text more : List ℕ) → HasEnded hearing.old text →
+        RefusesTraceText (text ++ (bytes.now ++ more)) e) }
 {
     let mut rest = bytes;
     loop {
@@ -161,9 +170,9 @@ fn read_lines<'a>(hearing: &mut Option<Hearing>, bytes: &'a [u8]) -> Result<&'a 
 #[derive(Drop)]
 pub struct TraceAudit {
     // nothing before the first line
-    hearing: Option<Hearing>,
+    hearing: Option<TraceHearing>,
     // the bytes of a line that has not ended
-    cut: Cut,
+    cut: LineFront,
 }
 
 impl TraceAudit {
@@ -173,7 +182,7 @@ impl TraceAudit {
     {
         TraceAudit {
             hearing: None,
-            cut: Cut::new(),
+            cut: LineFront::new(),
         }
     }
 
@@ -183,8 +192,10 @@ impl TraceAudit {
     /// that is not in the shape, whatever comes behind it, and though the history has a fault before it; `TooLong` past 2^64 - 1
     /// lines; never `OutOfMemory`. An audit that gave one of these is of no further use.
     pub fn read(&mut self, piece: &[u8]) -> Result<(), TraceFault>
-        ensures read { OnOk result ((bytes : List ℕ) → HasReadTrace self.old bytes → HasReadTrace self.new (bytes ++ piece.now)) }
-        ensures refused { IfErr result (λ e. (bytes more : List ℕ) → HasReadTrace self.old bytes → RefusesTraceText (bytes ++ (piece.now ++ more)) e) }
+        ensures read { OnOk result ((bytes : List ℕ) → HasReadTrace self.old bytes →
+            HasReadTrace self.new (bytes ++ piece.now)) }
+        ensures refused { IfErr result (λ e. (bytes more : List ℕ) → HasReadTrace self.old bytes →
+            RefusesTraceText (bytes ++ (piece.now ++ more)) e) }
     {
         if self.cut.is_empty() {
             return self.read_on(piece);
@@ -201,8 +212,10 @@ impl TraceAudit {
     // Reads bytes where the last line has ended.
     fn read_on(&mut self, bytes: &[u8]) -> Result<(), TraceFault>
         requires { self.old.cut ≡ [] }
-        ensures read { OnOk result ((before : List ℕ) → HasReadTrace self.old before → HasReadTrace self.new (before ++ bytes.now)) }
-        ensures refused { IfErr result (λ e. (before more : List ℕ) → HasReadTrace self.old before → RefusesTraceText (before ++ (bytes.now ++ more)) e) }
+        ensures read { OnOk result ((before : List ℕ) → HasReadTrace self.old before →
+            HasReadTrace self.new (before ++ bytes.now)) }
+        ensures refused { IfErr result (λ e. (before more : List ℕ) → HasReadTrace self.old before →
+            RefusesTraceText (before ++ (bytes.now ++ more)) e) }
     {
         let rest = read_lines(&mut self.hearing, bytes)?;
         self.keep(rest)
@@ -211,9 +224,11 @@ impl TraceAudit {
     // Reads the end of the line that was cut, with its line feed.
     fn read_end(&mut self, end: &[u8]) -> Result<(), TraceFault>
         requires { EndsAtFeed end.now }
-        ensures read { OnOk result ((before : List ℕ) → HasReadTrace self.old before → HasReadTrace self.new (before ++ end.now)) }
+        ensures read { OnOk result ((before : List ℕ) → HasReadTrace self.old before →
+            HasReadTrace self.new (before ++ end.now)) }
         ensures ended { OnOk result (self.new.cut ≡ []) }
-        ensures refused { IfErr result (λ e. (before more : List ℕ) → HasReadTrace self.old before → RefusesTraceText (before ++ (end.now ++ more)) e) }
+        ensures refused { IfErr result (λ e. (before more : List ℕ) → HasReadTrace self.old before →
+            RefusesTraceText (before ++ (end.now ++ more)) e) }
     {
         if !self.cut.push(end) {
             return Err(next_fault(&self.hearing));
@@ -226,8 +241,10 @@ impl TraceAudit {
     // Keeps the bytes of a line that has not ended, unless no line is as long.
     fn keep(&mut self, rest: &[u8]) -> Result<(), TraceFault>
         requires { IsFeedless rest.now }
-        ensures read { OnOk result ((before : List ℕ) → HasReadTrace self.old before → HasReadTrace self.new (before ++ rest.now)) }
-        ensures refused { IfErr result (λ e. (before more : List ℕ) → HasReadTrace self.old before → RefusesTraceText (before ++ (rest.now ++ more)) e) }
+        ensures read { OnOk result ((before : List ℕ) → HasReadTrace self.old before →
+            HasReadTrace self.new (before ++ rest.now)) }
+        ensures refused { IfErr result (λ e. (before more : List ℕ) → HasReadTrace self.old before →
+            RefusesTraceText (before ++ (rest.now ++ more)) e) }
     {
         if self.cut.push(rest) {
             Ok(())
@@ -238,8 +255,10 @@ impl TraceAudit {
 
     /// The verdict on the events, where the text ends here: `BadLine` where its last line has not ended, or there is none.
     pub fn verdict(&self) -> Result<Verdict, TraceFault>
-        ensures told { IfOk result (λ verdict. (bytes : List ℕ) → HasReadTrace self.now bytes → (shape : AShape) × (events : List AnEvent) × IsTraceText bytes shape events × IsVerdict shape events verdict) }
-        ensures refused { IfErr result (λ e. (bytes : List ℕ) → HasReadTrace self.now bytes → RefusesTraceText bytes e) }
+        ensures told { IfOk result (λ verdict. (bytes : List ℕ) → HasReadTrace self.now bytes → (shape : Shape) ×
+            (events : List Event) × IsTraceText bytes shape events × IsVerdict shape events verdict) }
+        ensures refused { IfErr result (λ e. (bytes : List ℕ) → HasReadTrace self.now bytes →
+            RefusesTraceText bytes e) }
     {
         match &self.hearing {
             Some(heard) if self.cut.is_empty() => Ok(heard.verdict),

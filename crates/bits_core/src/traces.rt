@@ -90,7 +90,10 @@ impl<T: Drop> From<AllocFailed<T>> for TraceFault {
 
 /// The shape of the first line, where one stands at the front, and the bytes behind it.
 pub fn first_shape(bytes: &[u8]) -> Result<Option<(Shape, &[u8])>, ShapeFault>
-    ensures read { IfOk result (λ found. MatchOption found ((capacity modulus width batch take_batch : ℕ) → ¬ HasShapeLine bytes.now capacity modulus width batch take_batch) (λ x. BeginsWithShape bytes.now x.0 x.1.now)) }
+    ensures read { IfOk result (λ found. MatchOption found
+        ((capacity modulus width batch take_batch : ℕ) →
+        ¬ HasShapeLine bytes.now capacity modulus width batch take_batch)
+        (λ x. BeginsWithShape bytes.now x.0 x.1.now)) }
     ensures refused { IfErr result (HasBadShape bytes.now) }
 {
     let Some((numbers, rest)) = shape_at(bytes) else {
@@ -122,7 +125,8 @@ fn read_shape(bytes: &[u8]) -> Result<(Shape, &[u8]), TraceFault>
 
 /// The event of the shape whose line stands at the front, and the bytes after the line.
 pub fn read_event<'a>(shape: &Shape, bytes: &'a [u8]) -> Option<(Event, &'a [u8])>
-    ensures { MatchOption result (HasNoEvent shape.now bytes.now) (λ x. BeginsWithEvent shape.now bytes.now x.0 x.1.now) }
+    ensures { MatchOption result (HasNoEvent shape.now bytes.now)
+        (λ x. BeginsWithEvent shape.now bytes.now x.0 x.1.now) }
 {
     let (event, rest) = event_at(bytes)?;
     if shape.has(event.bit) {
@@ -136,7 +140,8 @@ pub fn read_event<'a>(shape: &Shape, bytes: &'a [u8]) -> Option<(Event, &'a [u8]
 fn read_lines<S: Store<Event>>(store: &mut S, bytes: &[u8]) -> Result<Shape, TraceFault>
     requires empty { S.items store.old ≡ [] }
     ensures read { IfOk result (λ shape. IsTrace bytes.now shape (S.items store.new)) }
-    ensures refused { IfErr result (λ e. ((e ≡ TraceFault.OutOfMemory) × S.refuses store.new × HasMore bytes.now (S.items store.new)) ⊎ IsTraceFault bytes.now e) }
+    ensures refused { IfErr result (λ e. ((e ≡ TraceFault.OutOfMemory) × S.refuses store.new ×
+        HasMore bytes.now (S.items store.new)) ⊎ IsTraceFault bytes.now e) }
     ensures slots { (first : S) → S.same_slots first store.old → S.same_slots first store.new }
 {
     let (shape, mut rest) = read_shape(bytes)?;
@@ -186,9 +191,11 @@ fn read_filled(filled: &mut Filled<'_, Event>, bytes: &[u8]) -> Result<Shape, Tr
     requires empty { filled.old.used ≡ 0 }
     ensures read { IfOk result (λ shape. IsTrace bytes.now shape (take filled.new.used filled.new.slots.now)) }
     ensures only { (shape : Shape) (all : List Event) → IsTrace bytes.now shape all
-        → MatchResult result (λ s. (s ≡ shape) × (take filled.new.used filled.new.slots.now ≡ all)) (λ e. (e ≡ TraceFault.OutOfMemory) × (length filled.new.slots.now < length all)) }
+        → MatchResult result (λ s. (s ≡ shape) × (take filled.new.used filled.new.slots.now ≡ all))
+        (λ e. (e ≡ TraceFault.OutOfMemory) × (length filled.new.slots.now < length all)) }
     ensures refused { IfErr result (λ e. (e ≡ TraceFault.OutOfMemory) ⊎ IsTraceFault bytes.now e) }
-    ensures full { IfErr result (λ e. e ≡ TraceFault.OutOfMemory → BeginsWithMore bytes.now (length filled.new.slots.now)) }
+    ensures full { IfErr result (λ e. e ≡ TraceFault.OutOfMemory →
+        BeginsWithMore bytes.now (length filled.new.slots.now)) }
     ensures slots { filled.new.slots.ghost_name ≡ filled.old.slots.ghost_name }
 {
     read_lines(filled, bytes)
@@ -209,7 +216,8 @@ pub fn read_trace_into(bytes: &[u8], events: &mut [Event]) -> Result<(Shape, usi
     ensures within { IfOk result (λ trace. trace.1 ≤ length events.new) }
     // What is a trace is read, unless it has more events than there are slots.
     ensures only { (shape : Shape) (all : List Event) → IsTrace bytes.now shape all
-        → MatchResult result (λ trace. (trace.0 ≡ shape) × (take trace.1 events.new ≡ all)) (λ e. (e ≡ TraceFault.OutOfMemory) × (length events.new < length all)) }
+        → MatchResult result (λ trace. (trace.0 ≡ shape) × (take trace.1 events.new ≡ all))
+        (λ e. (e ≡ TraceFault.OutOfMemory) × (length events.new < length all)) }
     // The fault is the first one.
     ensures refused { IfErr result (λ e. (e ≡ TraceFault.OutOfMemory) ⊎ IsTraceFault bytes.now e) }
     // The slots are too few only where the text begins with a trace of more events.

@@ -141,7 +141,8 @@ fn push_last<A: Allocator>(
     batch: u64,
     take_batch: u64,
 ) -> Result<(), TraceFault>
-    ensures ok { OnOk result (string_bytes text.new ≡ string_bytes text.old ++ (batches_text batch take_batch ++ codes "\n")) }
+    ensures ok { OnOk result (string_bytes text.new ≡ string_bytes
+        text.old ++ (batches_text batch take_batch ++ codes "\n")) }
     ensures err { IfErr result (λ e. e ≡ TraceFault.OutOfMemory) }
 {
     push_batches(text, batch, take_batch)?;
@@ -149,7 +150,8 @@ fn push_last<A: Allocator>(
 }
 
 fn push_shape<A: Allocator>(text: &mut String<A>, shape: &Shape) -> Result<(), TraceFault>
-    ensures ok { OnOk result (string_bytes text.new ≡ string_bytes text.old ++ shape_line (capacity_of shape.now) (modulus_of shape.now) (width_of shape.now) (batch_of shape.now) (take_batch_of shape.now)) }
+    ensures ok { OnOk result (string_bytes text.new ≡ string_bytes text.old ++ shape_line (capacity_of shape.now)
+        (modulus_of shape.now) (width_of shape.now) (batch_of shape.now) (take_batch_of shape.now)) }
     ensures err { IfErr result (λ e. e ≡ TraceFault.OutOfMemory) }
 {
     push_numbered(text, "shape ", shape.capacity())?;
@@ -172,7 +174,8 @@ pub fn write_trace<A: Allocator>(
 ) -> Result<String<A>, TraceFault>
     requires of_shape { AreOfShape shape.now events.now }
     ensures text { IfOk result (λ text. string_bytes text ≡ trace_text shape.now events.now) }
-    ensures again { IfOk result (λ text. length events.now ≤ EVENT_LIMIT → IsTrace (string_bytes text) shape.now events.now) }
+    ensures again { IfOk result (λ text. length events.now ≤ EVENT_LIMIT →
+        IsTrace (string_bytes text) shape.now events.now) }
     ensures memory { IfErr result (λ e. e ≡ TraceFault.OutOfMemory) }
 {
     let mut text = String::new(alloc);

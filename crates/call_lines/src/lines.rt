@@ -229,7 +229,8 @@ fn after<'a>(bytes: &'a [u8], text: &str) -> Option<&'a [u8]>
 // Reads numbers with a space before each of them, and tells whether the bytes are such.
 fn read_numbers<R: Store<u64>>(bytes: &[u8], numbers: &mut R) -> Result<bool, AllocError>
     ensures read { IfOk result (λ read. ReadsNumbers bytes.now read (R.items numbers.new)) }
-    ensures full { OnErr result ((told : List ℕ) × (rest : List ℕ) × (bytes.now ≡ numbers_text told ++ rest) × AreSmall told × (R.room numbers.old < length told)) }
+    ensures full { OnErr result ((told : List ℕ) × (rest : List ℕ) × (bytes.now ≡ numbers_text told ++ rest) ×
+        AreSmall told × (R.room numbers.old < length told)) }
     ensures kept { R.room numbers.new ≡ R.room numbers.old }
 {
     numbers.clear();

@@ -36,7 +36,8 @@ impl<'a, T: Copy> Slots<'a, T> {
 
     /// The list that lay in these slots before: so many items, from this slot on. None where that is more than the slots.
     pub fn resume(slots: &'a mut [T], first: usize, used: usize) -> Option<Self>
-        ensures some { IfSome result (λ list. (list.slots.now ≡ slots.old) × (list.first ≡ first) × (list.used ≡ used)) }
+        ensures some { IfSome result (λ list. (list.slots.now ≡ slots.old) × (list.first ≡ first) ×
+            (list.used ≡ used)) }
         ensures none { IsNone result → (length slots.old < first) ⊎ (length slots.old < used) }
     {
         if first <= slots.len() && used <= slots.len() {
@@ -48,7 +49,8 @@ impl<'a, T: Copy> Slots<'a, T> {
 
     /// The slots with what lies there, the slot of the front, and how many are used.
     pub fn keep(self) -> (&'a mut [T], usize, usize)
-        ensures kept { (result.0.now ≡ self.entry.slots.now) × (result.1 ≡ self.entry.first) × (result.2 ≡ self.entry.used) }
+        ensures kept { (result.0.now ≡ self.entry.slots.now) × (result.1 ≡ self.entry.first) ×
+            (result.2 ≡ self.entry.used) }
         ensures within { (result.1 ≤ length result.0.now) × (result.2 ≤ length result.0.now) }
     {
         (self.slots, self.first, self.used)
@@ -97,7 +99,8 @@ impl<'a, T: Copy> Fifo<T> for Slots<'a, T> {
     }
 
     fn push_back(&mut self, item: T) -> Result<(), AllocError>
-        ensures items { ring_items self.new ≡ (if is_ok result then ring_items self.old ++ item ∷ [] else ring_items self.old) }
+        ensures items { ring_items self.new ≡ (if is_ok result then ring_items self.old ++ item ∷ [] else ring_items
+            self.old) }
         ensures full { OnErr result (length self.old.slots.now ≤ length (ring_items self.old)) }
         ensures refused { IsErr result ↔ (length (ring_items self.old) ≡ length self.old.slots.now) }
         ensures kept { length self.new.slots.now ≡ length self.old.slots.now }

@@ -206,7 +206,8 @@ impl<'a, T: Copy> Store<T> for Filled<'a, T> {
     }
 
     fn push(&mut self, item: T) -> Result<(), AllocError>
-        ensures items { front_of self.new ≡ (if is_ok result then front_of self.old ++ item ∷ [] else front_of self.old) }
+        ensures items { front_of self.new ≡ (if is_ok result then front_of self.old ++ item ∷ [] else front_of
+            self.old) }
         ensures full { OnErr result (length self.old.slots.now ≤ length (front_of self.old)) }
         ensures refused { IsErr result ↔ (self.old.used ≡ length self.old.slots.now) }
         ensures kept { length self.new.slots.now ≡ length self.old.slots.now }
@@ -221,7 +222,8 @@ impl<'a, T: Copy> Store<T> for Filled<'a, T> {
     }
 
     fn extend_from_slice(&mut self, more: &[T]) -> Result<(), AllocError>
-        ensures items { front_of self.new ≡ (if is_ok result then front_of self.old ++ more.now else front_of self.old) }
+        ensures items { front_of self.new ≡ (if is_ok result then front_of self.old ++ more.now else front_of
+            self.old) }
         ensures full { OnErr result (length self.old.slots.now < length (front_of self.old) + length more.now) }
         ensures refused { IsErr result ↔ (length self.old.slots.now < self.old.used + length more.now) }
         ensures kept { length self.new.slots.now ≡ length self.old.slots.now }

@@ -5,7 +5,6 @@ ghost use Rattle.bits_core.specs.Lawful.{IsLawful};
 ghost use Rattle.bits_core.specs.Made.{opening_event};
 ghost use Rattle.bits_core.specs.Open.{IsOpenRight};
 ghost use Rattle.bits_core.specs.Trace.{AreOfShape};
-ghost use Rattle.bits_core.specs.declared.events.Side.{Side as ASide};
 ghost use Rattle.bits_core.specs.declared.events.Side.TheVariants.{P, C};
 ghost use Rattle.near_misses.specs.NearPlays.{IsNearPlay, NearAsked};
 ghost use Rattle.near_misses.specs.NearSides.{IsInOpenCall, IsNearReady, NearHas, NearMoves, ended_event};
@@ -99,10 +98,12 @@ trait NearSide {
     fn next(&mut self) -> Option<(Access, Option<NearCall>)>
         ensures side { (side self.new ≡ side self.old) × (shape self.new ≡ shape self.old) }
         ensures asked { (a : NearAsked) → asked self.old a → asked self.new a }
-        ensures begins { IfSome result (λ r. (a : NearAsked) → asked self.old a → NearBegins a (side self.old) (stand self.old) r.1 (stand self.new)) }
+        ensures begins { IfSome result (λ r. (a : NearAsked) → asked self.old a →
+            NearBegins a (side self.old) (stand self.old) r.1 (stand self.new)) }
         ensures goes { IsSome result → (stand self.old).stopped ≡ false }
         ensures right { IfSome result (λ r. IsSome r.1 → IsOpenRight (shape self.old) (side self.old) r.0) }
-        ensures stops { result ≡ None → (a : NearAsked) → asked self.old a → NearStops a (side self.old) (stand self.old) × (stand self.new ≡ stand self.old) };
+        ensures stops { result ≡ None → (a : NearAsked) → asked self.old a →
+            NearStops a (side self.old) (stand self.old) × (stand self.new ≡ stand self.old) };
 
     // The side stops: in a call for good.
     fn stop(&mut self)
@@ -115,7 +116,9 @@ trait NearSide {
         requires { (stand self.old).in_call ≡ true }
         ensures side { (side self.new ≡ side self.old) × (shape self.new ≡ shape self.old) }
         ensures asked { (a : NearAsked) → asked self.old a → asked self.new a }
-        ensures ends { (a : NearAsked) → asked self.old a → NearEnds a (side self.old) (stand self.old) (item_ended access answer (stand self.old).item) result (stand self.new) };
+        ensures ends { (a : NearAsked) → asked self.old a →
+            NearEnds a (side self.old) (stand self.old) (item_ended access answer (stand self.old).item) result
+            (stand self.new) };
 }
 
 impl NearSide for NearPutter<'_> {
@@ -177,8 +180,10 @@ fn begin<E: Store<Event>>(
 ) -> Result<bool, NearFault>
     requires { open_access side memory.old.events ≡ None }
     ensures shape { memory.new.shape ≡ memory.old.shape }
-    ensures began { IfOk result (λ began. began ≡ true → memory.new.events ≡ memory.old.events ++ opening_event side access ∷ []) }
-    ensures refused { IfOk result (λ began. began ≡ false → (memory.new ≡ memory.old) × ¬ IsOpenRight memory.old.shape side access) }
+    ensures began { IfOk result (λ began. began ≡ true →
+        memory.new.events ≡ memory.old.events ++ opening_event side access ∷ []) }
+    ensures refused { IfOk result (λ began. began ≡ false → (memory.new ≡ memory.old) ×
+        ¬ IsOpenRight memory.old.shape side access) }
     ensures room { memory.new.room ≡ memory.old.room }
     ensures few { length memory.new.events ≤ length memory.old.events + 1 }
     ensures full { OnErr result (memory.old.room ≤ length memory.old.events) }
@@ -209,11 +214,13 @@ fn end<E: Store<Event>, O: Oracle>(
 ) -> Result<bool, NearFault>
     requires { open_access side memory.old.events ≡ Some access }
     ensures shape { memory.new.shape ≡ memory.old.shape }
-    ensures ended { IfOk result (λ answer. memory.new.events ≡ memory.old.events ++ ended_event side access answer ∷ []) }
+    ensures ended { IfOk result (λ answer. memory.new.events ≡ memory.old.events ++ ended_event side access
+        answer ∷ []) }
     ensures room { memory.new.room ≡ memory.old.room }
     ensures few { length memory.new.events ≤ length memory.old.events + 1 }
     ensures full { OnErr result (memory.old.room ≤ length memory.old.events) }
-    ensures turns { OnOk result ((turns : ℕ → Bool) → IsAtTurn turns memory.old.events (O.answers oracle.old) → IsAtTurn turns memory.new.events (O.answers oracle.new)) }
+    ensures turns { OnOk result ((turns : ℕ → Bool) → IsAtTurn turns memory.old.events (O.answers oracle.old) →
+        IsAtTurn turns memory.new.events (O.answers oracle.new)) }
 {
     turns_go_on();
     match access {
@@ -236,8 +243,10 @@ fn go_on<E: Store<Event>, S: NearSide>(
     ensures shape { memory.new.shape ≡ memory.old.shape }
     ensures side { (S.side machine.new ≡ side) × (S.shape machine.new ≡ memory.new.shape) }
     ensures asked { (a : NearAsked) → S.asked machine.old a → S.asked machine.new a }
-    ensures moves { IfOk result (λ told. (a : NearAsked) → S.asked machine.old a → NearMoves a side memory.old.events (S.stand machine.old) told memory.new.events (S.stand machine.new)) }
-    ensures turns { OnOk result ((turns answers : ℕ → Bool) → IsAtTurn turns memory.old.events answers → IsAtTurn turns memory.new.events answers) }
+    ensures moves { IfOk result (λ told. (a : NearAsked) → S.asked machine.old a →
+        NearMoves a side memory.old.events (S.stand machine.old) told memory.new.events (S.stand machine.new)) }
+    ensures turns { OnOk result ((turns answers : ℕ → Bool) → IsAtTurn turns memory.old.events answers →
+        IsAtTurn turns memory.new.events answers) }
     ensures room { memory.new.room ≡ memory.old.room }
     ensures few { length memory.new.events ≤ length memory.old.events + 1 }
     ensures full { OnErr result (memory.old.room ≤ length memory.old.events) }
@@ -266,8 +275,10 @@ fn step<E: Store<Event>, S: NearSide, O: Oracle>(
     ensures shape { memory.new.shape ≡ memory.old.shape }
     ensures side { (S.side machine.new ≡ side) × (S.shape machine.new ≡ memory.new.shape) }
     ensures asked { (a : NearAsked) → S.asked machine.old a → S.asked machine.new a }
-    ensures moves { IfOk result (λ told. (a : NearAsked) → S.asked machine.old a → NearMoves a side memory.old.events (S.stand machine.old) told memory.new.events (S.stand machine.new)) }
-    ensures turns { OnOk result ((turns : ℕ → Bool) → IsAtTurn turns memory.old.events (O.answers oracle.old) → IsAtTurn turns memory.new.events (O.answers oracle.new)) }
+    ensures moves { IfOk result (λ told. (a : NearAsked) → S.asked machine.old a →
+        NearMoves a side memory.old.events (S.stand machine.old) told memory.new.events (S.stand machine.new)) }
+    ensures turns { OnOk result ((turns : ℕ → Bool) → IsAtTurn turns memory.old.events (O.answers oracle.old) →
+        IsAtTurn turns memory.new.events (O.answers oracle.new)) }
     ensures room { memory.new.room ≡ memory.old.room }
     ensures few { length memory.new.events ≤ length memory.old.events + 1 }
     ensures full { OnErr result (memory.old.room ≤ length memory.old.events) }
@@ -312,10 +323,13 @@ impl<E: Store<Event>, T: Store<NearCall>> NearWorld<'_, E, T> {
         requires { IsNearReady self.old }
         ensures ready { OnOk result (IsNearReady self.new) }
         ensures shape { self.new.memory.shape ≡ self.old.memory.shape }
-        ensures has { OnOk result ((a : NearAsked) (letters : List ASide) (oracle : List Bool) → NearHas T.items a letters oracle self.old → NearHas T.items a (letters ++ side ∷ []) oracle self.new) }
+        ensures has { OnOk result ((a : NearAsked) (letters : List Side) (oracle : List Bool) →
+            NearHas T.items a letters oracle self.old → NearHas T.items a (letters ++ side ∷ []) oracle self.new) }
         ensures rooms { (self.new.memory.room ≡ self.old.memory.room) × (T.room self.new.told ≡ T.room self.old.told) }
-        ensures few { OnOk result ((length self.new.memory.events ≤ length self.old.memory.events + 1) × (length (T.items self.new.told) ≤ length (T.items self.old.told) + 1)) }
-        ensures full { OnErr result ((self.old.memory.room ≤ length self.old.memory.events) ⊎ (T.room self.old.told ≤ length (T.items self.old.told))) }
+        ensures few { OnOk result ((length self.new.memory.events ≤ length self.old.memory.events + 1) ×
+            (length (T.items self.new.told) ≤ length (T.items self.old.told) + 1)) }
+        ensures full { OnErr result ((self.old.memory.room ≤ length self.old.memory.events) ⊎
+            (T.room self.old.told ≤ length (T.items self.old.told))) }
     {
         match side {
             Side::P => self.step_putter(),
@@ -327,10 +341,13 @@ impl<E: Store<Event>, T: Store<NearCall>> NearWorld<'_, E, T> {
         requires { IsNearReady self.old }
         ensures ready { OnOk result (IsNearReady self.new) }
         ensures shape { self.new.memory.shape ≡ self.old.memory.shape }
-        ensures has { OnOk result ((a : NearAsked) (letters : List ASide) (oracle : List Bool) → NearHas T.items a letters oracle self.old → NearHas T.items a (letters ++ P ∷ []) oracle self.new) }
+        ensures has { OnOk result ((a : NearAsked) (letters : List Side) (oracle : List Bool) →
+            NearHas T.items a letters oracle self.old → NearHas T.items a (letters ++ P ∷ []) oracle self.new) }
         ensures rooms { (self.new.memory.room ≡ self.old.memory.room) × (T.room self.new.told ≡ T.room self.old.told) }
-        ensures few { OnOk result ((length self.new.memory.events ≤ length self.old.memory.events + 1) × (length (T.items self.new.told) ≤ length (T.items self.old.told) + 1)) }
-        ensures full { OnErr result ((self.old.memory.room ≤ length self.old.memory.events) ⊎ (T.room self.old.told ≤ length (T.items self.old.told))) }
+        ensures few { OnOk result ((length self.new.memory.events ≤ length self.old.memory.events + 1) ×
+            (length (T.items self.new.told) ≤ length (T.items self.old.told) + 1)) }
+        ensures full { OnErr result ((self.old.memory.room ≤ length self.old.memory.events) ⊎
+            (T.room self.old.told ≤ length (T.items self.old.told))) }
     {
         open_changes();
         let event = step(
@@ -347,10 +364,13 @@ impl<E: Store<Event>, T: Store<NearCall>> NearWorld<'_, E, T> {
         requires { IsNearReady self.old }
         ensures ready { OnOk result (IsNearReady self.new) }
         ensures shape { self.new.memory.shape ≡ self.old.memory.shape }
-        ensures has { OnOk result ((a : NearAsked) (letters : List ASide) (oracle : List Bool) → NearHas T.items a letters oracle self.old → NearHas T.items a (letters ++ C ∷ []) oracle self.new) }
+        ensures has { OnOk result ((a : NearAsked) (letters : List Side) (oracle : List Bool) →
+            NearHas T.items a letters oracle self.old → NearHas T.items a (letters ++ C ∷ []) oracle self.new) }
         ensures rooms { (self.new.memory.room ≡ self.old.memory.room) × (T.room self.new.told ≡ T.room self.old.told) }
-        ensures few { OnOk result ((length self.new.memory.events ≤ length self.old.memory.events + 1) × (length (T.items self.new.told) ≤ length (T.items self.old.told) + 1)) }
-        ensures full { OnErr result ((self.old.memory.room ≤ length self.old.memory.events) ⊎ (T.room self.old.told ≤ length (T.items self.old.told))) }
+        ensures few { OnOk result ((length self.new.memory.events ≤ length self.old.memory.events + 1) ×
+            (length (T.items self.new.told) ≤ length (T.items self.old.told) + 1)) }
+        ensures full { OnErr result ((self.old.memory.room ≤ length self.old.memory.events) ⊎
+            (T.room self.old.told ≤ length (T.items self.old.told))) }
     {
         open_changes();
         let event = step(&mut self.memory, &mut self.taker, &mut self.oracle, Side::C)?;
@@ -363,10 +383,14 @@ impl<E: Store<Event>, T: Store<NearCall>> NearWorld<'_, E, T> {
         requires { IsNearReady self.old }
         ensures ready { OnOk result (IsNearReady self.new) }
         ensures shape { self.new.memory.shape ≡ self.old.memory.shape }
-        ensures has { OnOk result ((a : NearAsked) (letters : List ASide) (oracle : List Bool) → NearHas T.items a letters oracle self.old → NearHas T.items a (letters ++ replicate count side) oracle self.new) }
+        ensures has { OnOk result ((a : NearAsked) (letters : List Side) (oracle : List Bool) →
+            NearHas T.items a letters oracle self.old →
+            NearHas T.items a (letters ++ replicate count side) oracle self.new) }
         ensures rooms { (self.new.memory.room ≡ self.old.memory.room) × (T.room self.new.told ≡ T.room self.old.told) }
-        ensures few { OnOk result ((length self.new.memory.events ≤ length self.old.memory.events + count) × (length (T.items self.new.told) ≤ length (T.items self.old.told) + count)) }
-        ensures full { OnErr result ((self.old.memory.room < length self.old.memory.events + count) ⊎ (T.room self.old.told < length (T.items self.old.told) + count)) }
+        ensures few { OnOk result ((length self.new.memory.events ≤ length self.old.memory.events + count) ×
+            (length (T.items self.new.told) ≤ length (T.items self.old.told) + count)) }
+        ensures full { OnErr result ((self.old.memory.room < length self.old.memory.events + count) ⊎
+            (T.room self.old.told < length (T.items self.old.told) + count)) }
     {
         for _ in 0..count {
             self.step(side)?;
@@ -384,9 +408,13 @@ fn run_first<E: Store<Event>, T: Store<NearCall>>(
     requires ready { IsNearReady world.old }
     requires new { (world.old.memory.events ≡ []) × (T.items world.old.told ≡ []) }
     ensures shape { world.new.memory.shape ≡ world.old.memory.shape }
-    ensures has { OnOk result ((a : NearAsked) (oracle : List Bool) → NearHas T.items a [] oracle world.old → NearHas T.items a (take letters (content_of script.entry).letters) oracle world.new) }
-    ensures few { OnOk result ((length world.new.memory.events ≤ min letters (length (content_of script.entry).letters)) × (length (T.items world.new.told) ≤ min letters (length (content_of script.entry).letters))) }
-    ensures full { OnErr result ((world.old.memory.room < min letters (length (content_of script.entry).letters)) ⊎ (T.room world.old.told < min letters (length (content_of script.entry).letters))) }
+    ensures has { OnOk result ((a : NearAsked) (oracle : List Bool) → NearHas T.items a [] oracle world.old →
+        NearHas T.items a (take letters (content_of script.entry).letters) oracle world.new) }
+    ensures few { OnOk result ((length world.new.memory.events ≤ min letters
+        (length (content_of script.entry).letters)) ×
+        (length (T.items world.new.told) ≤ min letters (length (content_of script.entry).letters))) }
+    ensures full { OnErr result ((world.old.memory.room < min letters (length (content_of script.entry).letters)) ⊎
+        (T.room world.old.told < min letters (length (content_of script.entry).letters))) }
 {
     let mut left = letters;
     for run in script.runs() {
@@ -438,11 +466,15 @@ pub fn play_near_first<E: Store<Event>, T: Store<NearCall>>(
 ) -> Result<NearPlay<E, T>, NearFault>
     requires no_events { E.items events ≡ [] }
     requires none_told { T.items told ≡ [] }
-    ensures plays { IfOk result (λ play. IsNearPlay (content_of script.entry) (take letters (content_of script.entry).letters) (E.items play.history) (T.items play.told)) }
+    ensures plays { IfOk result (λ play. IsNearPlay (content_of script.entry)
+        (take letters (content_of script.entry).letters) (E.items play.history) (T.items play.told)) }
     ensures of_shape { IfOk result (λ play. AreOfShape (content_of script.entry).shape (E.items play.history)) }
     // A letter gives one event at most, and one begin or end of a call.
-    ensures few { IfOk result (λ play. (length (E.items play.history) ≤ min letters (length (content_of script.entry).letters)) × (length (T.items play.told) ≤ min letters (length (content_of script.entry).letters))) }
-    ensures refused { OnErr result ((E.room events < min letters (length (content_of script.entry).letters)) ⊎ (T.room told < min letters (length (content_of script.entry).letters))) }
+    ensures few { IfOk result (λ play. (length (E.items play.history) ≤ min letters
+        (length (content_of script.entry).letters)) ×
+        (length (T.items play.told) ≤ min letters (length (content_of script.entry).letters))) }
+    ensures refused { OnErr result ((E.room events < min letters (length (content_of script.entry).letters)) ⊎
+        (T.room told < min letters (length (content_of script.entry).letters))) }
 {
     turns_are_by_interval();
     let shape = script.shape();

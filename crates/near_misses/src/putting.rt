@@ -3,7 +3,7 @@ ghost use Rattle.std.specs.Prelude.{◌≡◌, ℕ, ◌+◌, ◌-◌, ◌≤◌,
 
 use crate::misses::NearMiss;
 use crate::plays::NearCall;
-use crate::rows::{Order, Row, read_bit};
+use crate::rows::{NearRow, Order, read_bit};
 use bits_core::{Access, Bit, Shape, Side};
 use ring_core::distance;
 
@@ -36,7 +36,7 @@ pub struct NearPutter<'a> {
     count: u8,
     stage: Stage,
     stopped: bool,
-    row: Row,
+    row: NearRow,
     ghost within: { stored + storing ≤ length items.now },
 }
 
@@ -49,7 +49,8 @@ impl<'a> NearPutter<'a> {
 
     pub fn new(miss: NearMiss, shape: Shape, items: &'a [u64], closes: bool) -> Self
         ensures starts { put_stand result ≡ near_start }
-        ensures asked { (asked : NearAsked) → asked.items ≡ length items.entry.now → asked.closes ≡ closes → IsAskedToPut result asked }
+        ensures asked { (asked : NearAsked) → asked.items ≡ length items.entry.now → asked.closes ≡ closes →
+            IsAskedToPut result asked }
         ensures shape { result.shape ≡ shape }
     {
         NearPutter {
@@ -62,7 +63,7 @@ impl<'a> NearPutter<'a> {
             count: 0,
             stage: Stage::Between,
             stopped: false,
-            row: Row::new(Side::P, Order::of(miss)),
+            row: NearRow::new(Side::P, Order::of(miss)),
         }
     }
 
@@ -71,9 +72,11 @@ impl<'a> NearPutter<'a> {
         requires { (self.old.stage ≡ Between) × (self.old.stopped ≡ false) }
         ensures asked { (asked : NearAsked) → IsAskedToPut self.old asked → IsAskedToPut self.new asked }
         ensures shape { self.new.shape ≡ self.old.shape }
-        ensures begins { IfSome result (λ r. (asked : NearAsked) → IsAskedToPut self.old asked → NearBegins asked P (put_stand self.old) r.1 (put_stand self.new)) }
+        ensures begins { IfSome result (λ r. (asked : NearAsked) → IsAskedToPut self.old asked →
+            NearBegins asked P (put_stand self.old) r.1 (put_stand self.new)) }
         ensures right { IfSome result (λ r. IsOpenRight self.old.shape P r.0) }
-        ensures stops { result ≡ None → (asked : NearAsked) → IsAskedToPut self.old asked → NearStops asked P (put_stand self.old) × (put_stand self.new ≡ put_stand self.old) }
+        ensures stops { result ≡ None → (asked : NearAsked) → IsAskedToPut self.old asked →
+            NearStops asked P (put_stand self.old) × (put_stand self.new ≡ put_stand self.old) }
     {
         if self.stored < self.items.len() {
             self.stage = Stage::Scanning(0);
@@ -93,10 +96,12 @@ impl<'a> NearPutter<'a> {
     pub fn next(&mut self) -> Option<(Access, Option<NearCall>)>
         ensures shape { self.new.shape ≡ self.old.shape }
         ensures asked { (asked : NearAsked) → IsAskedToPut self.old asked → IsAskedToPut self.new asked }
-        ensures begins { IfSome result (λ r. (asked : NearAsked) → IsAskedToPut self.old asked → NearBegins asked P (put_stand self.old) r.1 (put_stand self.new)) }
+        ensures begins { IfSome result (λ r. (asked : NearAsked) → IsAskedToPut self.old asked →
+            NearBegins asked P (put_stand self.old) r.1 (put_stand self.new)) }
         ensures goes { IsSome result → self.old.stopped ≡ false }
         ensures right { IfSome result (λ r. IsSome r.1 → IsOpenRight self.old.shape P r.0) }
-        ensures stops { result ≡ None → (asked : NearAsked) → IsAskedToPut self.old asked → NearStops asked P (put_stand self.old) × (put_stand self.new ≡ put_stand self.old) }
+        ensures stops { result ≡ None → (asked : NearAsked) → IsAskedToPut self.old asked →
+            NearStops asked P (put_stand self.old) × (put_stand self.new ≡ put_stand self.old) }
     {
         if self.stopped {
             return None;
@@ -135,7 +140,8 @@ impl<'a> NearPutter<'a> {
         requires { is_in_put self.old.stage ≡ true }
         ensures shape { self.new.shape ≡ self.old.shape }
         ensures asked { (asked : NearAsked) → IsAskedToPut self.old asked → IsAskedToPut self.new asked }
-        ensures ends { (asked : NearAsked) (item : ℕ) → IsAskedToPut self.old asked → NearEnds asked P (put_stand self.old) item result (put_stand self.new) }
+        ensures ends { (asked : NearAsked) (item : ℕ) → IsAskedToPut self.old asked →
+            NearEnds asked P (put_stand self.old) item result (put_stand self.new) }
     {
         match self.stage {
             Stage::Between | Stage::Over | Stage::Stuck => None,
@@ -160,7 +166,8 @@ impl<'a> NearPutter<'a> {
         requires { is_in_put self.old.stage ≡ true }
         ensures shape { self.new.shape ≡ self.old.shape }
         ensures asked { (asked : NearAsked) → IsAskedToPut self.old asked → IsAskedToPut self.new asked }
-        ensures ends { (asked : NearAsked) (item : ℕ) → IsAskedToPut self.old asked → NearEnds asked P (put_stand self.old) item result (put_stand self.new) }
+        ensures ends { (asked : NearAsked) (item : ℕ) → IsAskedToPut self.old asked →
+            NearEnds asked P (put_stand self.old) item result (put_stand self.new) }
     {
         self.stage = if u64::from(zeros) + 1 < self.shape.modulus() {
             Stage::Scanning(zeros + 1)
@@ -192,7 +199,8 @@ impl<'a> NearPutter<'a> {
         requires { is_in_put self.old.stage ≡ true }
         ensures shape { self.new.shape ≡ self.old.shape }
         ensures asked { (asked : NearAsked) → IsAskedToPut self.old asked → IsAskedToPut self.new asked }
-        ensures ends { (asked : NearAsked) (item : ℕ) → IsAskedToPut self.old asked → NearEnds asked P (put_stand self.old) item result (put_stand self.new) }
+        ensures ends { (asked : NearAsked) (item : ℕ) → IsAskedToPut self.old asked →
+            NearEnds asked P (put_stand self.old) item result (put_stand self.new) }
     {
         let most = self.room_behind(seen);
         if most == 0 {
@@ -215,7 +223,8 @@ impl<'a> NearPutter<'a> {
         requires { is_in_put self.old.stage ≡ true }
         ensures shape { self.new.shape ≡ self.old.shape }
         ensures asked { (asked : NearAsked) → IsAskedToPut self.old asked → IsAskedToPut self.new asked }
-        ensures ends { (asked : NearAsked) (item : ℕ) → IsAskedToPut self.old asked → NearEnds asked P (put_stand self.old) item result (put_stand self.new) }
+        ensures ends { (asked : NearAsked) (item : ℕ) → IsAskedToPut self.old asked →
+            NearEnds asked P (put_stand self.old) item result (put_stand self.new) }
     {
         if u64::from(digit) + 1 < self.shape.width() {
             self.stage = Stage::Storing(done, digit + 1);
@@ -236,7 +245,8 @@ impl<'a> NearPutter<'a> {
         requires { is_in_put self.old.stage ≡ true }
         ensures shape { self.new.shape ≡ self.old.shape }
         ensures asked { (asked : NearAsked) → IsAskedToPut self.old asked → IsAskedToPut self.new asked }
-        ensures ends { (asked : NearAsked) (item : ℕ) → IsAskedToPut self.old asked → NearEnds asked P (put_stand self.old) item result (put_stand self.new) }
+        ensures ends { (asked : NearAsked) (item : ℕ) → IsAskedToPut self.old asked →
+            NearEnds asked P (put_stand self.old) item result (put_stand self.new) }
     {
         self.row.feed();
         if self.row.next().is_some() {
@@ -253,7 +263,8 @@ impl<'a> NearPutter<'a> {
         requires { is_in_put self.old.stage ≡ true }
         ensures shape { self.new.shape ≡ self.old.shape }
         ensures asked { (asked : NearAsked) → IsAskedToPut self.old asked → IsAskedToPut self.new asked }
-        ensures ends { (asked : NearAsked) (item : ℕ) → IsAskedToPut self.old asked → NearEnds asked P (put_stand self.old) item result (put_stand self.new) }
+        ensures ends { (asked : NearAsked) (item : ℕ) → IsAskedToPut self.old asked →
+            NearEnds asked P (put_stand self.old) item result (put_stand self.new) }
     {
         let stored = self.storing;
         self.count = self.row.value();

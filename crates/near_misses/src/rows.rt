@@ -73,19 +73,19 @@ impl Order {
 
 /// The bits of a count, as the side that writes them remembers them, and the value that they are to show.
 #[derive(Drop)]
-pub struct Row {
+pub struct NearRow {
     side: Side,
     order: Order,
     bits: [bool; 256],
     value: u8,
 }
 
-impl Row {
+impl NearRow {
     /// A row that shows 0: its bit 0 is set.
-    pub fn new(side: Side, order: Order) -> Row {
+    pub fn new(side: Side, order: Order) -> NearRow {
         let mut bits = [false; 256];
         bits[0] = true;
-        Row {
+        NearRow {
             side,
             order,
             bits,

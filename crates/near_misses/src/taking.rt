@@ -8,7 +8,7 @@ ghost use Rattle.near_misses.specs.NearSides.{IsAskedToTake, is_in_take, item_en
 
 use crate::misses::NearMiss;
 use crate::plays::NearCall;
-use crate::rows::{Order, Row, read_bit};
+use crate::rows::{NearRow, Order, read_bit};
 use bits_core::{Access, Bit, Shape, Side};
 use ring_core::distance;
 
@@ -43,7 +43,7 @@ pub struct NearTaker {
     item: u64,
     stage: Stage,
     stopped: bool,
-    row: Row,
+    row: NearRow,
 }
 
 impl NearTaker {
@@ -62,7 +62,7 @@ impl NearTaker {
             item: 0,
             stage: Stage::Between,
             stopped: false,
-            row: Row::new(Side::C, Order::of(miss)),
+            row: NearRow::new(Side::C, Order::of(miss)),
         }
     }
 
@@ -71,9 +71,11 @@ impl NearTaker {
         requires { (self.old.stage ≡ Between) × (self.old.stopped ≡ false) }
         ensures asked { (asked : NearAsked) → IsAskedToTake self.old asked → IsAskedToTake self.new asked }
         ensures shape { self.new.shape ≡ self.old.shape }
-        ensures begins { IfSome result (λ r. (asked : NearAsked) → IsAskedToTake self.old asked → NearBegins asked C (take_stand self.old) r.1 (take_stand self.new)) }
+        ensures begins { IfSome result (λ r. (asked : NearAsked) → IsAskedToTake self.old asked →
+            NearBegins asked C (take_stand self.old) r.1 (take_stand self.new)) }
         ensures right { IfSome result (λ r. IsOpenRight self.old.shape C r.0) }
-        ensures stops { result ≡ None → (asked : NearAsked) → IsAskedToTake self.old asked → NearStops asked C (take_stand self.old) × (take_stand self.new ≡ take_stand self.old) }
+        ensures stops { result ≡ None → (asked : NearAsked) → IsAskedToTake self.old asked →
+            NearStops asked C (take_stand self.old) × (take_stand self.new ≡ take_stand self.old) }
     {
         if self.begun < self.takes {
             self.begun += 1;
@@ -91,10 +93,12 @@ impl NearTaker {
     pub fn next(&mut self) -> Option<(Access, Option<NearCall>)>
         ensures shape { self.new.shape ≡ self.old.shape }
         ensures asked { (asked : NearAsked) → IsAskedToTake self.old asked → IsAskedToTake self.new asked }
-        ensures begins { IfSome result (λ r. (asked : NearAsked) → IsAskedToTake self.old asked → NearBegins asked C (take_stand self.old) r.1 (take_stand self.new)) }
+        ensures begins { IfSome result (λ r. (asked : NearAsked) → IsAskedToTake self.old asked →
+            NearBegins asked C (take_stand self.old) r.1 (take_stand self.new)) }
         ensures goes { IsSome result → self.old.stopped ≡ false }
         ensures right { IfSome result (λ r. IsSome r.1 → IsOpenRight self.old.shape C r.0) }
-        ensures stops { result ≡ None → (asked : NearAsked) → IsAskedToTake self.old asked → NearStops asked C (take_stand self.old) × (take_stand self.new ≡ take_stand self.old) }
+        ensures stops { result ≡ None → (asked : NearAsked) → IsAskedToTake self.old asked →
+            NearStops asked C (take_stand self.old) × (take_stand self.new ≡ take_stand self.old) }
     {
         if self.stopped {
             return None;
@@ -128,7 +132,10 @@ impl NearTaker {
     fn read(&mut self, access: Access, answer: bool)
         ensures shape { self.new.shape ≡ self.old.shape }
         ensures asked { (asked : NearAsked) → IsAskedToTake self.old asked → IsAskedToTake self.new asked }
-        ensures read { take_stand self.new ≡ record (take_stand self.old) { item = item_ended access answer self.old.item } }
+        ensures read { take_stand self.new ≡ record (take_stand self.old) {
+          item = item_ended access answer
+              self.old.item;
+        } }
         ensures stage { self.new.stage ≡ self.old.stage }
     {
         match access {
@@ -144,7 +151,9 @@ impl NearTaker {
         requires { is_in_take self.old.stage ≡ true }
         ensures shape { self.new.shape ≡ self.old.shape }
         ensures asked { (asked : NearAsked) → IsAskedToTake self.old asked → IsAskedToTake self.new asked }
-        ensures ends { (asked : NearAsked) → IsAskedToTake self.old asked → NearEnds asked C (take_stand self.old) (item_ended access answer self.old.item) result (take_stand self.new) }
+        ensures ends { (asked : NearAsked) → IsAskedToTake self.old asked →
+            NearEnds asked C (take_stand self.old) (item_ended access answer self.old.item) result
+            (take_stand self.new) }
     {
         self.read(access, answer);
         match self.stage {
@@ -165,7 +174,8 @@ impl NearTaker {
         requires { is_in_take self.old.stage ≡ true }
         ensures shape { self.new.shape ≡ self.old.shape }
         ensures asked { (asked : NearAsked) → IsAskedToTake self.old asked → IsAskedToTake self.new asked }
-        ensures ends { (asked : NearAsked) → IsAskedToTake self.old asked → NearEnds asked C (take_stand self.old) self.old.item result (take_stand self.new) }
+        ensures ends { (asked : NearAsked) → IsAskedToTake self.old asked →
+            NearEnds asked C (take_stand self.old) self.old.item result (take_stand self.new) }
     {
         if answer {
             return self.scanned(u64::from(zeros), again);
@@ -185,7 +195,8 @@ impl NearTaker {
         requires { is_in_take self.old.stage ≡ true }
         ensures shape { self.new.shape ≡ self.old.shape }
         ensures asked { (asked : NearAsked) → IsAskedToTake self.old asked → IsAskedToTake self.new asked }
-        ensures ends { (asked : NearAsked) → IsAskedToTake self.old asked → NearEnds asked C (take_stand self.old) self.old.item result (take_stand self.new) }
+        ensures ends { (asked : NearAsked) → IsAskedToTake self.old asked →
+            NearEnds asked C (take_stand self.old) self.old.item result (take_stand self.new) }
     {
         let modulus = self.miss.modulus(&self.shape);
         let count = u64::from(self.count);
@@ -212,7 +223,8 @@ impl NearTaker {
         requires { is_in_take self.old.stage ≡ true }
         ensures shape { self.new.shape ≡ self.old.shape }
         ensures asked { (asked : NearAsked) → IsAskedToTake self.old asked → IsAskedToTake self.new asked }
-        ensures ends { (asked : NearAsked) → IsAskedToTake self.old asked → NearEnds asked C (take_stand self.old) self.old.item result (take_stand self.new) }
+        ensures ends { (asked : NearAsked) → IsAskedToTake self.old asked →
+            NearEnds asked C (take_stand self.old) self.old.item result (take_stand self.new) }
     {
         if !closed {
             self.stage = Stage::Between;
@@ -245,7 +257,8 @@ impl NearTaker {
         requires { is_in_take self.old.stage ≡ true }
         ensures shape { self.new.shape ≡ self.old.shape }
         ensures asked { (asked : NearAsked) → IsAskedToTake self.old asked → IsAskedToTake self.new asked }
-        ensures ends { (asked : NearAsked) → IsAskedToTake self.old asked → NearEnds asked C (take_stand self.old) self.old.item result (take_stand self.new) }
+        ensures ends { (asked : NearAsked) → IsAskedToTake self.old asked →
+            NearEnds asked C (take_stand self.old) self.old.item result (take_stand self.new) }
     {
         self.row.feed();
         if self.row.next().is_some() {

@@ -20,7 +20,7 @@ use Rattle.queue_calls.proofs.CauseTests.{can_hold_tells, can_lack_tells, and_of
 use Rattle.queue_calls.proofs.CountedHistories.{Stands, counts_keeps}
 use Rattle.queue_calls.proofs.CountsFollow.{counts_are_exact}
 use Rattle.queue_calls.proofs.Keeping.{some as has_points}
-use Rattle.queue_calls.proofs.TakeBegins.{keeps_nothing}
+use Rattle.queue_calls.proofs.Ends.TakeBegins.{keeps_nothing}
 use Rattle.queue_calls.proofs.TurnLemmas.{last_turn, same_turns}
 
 -- a queue lacks room for as many, told by the sum

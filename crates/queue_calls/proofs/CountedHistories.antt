@@ -10,11 +10,11 @@ use Rattle.queue_calls.specs.declared.turns.TakeTurn.TheVariants.{Rests, Waits}
 use Rattle.queue_calls.specs.State.{Keeps}
 use Rattle.queue_calls.specs.Counting.{Kept, kept, Counts, AreCounted, CountedIsLinearizable}
 use Rattle.queue_calls.proofs.Keeping.{some}
-use Rattle.queue_calls.proofs.PutBegins.{put_begin, late_begin}
-use Rattle.queue_calls.proofs.PutEnds.{put_stored, put_full, put_short, put_nothing, put_closed, late_nothing}
-use Rattle.queue_calls.proofs.Closing.{close_begin, close_end}
-use Rattle.queue_calls.proofs.TakeBegins.{take_begin, keeps_nothing}
-use Rattle.queue_calls.proofs.TakeEnds.{take_items, take_empty, take_short, take_nothing, take_closed}
+use Rattle.queue_calls.proofs.Ends.PutBegins.{put_begin, late_begin}
+use Rattle.queue_calls.proofs.Ends.PutEnds.{put_stored, put_full, put_short, put_nothing, put_closed, late_nothing}
+use Rattle.queue_calls.proofs.Ends.Closing.{close_begin, close_end}
+use Rattle.queue_calls.proofs.Ends.TakeBegins.{take_begin, keeps_nothing}
+use Rattle.queue_calls.proofs.Ends.TakeEnds.{take_items, take_empty, take_short, take_nothing, take_closed}
 
 -- after a history this is kept
 abbrev pub Stands : Capacity → List Event → Kept → Type 0

@@ -12,9 +12,9 @@ use Rattle.queue_calls.proofs.Rooms.{holds_fewer}
 use Rattle.queue_calls.proofs.Points.{last_event, beginning}
 use Rattle.queue_calls.proofs.Effects.{few_left}
 use Rattle.queue_calls.proofs.Sides.{with_producer, with_consumer}
-use Rattle.queue_calls.proofs.PutEnds.{few_taken}
-use Rattle.queue_calls.proofs.TakeBegins.{keeps_nothing}
-use Rattle.queue_calls.proofs.TakeEnds.{closed_left}
+use Rattle.queue_calls.proofs.Ends.PutEnds.{few_taken}
+use Rattle.queue_calls.proofs.Ends.TakeBegins.{keeps_nothing}
+use Rattle.queue_calls.proofs.Ends.TakeEnds.{closed_left}
 use Rattle.queue_calls.proofs.CountedHistories.{Stands, counts_keeps, counted_is_linearizable}
 
 shut_or_not : (b : Bool) → (b ≡ false) ⊎ (b ≡ true)

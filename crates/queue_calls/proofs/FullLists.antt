@@ -6,7 +6,7 @@ use Rattle.queue_calls.specs.declared.turns.PutTurn.TheVariants.{Free, Offers}
 use Rattle.queue_calls.specs.declared.turns.TakeTurn.{TakeTurn}
 use Rattle.queue_calls.specs.State.{taken_by, left_by, Keeps}
 use Rattle.queue_calls.specs.Audits.{HasMoreItems, items_at, left_at}
-use Rattle.queue_calls.proofs.PutBegins.{put_begin}
+use Rattle.queue_calls.proofs.Ends.PutBegins.{put_begin}
 
 left_same : (offered before : ℕ) (p : Producer) → left_by (Offers offered before) p ≡ left_at p
 left_same offered before Idle = refl

@@ -15,7 +15,7 @@ use Rattle.queue_calls.specs.Told.{meant}
 use Rattle.queue_calls.specs.Witnesses.{Remembers}
 use Rattle.queue_calls.specs.declared.entries.Offered.{Offered}
 use Rattle.queue_calls.specs.declared.entries.Taken.{Taken}
-use Rattle.queue_calls.specs.declared.reports.Report.{Report}
+use Rattle.queue_calls.specs.declared.reports.CallsReport.{CallsReport}
 use Rattle.queue_calls.specs.declared.reports.Tally.{Tally}
 use Rattle.queue_calls.specs.declared.turns.PutTurn.TheVariants.{Free}
 use Rattle.queue_calls.specs.declared.turns.TakeTurn.TheVariants.{Rests}
@@ -62,7 +62,7 @@ stops_here capacity events event number Says so_far stops says is = record {
 }
 
 -- the report of what was counted, where these calls are under way
-pub report_of : {S O T N B : Type 0} → Witness S O T N B → Tally → Report
+pub report_of : {S O T N B : Type 0} → Witness S O T N B → Tally → CallsReport
 report_of w tally =
     let r = tally.report in
     record {
@@ -127,7 +127,7 @@ module _ {S O T N B : Type 0} (offered : O → List Offered) (last : T → List 
 
   -- the report of what was heard
   pub reported :
-      (w : Witness S O T N B) (tally : Tally) (report : Report) → Remembers offered last w capacity events → IsTallied capacity events tally →
+      (w : Witness S O T N B) (tally : Tally) (report : CallsReport) → Remembers offered last w capacity events → IsTallied capacity events tally →
       report.under_way ≡ as_number (has_put w.auditor.put) + as_number (has_take w.auditor.take) → HaveNumbersOf tally.report report → IsReport capacity events report
   reported w tally report r t under numbers =
       let fit = sides_fit capacity events (kept_of offered w) r.proper r.counted in

@@ -13,7 +13,7 @@ use Rattle.queue_calls.specs.declared.turns.PutTurn.TheVariants.{Free, Offers, L
 use Rattle.queue_calls.specs.declared.turns.TakeTurn.{TakeTurn}
 use Rattle.queue_calls.specs.declared.turns.TakeTurn.TheVariants.{Rests, Waits}
 use Rattle.queue_calls.proofs.CountedHistories.{Stands}
-use Rattle.queue_calls.proofs.TakeBegins.{keeps_nothing}
+use Rattle.queue_calls.proofs.Ends.TakeBegins.{keeps_nothing}
 
 -- ---- the points that are described
 

@@ -1,15 +1,10 @@
+pub mod Ends
 pub mod Rooms
 pub mod Points
 pub mod Effects
 pub mod TurnLemmas
 pub mod Keeping
 pub mod Sides
-pub mod PutEnds
-pub mod Closing
-pub mod TakeEnds
-pub mod Batches
-pub mod PutBegins
-pub mod TakeBegins
 pub mod OrderOf
 pub mod MomentsOf
 mod Examples
@@ -24,7 +19,6 @@ pub mod RecordingLaws
 pub mod NextLines
 pub mod CountedHistories
 pub mod CountsFollow
-pub mod EndLemmas
 pub mod Decided
 pub mod Tellings
 pub mod Agrees

@@ -1,7 +1,7 @@
 -- A history whose operations have an order can have them take effect at moments.
 use Rattle.std.proofs.Common.{◌≡◌, inl, inr, ℕ, suc, ◌<◌, ◌≤◌, false, List, [], ◌∷◌, ◌++◌, length, refl, sym, ap, subst, ◌∙◌, arith, append_assoc}
 use Rattle.std.proofs.lemmas.List.{append-nil}
-use Rattle.queue_calls.specs.Queue.{Capacity, Does, Enqueue, FindNoRoom, FindShut, Close, Dequeue, FindFewer, FindClosed, Queue, queue, Step, IsLegal}
+use Rattle.queue_calls.specs.Queue.{Capacity, Operation, Enqueue, FindNoRoom, FindShut, Close, Dequeue, FindFewer, FindClosed, Queue, queue, Step, IsLegal}
 use Rattle.queue_calls.specs.Calls.{Event, PutBegin, PutStored, PutFull, PutShort, PutNothing, PutClosed, CloseBegin, CloseEnd, TakeBegin, TakeItems, TakeEmpty, TakeShort, TakeNothing, TakeClosed, Happens, Effect, Producer, Idle, Consumer, Resting, ProducerStep, ConsumerStep, point, CanLeadTo, IsLinearizable}
 use Rattle.queue_calls.specs.Order.{Side, P, C, pick, side_of, doer_of, Numbered, numbered, own_events, OwnStep, Comes, Makes, numbered_in, AreProducerCalls, AreConsumerCalls, RecordedOperation, recorded_operation, next_event, recorded_operations, recorded_of_side, recorded_does, IsAmong, KeepsRecordedTime, Linearization}
 use Rattle.queue_calls.proofs.Points.{start, goes, happens}
@@ -39,7 +39,7 @@ consumer_idle TakeShort c s = absurd (cc)
 consumer_idle TakeNothing c s = absurd (cc)
 consumer_idle TakeClosed c s = absurd (cc)
 
-producer_rests : (d : Does) (p : Producer) → doer_of d ≡ C → ProducerStep p (Effect d) p
+producer_rests : (d : Operation) (p : Producer) → doer_of d ≡ C → ProducerStep p (Effect d) p
 producer_rests (Enqueue item) p s = absurd (cc)
 producer_rests (FindNoRoom count) p s = absurd (cc)
 producer_rests FindShut p s = absurd (cc)
@@ -48,7 +48,7 @@ producer_rests (Dequeue item) p s = refl
 producer_rests (FindFewer count) p s = refl
 producer_rests FindClosed p s = refl
 
-consumer_rests : (d : Does) (c : Consumer) → doer_of d ≡ P → ConsumerStep c (Effect d) c
+consumer_rests : (d : Operation) (c : Consumer) → doer_of d ≡ P → ConsumerStep c (Effect d) c
 consumer_rests (Enqueue item) c s = refl
 consumer_rests (FindNoRoom count) c s = refl
 consumer_rests FindShut c s = refl
@@ -100,7 +100,7 @@ among_side s (o ∷ order) z rest e = by_side s o.side (λ r f. among_side s ord
 
 -- an operation of the one side that stands behind one of the other, whose call begins later, does not come before this event
 clash :
-    (s s' : Side) (end n start k : ℕ) (e : Event) (h : List Event) (o : RecordedOperation) (order rest : List RecordedOperation) (calls calls' : List OwnStep) (d : Does) →
+    (s s' : Side) (end n start k : ℕ) (e : Event) (h : List Event) (o : RecordedOperation) (order rest : List RecordedOperation) (calls calls' : List OwnStep) (d : Operation) →
     side_of e ≡ s → pick s s (numbered n e ∷ own_events s (suc n) h) (own_events s (suc n) h) ≡ numbered_in calls →
     own_events s' (suc n) h ≡ numbered_in calls' → suc n ≤ k → o ∷ rest ≡ recorded_operations s' end k calls' →
     recorded_of_side s order ≡ recorded_operation s d start (next_event end calls) ∷ recorded_operations s end start calls →
@@ -130,7 +130,7 @@ record Rest (capacity : Capacity) (end n a b : ℕ) (h : List Event) (q : Queue)
 -- the next event is not one of the side before which it has an operation to make
 abbrev NoClash : Side → List Event → List OwnStep → Type 0
 NoClash s [] calls = Unit {0}
-NoClash s (e ∷ h) calls = (d : Does) (rest : List OwnStep) → calls ≡ Makes d ∷ rest → side_of e ≡ s → ⊥
+NoClash s (e ∷ h) calls = (d : Operation) (rest : List OwnStep) → calls ≡ Makes d ∷ rest → side_of e ≡ s → ⊥
 
 module _ (capacity : Capacity) (end : ℕ) where
   abbrev Passes : List Event → Type 0
@@ -148,7 +148,7 @@ module _ (capacity : Capacity) (end : ℕ) where
       (e : Event) (h : List Event) (order : List RecordedOperation) → side_of e ≡ P → Goes h order → (n a b : ℕ) (q : Queue) (p : Producer) (c : Consumer) (puts takes : List OwnStep) →
       numbered n e ∷ own_events P (suc n) h ≡ numbered_in puts → own_events C (suc n) h ≡ numbered_in takes → AreProducerCalls p puts → AreConsumerCalls c takes →
       recorded_of_side P order ≡ recorded_operations P end a puts → recorded_of_side C order ≡ recorded_operations C end b takes → IsLegal capacity q (recorded_does order) → KeepsRecordedTime order →
-      ((d : Does) (rest : List OwnStep) → puts ≡ Makes d ∷ rest → ⊥) → (past : List Event) → CanLeadTo capacity past (point q p c) → IsLinearizable capacity (past ++ e ∷ h)
+      ((d : Operation) (rest : List OwnStep) → puts ≡ Makes d ∷ rest → ⊥) → (past : List Event) → CanLeadTo capacity past (point q p c) → IsLinearizable capacity (past ++ e ∷ h)
   pass_put e h order s go n a b q p c [] takes pe te ap' at' op oc legal keeps never past r = absurd (cc)
   pass_put e h order s go n a b q p c (Makes d ∷ puts) takes pe te ap' at' op oc legal keeps never past r = absurd (never d puts refl)
   pass_put e h order s go n a b q p c (Comes x ∷ puts) takes pe te (after, step, ap') at' op oc legal keeps never past r =
@@ -165,7 +165,7 @@ module _ (capacity : Capacity) (end : ℕ) where
       (e : Event) (h : List Event) (order : List RecordedOperation) → side_of e ≡ C → Goes h order → (n a b : ℕ) (q : Queue) (p : Producer) (c : Consumer) (puts takes : List OwnStep) →
       own_events P (suc n) h ≡ numbered_in puts → numbered n e ∷ own_events C (suc n) h ≡ numbered_in takes → AreProducerCalls p puts → AreConsumerCalls c takes →
       recorded_of_side P order ≡ recorded_operations P end a puts → recorded_of_side C order ≡ recorded_operations C end b takes → IsLegal capacity q (recorded_does order) → KeepsRecordedTime order →
-      ((d : Does) (rest : List OwnStep) → takes ≡ Makes d ∷ rest → ⊥) → (past : List Event) → CanLeadTo capacity past (point q p c) → IsLinearizable capacity (past ++ e ∷ h)
+      ((d : Operation) (rest : List OwnStep) → takes ≡ Makes d ∷ rest → ⊥) → (past : List Event) → CanLeadTo capacity past (point q p c) → IsLinearizable capacity (past ++ e ∷ h)
   pass_take e h order s go n a b q p c puts [] pe te ap' at' op oc legal keeps never past r = absurd (cc)
   pass_take e h order s go n a b q p c puts (Makes d ∷ takes) pe te ap' at' op oc legal keeps never past r = absurd (never d takes refl)
   pass_take e h order s go n a b q p c puts (Comes x ∷ takes) pe te ap' (after, step, at') op oc legal keeps never past r =

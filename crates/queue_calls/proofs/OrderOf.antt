@@ -1,7 +1,7 @@
 -- A history whose operations take effect at moments has an order of them.
 use Rattle.std.proofs.Common.{◌≡◌, inl, inr, ℕ, suc, ◌+◌, ◌≤◌, false, List, [], ◌∷◌, ◌++◌, length, refl, sym, ap, subst, ◌∙◌, arith, append_assoc}
 use Rattle.std.proofs.lemmas.List.{append-nil}
-use Rattle.queue_calls.specs.Queue.{Capacity, Does, Enqueue, FindNoRoom, FindShut, Close, Dequeue, FindFewer, FindClosed, Queue, queue, Step, IsLegal}
+use Rattle.queue_calls.specs.Queue.{Capacity, Operation, Enqueue, FindNoRoom, FindShut, Close, Dequeue, FindFewer, FindClosed, Queue, queue, Step, IsLegal}
 use Rattle.queue_calls.specs.Calls.{Event, PutBegin, PutStored, PutFull, PutShort, PutNothing, PutClosed, CloseBegin, CloseEnd, TakeBegin, TakeItems, TakeEmpty, TakeShort, TakeNothing, TakeClosed, Mark, Happens, Effect, Producer, Idle, Consumer, Resting, ProducerStep, ConsumerStep, Point, point, Leads, LeadTo, events_among, IsLinearizable}
 use Rattle.queue_calls.specs.Order.{Side, P, C, pick, side_of, doer_of, numbered, own_events, OwnStep, Comes, Makes, numbered_in, AreProducerCalls, AreConsumerCalls, RecordedOperation, recorded_operation, next_event, recorded_operations, recorded_of_side, recorded_does, IsAmong, KeepsRecordedTime, Linearization}
 
@@ -73,7 +73,7 @@ producer_stays TakeShort p after s f = f
 producer_stays TakeNothing p after s f = f
 producer_stays TakeClosed p after s f = f
 
-pub producer_keeps : (d : Does) (p after : Producer) → doer_of d ≡ C → ProducerStep p (Effect d) after → after ≡ p
+pub producer_keeps : (d : Operation) (p after : Producer) → doer_of d ≡ C → ProducerStep p (Effect d) after → after ≡ p
 producer_keeps (Enqueue item) p after s f = absurd (cc)
 producer_keeps (FindNoRoom count) p after s f = absurd (cc)
 producer_keeps FindShut p after s f = absurd (cc)
@@ -98,7 +98,7 @@ consumer_stays TakeShort c after s f = absurd (cc)
 consumer_stays TakeNothing c after s f = absurd (cc)
 consumer_stays TakeClosed c after s f = absurd (cc)
 
-pub consumer_keeps : (d : Does) (c after : Consumer) → doer_of d ≡ P → ConsumerStep c (Effect d) after → after ≡ c
+pub consumer_keeps : (d : Operation) (c after : Consumer) → doer_of d ≡ P → ConsumerStep c (Effect d) after → after ≡ c
 consumer_keeps (Enqueue item) c after s f = f
 consumer_keeps (FindNoRoom count) c after s f = f
 consumer_keeps FindShut c after s f = f
@@ -159,7 +159,7 @@ next_late s end n (Effect d ∷ w) l = by_side s (doer_of d) (next_late s end n 
     by_side C P r = r
     by_side C C r = r
 
-one_more : (capacity : Capacity) (end n start stop : ℕ) (s : Side) (d : Does) (q after : Queue) (order : List RecordedOperation) → Step capacity q d after → IsLegal capacity after (recorded_does order) → KeepsRecordedTime order →
+one_more : (capacity : Capacity) (end n start stop : ℕ) (s : Side) (d : Operation) (q after : Queue) (order : List RecordedOperation) → Step capacity q d after → IsLegal capacity after (recorded_does order) → KeepsRecordedTime order →
     ((o : RecordedOperation) → IsAmong o order → n ≤ o.stop) → start ≤ n → n ≤ stop →
     IsLegal capacity q (recorded_does (recorded_operation s d start stop ∷ order)) × KeepsRecordedTime (recorded_operation s d start stop ∷ order) × ((o : RecordedOperation) → IsAmong o (recorded_operation s d start stop ∷ order) → n ≤ o.stop)
 one_more capacity end n start stop s d q after order step legal keeps late ls le = (

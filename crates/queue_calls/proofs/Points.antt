@@ -1,7 +1,7 @@
 -- The points to which a history can lead, and how one event more changes them.
 use Rattle.std.proofs.Common.{◌≡◌, false, List, [], ◌∷◌, ◌++◌, length, refl, sym, ap, subst, arith, length-append, append_assoc}
 use Rattle.std.proofs.lemmas.List.{append-nil}
-use Rattle.queue_calls.specs.Queue.{Capacity, Does, queue}
+use Rattle.queue_calls.specs.Queue.{Capacity, Operation, queue}
 use Rattle.queue_calls.specs.Calls.{Event, Mark, Happens, Effect, Idle, Resting, Point, point, Leads, LeadTo, events_among, CanLeadTo, IsLinearizable}
 
 -- where there is no event yet
@@ -9,7 +9,7 @@ pub start : (capacity : Capacity) → CanLeadTo capacity [] (point (queue [] fal
 start capacity = record { marks = []; events = refl; lead = refl }
 
 -- an operation takes effect
-pub goes : (capacity : Capacity) (h : List Event) (s t : Point) (d : Does) → CanLeadTo capacity h s → Leads capacity s (Effect d) t → CanLeadTo capacity h t
+pub goes : (capacity : Capacity) (h : List Event) (s t : Point) (d : Operation) → CanLeadTo capacity h s → Leads capacity s (Effect d) t → CanLeadTo capacity h t
 goes capacity h s t d r l = record { marks = Effect d ∷ r.marks; events = r.events; lead = (s, r.lead, l) }
 
 -- an event comes
@@ -20,7 +20,7 @@ happens capacity h s t e r l = record { marks = Happens e ∷ r.marks; events = 
 
 -- what holds of points stays where operations take effect
 abbrev pub Stays : Capacity → (Point → Type 0) → Type 0
-Stays capacity P = (s t : Point) (d : Does) → P s → Leads capacity s (Effect d) t → P t
+Stays capacity P = (s t : Point) (d : Operation) → P s → Leads capacity s (Effect d) t → P t
 
 only_start_marks :
     (capacity : Capacity) (P : Point → Type 0) → Stays capacity P → P (point (queue [] false) Idle Resting) →

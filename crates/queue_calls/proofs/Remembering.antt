@@ -16,7 +16,7 @@ use Rattle.queue_calls.proofs.Agrees.{Agrees}
 use Rattle.queue_calls.proofs.Agreeing.{at_first, step, turned_behind}
 use Rattle.queue_calls.proofs.CauseFound.{standing}
 use Rattle.queue_calls.proofs.CountedHistories.{Stands, counts_keeps}
-use Rattle.queue_calls.proofs.TakeBegins.{keeps_nothing}
+use Rattle.queue_calls.proofs.Ends.TakeBegins.{keeps_nothing}
 use Rattle.queue_calls.proofs.TurnLemmas.{last_turn, same_turns}
 
 -- one event more

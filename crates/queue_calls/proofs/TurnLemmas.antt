@@ -1,6 +1,6 @@
 -- Well-formed histories: one event more, and the calls that are under way behind a history.
 use Rattle.std.proofs.Common.{◌≡◌, ℕ, suc, ◌+◌, Bool, true, false, List, [], ◌∷◌, ◌++◌, length, refl, sym, ap, subst, ◌∙◌, arith, length-append}
-use Rattle.queue_calls.specs.Queue.{Capacity, Does, Enqueue, FindNoRoom, FindShut, Close, Dequeue, FindFewer, FindClosed}
+use Rattle.queue_calls.specs.Queue.{Capacity, Operation, Enqueue, FindNoRoom, FindShut, Close, Dequeue, FindFewer, FindClosed}
 use Rattle.queue_calls.specs.Calls.{Event, PutBegin, PutStored, PutFull, PutShort, PutNothing, PutClosed, CloseBegin, CloseEnd, TakeBegin, TakeItems, TakeEmpty, TakeShort, TakeNothing, TakeClosed, Mark, Happens, Effect, Producer, Idle, Putting, FoundShut, Closing, Consumer, Resting, Taking, FoundClosed, short_of, ProducerStep, ConsumerStep, Point, LeadTo, events_among, IsLinearizable}
 use Rattle.queue_calls.specs.InTurn.{UnderWay, NoCall, APut, AClose, ATake, Sides, sides, MovesSides, Turns, CallsAreInTurn}
 
@@ -142,7 +142,7 @@ module _ (s : Sides) (p p' : Producer) (c c' : Consumer) (hp : HasPut p s.produc
   in_turn TakeClosed f (a, b) = let (n, g) = told_has s.consumer (has_c FoundClosed a) in by_take TakeClosed NoCall (n, g, refl) (left_c Resting NoCall b tt) f
 
   -- an operation leaves each side in its call
-  same_sides : (d : Does) → ProducerStep p (Effect d) p' → ConsumerStep c (Effect d) c' → HasPut p' s.producer × HasTake c' s.consumer
+  same_sides : (d : Operation) → ProducerStep p (Effect d) p' → ConsumerStep c (Effect d) c' → HasPut p' s.producer × HasTake c' s.consumer
   same_sides (Enqueue item) (lacked, done, left, a, b) f =
       let g = putting_has lacked done (item ∷ left) s.producer (has_p (Putting lacked done (item ∷ left)) a) in
       let G : UnderWay → Type 0 = λ z. HasPut (Putting lacked (suc done) left) z in

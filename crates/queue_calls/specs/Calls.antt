@@ -1,7 +1,7 @@
 -- Histories of calls of a queue by one producer and one consumer, and linearizability (Herlihy and Wing, 1990): each operation of a
 -- call takes effect at one moment between the call's begin and its end, as if the queue's operations came one after the other.
 use Rattle.std.specs.Prelude.{◌≡◌, ℕ, zero, suc, ◌<◌, Bool, true, false, List, [], ◌∷◌, ◌++◌, length}
-use Rattle.queue_calls.specs.Queue.{Capacity, Does, Enqueue, FindNoRoom, FindShut, Close, Dequeue, FindFewer, FindClosed, Queue, queue, Step}
+use Rattle.queue_calls.specs.Queue.{Capacity, Operation, Enqueue, FindNoRoom, FindShut, Close, Dequeue, FindFewer, FindClosed, Queue, queue, Step}
 
 -- an event of a history: a call begins, or it ends with an answer. A put offers items. Of these so many of the first are stored, and
 -- where some are left, it says that there was no room for one more or says nothing of why; or none is stored, as there is no room for
@@ -27,7 +27,7 @@ pub data Event : Type 0 where
 -- what comes in the course of a history: an event, or an operation takes effect
 pub data Mark : Type 0 where
   Happens : (event : Event) → Mark
-  Effect : (does : Does) → Mark
+  Effect : (does : Operation) → Mark
 
 -- what the producer is in: no call; a put that found no room for so many items before its first one (0 where it found none), has
 -- stored so many and has these left; a put that found the queue closed; a close that has taken effect or not yet

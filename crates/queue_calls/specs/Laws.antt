@@ -1,12 +1,12 @@
 -- What follows of the queue, and of histories of its calls.
 use Rattle.std.specs.Prelude.{◌≡◌, List, ◌++◌, ◌↔◌}
-use Rattle.queue_calls.specs.Queue.{Capacity, Does, Queue, Step}
+use Rattle.queue_calls.specs.Queue.{Capacity, Operation, Queue, Step}
 use Rattle.queue_calls.specs.Calls.{Event, IsLinearizable}
 use Rattle.queue_calls.specs.Order.{Linearization}
 
 -- an operation leaves one queue
 abbrev pub OperationsLeadOneWay : Type 0
-OperationsLeadOneWay = (capacity : Capacity) (q : Queue) (d : Does) (after other : Queue) → Step capacity q d after → Step capacity q d other → after ≡ other
+OperationsLeadOneWay = (capacity : Capacity) (q : Queue) (d : Operation) (after other : Queue) → Step capacity q d after → Step capacity q d other → after ≡ other
 
 -- the beginnings of a history that is linearizable are so too
 abbrev pub BeginningIsLinearizable : Type 0

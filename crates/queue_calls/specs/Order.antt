@@ -1,6 +1,6 @@
 -- Linearizability in the form of Herlihy and Wing: an order of all operations of the calls, which is legal and keeps real time.
 use Rattle.std.specs.Prelude.{◌≡◌, ◌⊎◌, ℕ, suc, ◌<◌, false, List, [], ◌∷◌, length, map}
-use Rattle.queue_calls.specs.Queue.{Capacity, Does, Enqueue, FindNoRoom, FindShut, Close, Dequeue, FindFewer, FindClosed, queue, IsLegal}
+use Rattle.queue_calls.specs.Queue.{Capacity, Operation, Enqueue, FindNoRoom, FindShut, Close, Dequeue, FindFewer, FindClosed, queue, IsLegal}
 use Rattle.queue_calls.specs.Calls.{Event, PutBegin, PutStored, PutFull, PutShort, PutNothing, PutClosed, CloseBegin, CloseEnd, TakeBegin, TakeItems, TakeEmpty, TakeShort, TakeNothing, TakeClosed, Happens, Effect, Producer, Idle, Consumer, Resting, ProducerStep, ConsumerStep}
 
 pub data Side : Type 0 where
@@ -31,7 +31,7 @@ side_of TakeShort = C
 side_of TakeNothing = C
 side_of TakeClosed = C
 
-abbrev pub doer_of : Does → Side
+abbrev pub doer_of : Operation → Side
 doer_of (Enqueue item) = P
 doer_of (FindNoRoom count) = P
 doer_of FindShut = P
@@ -56,7 +56,7 @@ own_events s n (e ∷ h) = pick s (side_of e) (numbered n e ∷ own_events s (su
 -- the calls of a side: its events, and the operations between them
 pub data OwnStep : Type 0 where
   Comes : (event : Numbered) → OwnStep
-  Makes : (does : Does) → OwnStep
+  Makes : (does : Operation) → OwnStep
 
 abbrev pub numbered_in : List OwnStep → List Numbered
 numbered_in [] = []
@@ -77,11 +77,11 @@ AreConsumerCalls c (Makes d ∷ calls) = (after : Consumer) × (doer_of d ≡ C)
 -- an operation, and the numbers of the events with which its call begins and ends
 pub record RecordedOperation : Type 0 where
   pub side : Side
-  pub does : Does
+  pub does : Operation
   pub start : ℕ
   pub stop : ℕ
 
-abbrev pub recorded_operation : Side → Does → ℕ → ℕ → RecordedOperation
+abbrev pub recorded_operation : Side → Operation → ℕ → ℕ → RecordedOperation
 recorded_operation s d start stop = record { side = s; does = d; start = start; stop = stop }
 
 -- the number of the next event, or of the end of the history
@@ -102,7 +102,7 @@ recorded_of_side s [] = []
 recorded_of_side s (o ∷ order) = pick s o.side (o ∷ recorded_of_side s order) (recorded_of_side s order)
 
 -- what operations do
-abbrev pub recorded_does : List RecordedOperation → List Does
+abbrev pub recorded_does : List RecordedOperation → List Operation
 recorded_does order = map (λ o. o.does) order
 
 -- no operation stands behind one before which its call had ended

@@ -23,20 +23,20 @@ LacksRoom (Between full most) inside count = full < inside + count
 
 -- what an operation does: it puts an item in, finds no room for so many items, finds the queue closed, or closes it; or it takes an
 -- item out, finds fewer than so many items, or finds the queue empty and closed
-pub data Does : Type 0 where
-  Enqueue : (item : ℕ) → Does
-  FindNoRoom : (count : ℕ) → Does
-  FindShut : Does
-  Close : Does
-  Dequeue : (item : ℕ) → Does
-  FindFewer : (count : ℕ) → Does
-  FindClosed : Does
+pub data Operation : Type 0 where
+  Enqueue : (item : ℕ) → Operation
+  FindNoRoom : (count : ℕ) → Operation
+  FindShut : Operation
+  Close : Operation
+  Dequeue : (item : ℕ) → Operation
+  FindFewer : (count : ℕ) → Operation
+  FindClosed : Operation
 
 -- it finds the queue full; it finds it empty
-abbrev pub FindFull : Does
+abbrev pub FindFull : Operation
 FindFull = FindNoRoom 1
 
-abbrev pub FindEmpty : Does
+abbrev pub FindEmpty : Operation
 FindEmpty = FindFewer 1
 
 -- a queue: the items in it, the oldest first, and whether it is closed
@@ -52,7 +52,7 @@ abbrev pub IsDrained : Queue → Type 0
 IsDrained q = (q.items ≡ []) × (q.closed ≡ true)
 
 -- at a queue of this capacity, what an operation needs, and the queue that it leaves
-abbrev pub Step : Capacity → Queue → Does → Queue → Type 0
+abbrev pub Step : Capacity → Queue → Operation → Queue → Type 0
 Step capacity q (Enqueue item) after = HasRoom capacity (length q.items) × (q.closed ≡ false) × (after ≡ queue (q.items ++ item ∷ []) false)
 Step capacity q (FindNoRoom count) after = LacksRoom capacity (length q.items) count × (q.closed ≡ false) × (after ≡ q)
 Step capacity q FindShut after = (q.closed ≡ true) × (after ≡ q)
@@ -62,6 +62,6 @@ Step capacity q (FindFewer count) after = (length q.items < count) × (¬ IsDrai
 Step capacity q FindClosed after = IsDrained q × (after ≡ q)
 
 -- operations that can come one after the other, from this queue on
-abbrev pub IsLegal : Capacity → Queue → List Does → Type 0
+abbrev pub IsLegal : Capacity → Queue → List Operation → Type 0
 IsLegal capacity q [] = Unit {0}
 IsLegal capacity q (d ∷ operations) = (after : Queue) × Step capacity q d after × IsLegal capacity after operations

@@ -14,7 +14,7 @@ use Rattle.queue_calls.specs.declared.hearings.Begun.TheVariants as begun
 use Rattle.queue_calls.specs.declared.recordings.CallsFinding.{CallsFinding}
 use Rattle.queue_calls.specs.declared.recordings.CallsFinding.TheVariants.{Lawful, OutOfTurn, NotLinearizable}
 use Rattle.queue_calls.specs.declared.recordings.RecordingFault.{RecordingFault}
-use Rattle.queue_calls.specs.declared.reports.Report.{Report}
+use Rattle.queue_calls.specs.declared.reports.CallsReport.{CallsReport}
 use Rattle.queue_calls.specs.declared.recordings.RecordingFault.TheVariants.{BadLine, TooLong, OutOfMemory}
 
 -- the words of each fault
@@ -184,6 +184,6 @@ IsFindingOf = IsFindingWithin TAKEN_LIMIT
 
 -- the first fault that is found of a text of lines that have ended, or none: it is linearizable, or there is no line
 abbrev pub IsFaultOf : List ℕ → Option CallsFinding → Type 0
-IsFaultOf bytes None = bytes ≢ [] → (report : Report) × IsFindingOf bytes (Lawful report)
+IsFaultOf bytes None = bytes ≢ [] → (report : CallsReport) × IsFindingOf bytes (Lawful report)
 IsFaultOf bytes (Some (Lawful report)) = ⊥
 IsFaultOf bytes (Some fault) = IsFindingOf bytes fault

@@ -3,7 +3,7 @@ use Rattle.std.specs.Prelude.{◌≡◌, ℕ, suc, ◌+◌, ◌-◌, ◌^◌, �
 use Rattle.queue_calls.specs.Queue.{Capacity}
 use Rattle.queue_calls.specs.Calls.{Event, PutBegin, PutStored, PutFull, PutShort, PutNothing, PutClosed, CloseBegin, CloseEnd, TakeBegin, TakeItems, TakeEmpty, TakeShort, TakeNothing, TakeClosed, Point, CanLeadTo}
 use Rattle.queue_calls.specs.Reasons.{has_told, offers, n_of, k_of}
-use Rattle.queue_calls.specs.declared.reports.Report.{Report}
+use Rattle.queue_calls.specs.declared.reports.CallsReport.{CallsReport}
 
 -- a number, or the largest that there is
 abbrev pub capped : ℕ → ℕ
@@ -95,7 +95,7 @@ overlapped (TakeBegin wanted ∷ past) = overlapped past + overlap_more (put_is_
 overlapped (_ ∷ past) = overlapped past
 
 -- the numbers of a report are those of a past
-pub record HasCounts (past : List Event) (report : Report) : Type 0 where
+pub record HasCounts (past : List Event) (report : CallsReport) : Type 0 where
   pub calls : report.calls ≡ capped (begun past)
   pub stored : report.stored ≡ capped (n_of past)
   pub taken : report.taken ≡ capped (k_of past)
@@ -132,7 +132,7 @@ abbrev pub IsPerhapsInside : Capacity → List Event → ℕ → Type 0
 IsPerhapsInside capacity events count = AtEach (Surely capacity (λ inside. inside ≤ count)) events × AtSome (Perhaps capacity (λ inside. inside ≡ count)) events
 
 -- what is told of a history
-pub record IsReport (capacity : Capacity) (events : List Event) (report : Report) : Type 0 where
+pub record IsReport (capacity : Capacity) (events : List Event) (report : CallsReport) : Type 0 where
   pub counted : HasCounts (reverse events) report
   pub surely : IsSurelyInside capacity events report.surely_inside
   pub perhaps : IsPerhapsInside capacity events report.perhaps_inside

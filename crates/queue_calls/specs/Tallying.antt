@@ -6,7 +6,7 @@ use Rattle.queue_calls.specs.Counting.{Kept}
 use Rattle.queue_calls.specs.Reasons.{offers}
 use Rattle.queue_calls.specs.Reporting.{HasCounts, IsSurelyInside, IsPerhapsInside, put_is_open, take_is_open, put_overlaps, take_overlaps}
 use Rattle.queue_calls.specs.State.{offered_by, asked_by}
-use Rattle.queue_calls.specs.declared.reports.Report.{Report}
+use Rattle.queue_calls.specs.declared.reports.CallsReport.{CallsReport}
 use Rattle.queue_calls.specs.declared.reports.Tally.{Tally}
 use Rattle.queue_calls.specs.declared.turns.PutTurn.{PutTurn}
 use Rattle.queue_calls.specs.declared.turns.PutTurn.TheVariants.{Free}
@@ -36,7 +36,7 @@ most_behind (PutBegin items) before most = max before most
 most_behind _ before most = before
 
 -- a report has the numbers of another, but for those of calls and of the moment
-pub record HaveOtherNumbersOf (old new : Report) : Type 0 where
+pub record HaveOtherNumbersOf (old new : CallsReport) : Type 0 where
   pub stored : new.stored ≡ old.stored
   pub taken : new.taken ≡ old.taken
   pub full : new.full ≡ old.full
@@ -47,7 +47,7 @@ pub record HaveOtherNumbersOf (old new : Report) : Type 0 where
   pub perhaps_inside : new.perhaps_inside ≡ old.perhaps_inside
 
 -- and but for those of the moment alone
-pub record HaveNumbersOf (old new : Report) : Type 0 where
+pub record HaveNumbersOf (old new : CallsReport) : Type 0 where
   pub calls : new.calls ≡ old.calls
   pub overlapped : new.overlapped ≡ old.overlapped
   pub others : HaveOtherNumbersOf old new

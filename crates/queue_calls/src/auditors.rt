@@ -67,7 +67,8 @@ impl<A: Allocator> CallAuditor<VecDeque<u64, A>> {
 }
 
 impl<Q: Inside> CallAuditor<Q> {
-    ghost use Rattle.queue_calls.specs.Calls.{Event as AnEvent, IsLinearizable, PutBegin, PutClosed, CloseBegin, CloseEnd, TakeBegin, TakeClosed};
+    ghost use Rattle.queue_calls.specs.Calls as calls;
+    ghost use Rattle.queue_calls.specs.Calls.{IsLinearizable, PutBegin, PutClosed, CloseBegin, CloseEnd, TakeBegin, TakeClosed};
     ghost use Rattle.queue_calls.specs.State.{IsProper, offered_by, asked_by, AreNext, CanEndPut, CanEndTake};
     ghost use Rattle.queue_calls.specs.Audits.{Audits, Reads};
     ghost use Rattle.queue_calls.specs.Hearings.{auditor_of};
@@ -141,7 +142,7 @@ impl<Q: Inside> CallAuditor<Q> {
 
     /// What it has read is linearizable.
     pub fn has_read(&self)
-        ensures { (h : List AnEvent) → Audits Q.items self.now h → IsLinearizable (meant self.now.capacity) h }
+        ensures { (h : List calls.Event) → Audits Q.items self.now h → IsLinearizable (meant self.now.capacity) h }
     {}
 
     /// Reads the next event of the history. It tells `OutOfTurn` where the event begins a call while one of
@@ -160,7 +161,8 @@ impl<Q: Inside> CallAuditor<Q> {
     pub(crate) fn feed_at(&mut self, line: u64, event: Event<'_>) -> Result<(), Fault>
         ensures decides { Decides Q.items Q.room self.old (told event.entry) result self.new }
         ensures room { Q.room self.new.inside ≡ Q.room self.old.inside }
-        ensures entries { MovesEntries Q.entries (λ item. Q.entry item line) self.old (told event.entry) result self.new }
+        ensures entries { MovesEntries Q.entries (λ item. Q.entry item line) self.old (told event.entry) result
+            self.new }
     {
         match event {
             Event::PutBegins(items) => self.put_begins(line, items),
@@ -183,7 +185,8 @@ impl<Q: Inside> CallAuditor<Q> {
     fn put_begins(&mut self, line: u64, items: &[u64]) -> Result<(), Fault>
         ensures decides { Decides Q.items Q.room self.old (PutBegin items.now) result self.new }
         ensures room { Q.room self.new.inside ≡ Q.room self.old.inside }
-        ensures entries { MovesEntries Q.entries (λ item. Q.entry item line) self.old (PutBegin items.now) result self.new }
+        ensures entries { MovesEntries Q.entries (λ item. Q.entry item line) self.old (PutBegin items.now) result
+            self.new }
     {
         match self.put {
             PutTurn::Free => {}
@@ -215,8 +218,10 @@ impl<Q: Inside> CallAuditor<Q> {
     fn holds(&mut self, line: u64, items: &[u64]) -> bool
         ensures full { result ≡ false → Q.room self.old.inside < length (Q.items self.old.inside) + length items.now }
         ensures room { Q.room self.new.inside ≡ Q.room self.old.inside }
-        ensures inside { Q.items self.new.inside ≡ (if result then (Q.items self.old.inside) ++ items.now else (Q.items self.old.inside)) }
-        ensures entries { Q.entries self.new.inside ≡ (if result then Q.entries self.old.inside ++ map (λ item. Q.entry item line) items.now else Q.entries self.old.inside) }
+        ensures inside { Q.items self.new.inside ≡ (if result then (Q.items self.old.inside) ++ items.now else
+            (Q.items self.old.inside)) }
+        ensures entries { Q.entries self.new.inside ≡ (if result then Q.entries self.old.inside ++ map
+            (λ item. Q.entry item line) items.now else Q.entries self.old.inside) }
         ensures capacity { self.new.capacity ≡ self.old.capacity }
         ensures put { self.new.put ≡ self.old.put }
         ensures take { self.new.take ≡ self.old.take }
@@ -270,9 +275,12 @@ impl<Q: Inside> CallAuditor<Q> {
     // Ends the put without so many of its last items, where that can be.
     fn ends_put(&mut self, rest: usize) -> bool
         ensures room { Q.room self.new.inside ≡ Q.room self.old.inside }
-        ensures ends { IsTrue result ↔ CanEndPut (meant self.old.capacity) (length (Q.items self.old.inside)) (asked_by self.old.take) rest }
-        ensures inside { Q.items self.new.inside ≡ (if result then take (length (Q.items self.old.inside) - rest) (Q.items self.old.inside) else (Q.items self.old.inside)) }
-        ensures entries { Q.entries self.new.inside ≡ (if result then take (length (Q.entries self.old.inside) - rest) (Q.entries self.old.inside) else Q.entries self.old.inside) }
+        ensures ends { IsTrue result ↔
+            CanEndPut (meant self.old.capacity) (length (Q.items self.old.inside)) (asked_by self.old.take) rest }
+        ensures inside { Q.items self.new.inside ≡ (if result then take (length (Q.items self.old.inside) - rest)
+            (Q.items self.old.inside) else (Q.items self.old.inside)) }
+        ensures entries { Q.entries self.new.inside ≡ (if result then take (length (Q.entries self.old.inside) - rest)
+            (Q.entries self.old.inside) else Q.entries self.old.inside) }
         ensures put { self.new.put ≡ (if result then Free else self.old.put) }
         ensures capacity { self.new.capacity ≡ self.old.capacity }
         ensures take { self.new.take ≡ self.old.take }
@@ -414,9 +422,12 @@ impl<Q: Inside> CallAuditor<Q> {
     // Ends the take with so many items, the next ones, where that can be.
     fn ends_take(&mut self, count: usize) -> bool
         ensures room { Q.room self.new.inside ≡ Q.room self.old.inside }
-        ensures ends { IsTrue result ↔ CanEndTake (meant self.old.capacity) (length (Q.items self.old.inside)) (offered_by self.old.put) count }
-        ensures inside { Q.items self.new.inside ≡ (if result then drop count (Q.items self.old.inside) else (Q.items self.old.inside)) }
-        ensures entries { Q.entries self.new.inside ≡ (if result then drop count (Q.entries self.old.inside) else Q.entries self.old.inside) }
+        ensures ends { IsTrue result ↔
+            CanEndTake (meant self.old.capacity) (length (Q.items self.old.inside)) (offered_by self.old.put) count }
+        ensures inside { Q.items self.new.inside ≡ (if result then drop count (Q.items self.old.inside) else
+            (Q.items self.old.inside)) }
+        ensures entries { Q.entries self.new.inside ≡ (if result then drop count (Q.entries self.old.inside) else
+            Q.entries self.old.inside) }
         ensures take { self.new.take ≡ (if result then Rests else self.old.take) }
         ensures capacity { self.new.capacity ≡ self.old.capacity }
         ensures put { self.new.put ≡ self.old.put }

@@ -134,7 +134,8 @@ impl fmt::Display for Next {
 
 // The words of a call that says so while an item was inside.
 fn since(says: &'static str, inside: Offered) -> Said
-    ensures { said_words result ≡ says.now ++ (decimal inside.item ++ (codes " was inside since line " ++ decimal inside.stored_at)) }
+    ensures { said_words result ≡ says.now ++ (decimal inside.item ++ (codes " was inside since line " ++ decimal
+        inside.stored_at)) }
 {
     Said::Two(
         says,

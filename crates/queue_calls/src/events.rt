@@ -78,7 +78,8 @@ impl<P, T> CallEvent<P, T> {
     ///
     /// For example, that of `CallEvent::CloseEnds` is `P closed`, as it is that of `CallEvent::PutClosed`.
     pub fn word(&self) -> Word
-        ensures { (offers : P → List ℕ) (took : T → List ℕ) (b : Begun) → result ≡ (line_of b (event_by offers took self.now)).word }
+        ensures { (offers : P → List ℕ) (took : T → List ℕ) (b : Begun) →
+            result ≡ (line_of b (event_by offers took self.now)).word }
     {
         match self {
             CallEvent::PutBegins(_) => Word::Put,
@@ -101,7 +102,8 @@ impl<P, T> CallEvent<P, T> {
 
     /// Whether it is of the producer.
     pub fn is_of_producer(&self) -> bool
-        ensures { (offers : P → List ℕ) (took : T → List ℕ) → IsTrue result ↔ (side_of (event_by offers took self.now) ≡ producer) }
+        ensures { (offers : P → List ℕ) (took : T → List ℕ) → IsTrue result ↔
+            (side_of (event_by offers took self.now) ≡ producer) }
     {
         !matches!(
             self,

@@ -1,10 +1,10 @@
 //! A history of calls that is told event by event or line by line, and what is found of it so far.
 ghost use Rattle.std.specs.Prelude.{◌≡◌, ℕ, ◌+◌, ◌∷◌, ◌++◌, [], List, IfErr, None, OnOk, length, option_map};
-ghost use Rattle.queue_calls.specs.Calls.{Event as AnEvent};
+ghost use Rattle.queue_calls.specs.Calls as calls;
 ghost use Rattle.queue_calls.specs.Hearings.{HasHeardAll, HearsLine, HearsNext, hearing_of};
 ghost use Rattle.call_lines.specs.Lines.{AllowsQueue};
 ghost use Rattle.queue_calls.specs.Noting.{OutgrowsLists};
-ghost use Rattle.queue_calls.specs.Queue.{Capacity as ACapacity};
+ghost use Rattle.queue_calls.specs.Queue as queues;
 ghost use Rattle.queue_calls.specs.Recordings.{IsFoundWithin, begun_after, capacity_told, event_told, some_told, stored_told, wanted_told};
 ghost use Rattle.queue_calls.specs.RecordingStates.{HasHeard};
 ghost use Rattle.queue_calls.specs.Told.{meant, told};
@@ -16,7 +16,7 @@ use crate::events::Event;
 use crate::faults::Fault;
 use crate::insides::Lined;
 use crate::recordings::{CallsFinding, RecordingFault};
-use crate::reports::{Report, Tally};
+use crate::reports::{CallsReport, Tally};
 use crate::storage::Storage;
 use crate::witnesses::Witness;
 use call_lines::{Word, allows};
@@ -68,7 +68,7 @@ pub struct HearingState {
     /// The line that ended the last put that stored items.
     pub stored_at: u64,
     /// The report so far, but for the calls under way.
-    pub report: Report,
+    pub report: CallsReport,
     /// Whether the last call of the producer has overlapped one of the consumer.
     pub put_overlaps: bool,
     /// Whether the last call of the consumer has overlapped one of the producer.
@@ -180,7 +180,8 @@ impl<S: Storage> Hearing<S> {
     pub fn new(offered: S::Offered, taken: S::Taken, limit: usize) -> Hearing<S>
         ensures no_fault { result.fault ≡ None }
         ensures limit { result.witness.limit ≡ limit }
-        ensures rooms { (S.Offered.room result.witness.auditor.inside.list ≡ S.Offered.room offered) × (S.Taken.room result.witness.taken ≡ S.Taken.room taken) }
+        ensures rooms { (S.Offered.room result.witness.auditor.inside.list ≡ S.Offered.room offered) ×
+            (S.Taken.room result.witness.taken ≡ S.Taken.room taken) }
     {
         Hearing {
             witness: Witness::new(offered, taken, limit),
@@ -197,7 +198,9 @@ impl<S: Storage> Hearing<S> {
         ensures no_fault { self.new.fault ≡ None }
         ensures begun { self.new.begun ≡ Nothing }
         ensures limit { self.new.witness.limit ≡ self.old.witness.limit }
-        ensures rooms { (S.Offered.room self.new.witness.auditor.inside.list ≡ S.Offered.room self.old.witness.auditor.inside.list) × (S.Taken.room self.new.witness.taken ≡ S.Taken.room self.old.witness.taken) }
+        ensures rooms { (S.Offered.room self.new.witness.auditor.inside.list ≡ S.Offered.room
+            self.old.witness.auditor.inside.list) ×
+            (S.Taken.room self.new.witness.taken ≡ S.Taken.room self.old.witness.taken) }
     {
         self.witness.restart(capacity_told(numbers));
         self.tally = Tally::new();
@@ -207,14 +210,19 @@ impl<S: Storage> Hearing<S> {
 
     // Hears the event of a line; behind a fault nothing is asked of it.
     pub(crate) fn hear(&mut self, line: u64, event: Event<'_>) -> Result<(), RecordingFault>
-        ensures heard { OnOk result ((capacity : ACapacity) (events : List AnEvent) → HasHeard S.Offered.items S.Taken.items self.old capacity events → length events + 2 ≡ line
+        ensures heard { OnOk result ((capacity : queues.Capacity) (events : List calls.Event) →
+            HasHeard S.Offered.items S.Taken.items self.old capacity events → length events + 2 ≡ line
             → HasHeard S.Offered.items S.Taken.items self.new capacity (events ++ told event.entry ∷ [])) }
         ensures refused { IfErr result (λ e. e ≡ OutOfMemory) }
         ensures begun { self.new.begun ≡ self.old.begun }
         ensures limit { self.new.witness.limit ≡ self.old.witness.limit }
-        ensures full { IfErr result (λ e. (capacity : ACapacity) (events : List AnEvent) → HasHeard S.Offered.items S.Taken.items self.old capacity events
-            → OutgrowsLists self.old.witness.limit (S.Offered.room self.old.witness.auditor.inside.list) (S.Taken.room self.old.witness.taken) capacity (events ++ told event.entry ∷ [])) }
-        ensures rooms { (S.Offered.room self.new.witness.auditor.inside.list ≡ S.Offered.room self.old.witness.auditor.inside.list) × (S.Taken.room self.new.witness.taken ≡ S.Taken.room self.old.witness.taken) }
+        ensures full { IfErr result (λ e. (capacity : queues.Capacity) (events : List calls.Event) →
+            HasHeard S.Offered.items S.Taken.items self.old capacity events
+            → OutgrowsLists self.old.witness.limit (S.Offered.room self.old.witness.auditor.inside.list)
+            (S.Taken.room self.old.witness.taken) capacity (events ++ told event.entry ∷ [])) }
+        ensures rooms { (S.Offered.room self.new.witness.auditor.inside.list ≡ S.Offered.room
+            self.old.witness.auditor.inside.list) ×
+            (S.Taken.room self.new.witness.taken ≡ S.Taken.room self.old.witness.taken) }
     {
         if self.fault.is_some() {
             return Ok(());
@@ -226,13 +234,18 @@ impl<S: Storage> Hearing<S> {
     // as it was.
     #[inline(always)]
     fn next(&mut self, line: u64, event: Event<'_>) -> Result<(), RecordingFault>
-        ensures heard { OnOk result (self.old.fault ≡ None → HearsNext S.Offered.items S.Taken.items self.old line (told event.entry) self.new.fault self.new) }
+        ensures heard { OnOk result (self.old.fault ≡ None →
+            HearsNext S.Offered.items S.Taken.items self.old line (told event.entry) self.new.fault self.new) }
         ensures refused { IfErr result (λ e. e ≡ OutOfMemory) }
-        ensures full { IfErr result (λ e. (capacity : ACapacity) (events : List AnEvent) → HasHeardAll S.Offered.items S.Taken.items self.old capacity events
-            → OutgrowsLists self.old.witness.limit (S.Offered.room self.old.witness.auditor.inside.list) (S.Taken.room self.old.witness.taken) capacity (events ++ told event.entry ∷ [])) }
+        ensures full { IfErr result (λ e. (capacity : queues.Capacity) (events : List calls.Event) →
+            HasHeardAll S.Offered.items S.Taken.items self.old capacity events
+            → OutgrowsLists self.old.witness.limit (S.Offered.room self.old.witness.auditor.inside.list)
+            (S.Taken.room self.old.witness.taken) capacity (events ++ told event.entry ∷ [])) }
         ensures begun { self.new.begun ≡ self.old.begun }
         ensures limit { self.new.witness.limit ≡ self.old.witness.limit }
-        ensures rooms { (S.Offered.room self.new.witness.auditor.inside.list ≡ S.Offered.room self.old.witness.auditor.inside.list) × (S.Taken.room self.new.witness.taken ≡ S.Taken.room self.old.witness.taken) }
+        ensures rooms { (S.Offered.room self.new.witness.auditor.inside.list ≡ S.Offered.room
+            self.old.witness.auditor.inside.list) ×
+            (S.Taken.room self.new.witness.taken ≡ S.Taken.room self.old.witness.taken) }
     {
         let offered = self.witness.auditor.offered();
         match self.witness.hear(line, event) {
@@ -264,9 +277,12 @@ impl<S: Storage> Hearing<S> {
         word: Word,
         numbers: &[u64],
     ) -> Result<Option<CallsFinding>, RecordingFault>
-        ensures heard { HearsLine S.Offered.items S.Taken.items (S.Offered.room self.old.witness.auditor.inside.list) (S.Taken.room self.old.witness.taken) self.old line word numbers.now result self.new }
+        ensures heard { HearsLine S.Offered.items S.Taken.items (S.Offered.room self.old.witness.auditor.inside.list)
+            (S.Taken.room self.old.witness.taken) self.old line word numbers.now result self.new }
         ensures limit { self.new.witness.limit ≡ self.old.witness.limit }
-        ensures rooms { (S.Offered.room self.new.witness.auditor.inside.list ≡ S.Offered.room self.old.witness.auditor.inside.list) × (S.Taken.room self.new.witness.taken ≡ S.Taken.room self.old.witness.taken) }
+        ensures rooms { (S.Offered.room self.new.witness.auditor.inside.list ≡ S.Offered.room
+            self.old.witness.auditor.inside.list) ×
+            (S.Taken.room self.new.witness.taken ≡ S.Taken.room self.old.witness.taken) }
     {
         if !allows(word, numbers) {
             return Err(RecordingFault::BadLine(line));
@@ -348,7 +364,9 @@ impl<S: Storage> Hearing<S> {
 
     /// What is found of what was heard.
     pub fn finding(&self) -> CallsFinding
-        ensures { (capacity : ACapacity) (events : List AnEvent) → HasHeard S.Offered.items S.Taken.items self.now capacity events → IsFoundWithin self.now.witness.limit capacity events result }
+        ensures { (capacity : queues.Capacity) (events : List calls.Event) →
+            HasHeard S.Offered.items S.Taken.items self.now capacity events →
+            IsFoundWithin self.now.witness.limit capacity events result }
     {
         match self.fault {
             Some(fault) => fault,
@@ -357,8 +375,10 @@ impl<S: Storage> Hearing<S> {
     }
 
     /// The report on what was heard, where no fault was found.
-    pub fn report(&self) -> Report
-        ensures { (capacity : ACapacity) (events : List AnEvent) → HasHeardAll S.Offered.items S.Taken.items self.now capacity events → IsFoundWithin self.now.witness.limit capacity events (Lawful result) }
+    pub fn report(&self) -> CallsReport
+        ensures { (capacity : queues.Capacity) (events : List calls.Event) →
+            HasHeardAll S.Offered.items S.Taken.items self.now capacity events →
+            IsFoundWithin self.now.witness.limit capacity events (Lawful result) }
     {
         self.tally.report(&self.witness.auditor)
     }

@@ -39,7 +39,8 @@ pub trait Inside: Drop {
     /// Adds an item, which this line offered, at the back. Where room for it is refused all stays as it was.
     fn push_back(&mut self, item: u64, line: u64) -> Result<(), AllocError>
         ensures items { items self.new ≡ (if is_ok result then items self.old ++ item ∷ [] else items self.old) }
-        ensures entries { entries self.new ≡ (if is_ok result then entries self.old ++ entry item line ∷ [] else entries self.old) }
+        ensures entries { entries self.new ≡ (if is_ok result then entries self.old ++ entry item line ∷ [] else entries
+            self.old) }
         ensures full { OnErr result (room self.old ≤ length (items self.old)) }
         ensures kept { room self.new ≡ room self.old };
 

@@ -1,7 +1,7 @@
 //! The text of recorded calls, read in pieces, and what is found.
 ghost use Rattle.std.specs.Prelude.{◌≡◌, ◌≢◌, ◌+◌, ◌⊎◌, List, [], ◌∷◌, ℕ, ◌++◌, None, IfErr, IfOk, OnOk, MatchOption};
-ghost use Rattle.queue_calls.specs.Calls.{Event as AnEvent};
-ghost use Rattle.queue_calls.specs.Queue.{Capacity as ACapacity};
+ghost use Rattle.queue_calls.specs.Calls as calls;
+ghost use Rattle.queue_calls.specs.Queue as queues;
 ghost use Rattle.queue_calls.specs.Told.{told};
 ghost use Rattle.queue_calls.specs.Recordings.{IsFaultOf, IsFindingOf, IsRecording, Line, RefusesText, lines_text};
 ghost use Rattle.queue_calls.specs.RecordingStates.{ContinuesLines, HasLines, HasNoFeed, HasRead, RefusesLine};
@@ -12,8 +12,8 @@ ghost use Rattle.queue_calls.specs.declared.entries.TheConstants.{TAKEN_LIMIT};
 use crate::causes::Cause;
 use crate::entries::TAKEN_LIMIT;
 use crate::hearings::{Hearing, begun_after, event_told};
-use crate::reports::Report;
-use crate::storage::{Lists, Memory, Storage};
+use crate::reports::CallsReport;
+use crate::storage::{Lists, Owned, Storage};
 use call_lines::{Word, read_line};
 use lists::Store;
 use memchr::memchr;
@@ -28,7 +28,7 @@ use std::fmt;
 #[derive(Clone, Copy, PartialEq, Eq, Debug)]
 pub enum CallsFinding {
     /// The history is linearizable.
-    Lawful(Report),
+    Lawful(CallsReport),
     /// The event of this line, counted from 1, is out of turn: a call begins while one of its side is under way; or one ends that
     /// is not under way, or with more items than it offered or wanted.
     OutOfTurn { line: u64 },
@@ -113,11 +113,20 @@ impl<S: Storage> Lines<S> {
 
     // Reads one more line, without its line feed.
     fn read(&mut self, line: &[u8]) -> Result<(), RecordingFault>
-        ensures read { OnOk result ((before : List Line) → HasLines S.Offered.items S.Taken.items self.old before → (l : Line) × ContinuesLines before line.now l × HasLines S.Offered.items S.Taken.items self.new (before ++ l ∷ [])) }
-        ensures refused { IfErr result (λ e. (before : List Line) → HasLines S.Offered.items S.Taken.items self.old before → RefusesLine e before line.now) }
-        ensures full { IfErr result (λ e. e ≡ OutOfMemory → (before : List Line) → HasLines S.Offered.items S.Taken.items self.old before
-            → HasLongHistory TAKEN_LIMIT (S.Offered.room self.old.hearing.witness.auditor.inside.list) (S.Taken.room self.old.hearing.witness.taken) (lines_text before ++ (line.now ++ 10 ∷ [])) ⊎ BeginsWithNumbers (S.Numbers.room self.old.numbers) line.now) }
-        ensures rooms { (S.Offered.room self.new.hearing.witness.auditor.inside.list ≡ S.Offered.room self.old.hearing.witness.auditor.inside.list) × (S.Taken.room self.new.hearing.witness.taken ≡ S.Taken.room self.old.hearing.witness.taken) × (S.Numbers.room self.new.numbers ≡ S.Numbers.room self.old.numbers) }
+        ensures read { OnOk result ((before : List Line) → HasLines S.Offered.items S.Taken.items self.old before →
+            (l : Line) × ContinuesLines before line.now l ×
+            HasLines S.Offered.items S.Taken.items self.new (before ++ l ∷ [])) }
+        ensures refused { IfErr result (λ e. (before : List Line) →
+            HasLines S.Offered.items S.Taken.items self.old before → RefusesLine e before line.now) }
+        ensures full { IfErr result (λ e. e ≡ OutOfMemory → (before : List Line) →
+            HasLines S.Offered.items S.Taken.items self.old before
+            → HasLongHistory TAKEN_LIMIT (S.Offered.room self.old.hearing.witness.auditor.inside.list)
+            (S.Taken.room self.old.hearing.witness.taken) (lines_text before ++ (line.now ++ 10 ∷ [])) ⊎
+            BeginsWithNumbers (S.Numbers.room self.old.numbers) line.now) }
+        ensures rooms { (S.Offered.room self.new.hearing.witness.auditor.inside.list ≡ S.Offered.room
+            self.old.hearing.witness.auditor.inside.list) ×
+            (S.Taken.room self.new.hearing.witness.taken ≡ S.Taken.room self.old.hearing.witness.taken) ×
+            (S.Numbers.room self.new.numbers ≡ S.Numbers.room self.old.numbers) }
     {
         let Some(count) = self.count.checked_add(1) else {
             return Err(RecordingFault::TooLong);
@@ -160,17 +169,18 @@ pub struct RecordingIn<S: Storage> {
 /// A recording in memory of an allocator.
 ///
 /// In use: `uses::findings::found_in`.
-pub type Recording<A> = RecordingIn<Memory<A>>;
+pub type Recording<A> = RecordingIn<Owned<A>>;
 
 // The bytes before the first line feed, and those behind it.
 fn split_line(bytes: &[u8]) -> Option<(&[u8], &[u8])>
-    ensures { MatchOption result (HasNoFeed bytes.now) (λ x. HasNoFeed x.0.now × (bytes.now ≡ x.0.now ++ 10 ∷ x.1.now)) }
+    ensures { MatchOption result (HasNoFeed bytes.now) (λ x. HasNoFeed x.0.now ×
+        (bytes.now ≡ x.0.now ++ 10 ∷ x.1.now)) }
 {
     let end = memchr(b'\n', bytes)?;
     Some((&bytes[..end], &bytes[end + 1..]))
 }
 
-impl<A: Allocator + Copy> RecordingIn<Memory<A>> {
+impl<A: Allocator + Copy> RecordingIn<Owned<A>> {
     /// A recording of which nothing was read.
     pub fn new(alloc: A) -> Recording<A>
         ensures { HasRead (λ q. q.items) (λ q. q.items) (λ v. v.items) result [] }
@@ -190,7 +200,9 @@ impl<S: Storage> RecordingIn<S> {
     /// A recording of which nothing was read, with these lists to read it in. What they hold is taken away.
     pub fn within(lists: Lists<S>) -> RecordingIn<S>
         ensures read { HasRead S.Offered.items S.Taken.items S.Bytes.items result [] }
-        ensures rooms { rooms_in S.Offered.room S.Taken.room S.Numbers.room S.Bytes.room result ≡ rooms_of S.Offered.room S.Taken.room S.Numbers.room S.Bytes.room lists.offered lists.taken lists.numbers lists.bytes }
+        ensures rooms { rooms_in S.Offered.room S.Taken.room S.Numbers.room S.Bytes.room result ≡ rooms_of
+            S.Offered.room S.Taken.room S.Numbers.room S.Bytes.room lists.offered lists.taken lists.numbers
+            lists.bytes }
     {
         let Lists {
             offered,
@@ -218,10 +230,18 @@ impl<S: Storage> RecordingIn<S> {
     /// the items that are inside or offered, for the last [`TAKEN_LIMIT`](crate::TAKEN_LIMIT) taken, for the numbers of a line, or for
     /// its bytes. A recording that gave one of these is of no further use.
     pub fn read(&mut self, piece: &[u8]) -> Result<(), RecordingFault>
-        ensures read { OnOk result ((bytes : List ℕ) → HasRead S.Offered.items S.Taken.items S.Bytes.items self.old bytes → HasRead S.Offered.items S.Taken.items S.Bytes.items self.new (bytes ++ piece.now)) }
-        ensures refused { IfErr result (λ e. (bytes more : List ℕ) → HasRead S.Offered.items S.Taken.items S.Bytes.items self.old bytes → RefusesText e (bytes ++ (piece.now ++ more))) }
-        ensures full { IfErr result (λ e. e ≡ OutOfMemory → (bytes : List ℕ) → HasRead S.Offered.items S.Taken.items S.Bytes.items self.old bytes → AreTooShort (rooms_in S.Offered.room S.Taken.room S.Numbers.room S.Bytes.room self.old) (bytes ++ piece.now)) }
-        ensures rooms { rooms_in S.Offered.room S.Taken.room S.Numbers.room S.Bytes.room self.new ≡ rooms_in S.Offered.room S.Taken.room S.Numbers.room S.Bytes.room self.old }
+        ensures read { OnOk result ((bytes : List ℕ) →
+            HasRead S.Offered.items S.Taken.items S.Bytes.items self.old bytes →
+            HasRead S.Offered.items S.Taken.items S.Bytes.items self.new (bytes ++ piece.now)) }
+        ensures refused { IfErr result (λ e. (bytes more : List ℕ) →
+            HasRead S.Offered.items S.Taken.items S.Bytes.items self.old bytes →
+            RefusesText e (bytes ++ (piece.now ++ more))) }
+        ensures full { IfErr result (λ e. e ≡ OutOfMemory → (bytes : List ℕ) →
+            HasRead S.Offered.items S.Taken.items S.Bytes.items self.old bytes →
+            AreTooShort (rooms_in S.Offered.room S.Taken.room S.Numbers.room S.Bytes.room self.old)
+            (bytes ++ piece.now)) }
+        ensures rooms { rooms_in S.Offered.room S.Taken.room S.Numbers.room S.Bytes.room self.new ≡ rooms_in
+            S.Offered.room S.Taken.room S.Numbers.room S.Bytes.room self.old }
     {
         let mut rest = piece;
         while let Some((end, more)) = split_line(rest) {
@@ -235,10 +255,21 @@ impl<S: Storage> RecordingIn<S> {
     // Reads the end of a line, without its line feed.
     fn read_end(&mut self, end: &[u8]) -> Result<(), RecordingFault>
         requires { HasNoFeed end.now }
-        ensures read { OnOk result ((bytes : List ℕ) → HasRead S.Offered.items S.Taken.items S.Bytes.items self.old bytes → HasRead S.Offered.items S.Taken.items S.Bytes.items self.new (bytes ++ end.now ++ 10 ∷ [])) }
-        ensures refused { IfErr result (λ e. (bytes more : List ℕ) → HasRead S.Offered.items S.Taken.items S.Bytes.items self.old bytes → RefusesText e (bytes ++ (end.now ++ 10 ∷ more))) }
-        ensures full { IfErr result (λ e. e ≡ OutOfMemory → (bytes : List ℕ) → HasRead S.Offered.items S.Taken.items S.Bytes.items self.old bytes → AreTooShort (rooms_in S.Offered.room S.Taken.room S.Numbers.room S.Bytes.room self.old) (bytes ++ (end.now ++ 10 ∷ []))) }
-        ensures rooms { (S.Offered.room self.new.lines.hearing.witness.auditor.inside.list ≡ S.Offered.room self.old.lines.hearing.witness.auditor.inside.list) × (S.Taken.room self.new.lines.hearing.witness.taken ≡ S.Taken.room self.old.lines.hearing.witness.taken) × (S.Numbers.room self.new.lines.numbers ≡ S.Numbers.room self.old.lines.numbers) × (S.Bytes.room self.new.cut ≡ S.Bytes.room self.old.cut) }
+        ensures read { OnOk result ((bytes : List ℕ) →
+            HasRead S.Offered.items S.Taken.items S.Bytes.items self.old bytes →
+            HasRead S.Offered.items S.Taken.items S.Bytes.items self.new (bytes ++ end.now ++ 10 ∷ [])) }
+        ensures refused { IfErr result (λ e. (bytes more : List ℕ) →
+            HasRead S.Offered.items S.Taken.items S.Bytes.items self.old bytes →
+            RefusesText e (bytes ++ (end.now ++ 10 ∷ more))) }
+        ensures full { IfErr result (λ e. e ≡ OutOfMemory → (bytes : List ℕ) →
+            HasRead S.Offered.items S.Taken.items S.Bytes.items self.old bytes →
+            AreTooShort (rooms_in S.Offered.room S.Taken.room S.Numbers.room S.Bytes.room self.old)
+            (bytes ++ (end.now ++ 10 ∷ []))) }
+        ensures rooms { (S.Offered.room self.new.lines.hearing.witness.auditor.inside.list ≡ S.Offered.room
+            self.old.lines.hearing.witness.auditor.inside.list) ×
+            (S.Taken.room self.new.lines.hearing.witness.taken ≡ S.Taken.room self.old.lines.hearing.witness.taken) ×
+            (S.Numbers.room self.new.lines.numbers ≡ S.Numbers.room self.old.lines.numbers) ×
+            (S.Bytes.room self.new.cut ≡ S.Bytes.room self.old.cut) }
     {
         if self.cut.is_empty() {
             return match self.lines.read(end) {
@@ -266,22 +297,27 @@ impl<S: Storage> RecordingIn<S> {
     /// Whether its first line tells that the calls behind the last line are missing, as a log was full. It is told of a text that has a
     /// first line.
     pub fn is_cut(&self) -> bool
-        ensures { (bytes : List ℕ) → HasRead S.Offered.items S.Taken.items S.Bytes.items self.now bytes → (capacity : ACapacity) (events : List AnEvent) (is : IsRecording bytes capacity events) → result ≡ is.is_cut }
+        ensures { (bytes : List ℕ) → HasRead S.Offered.items S.Taken.items S.Bytes.items self.now bytes →
+            (capacity : queues.Capacity) (events : List calls.Event) (is : IsRecording bytes capacity events) →
+            result ≡ is.is_cut }
     {
         self.lines.lacks_calls
     }
 
     /// The first fault of the lines that have ended, if there is one.
     pub fn fault(&self) -> Option<CallsFinding>
-        ensures { (bytes : List ℕ) → HasRead S.Offered.items S.Taken.items S.Bytes.items self.now bytes → (ended : List ℕ) × (rest : List ℕ) × (bytes ≡ ended ++ rest) × HasNoFeed rest × IsFaultOf ended result }
+        ensures { (bytes : List ℕ) → HasRead S.Offered.items S.Taken.items S.Bytes.items self.now bytes →
+            (ended : List ℕ) × (rest : List ℕ) × (bytes ≡ ended ++ rest) × HasNoFeed rest × IsFaultOf ended result }
     {
         self.lines.hearing.fault
     }
 
     /// What is found, where the text ends here: `BadLine` where its last line has not ended, or there is none. No memory is taken.
     pub fn finding(&self) -> Result<CallsFinding, RecordingFault>
-        ensures found { IfOk result (λ finding. (bytes : List ℕ) → HasRead S.Offered.items S.Taken.items S.Bytes.items self.now bytes → IsFindingOf bytes finding) }
-        ensures refused { IfErr result (λ e. (bytes : List ℕ) → HasRead S.Offered.items S.Taken.items S.Bytes.items self.now bytes → RefusesText e bytes) }
+        ensures found { IfOk result (λ finding. (bytes : List ℕ) →
+            HasRead S.Offered.items S.Taken.items S.Bytes.items self.now bytes → IsFindingOf bytes finding) }
+        ensures refused { IfErr result (λ e. (bytes : List ℕ) →
+            HasRead S.Offered.items S.Taken.items S.Bytes.items self.now bytes → RefusesText e bytes) }
         ensures takes_no_memory { IfErr result (λ e. e ≢ OutOfMemory) }
     {
         if self.lines.count > 0 && self.cut.is_empty() {

@@ -1,6 +1,7 @@
 //! What is told of a history that is linearizable.
 ghost use Rattle.std.specs.Prelude.{◌≡◌, ℕ, ◌+◌, ◌∷◌, [], List, max};
-ghost use Rattle.queue_calls.specs.Calls.{Event as AnEvent, CloseBegin, TakeBegin};
+ghost use Rattle.queue_calls.specs.Calls as calls;
+ghost use Rattle.queue_calls.specs.Calls.{CloseBegin, TakeBegin};
 ghost use Rattle.queue_calls.specs.Counting.{kept_by};
 ghost use Rattle.queue_calls.specs.Reporting.{as_number, capped, put_is_open, take_is_open};
 ghost use Rattle.queue_calls.specs.Tallying.{HaveNumbersOf, HaveOtherNumbersOf, IsToldOf, Tallies, least_kept, most_behind, most_kept, has_put, has_take};
@@ -17,7 +18,7 @@ use crate::insides::Inside;
 /// In use: `uses::findings::found_in`.
 #[repr(C)]
 #[derive(Clone, Copy, PartialEq, Eq, Debug)]
-pub struct Report {
+pub struct CallsReport {
     /// Calls that have begun.
     pub calls: usize,
     /// Items stored by puts that have ended.
@@ -45,7 +46,7 @@ pub struct Report {
 // The report on the events so far; and whether the call under way of each side has overlapped one of the other.
 #[derive(Drop)]
 pub struct Tally {
-    pub(crate) report: Report,
+    pub(crate) report: CallsReport,
     pub(crate) put_overlaps: bool,
     pub(crate) take_overlaps: bool,
 }
@@ -56,7 +57,7 @@ impl Tally {
         ensures inside { (result.report.surely_inside ≡ 0) × (result.report.perhaps_inside ≡ 0) }
     {
         Tally {
-            report: Report {
+            report: CallsReport {
                 calls: 0,
                 stored: 0,
                 taken: 0,
@@ -75,8 +76,9 @@ impl Tally {
     }
 
     // The report, of an auditor that has read the events.
-    pub fn report<Q: Inside>(&self, auditor: &CallAuditor<Q>) -> Report
-        ensures under_way { result.under_way ≡ as_number (has_put auditor.now.put) + as_number (has_take auditor.now.take) }
+    pub fn report<Q: Inside>(&self, auditor: &CallAuditor<Q>) -> CallsReport
+        ensures under_way { result.under_way ≡ as_number (has_put auditor.now.put) + as_number
+            (has_take auditor.now.take) }
         ensures numbers { HaveNumbersOf self.now.report result }
     {
         let mut report = self.report;
@@ -86,9 +88,13 @@ impl Tally {
 
     // Counts an event that an auditor has read; before it so many items were offered.
     pub fn count<Q: Inside>(&mut self, event: Event<'_>, offered: usize, auditor: &CallAuditor<Q>)
-        ensures tallies { (past : List AnEvent) → Tallies past self.old → IsToldOf (told event.entry) past offered auditor.now.put auditor.now.take → Tallies (told event.entry ∷ past) self.new }
-        ensures surely { self.new.report.surely_inside ≡ max self.old.report.surely_inside (least_kept (kept_by Q.items auditor.now)) }
-        ensures perhaps { self.new.report.perhaps_inside ≡ most_behind (told event.entry) self.old.report.perhaps_inside (most_kept (meant auditor.now.capacity) (kept_by Q.items auditor.now)) }
+        ensures tallies { (past : List calls.Event) → Tallies past self.old →
+            IsToldOf (told event.entry) past offered auditor.now.put auditor.now.take →
+            Tallies (told event.entry ∷ past) self.new }
+        ensures surely { self.new.report.surely_inside ≡ max self.old.report.surely_inside
+            (least_kept (kept_by Q.items auditor.now)) }
+        ensures perhaps { self.new.report.perhaps_inside ≡ most_behind (told event.entry) self.old.report.perhaps_inside
+            (most_kept (meant auditor.now.capacity) (kept_by Q.items auditor.now)) }
     {
         self.adds(event, offered, auditor);
         self.report.surely_inside = self.report.surely_inside.max(auditor.least_inside());
@@ -96,9 +102,12 @@ impl Tally {
 
     // Counts all of an event but what was inside whatever the order.
     fn adds<Q: Inside>(&mut self, event: Event<'_>, offered: usize, auditor: &CallAuditor<Q>)
-        ensures tallies { (past : List AnEvent) → Tallies past self.old → IsToldOf (told event.entry) past offered auditor.now.put auditor.now.take → Tallies (told event.entry ∷ past) self.new }
+        ensures tallies { (past : List calls.Event) → Tallies past self.old →
+            IsToldOf (told event.entry) past offered auditor.now.put auditor.now.take →
+            Tallies (told event.entry ∷ past) self.new }
         ensures surely { self.new.report.surely_inside ≡ self.old.report.surely_inside }
-        ensures perhaps { self.new.report.perhaps_inside ≡ most_behind (told event.entry) self.old.report.perhaps_inside (most_kept (meant auditor.now.capacity) (kept_by Q.items auditor.now)) }
+        ensures perhaps { self.new.report.perhaps_inside ≡ most_behind (told event.entry) self.old.report.perhaps_inside
+            (most_kept (meant auditor.now.capacity) (kept_by Q.items auditor.now)) }
     {
         match event {
             Event::PutBegins(_) => {
@@ -132,8 +141,10 @@ impl Tally {
     }
 
     fn put_begins(&mut self, is_taking: bool)
-        ensures tallies { (past : List AnEvent) → Tallies past self.old → is_taking ≡ take_is_open past → Tallies (CloseBegin ∷ past) self.new }
-        ensures inside { (self.new.report.surely_inside ≡ self.old.report.surely_inside) × (self.new.report.perhaps_inside ≡ self.old.report.perhaps_inside) }
+        ensures tallies { (past : List calls.Event) → Tallies past self.old → is_taking ≡ take_is_open past →
+            Tallies (CloseBegin ∷ past) self.new }
+        ensures inside { (self.new.report.surely_inside ≡ self.old.report.surely_inside) ×
+            (self.new.report.perhaps_inside ≡ self.old.report.perhaps_inside) }
     {
         self.begins(is_taking && !self.take_overlaps, is_taking);
         self.put_overlaps = is_taking;
@@ -141,8 +152,10 @@ impl Tally {
     }
 
     fn take_begins(&mut self, is_putting: bool)
-        ensures tallies { (past : List AnEvent) (wanted : ℕ) → Tallies past self.old → is_putting ≡ put_is_open past → Tallies (TakeBegin wanted ∷ past) self.new }
-        ensures inside { (self.new.report.surely_inside ≡ self.old.report.surely_inside) × (self.new.report.perhaps_inside ≡ self.old.report.perhaps_inside) }
+        ensures tallies { (past : List calls.Event) (wanted : ℕ) → Tallies past self.old →
+            is_putting ≡ put_is_open past → Tallies (TakeBegin wanted ∷ past) self.new }
+        ensures inside { (self.new.report.surely_inside ≡ self.old.report.surely_inside) ×
+            (self.new.report.perhaps_inside ≡ self.old.report.perhaps_inside) }
     {
         self.begins(is_putting && !self.put_overlaps, is_putting);
         self.take_overlaps = is_putting;
@@ -152,8 +165,10 @@ impl Tally {
     // Counts a call that begins; whether it is the first that overlaps that of the other side, and whether it overlaps one.
     fn begins(&mut self, is_first: bool, overlaps: bool)
         ensures calls { self.new.report.calls ≡ capped (self.old.report.calls + 1) }
-        ensures overlapped { self.new.report.overlapped ≡ capped (self.old.report.overlapped + (as_number is_first + as_number overlaps)) }
-        ensures others { HaveOtherNumbersOf self.old.report self.new.report × (self.new.put_overlaps ≡ self.old.put_overlaps) × (self.new.take_overlaps ≡ self.old.take_overlaps) }
+        ensures overlapped { self.new.report.overlapped ≡ capped
+            (self.old.report.overlapped + (as_number is_first + as_number overlaps)) }
+        ensures others { HaveOtherNumbersOf self.old.report self.new.report ×
+            (self.new.put_overlaps ≡ self.old.put_overlaps) × (self.new.take_overlaps ≡ self.old.take_overlaps) }
     {
         self.report.calls = self.report.calls.saturating_add(1);
         let more = usize::from(is_first) + usize::from(overlaps);

@@ -6,7 +6,7 @@ use std::alloc::Allocator;
 use std::collections::VecDeque;
 use std::marker::PhantomData;
 
-/// Where the lists of a recording lie: in [`Memory`] of an allocator, or [`Lent`] by the caller.
+/// Where the lists of a recording lie: in [`Owned`] of an allocator, or [`Lent`] by the caller.
 ///
 /// In use: `uses::findings::found_in_slots`.
 pub trait Storage {
@@ -24,11 +24,11 @@ pub trait Storage {
 ///
 /// In use: `uses::findings::found_in`.
 #[derive(Drop)]
-pub struct Memory<A: Allocator> {
+pub struct Owned<A: Allocator> {
     of: PhantomData<A>,
 }
 
-impl<A: Allocator> Storage for Memory<A> {
+impl<A: Allocator> Storage for Owned<A> {
     type Offered = VecDeque<Offered, A>;
 
     type Taken = VecDeque<Taken, A>;

@@ -1,7 +1,8 @@
 //! What is kept of a history to judge the next event, and to say what speaks against it.
 ghost use Rattle.std.specs.Prelude.{◌≡◌, ℕ, Bool, ◌<◌, ◌≤◌, ◌+◌, ◌++◌, ◌∷◌, [], List, IfErr, OnOk, Some, length, map, drop, reverse, unwrap_or};
-ghost use Rattle.queue_calls.specs.Queue.{Capacity as ACapacity};
-ghost use Rattle.queue_calls.specs.Calls.{Event as AnEvent, TakeItems, TakeClosed, IsLinearizable};
+ghost use Rattle.queue_calls.specs.Queue as queues;
+ghost use Rattle.queue_calls.specs.Calls as calls;
+ghost use Rattle.queue_calls.specs.Calls.{TakeItems, TakeClosed, IsLinearizable};
 ghost use Rattle.queue_calls.specs.InTurn.{APut, ATake, CallsAreInTurn};
 ghost use Rattle.queue_calls.specs.State.{IsProper, call_of_put, call_of_take};
 ghost use Rattle.queue_calls.specs.Told.{meant, told};
@@ -41,7 +42,8 @@ impl<S: Storage> Witness<S> {
     // Nothing of a queue of which no capacity is told. So many of the items taken last are kept.
     pub fn new(offered: S::Offered, taken: S::Taken, limit: usize) -> Witness<S>
         ensures limit { result.limit ≡ limit }
-        ensures rooms { (S.Offered.room result.auditor.inside.list ≡ S.Offered.room offered) × (S.Taken.room result.taken ≡ S.Taken.room taken) }
+        ensures rooms { (S.Offered.room result.auditor.inside.list ≡ S.Offered.room offered) ×
+            (S.Taken.room result.taken ≡ S.Taken.room taken) }
     {
         Witness {
             auditor: CallAuditor::with(Lined { list: offered }, Capacity::Unbounded),
@@ -63,7 +65,8 @@ impl<S: Storage> Witness<S> {
         requires { IsProper (meant capacity) }
         ensures limit { self.new.limit ≡ self.old.limit }
         ensures kept { Remembers S.Offered.items S.Taken.items self.new (meant capacity) [] }
-        ensures rooms { (S.Offered.room self.new.auditor.inside.list ≡ S.Offered.room self.old.auditor.inside.list) × (S.Taken.room self.new.taken ≡ S.Taken.room self.old.taken) }
+        ensures rooms { (S.Offered.room self.new.auditor.inside.list ≡ S.Offered.room self.old.auditor.inside.list) ×
+            (S.Taken.room self.new.taken ≡ S.Taken.room self.old.taken) }
     {
         self.auditor.restart(capacity);
         self.taken.truncate(0);
@@ -79,10 +82,16 @@ impl<S: Storage> Witness<S> {
 
     // Reads the next event, of this line, or refuses it.
     pub fn hear(&mut self, line: u64, event: Event<'_>) -> Result<(), Fault>
-        ensures kept { OnOk result ((capacity : ACapacity) (events : List AnEvent) → Remembers S.Offered.items S.Taken.items self.old capacity events → length events + 2 ≡ line → Remembers S.Offered.items S.Taken.items self.new capacity (events ++ told event.entry ∷ [])) }
-        ensures refused { IfErr result (λ fault. (capacity : ACapacity) (events : List AnEvent) → Remembers S.Offered.items S.Taken.items self.old capacity events → RefusesNext S.Offered.items S.Taken.items (S.Offered.room self.old.auditor.inside.list) (S.Taken.room self.old.taken) self.new capacity events (told event.entry) fault) }
+        ensures kept { OnOk result ((capacity : queues.Capacity) (events : List calls.Event) →
+            Remembers S.Offered.items S.Taken.items self.old capacity events → length events + 2 ≡ line →
+            Remembers S.Offered.items S.Taken.items self.new capacity (events ++ told event.entry ∷ [])) }
+        ensures refused { IfErr result (λ fault. (capacity : queues.Capacity) (events : List calls.Event) →
+            Remembers S.Offered.items S.Taken.items self.old capacity events →
+            RefusesNext S.Offered.items S.Taken.items (S.Offered.room self.old.auditor.inside.list)
+            (S.Taken.room self.old.taken) self.new capacity events (told event.entry) fault) }
         ensures limit { self.new.limit ≡ self.old.limit }
-        ensures rooms { (S.Offered.room self.new.auditor.inside.list ≡ S.Offered.room self.old.auditor.inside.list) × (S.Taken.room self.new.taken ≡ S.Taken.room self.old.taken) }
+        ensures rooms { (S.Offered.room self.new.auditor.inside.list ≡ S.Offered.room self.old.auditor.inside.list) ×
+            (S.Taken.room self.new.taken ≡ S.Taken.room self.old.taken) }
     {
         self.auditor.feed_at(line, event)?;
         match event {
@@ -106,10 +115,15 @@ impl<S: Storage> Witness<S> {
 
     // This line stored the last so many of the items inside.
     fn stores(&mut self, line: u64, count: usize)
-        ensures inside { S.Offered.items self.new.auditor.inside.list ≡ mark_last line count (S.Offered.items self.old.auditor.inside.list) }
-        ensures auditor { (self.new.auditor.capacity ≡ self.old.auditor.capacity) × (self.new.auditor.put ≡ self.old.auditor.put) × (self.new.auditor.take ≡ self.old.auditor.take) × (self.new.auditor.shut ≡ self.old.auditor.shut) }
-        ensures lines { (self.new.stored_at ≡ line) × (self.new.ended_at ≡ self.old.ended_at) × (self.new.told_at ≡ self.old.told_at) × (self.new.put_at ≡ self.old.put_at) }
-        ensures taken { (self.new.taken ≡ self.old.taken) × (self.new.limit ≡ self.old.limit) × (self.new.last_taken ≡ self.old.last_taken) }
+        ensures inside { S.Offered.items self.new.auditor.inside.list ≡ mark_last line count
+            (S.Offered.items self.old.auditor.inside.list) }
+        ensures auditor { (self.new.auditor.capacity ≡ self.old.auditor.capacity) ×
+            (self.new.auditor.put ≡ self.old.auditor.put) × (self.new.auditor.take ≡ self.old.auditor.take) ×
+            (self.new.auditor.shut ≡ self.old.auditor.shut) }
+        ensures lines { (self.new.stored_at ≡ line) × (self.new.ended_at ≡ self.old.ended_at) ×
+            (self.new.told_at ≡ self.old.told_at) × (self.new.put_at ≡ self.old.put_at) }
+        ensures taken { (self.new.taken ≡ self.old.taken) × (self.new.limit ≡ self.old.limit) ×
+            (self.new.last_taken ≡ self.old.last_taken) }
         ensures room { S.Offered.room self.new.auditor.inside.list ≡ S.Offered.room self.old.auditor.inside.list }
     {
         let inside = self.auditor.inside.len();
@@ -127,10 +141,18 @@ impl<S: Storage> Witness<S> {
 
     // This line took these items.
     fn takes(&mut self, line: u64, items: &[u64]) -> Result<(), Fault>
-        ensures taken { OnOk result ((earlier : List Taken) → S.Taken.items self.old.taken ≡ last_of self.old.limit earlier → S.Taken.items self.new.taken ≡ last_of self.old.limit (earlier ++ map (taken_at line) items.now)) }
-        ensures last { (earlier : List Taken) → self.old.last_taken ≡ last_in earlier → self.new.last_taken ≡ last_in (earlier ++ map (taken_at line) items.now) }
-        ensures full { IfErr result (λ fault. (fault ≡ OutOfMemory) × ((earlier : List Taken) → S.Taken.items self.old.taken ≡ last_of self.old.limit earlier → (S.Taken.room self.old.taken < self.old.limit) × (S.Taken.room self.old.taken < length earlier + length items.now))) }
-        ensures others { (self.new.auditor ≡ self.old.auditor) × (self.new.limit ≡ self.old.limit) × (self.new.ended_at ≡ self.old.ended_at) × (self.new.told_at ≡ self.old.told_at) × (self.new.put_at ≡ self.old.put_at) × (self.new.stored_at ≡ self.old.stored_at) }
+        ensures taken { OnOk result ((earlier : List Taken) →
+            S.Taken.items self.old.taken ≡ last_of self.old.limit earlier →
+            S.Taken.items self.new.taken ≡ last_of self.old.limit (earlier ++ map (taken_at line) items.now)) }
+        ensures last { (earlier : List Taken) → self.old.last_taken ≡ last_in earlier →
+            self.new.last_taken ≡ last_in (earlier ++ map (taken_at line) items.now) }
+        ensures full { IfErr result (λ fault. (fault ≡ OutOfMemory) ×
+            ((earlier : List Taken) → S.Taken.items self.old.taken ≡ last_of self.old.limit earlier →
+            (S.Taken.room self.old.taken < self.old.limit) ×
+            (S.Taken.room self.old.taken < length earlier + length items.now))) }
+        ensures others { (self.new.auditor ≡ self.old.auditor) × (self.new.limit ≡ self.old.limit) ×
+            (self.new.ended_at ≡ self.old.ended_at) × (self.new.told_at ≡ self.old.told_at) ×
+            (self.new.put_at ≡ self.old.put_at) × (self.new.stored_at ≡ self.old.stored_at) }
         ensures room { S.Taken.room self.new.taken ≡ S.Taken.room self.old.taken }
     {
         self.last_taken = match items.last() {
@@ -174,7 +196,11 @@ impl<S: Storage> Witness<S> {
 
     // What speaks against an event of this line that comes in its turn, and with which the history is not linearizable.
     pub fn cause(&self, line: u64, event: Event<'_>) -> Cause
-        ensures { (capacity : ACapacity) (events : List AnEvent) → Remembers S.Offered.items S.Taken.items self.now capacity events → length events + 2 ≡ line → CallsAreInTurn (events ++ told event.entry ∷ []) → ¬ IsLinearizable capacity (events ++ told event.entry ∷ []) → IsCause self.now.limit capacity events (told event.entry) result }
+        ensures { (capacity : queues.Capacity) (events : List calls.Event) →
+            Remembers S.Offered.items S.Taken.items self.now capacity events → length events + 2 ≡ line →
+            CallsAreInTurn (events ++ told event.entry ∷ []) →
+            ¬ IsLinearizable capacity (events ++ told event.entry ∷ []) →
+            IsCause self.now.limit capacity events (told event.entry) result }
     {
         match event {
             Event::PutStored(count) => self.stored_cause(count, true),
@@ -203,7 +229,10 @@ impl<S: Storage> Witness<S> {
     }
 
     fn stored_cause(&self, count: usize, why: bool) -> Cause
-        ensures { (capacity : ACapacity) (events : List AnEvent) (cause : Cause) → Remembers S.Offered.items S.Taken.items self.now capacity events → (n : ℕ) → call_of_put self.now.auditor.put ≡ APut n → count ≤ n → stored_cause capacity count why (reverse events) ≡ Some cause → result ≡ cause }
+        ensures { (capacity : queues.Capacity) (events : List calls.Event) (cause : Cause) →
+            Remembers S.Offered.items S.Taken.items self.now capacity events → (n : ℕ) →
+            call_of_put self.now.auditor.put ≡ APut n → count ≤ n →
+            stored_cause capacity count why (reverse events) ≡ Some cause → result ≡ cause }
     {
         let PutTurn::Offers { offered, before } = self.auditor.put else {
             return Cause::StoredAfterClose(self.ended_line());
@@ -228,7 +257,10 @@ impl<S: Storage> Witness<S> {
     }
 
     fn full_cause(&self) -> Cause
-        ensures { (capacity : ACapacity) (events : List AnEvent) (cause : Cause) → Remembers S.Offered.items S.Taken.items self.now capacity events → (n : ℕ) → call_of_put self.now.auditor.put ≡ APut n → full_cause capacity (reverse events) ≡ Some cause → result ≡ cause }
+        ensures { (capacity : queues.Capacity) (events : List calls.Event) (cause : Cause) →
+            Remembers S.Offered.items S.Taken.items self.now capacity events → (n : ℕ) →
+            call_of_put self.now.auditor.put ≡ APut n → full_cause capacity (reverse events) ≡ Some cause →
+            result ≡ cause }
     {
         let PutTurn::Offers { offered, before } = self.auditor.put else {
             return Cause::FullAfterClose(self.ended_line());
@@ -243,7 +275,10 @@ impl<S: Storage> Witness<S> {
     }
 
     fn put_short_cause(&self) -> Cause
-        ensures { (capacity : ACapacity) (events : List AnEvent) (cause : Cause) → Remembers S.Offered.items S.Taken.items self.now capacity events → (n : ℕ) → call_of_put self.now.auditor.put ≡ APut n → put_short_cause capacity (reverse events) ≡ Some cause → result ≡ cause }
+        ensures { (capacity : queues.Capacity) (events : List calls.Event) (cause : Cause) →
+            Remembers S.Offered.items S.Taken.items self.now capacity events → (n : ℕ) →
+            call_of_put self.now.auditor.put ≡ APut n → put_short_cause capacity (reverse events) ≡ Some cause →
+            result ≡ cause }
     {
         let PutTurn::Offers { offered, before } = self.auditor.put else {
             return Cause::ShortAfterClose(self.ended_line());
@@ -259,7 +294,10 @@ impl<S: Storage> Witness<S> {
     }
 
     fn items_cause(&self, line: u64, items: &[u64], why: bool) -> Cause
-        ensures { (capacity : ACapacity) (events : List AnEvent) (cause : Cause) → Remembers S.Offered.items S.Taken.items self.now capacity events → length events + 2 ≡ line → (n : ℕ) → call_of_take self.now.auditor.take ≡ ATake n → cause_of self.now.limit capacity (TakeItems items.now why) (reverse events) ≡ Some cause → result ≡ cause }
+        ensures { (capacity : queues.Capacity) (events : List calls.Event) (cause : Cause) →
+            Remembers S.Offered.items S.Taken.items self.now capacity events → length events + 2 ≡ line → (n : ℕ) →
+            call_of_take self.now.auditor.take ≡ ATake n →
+            cause_of self.now.limit capacity (TakeItems items.now why) (reverse events) ≡ Some cause → result ≡ cause }
     {
         if let Some(told) = self.told_at {
             return Cause::ItemAfterTold(told);
@@ -290,7 +328,11 @@ impl<S: Storage> Witness<S> {
 
     // Of an item that is not the next behind these, which are.
     fn astray_cause(&self, line: u64, first: &[u64], item: u64) -> Cause
-        ensures { (capacity : ACapacity) (events : List AnEvent) (cause : Cause) (items : List ℕ) (why : Bool) → Remembers S.Offered.items S.Taken.items self.now capacity events → length events + 2 ≡ line → agreed (item ∷ []) (drop (length first.now) (coming (reverse events))) ≡ 0 → items_cause self.now.limit capacity why (reverse events) first.now (item ∷ items) (drop (length first.now) (coming (reverse events))) ≡ Some cause → result ≡ cause }
+        ensures { (capacity : queues.Capacity) (events : List calls.Event) (cause : Cause) (items : List ℕ)
+            (why : Bool) → Remembers S.Offered.items S.Taken.items self.now capacity events → length events + 2 ≡ line →
+            agreed (item ∷ []) (drop (length first.now) (coming (reverse events))) ≡ 0 →
+            items_cause self.now.limit capacity why (reverse events) first.now (item ∷ items)
+            (drop (length first.now) (coming (reverse events))) ≡ Some cause → result ≡ cause }
     {
         match self.auditor.inside.list.get(first.len()) {
             Some(next) => {
@@ -318,7 +360,9 @@ impl<S: Storage> Witness<S> {
 
     // Of an item that does not come any more.
     fn gone_cause(&self, line: u64, first: &[u64], item: u64, next: Option<Offered>) -> Cause
-        ensures { (capacity : ACapacity) (events : List AnEvent) → Remembers S.Offered.items S.Taken.items self.now capacity events → length events + 2 ≡ line → result ≡ gone_cause self.now.limit (reverse events) first.now item next }
+        ensures { (capacity : queues.Capacity) (events : List calls.Event) →
+            Remembers S.Offered.items S.Taken.items self.now capacity events → length events + 2 ≡ line →
+            result ≡ gone_cause self.now.limit (reverse events) first.now item next }
     {
         if first.contains(&item) {
             return Cause::ComesAgain {
@@ -351,7 +395,10 @@ impl<S: Storage> Witness<S> {
 
     // Of a take that gave the next items, so many, and tells why they are not more, or not.
     fn fewer_cause(&self, count: usize, why: bool) -> Cause
-        ensures { (capacity : ACapacity) (events : List AnEvent) (cause : Cause) → Remembers S.Offered.items S.Taken.items self.now capacity events → (n : ℕ) → call_of_take self.now.auditor.take ≡ ATake n → fewer_cause capacity count why (reverse events) ≡ Some cause → result ≡ cause }
+        ensures { (capacity : queues.Capacity) (events : List calls.Event) (cause : Cause) →
+            Remembers S.Offered.items S.Taken.items self.now capacity events → (n : ℕ) →
+            call_of_take self.now.auditor.take ≡ ATake n →
+            fewer_cause capacity count why (reverse events) ≡ Some cause → result ≡ cause }
     {
         let TakeTurn::Waits { wanted, before, .. } = self.auditor.take else {
             return self.not_taken_cause(count);
@@ -364,7 +411,9 @@ impl<S: Storage> Witness<S> {
 
     // Of a take that took too few: so many.
     fn not_taken_cause(&self, count: usize) -> Cause
-        ensures { (capacity : ACapacity) (events : List AnEvent) (cause : Cause) → Remembers S.Offered.items S.Taken.items self.now capacity events → not_taken_cause capacity count (reverse events) ≡ Some cause → result ≡ cause }
+        ensures { (capacity : queues.Capacity) (events : List calls.Event) (cause : Cause) →
+            Remembers S.Offered.items S.Taken.items self.now capacity events →
+            not_taken_cause capacity count (reverse events) ≡ Some cause → result ≡ cause }
     {
         Cause::NotTaken {
             inside: self
@@ -378,7 +427,10 @@ impl<S: Storage> Witness<S> {
     }
 
     fn empty_cause(&self) -> Cause
-        ensures { (capacity : ACapacity) (events : List AnEvent) (cause : Cause) → Remembers S.Offered.items S.Taken.items self.now capacity events → (n : ℕ) → call_of_take self.now.auditor.take ≡ ATake n → empty_cause capacity (reverse events) ≡ Some cause → result ≡ cause }
+        ensures { (capacity : queues.Capacity) (events : List calls.Event) (cause : Cause) →
+            Remembers S.Offered.items S.Taken.items self.now capacity events → (n : ℕ) →
+            call_of_take self.now.auditor.take ≡ ATake n → empty_cause capacity (reverse events) ≡ Some cause →
+            result ≡ cause }
     {
         if let Some(told) = self.told_at {
             return Cause::EmptyAfterTold(told);
@@ -396,7 +448,10 @@ impl<S: Storage> Witness<S> {
     }
 
     fn take_short_cause(&self) -> Cause
-        ensures { (capacity : ACapacity) (events : List AnEvent) (cause : Cause) → Remembers S.Offered.items S.Taken.items self.now capacity events → (n : ℕ) → call_of_take self.now.auditor.take ≡ ATake n → 0 < n → take_short_cause capacity (reverse events) ≡ Some cause → result ≡ cause }
+        ensures { (capacity : queues.Capacity) (events : List calls.Event) (cause : Cause) →
+            Remembers S.Offered.items S.Taken.items self.now capacity events → (n : ℕ) →
+            call_of_take self.now.auditor.take ≡ ATake n → 0 < n →
+            take_short_cause capacity (reverse events) ≡ Some cause → result ≡ cause }
     {
         if let Some(told) = self.told_at {
             return Cause::ShortAfterTold(told);
@@ -419,7 +474,9 @@ impl<S: Storage> Witness<S> {
     }
 
     fn closed_cause(&self) -> Cause
-        ensures { (capacity : ACapacity) (events : List AnEvent) (cause : Cause) → Remembers S.Offered.items S.Taken.items self.now capacity events → cause_of self.now.limit capacity TakeClosed (reverse events) ≡ Some cause → result ≡ cause }
+        ensures { (capacity : queues.Capacity) (events : List calls.Event) (cause : Cause) →
+            Remembers S.Offered.items S.Taken.items self.now capacity events →
+            cause_of self.now.limit capacity TakeClosed (reverse events) ≡ Some cause → result ≡ cause }
     {
         if self.auditor.is_closed() {
             Cause::ClosedWhileInside(self.at(0))

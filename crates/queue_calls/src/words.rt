@@ -15,7 +15,8 @@ pub const CAUSE_WORDS: usize = 256;
 // Writes a text behind the first bytes, as much of it as there is room for, and tells how many bytes stand there then.
 fn write(slots: &mut [u8], used: usize, text: &str) -> usize
     requires { used ≤ length slots.old }
-    ensures written { (words before : List ℕ) → AreWritten words before slots.old used → AreWritten (words ++ text.now) before slots.new result }
+    ensures written { (words before : List ℕ) → AreWritten words before slots.old used →
+        AreWritten (words ++ text.now) before slots.new result }
     ensures within { result ≤ length slots.new }
 {
     let count = text.len().min(slots.len() - used);
@@ -27,7 +28,8 @@ fn write(slots: &mut [u8], used: usize, text: &str) -> usize
 // The same of a number, and a text behind it.
 fn write_number(slots: &mut [u8], used: usize, number: u64, text: &str) -> usize
     requires { used ≤ length slots.old }
-    ensures written { (words before : List ℕ) → AreWritten words before slots.old used → AreWritten (words ++ (decimal number ++ text.now)) before slots.new result }
+    ensures written { (words before : List ℕ) → AreWritten words before slots.old used →
+        AreWritten (words ++ (decimal number ++ text.now)) before slots.new result }
     ensures within { result ≤ length slots.new }
 {
     let mut buffer = Buffer::new();
@@ -38,7 +40,8 @@ fn write_number(slots: &mut [u8], used: usize, number: u64, text: &str) -> usize
 // The same of what is next.
 fn write_next(slots: &mut [u8], used: usize, next: Option<Offered>) -> usize
     requires { used ≤ length slots.old }
-    ensures written { (words before : List ℕ) → AreWritten words before slots.old used → AreWritten (words ++ next_words next) before slots.new result }
+    ensures written { (words before : List ℕ) → AreWritten words before slots.old used →
+        AreWritten (words ++ next_words next) before slots.new result }
     ensures within { result ≤ length slots.new }
 {
     match next {

@@ -16,15 +16,15 @@ use Rattle.queue_calls.specs.declared.recordings.RecordingFault.{RecordingFault}
 use Rattle.queue_calls.specs.declared.recordings.RecordingFault.TheVariants.{BadLine, TooLong, OutOfMemory}
 use Rattle.queue_calls.proofs.HeardLines.{first_heard, first_line}
 use Rattle.queue_calls_c.specs.Heard.{TellsLine, TellLines, SaysOf, StopsWith, HearsSome}
-use Rattle.queue_calls_c.specs.declared.hearings.Line.{Line as Told}
+use Rattle.queue_calls_c.specs.declared.hearings.WordLine.{WordLine}
 
 -- a line is told in one way
-told_once : (next : Told) (numbers : List ℕ) (word : Word) (own : List ℕ) (l : Line) → word_of next.word ≡ Some word → own ≡ take next.count numbers → TellsLine next numbers l → l ≡ line word own
+told_once : (next : WordLine) (numbers : List ℕ) (word : Word) (own : List ℕ) (l : Line) → word_of next.word ≡ Some word → own ≡ take next.count numbers → TellsLine next numbers l → l ≡ line word own
 told_once next numbers word own l is own_is told = ap₂ line (same_Some l.word word (sym told.0 ∙ is)) (told.1 ∙ sym own_is)
 
 -- what a hearing says of a line is what is said of it as it is told
 pub says_of :
-    {S O T N B : Type 0} (offered : O → List Offered) (last : T → List Taken) (o t : ℕ) (old new : Hearing S O T N B) (before : List Line) (number : ℕ) (next : Told) (numbers : List ℕ) (word : Word) (own : List ℕ)
+    {S O T N B : Type 0} (offered : O → List Offered) (last : T → List Taken) (o t : ℕ) (old new : Hearing S O T N B) (before : List Line) (number : ℕ) (next : WordLine) (numbers : List ℕ) (word : Word) (own : List ℕ)
     (result : Result (Option CallsFinding) RecordingFault) → word_of next.word ≡ Some word → own ≡ take next.count numbers → FollowsLines offered last old false before → length before + 1 ≡ number →
     HearsLine offered last o t old number word own result new → SaysOf old.witness.limit o t (FollowsLines offered last new false) before next numbers result
 says_of offered last o t old new before number next numbers word own (Ok None) is own_is follows count hears = (line word own, (is, own_is), hears false before follows count)
@@ -38,7 +38,7 @@ says_of offered last o t old new before number next numbers word own (Err OutOfM
 
 -- one line more is told
 pub told_more :
-    (lines : List Told) (numbers : List ℕ) (heard : List Line) (rest : List ℕ) (next : Told) (l : Line) → TellLines lines numbers heard rest → TellsLine next rest l →
+    (lines : List WordLine) (numbers : List ℕ) (heard : List Line) (rest : List ℕ) (next : WordLine) (l : Line) → TellLines lines numbers heard rest → TellsLine next rest l →
     TellLines (lines ++ next ∷ []) numbers (heard ++ l ∷ []) (drop next.count rest)
 told_more [] numbers [] rest next l are told = ((told.0, told.1 ∙ ap (λ ns. take next.count ns) are), ap (λ ns. drop next.count ns) are)
 told_more [] numbers (h ∷ heard) rest next l are told = absurd are
@@ -49,7 +49,7 @@ told_more (first ∷ lines) numbers (h ∷ heard) rest next l are told = (are.0,
 
 module _ (m o t : ℕ) where
   pub says_map :
-      (F G : List Line → Type 0) (heard : List Line) (next : Told) (numbers : List ℕ) (said : Result (Option CallsFinding) RecordingFault) → said ≢ Ok None → (F heard → G heard) →
+      (F G : List Line → Type 0) (heard : List Line) (next : WordLine) (numbers : List ℕ) (said : Result (Option CallsFinding) RecordingFault) → said ≢ Ok None → (F heard → G heard) →
       SaysOf m o t F heard next numbers said → SaysOf m o t G heard next numbers said
   says_map F G heard next numbers (Ok None) other f s = absurd (other refl)
   says_map F G heard next numbers (Ok (Some finding)) other f s = (f s.0, s.1, s.2, s.3, s.4)
@@ -58,13 +58,13 @@ module _ (m o t : ℕ) where
   says_map F G heard next numbers (Err OutOfMemory) other f s = s
 
   stops_map :
-      (F G : List Line → Type 0) (heard : List Line) (lines : List Told) (rest : List ℕ) (said : Result (Option CallsFinding) RecordingFault) → (F heard → G heard) →
+      (F G : List Line → Type 0) (heard : List Line) (lines : List WordLine) (rest : List ℕ) (said : Result (Option CallsFinding) RecordingFault) → (F heard → G heard) →
       StopsWith m o t F heard lines rest said → StopsWith m o t G heard lines rest said
   stops_map F G heard [] rest said f s = (s.0, f s.1)
   stops_map F G heard (next ∷ more) rest said f s = (s.0, says_map F G heard next rest said s.0 f s.1)
 
   pub some_map :
-      (F G : List Line → Type 0) (before : List Line) (lines : List Told) (numbers : List ℕ) (count : ℕ) (said : Result (Option CallsFinding) RecordingFault) → ((ls : List Line) → F ls → G ls) →
+      (F G : List Line → Type 0) (before : List Line) (lines : List WordLine) (numbers : List ℕ) (count : ℕ) (said : Result (Option CallsFinding) RecordingFault) → ((ls : List Line) → F ls → G ls) →
       HearsSome m o t F before lines numbers count said → HearsSome m o t G before lines numbers count said
   some_map F G before lines numbers count said f s = record {
     heard = s.heard;
@@ -76,7 +76,7 @@ module _ (m o t : ℕ) where
 
   -- one is at hand of which something is said
   pub stops_at :
-      (F : List Line → Type 0) (heard : List Line) (lines : List Told) (count : ℕ) (d : Told) (rest : List ℕ) (said : Result (Option CallsFinding) RecordingFault) → count < length lines → said ≢ Ok None →
+      (F : List Line → Type 0) (heard : List Line) (lines : List WordLine) (count : ℕ) (d : WordLine) (rest : List ℕ) (said : Result (Option CallsFinding) RecordingFault) → count < length lines → said ≢ Ok None →
       SaysOf m o t F heard (get_or lines count d) rest said → StopsWith m o t F heard (drop count lines) rest said
   stops_at F heard [] count d rest said l other s = absurd (omega (arith, l))
   stops_at F heard (next ∷ more) zero d rest said l other s = (other, s)
@@ -84,14 +84,14 @@ module _ (m o t : ℕ) where
 
   -- there is none
   pub stops_none :
-      (F : List Line → Type 0) (heard : List Line) (lines : List Told) (count : ℕ) (rest : List ℕ) → length lines ≤ count → F heard → StopsWith m o t F heard (drop count lines) rest (Ok None)
+      (F : List Line → Type 0) (heard : List Line) (lines : List WordLine) (count : ℕ) (rest : List ℕ) → length lines ≤ count → F heard → StopsWith m o t F heard (drop count lines) rest (Ok None)
   stops_none F heard [] zero rest l f = (refl, f)
   stops_none F heard [] (suc count) rest l f = (refl, f)
   stops_none F heard (next ∷ more) zero rest l f = absurd (omega (arith, l))
   stops_none F heard (next ∷ more) (suc count) rest l f = stops_none F heard more count rest (omega (arith, l)) f
 
 -- the lines before this one, and this one
-pub with_next : (lines : List Told) (count : ℕ) (d : Told) → count < length lines → take count lines ++ get_or lines count d ∷ [] ≡ take (suc count) lines
+pub with_next : (lines : List WordLine) (count : ℕ) (d : WordLine) → count < length lines → take count lines ++ get_or lines count d ∷ [] ≡ take (suc count) lines
 with_next [] count d l = absurd (omega (arith, l))
 with_next (next ∷ more) zero d l = refl
 with_next (next ∷ more) (suc count) d l = ap (λ ls. next ∷ ls) (with_next more count d (omega (arith, l)))

@@ -13,12 +13,12 @@ use Rattle.queue_calls.specs.declared.recordings.CallsFinding.{CallsFinding}
 use Rattle.queue_calls.specs.declared.recordings.CallsFinding.TheVariants.{Lawful, OutOfTurn, NotLinearizable}
 use Rattle.queue_calls.specs.declared.recordings.RecordingFault.{RecordingFault}
 use Rattle.queue_calls.specs.declared.recordings.RecordingFault.TheVariants.{BadLine, TooLong, OutOfMemory}
-use Rattle.queue_calls.specs.declared.reports.Report.{Report}
+use Rattle.queue_calls.specs.declared.reports.CallsReport.{CallsReport}
 use Rattle.lists.specs.declared.slots.Slots.{Slots}
 use Rattle.queue_calls_c.specs.States.{offered_there, state_of, taken_there}
 use Rattle.queue_calls_c.specs.declared.states.Audit.{Audit}
-use Rattle.queue_calls_c.specs.declared.found.Found.{Found}
-use Rattle.queue_calls_c.specs.declared.hearings.Line.{Line as Told}
+use Rattle.queue_calls_c.specs.declared.found.HeardFound.{HeardFound}
+use Rattle.queue_calls_c.specs.declared.hearings.WordLine.{WordLine}
 
 -- the hearing that an audit keeps, its lists those that lie in its slots
 abbrev pub heard_by : Audit → Hearing Unit (List Offered) (List Taken) Unit Unit
@@ -42,18 +42,18 @@ pub record HasHeardLines (a : Audit) (lines : List Line) : Type 0 where
   pub fit : FitsSlots a
 
 -- a line as it is told: its word by a number, its numbers the first of these
-abbrev pub TellsLine : Told → List ℕ → Line → Type 0
+abbrev pub TellsLine : WordLine → List ℕ → Line → Type 0
 TellsLine told numbers l = (word_of told.word ≡ Some l.word) × (l.numbers ≡ take told.count numbers)
 
 -- lines as they are told, one after the other, and the numbers that are left
-abbrev pub TellLines : List Told → List ℕ → List Line → List ℕ → Type 0
+abbrev pub TellLines : List WordLine → List ℕ → List Line → List ℕ → Type 0
 TellLines [] numbers [] rest = rest ≡ numbers
 TellLines (told ∷ more) numbers (l ∷ lines) rest = TellsLine told numbers l × TellLines more (drop told.count numbers) lines rest
 TellLines _ numbers _ rest = ⊥
 
 -- What is said of a line behind those that were heard, which are followed, where so many of the items taken last are kept: it is heard; this is found of the text of the lines with it;
 -- it cannot stand there; there are too many; or a list of so much room is too short.
-abbrev pub SaysOf : (limit offered_room taken_room : ℕ) → (Follows : List Line → Type 0) → List Line → Told → List ℕ → Result (Option CallsFinding) RecordingFault → Type 0
+abbrev pub SaysOf : (limit offered_room taken_room : ℕ) → (Follows : List Line → Type 0) → List Line → WordLine → List ℕ → Result (Option CallsFinding) RecordingFault → Type 0
 SaysOf m o t Follows heard next numbers (Ok None) = (l : Line) × TellsLine next numbers l × Follows (heard ++ l ∷ [])
 SaysOf m o t Follows heard next numbers (Ok (Some finding)) = Follows heard × IsNotLawful finding × (l : Line) × TellsLine next numbers l × IsFindingWithin m (lines_text (heard ++ l ∷ [])) finding
 SaysOf m o t Follows heard next numbers (Err (BadLine number)) = Follows heard × (number ≡ length heard + 1) × ((l : Line) → TellsLine next numbers l → ¬ AreLines (heard ++ l ∷ []))
@@ -61,12 +61,12 @@ SaysOf m o t Follows heard next numbers (Err TooLong) = Follows heard × (2 ^ 64
 SaysOf m o t Follows heard next numbers (Err OutOfMemory) = (l : Line) × TellsLine next numbers l × HasLongHistory m o t (lines_text (heard ++ l ∷ []))
 
 -- what is said of the next one of lines, which is not heard; where there is none, that all were heard
-abbrev pub StopsWith : (limit offered_room taken_room : ℕ) → (Follows : List Line → Type 0) → List Line → List Told → List ℕ → Result (Option CallsFinding) RecordingFault → Type 0
+abbrev pub StopsWith : (limit offered_room taken_room : ℕ) → (Follows : List Line → Type 0) → List Line → List WordLine → List ℕ → Result (Option CallsFinding) RecordingFault → Type 0
 StopsWith m o t Follows heard [] numbers said = (said ≡ Ok None) × Follows heard
 StopsWith m o t Follows heard (next ∷ more) numbers said = (said ≢ Ok None) × SaysOf m o t Follows heard next numbers said
 
 -- so many of the lines that are told were heard behind others, in lists of so much room, and this is said of the next one
-pub record HearsSome (m o t : ℕ) (Follows : List Line → Type 0) (before : List Line) (lines : List Told) (numbers : List ℕ) (count : ℕ) (said : Result (Option CallsFinding) RecordingFault) : Type 0 where
+pub record HearsSome (m o t : ℕ) (Follows : List Line → Type 0) (before : List Line) (lines : List WordLine) (numbers : List ℕ) (count : ℕ) (said : Result (Option CallsFinding) RecordingFault) : Type 0 where
   pub heard : List Line
   pub rest : List ℕ
   pub few : count ≤ length lines
@@ -74,10 +74,10 @@ pub record HearsSome (m o t : ℕ) (Follows : List Line → Type 0) (before : Li
   pub stops : StopsWith m o t Follows (before ++ heard) (drop count lines) rest said
 
 -- what is said, as numbers, where there is room for so many bytes of its words
-abbrev pub found_as : (verdict number against words : ℕ) → Found
+abbrev pub found_as : (verdict number against words : ℕ) → HeardFound
 found_as verdict number against words = record { line = number; against = against; words = words; verdict = verdict }
 
-abbrev pub found_of : ℕ → Result (Option CallsFinding) RecordingFault → Found
+abbrev pub found_of : ℕ → Result (Option CallsFinding) RecordingFault → HeardFound
 found_of room (Ok None) = found_as 0 0 0 0
 found_of room (Ok (Some (Lawful report))) = found_as 6 0 0 0
 found_of room (Ok (Some (OutOfTurn number))) = found_as 1 number 0 0
@@ -92,7 +92,7 @@ words_after (Ok (Some (NotLinearizable number cause))) slots = written (cause_wo
 words_after _ slots = slots
 
 -- Behind the lines that an audit has heard, it hears so many of those that are told, and says this of the next one.
-abbrev pub HearsLines : Audit → List Told → List ℕ → (words : List ℕ) → (count : ℕ) → Audit → (words_then : List ℕ) → Found → Type 0
+abbrev pub HearsLines : Audit → List WordLine → List ℕ → (words : List ℕ) → (count : ℕ) → Audit → (words_then : List ℕ) → HeardFound → Type 0
 HearsLines old lines numbers words count new words_then found =
     (before : List Line) → HasHeardLines old before →
     (said : Result (Option CallsFinding) RecordingFault) ×
@@ -100,5 +100,5 @@ HearsLines old lines numbers words count new words_then found =
     (found ≡ found_of (length words) said) × (words_then ≡ words_after said words)
 
 -- the report on the lines that an audit has heard, which it goes on from
-abbrev pub ReportsOn : Audit → Bool → Audit → Report → Type 0
+abbrev pub ReportsOn : Audit → Bool → Audit → CallsReport → Type 0
 ReportsOn old told new report = (lines : List Line) → HasHeardLines old lines → (told ≡ true) × HasHeardLines new lines × IsFindingWithin old.limit (lines_text lines) (Lawful report) × (new.limit ≡ old.limit)

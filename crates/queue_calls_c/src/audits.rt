@@ -2,21 +2,25 @@
 ghost use Rattle.std.specs.Prelude.{◌≡◌, ◌∷◌, [], IfSome, IsNone, IsTrue, List, None, false, length};
 ghost use Rattle.queue_calls.specs.Hearings.{FollowsLines};
 ghost use Rattle.call_lines.specs.Lines.{AllowsQueue};
-ghost use Rattle.queue_calls.specs.Recordings.{Line as ALine, line};
+ghost use Rattle.queue_calls.specs.Recordings as recordings;
+ghost use Rattle.queue_calls.specs.Recordings.{line};
 ghost use Rattle.lists.specs.Rings.{ring_items};
 ghost use Rattle.call_lines.specs.declared.lines.Word.TheVariants.{Queue};
 ghost use Rattle.queue_calls_c.specs.Heard.{FitsSlots, HasHeardLines, HearsLines, ReportsOn, heard_by, offered_room, taken_room};
 
-use crate::found::{Found, found_of};
-use crate::hearings::{Line, hear_lines};
+use crate::found::{HeardFound, found_of};
+use crate::hearings::{WordLine, hear_lines};
 use crate::states::{Audit, keep_state, state_of};
-use queue_calls::{Hearing, Lent, Report, Slots, Word, allows};
+use queue_calls::{CallsReport, Hearing, Lent, Slots, Word, allows};
 use std::mem;
 
 // The hearing that goes on from an audit, whose slots it takes. None where these are fewer than it used.
 fn resume<'a>(audit: &mut Audit<'a>) -> Option<Hearing<Lent<'a>>>
-    ensures goes_on { IfSome result (λ h. (lines : List ALine) → FollowsLines (λ o. o) (λ t. t) (heard_by audit.old) false lines → FollowsLines ring_items ring_items h false lines) }
-    ensures rooms { IfSome result (λ h. (offered_room h ≡ length audit.old.offered.now) × (taken_room h ≡ length audit.old.taken.now) × (h.witness.limit ≡ audit.old.limit)) }
+    ensures goes_on { IfSome result (λ h. (lines : List recordings.Line) →
+        FollowsLines (λ o. o) (λ t. t) (heard_by audit.old) false lines →
+        FollowsLines ring_items ring_items h false lines) }
+    ensures rooms { IfSome result (λ h. (offered_room h ≡ length audit.old.offered.now) ×
+        (taken_room h ≡ length audit.old.taken.now) × (h.witness.limit ≡ audit.old.limit)) }
     ensures none { IsNone result → ¬ FitsSlots audit.old }
     ensures line { audit.new.line ≡ audit.old.line }
 {
@@ -36,7 +40,8 @@ fn resume<'a>(audit: &mut Audit<'a>) -> Option<Hearing<Lent<'a>>>
 
 // Keeps a hearing in an audit.
 fn keep<'a>(audit: &mut Audit<'a>, hearing: Hearing<Lent<'a>>)
-    ensures follows { (lines : List ALine) → FollowsLines ring_items ring_items hearing.entry false lines → FollowsLines (λ o. o) (λ t. t) (heard_by audit.new) false lines }
+    ensures follows { (lines : List recordings.Line) → FollowsLines ring_items ring_items hearing.entry false lines →
+        FollowsLines (λ o. o) (λ t. t) (heard_by audit.new) false lines }
     ensures fit { FitsSlots audit.new }
     ensures limit { hearing.entry.fault ≡ None → audit.new.limit ≡ hearing.entry.witness.limit }
     ensures line { audit.new.line ≡ audit.old.line }
@@ -79,15 +84,15 @@ pub extern "C" fn ring_audit_begin(audit: &mut Audit<'_>, numbers: &[u64]) -> bo
 #[unsafe(no_mangle)]
 pub extern "C" fn ring_audit_hear(
     audit: &mut Audit<'_>,
-    lines: &[Line],
+    lines: &[WordLine],
     numbers: &[u64],
     words: &mut [u8],
-    found: &mut Found,
+    found: &mut HeardFound,
 ) -> usize
     ensures { HearsLines audit.old lines.now numbers.now words.old result audit.new words.new found.new }
 {
     let Some(mut hearing) = resume(audit) else {
-        *found = Found {
+        *found = HeardFound {
             line: 0,
             against: 0,
             words: 0,
@@ -104,7 +109,7 @@ pub extern "C" fn ring_audit_hear(
 
 /// Tells the report on the lines that were heard. Whether there is one: not of a state that this library did not leave.
 #[unsafe(no_mangle)]
-pub extern "C" fn ring_audit_report(audit: &mut Audit<'_>, report: &mut Report) -> bool
+pub extern "C" fn ring_audit_report(audit: &mut Audit<'_>, report: &mut CallsReport) -> bool
     ensures { ReportsOn audit.old result audit.new report.new }
 {
     let Some(hearing) = resume(audit) else {

@@ -2,13 +2,13 @@
 ghost use Rattle.std.specs.Prelude.{◌≡◌, length};
 ghost use Rattle.queue_calls_c.specs.Heard.{found_of, words_after};
 
-use crate::hearings::Said;
+use crate::hearings::Heard;
 use queue_calls::{CallsFinding, RecordingFault, write_cause};
 
 /// What is found of lines, as numbers; those that it does not use are 0.
 #[repr(C)]
 #[derive(Clone, Copy, PartialEq, Eq, Debug)]
-pub struct Found {
+pub struct HeardFound {
     /// The line at fault, or the bad one, counted from 1 with that which tells the queue.
     pub line: u64,
     /// The line that contradicts the one at fault; 0 where none does.
@@ -22,7 +22,7 @@ pub struct Found {
 }
 
 // What is said of a line, with the words of a cause at the front of the slots.
-pub fn found_of(said: Said, words: &mut [u8]) -> Found
+pub fn found_of(said: Heard, words: &mut [u8]) -> HeardFound
     ensures found { result ≡ found_of (length words.old) said }
     ensures words { words.new ≡ words_after said words.old }
 {
@@ -39,7 +39,7 @@ pub fn found_of(said: Said, words: &mut [u8]) -> Found
         Err(RecordingFault::OutOfMemory) => (4, 0, 0, 0),
         Err(RecordingFault::TooLong) => (5, 0, 0, 0),
     };
-    Found {
+    HeardFound {
         line,
         against,
         words: count as u64,

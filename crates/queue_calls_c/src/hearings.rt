@@ -1,7 +1,7 @@
 //! Lines that are told by numbers.
 ghost use Rattle.std.specs.Prelude.{◌≡◌, ◌+◌, ◌↔◌, IsTrue, List, None, Ok, false, length, take, drop};
 ghost use Rattle.queue_calls.specs.Hearings.{FollowsLines};
-ghost use Rattle.queue_calls.specs.Recordings.{Line as ALine};
+ghost use Rattle.queue_calls.specs.Recordings as recordings;
 ghost use Rattle.lists.specs.Rings.{ring_items};
 ghost use Rattle.queue_calls_c.specs.Heard.{HearsSome, SaysOf, offered_room, taken_room};
 
@@ -10,33 +10,36 @@ use queue_calls::{CallsFinding, Hearing, Lent, RecordingFault, Word};
 /// A line of a recording: its word, by its number, and how many numbers it has, which are told in a list of their own.
 #[repr(C)]
 #[derive(Clone, Copy, PartialEq, Eq, Debug)]
-pub struct Line {
+pub struct WordLine {
     pub word: u32,
     pub count: u32,
 }
 
 /// What a hearing says of a line.
-pub type Said = Result<Option<CallsFinding>, RecordingFault>;
+pub type Heard = Result<Option<CallsFinding>, RecordingFault>;
 
 // The first of the numbers, as many as the line has.
-fn own_numbers<'n>(line: &Line, numbers: &'n [u64]) -> &'n [u64]
+fn own_numbers<'n>(line: &WordLine, numbers: &'n [u64]) -> &'n [u64]
     ensures { result.now ≡ take line.now.count numbers.now }
 {
     &numbers[..(line.count as usize).min(numbers.len())]
 }
 
 // The numbers behind these.
-fn other_numbers<'n>(line: &Line, numbers: &'n [u64]) -> &'n [u64]
+fn other_numbers<'n>(line: &WordLine, numbers: &'n [u64]) -> &'n [u64]
     ensures { result.now ≡ drop line.now.count numbers.now }
 {
     &numbers[(line.count as usize).min(numbers.len())..]
 }
 
 // Hears one line, of this number, and says what it is.
-fn hear_one(hearing: &mut Hearing<Lent<'_>>, number: u64, line: &Line, numbers: &[u64]) -> Said
-    ensures says { (before : List ALine) → FollowsLines ring_items ring_items hearing.old false before → length before + 1 ≡ number →
-        SaysOf hearing.old.witness.limit (offered_room hearing.old) (taken_room hearing.old) (FollowsLines ring_items ring_items hearing.new false) before line.now numbers.now result }
-    ensures rooms { (offered_room hearing.new ≡ offered_room hearing.old) × (taken_room hearing.new ≡ taken_room hearing.old) × (hearing.new.witness.limit ≡ hearing.old.witness.limit) }
+fn hear_one(hearing: &mut Hearing<Lent<'_>>, number: u64, line: &WordLine, numbers: &[u64]) -> Heard
+    ensures says { (before : List recordings.Line) → FollowsLines ring_items ring_items hearing.old false before →
+        length before + 1 ≡ number →
+        SaysOf hearing.old.witness.limit (offered_room hearing.old) (taken_room hearing.old)
+        (FollowsLines ring_items ring_items hearing.new false) before line.now numbers.now result }
+    ensures rooms { (offered_room hearing.new ≡ offered_room hearing.old) ×
+        (taken_room hearing.new ≡ taken_room hearing.old) × (hearing.new.witness.limit ≡ hearing.old.witness.limit) }
 {
     match Word::of_number(line.word) {
         Some(word) => hearing.hear_line(number, word, own_numbers(line, numbers)),
@@ -45,7 +48,7 @@ fn hear_one(hearing: &mut Hearing<Lent<'_>>, number: u64, line: &Line, numbers: 
 }
 
 // Whether a line was heard of which this is said.
-fn is_heard(said: Said) -> bool
+fn is_heard(said: Heard) -> bool
     ensures { IsTrue result ↔ (said ≡ Ok None) }
 {
     match said {
@@ -58,11 +61,14 @@ fn is_heard(said: Said) -> bool
 pub fn hear_lines(
     hearing: &mut Hearing<Lent<'_>>,
     before: u64,
-    lines: &[Line],
+    lines: &[WordLine],
     numbers: &[u64],
-) -> (usize, u64, Said)
-    ensures hears { (earlier : List ALine) → FollowsLines ring_items ring_items hearing.old false earlier → before ≡ length earlier →
-        HearsSome hearing.old.witness.limit (offered_room hearing.old) (taken_room hearing.old) (λ ls. FollowsLines ring_items ring_items hearing.new false ls × (result.1 ≡ length ls)) earlier lines.now numbers.now result.0 result.2 }
+) -> (usize, u64, Heard)
+    ensures hears { (earlier : List recordings.Line) → FollowsLines ring_items ring_items hearing.old false earlier →
+        before ≡ length earlier →
+        HearsSome hearing.old.witness.limit (offered_room hearing.old) (taken_room hearing.old)
+        (λ ls. FollowsLines ring_items ring_items hearing.new false ls × (result.1 ≡ length ls)) earlier lines.now
+        numbers.now result.0 result.2 }
     ensures limit { hearing.new.witness.limit ≡ hearing.old.witness.limit }
 {
     let mut rest = numbers;

@@ -2,10 +2,10 @@
 ghost use Rattle.std.specs.Prelude.{◌≡◌, ◌++◌, length, take, drop};
 ghost use Rattle.queue_calls_c.specs.declared.layouts.TheConstants.{SIZES};
 
-use crate::found::Found;
-use crate::hearings::Line;
+use crate::found::HeardFound;
+use crate::hearings::WordLine;
 use crate::states::Audit;
-use queue_calls::{Offered, Report, Taken};
+use queue_calls::{CallsReport, Offered, Taken};
 use std::mem::size_of;
 
 // How many bytes each of them has.
@@ -13,9 +13,9 @@ const SIZES: [u64; 6] = [
     size_of::<Audit<'static>>() as u64,
     size_of::<Offered>() as u64,
     size_of::<Taken>() as u64,
-    size_of::<Line>() as u64,
-    size_of::<Report>() as u64,
-    size_of::<Found>() as u64,
+    size_of::<WordLine>() as u64,
+    size_of::<CallsReport>() as u64,
+    size_of::<HeardFound>() as u64,
 ];
 
 /// Writes how many bytes the structs of this library have to the front, where there is room for them: an audit, the entry of an item

@@ -9,8 +9,8 @@ mod layouts;
 mod states;
 
 pub use audits::{ring_audit_begin, ring_audit_hear, ring_audit_report};
-pub use found::Found;
-pub use hearings::Line;
+pub use found::HeardFound;
+pub use hearings::WordLine;
 pub use layouts::ring_audit_layout;
 pub use states::{Audit, Calls};
 

@@ -3,7 +3,7 @@ ghost use Rattle.std.specs.Prelude.{◌≡◌};
 ghost use Rattle.queue_calls_c.specs.States.{auditor_state, kept_begun, kept_capacity, kept_put, state_of, kept_take};
 
 use queue_calls::{
-    AuditorState, Begun, Capacity, HearingState, Offered, PutTurn, Report, TakeTurn, Taken,
+    AuditorState, Begun, CallsReport, Capacity, HearingState, Offered, PutTurn, TakeTurn, Taken,
 };
 
 /// How many items the queue may hold, and the calls under way. What it does not use is 0.
@@ -61,7 +61,7 @@ pub struct Audit<'a> {
     pub stored_at: u64,
     pub calls: Calls,
     /// The report so far, but for the calls under way.
-    pub report: Report,
+    pub report: CallsReport,
     /// Whether a close has ended, and whether a take was told closed.
     pub has_ended: bool,
     pub has_told: bool,
@@ -215,8 +215,10 @@ pub fn state_of(audit: &Audit<'_>) -> HearingState
 // Keeps this in an audit, whose slots and number of lines stay.
 pub fn keep_state(audit: &mut Audit<'_>, state: HearingState)
     ensures state { state_of audit.new ≡ state }
-    ensures offered { (audit.new.offered ≡ audit.old.offered) × (audit.new.offered_first ≡ audit.old.offered_first) × (audit.new.offered_used ≡ audit.old.offered_used) }
-    ensures taken { (audit.new.taken ≡ audit.old.taken) × (audit.new.taken_first ≡ audit.old.taken_first) × (audit.new.taken_used ≡ audit.old.taken_used) }
+    ensures offered { (audit.new.offered ≡ audit.old.offered) × (audit.new.offered_first ≡ audit.old.offered_first) ×
+        (audit.new.offered_used ≡ audit.old.offered_used) }
+    ensures taken { (audit.new.taken ≡ audit.old.taken) × (audit.new.taken_first ≡ audit.old.taken_first) ×
+        (audit.new.taken_used ≡ audit.old.taken_used) }
     ensures line { audit.new.line ≡ audit.old.line }
 {
     audit.calls = calls_of(state.auditor, state.begun);

@@ -1,6 +1,8 @@
 use crate::states::{Audit, Calls};
-use crate::{Found, Line, ring_audit_begin, ring_audit_hear, ring_audit_layout, ring_audit_report};
-use queue_calls::{CAUSE_WORDS, Offered, Report, Taken};
+use crate::{
+    HeardFound, WordLine, ring_audit_begin, ring_audit_hear, ring_audit_layout, ring_audit_report,
+};
+use queue_calls::{CAUSE_WORDS, CallsReport, Offered, Taken};
 
 const NO_ENTRY: Offered = Offered {
     item: 7,
@@ -13,7 +15,7 @@ const NOT_TAKEN: Taken = Taken {
     taken_at: 7,
 };
 
-const NO_REPORT: Report = Report {
+const NO_REPORT: CallsReport = CallsReport {
     calls: 0,
     stored: 0,
     taken: 0,
@@ -44,7 +46,7 @@ const NO_CALLS: Calls = Calls {
     shut: false,
 };
 
-const NOTHING_FOUND: Found = Found {
+const NOTHING_FOUND: HeardFound = HeardFound {
     line: 0,
     against: 0,
     words: 0,
@@ -79,36 +81,36 @@ fn zeroed<'a>(offered: &'a mut [Offered], taken: &'a mut [Taken]) -> Audit<'a> {
     }
 }
 
-const fn line(word: u32, count: u32) -> Line {
-    Line { word, count }
+const fn line(word: u32, count: u32) -> WordLine {
+    WordLine { word, count }
 }
 
-const PUT: Line = Line { word: 0, count: 1 };
+const PUT: WordLine = WordLine { word: 0, count: 1 };
 
-const CLOSE: Line = Line { word: 1, count: 0 };
+const CLOSE: WordLine = WordLine { word: 1, count: 0 };
 
-const TAKE: Line = Line { word: 2, count: 0 };
+const TAKE: WordLine = WordLine { word: 2, count: 0 };
 
-const STORED: Line = Line { word: 3, count: 0 };
+const STORED: WordLine = WordLine { word: 3, count: 0 };
 
-const FULL: Line = Line { word: 5, count: 0 };
+const FULL: WordLine = WordLine { word: 5, count: 0 };
 
-const CLOSED: Line = Line { word: 8, count: 0 };
+const CLOSED: WordLine = WordLine { word: 8, count: 0 };
 
-const ITEM: Line = Line { word: 9, count: 1 };
+const ITEM: WordLine = WordLine { word: 9, count: 1 };
 
-const EMPTY: Line = Line { word: 11, count: 0 };
+const EMPTY: WordLine = WordLine { word: 11, count: 0 };
 
-const TOLD: Line = Line { word: 14, count: 0 };
+const TOLD: WordLine = WordLine { word: 14, count: 0 };
 
 // How many of the lines are heard, what is found of the next one, and its words.
 fn heard(
     audit: &mut Audit<'_>,
-    lines: &[Line],
+    lines: &[WordLine],
     numbers: &[u64],
-) -> (usize, Found, [u8; CAUSE_WORDS]) {
+) -> (usize, HeardFound, [u8; CAUSE_WORDS]) {
     let mut words = [7; CAUSE_WORDS];
-    let mut found = Found {
+    let mut found = HeardFound {
         line: 9,
         against: 9,
         words: 9,
@@ -142,7 +144,7 @@ fn a_lawful_history_is_heard_in_several_calls(rt: HostRuntime) {
     assert!(rt; ring_audit_report(&mut audit, &mut report));
     assert_eq!(rt;
         report,
-        Report {
+        CallsReport {
             calls: 13,
             stored: 5,
             taken: 5,
@@ -160,8 +162,8 @@ fn a_lawful_history_is_heard_in_several_calls(rt: HostRuntime) {
 }
 
 // The fault, its line and the one that contradicts it.
-const fn fault(verdict: u32, line: u64, against: u64, words: u64) -> Found {
-    Found {
+const fn fault(verdict: u32, line: u64, against: u64, words: u64) -> HeardFound {
+    HeardFound {
         line,
         against,
         words,

@@ -5,13 +5,13 @@ use Rattle.queue_calls.specs.Calls.{Producer, Consumer}
 use Rattle.queue_calls.specs.Calls as calls
 use Rattle.queue_points.specs.declared.steps.Operation.{Operation}
 use Rattle.queue_points.specs.declared.steps.Operation.TheVariants.{Enqueue, FindNoRoom, FindShut, Close, Dequeue, FindFewer, FindClosed}
-use Rattle.queue_points.specs.declared.steps.Putter.{Putter}
-use Rattle.queue_points.specs.declared.steps.Putter.TheVariants.{Idle, Putting, FoundShut, Closing}
-use Rattle.queue_points.specs.declared.steps.Taker.{Taker}
-use Rattle.queue_points.specs.declared.steps.Taker.TheVariants.{Resting, Taking, FoundClosed}
+use Rattle.queue_points.specs.declared.steps.PutStand.{PutStand}
+use Rattle.queue_points.specs.declared.steps.PutStand.TheVariants.{Idle, Putting, FoundShut, Closing}
+use Rattle.queue_points.specs.declared.steps.TakeStand.{TakeStand}
+use Rattle.queue_points.specs.declared.steps.TakeStand.TheVariants.{Resting, Taking, FoundClosed}
 
 -- an operation as one of a queue
-abbrev pub done : Operation → queues.Does
+abbrev pub done : Operation → queues.Operation
 done (Enqueue item) = queues.Enqueue item
 done (FindNoRoom count) = queues.FindNoRoom count
 done FindShut = queues.FindShut
@@ -25,19 +25,19 @@ abbrev pub stretch : List ℕ → ℕ → ℕ → List ℕ
 stretch row from to = drop from (take to row)
 
 -- what the sides are in: a take has taken the items of the row from a place on, up to those still inside
-abbrev pub producer_of : Putter → Producer
+abbrev pub producer_of : PutStand → Producer
 producer_of Idle = calls.Idle
 producer_of (Putting lacked stored items) = calls.Putting lacked stored (drop stored items.now)
 producer_of FoundShut = calls.FoundShut
 producer_of (Closing stored) = calls.Closing stored
 
-abbrev pub consumer_of : List ℕ → ℕ → Taker → Consumer
+abbrev pub consumer_of : List ℕ → ℕ → TakeStand → Consumer
 consumer_of row head Resting = calls.Resting
 consumer_of row head (Taking lacked from left) = calls.Taking lacked (stretch row from head) left
 consumer_of row head FoundClosed = calls.FoundClosed
 
 -- where in the row the take under way began
-abbrev pub began_at : Taker → ℕ
+abbrev pub began_at : TakeStand → ℕ
 began_at Resting = 0
 began_at (Taking lacked from left) = from
 began_at FoundClosed = 0

@@ -3,7 +3,8 @@ ghost use Rattle.std.specs.Prelude.{◌≡◌, ◌≤◌, ◌-◌, ◌↔◌, []
 ghost use Rattle.queue_points.specs.Steps.{began_at};
 
 use crate::steps::{
-    Operation, Putter, Taker, put_effect, put_event, stretch, take_effect, take_event, take_one,
+    Operation, PutStand, TakeStand, put_effect, put_event, stretch, take_effect, take_event,
+    take_one,
 };
 use queue_calls::{Capacity, Event};
 
@@ -24,8 +25,8 @@ pub struct LinearizationPoints<'a> {
     head: usize,
     tail: usize,
     closed: bool,
-    put: Putter<'a>,
-    take: Taker,
+    put: PutStand<'a>,
+    take: TakeStand,
     ghost out: { head ≤ tail },
     ghost within: { tail ≤ length row.now },
     ghost began: { began_at take ≤ head },
@@ -51,14 +52,15 @@ impl<'a> LinearizationPoints<'a> {
             head: 0,
             tail: 0,
             closed: false,
-            put: Putter::Idle,
-            take: Taker::Resting,
+            put: PutStand::Idle,
+            take: TakeStand::Resting,
         }
     }
 
     /// The events that have come are a linearizable history.
     pub fn has_followed(&self)
-        ensures { (marks : List Mark) → HasFollowed self.now marks → IsLinearizable (meant self.now.capacity) (events_among marks) }
+        ensures { (marks : List Mark) → HasFollowed self.now marks →
+            IsLinearizable (meant self.now.capacity) (events_among marks) }
     {}
 
     // The items inside.
@@ -70,7 +72,8 @@ impl<'a> LinearizationPoints<'a> {
 
     // Whether there is room for one more.
     fn has_room(&self) -> bool
-        ensures { IsTrue result ↔ HasRoom (meant self.now.capacity) (length (stretch self.now.row.now self.now.head self.now.tail)) }
+        ensures { IsTrue result ↔
+            HasRoom (meant self.now.capacity) (length (stretch self.now.row.now self.now.head self.now.tail)) }
     {
         match self.capacity {
             Capacity::Unbounded => true,
@@ -80,7 +83,8 @@ impl<'a> LinearizationPoints<'a> {
 
     // Whether the queue may say that it has no room for so many more.
     fn lacks_room(&self, count: usize) -> bool
-        ensures { IsTrue result ↔ LacksRoom (meant self.now.capacity) (length (stretch self.now.row.now self.now.head self.now.tail)) count }
+        ensures { IsTrue result ↔
+            LacksRoom (meant self.now.capacity) (length (stretch self.now.row.now self.now.head self.now.tail)) count }
     {
         let inside = self.inside().len();
         match self.capacity {
@@ -91,8 +95,12 @@ impl<'a> LinearizationPoints<'a> {
 
     // Whether the queue is closed behind an operation that leaves the items as they are, where it finds the queue as it has to be.
     fn closed_behind(&self, does: Operation) -> Option<bool>
-        ensures step { IfSome result (λ closed. Step (meant self.now.capacity) (queue (stretch self.now.row.now self.now.head self.now.tail) self.now.closed) (done does) (queue (stretch self.now.row.now self.now.head self.now.tail) closed)) }
-        ensures exact { IsNone result → IsNoItem does → (after : Queue) → ¬ Step (meant self.now.capacity) (queue (stretch self.now.row.now self.now.head self.now.tail) self.now.closed) (done does) after }
+        ensures step { IfSome result (λ closed. Step (meant self.now.capacity)
+            (queue (stretch self.now.row.now self.now.head self.now.tail) self.now.closed) (done does)
+            (queue (stretch self.now.row.now self.now.head self.now.tail) closed)) }
+        ensures exact { IsNone result → IsNoItem does → (after : Queue) →
+            ¬ Step (meant self.now.capacity) (queue (stretch self.now.row.now self.now.head self.now.tail)
+            self.now.closed) (done does) after }
     {
         let inside = self.inside();
         match does {

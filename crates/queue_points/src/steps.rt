@@ -30,7 +30,7 @@ pub enum Operation {
 
 // What the producer is in, as `specs/Calls` has it.
 #[derive(Clone, Copy)]
-pub enum Putter<'a> {
+pub enum PutStand<'a> {
     Idle,
     // how many items it found no room for, how many are stored, and all that it offers
     Putting(usize, usize, &'a [u64]),
@@ -40,7 +40,7 @@ pub enum Putter<'a> {
 
 // What the consumer is in.
 #[derive(Clone, Copy)]
-pub enum Taker {
+pub enum TakeStand {
     Resting,
     // how many items it found fewer than, the place in the row at which it began, and how many more it may take
     Taking(usize, usize, usize),
@@ -60,29 +60,31 @@ fn is_short_of(lacked: usize, why: bool, count: usize, left: usize) -> bool
 }
 
 // What the producer is in behind an event.
-pub fn put_event<'a>(put: Putter<'a>, event: Event<'a>) -> Option<Putter<'a>>
-    ensures step { IfSome result (λ after. ProducerStep (producer_of put.entry) (Happens (told event.entry)) (producer_of after)) }
-    ensures exact { IsNone result → (after : Producer) → ¬ ProducerStep (producer_of put.entry) (Happens (told event.entry)) after }
+pub fn put_event<'a>(put: PutStand<'a>, event: Event<'a>) -> Option<PutStand<'a>>
+    ensures step { IfSome result (λ after. ProducerStep (producer_of put.entry) (Happens (told event.entry))
+        (producer_of after)) }
+    ensures exact { IsNone result → (after : Producer) →
+        ¬ ProducerStep (producer_of put.entry) (Happens (told event.entry)) after }
 {
     match (event, put) {
-        (Event::PutBegins(items), Putter::Idle) if !items.is_empty() => Some(Putter::Putting(
+        (Event::PutBegins(items), PutStand::Idle) if !items.is_empty() => Some(PutStand::Putting(
             0, 0, items,
         )),
-        (Event::PutStored(count), Putter::Putting(lacked, stored, items))
+        (Event::PutStored(count), PutStand::Putting(lacked, stored, items))
             if count > 0
                 && stored == count
                 && is_short_of(lacked, true, count, items.len().saturating_sub(count)) => Some(
-            Putter::Idle,
+            PutStand::Idle,
         ),
-        (Event::PutSome(count), Putter::Putting(0, stored, _)) if count > 0 && stored == count =>
-            Some(Putter::Idle),
-        (Event::PutFull, Putter::Putting(1, 0, _)) => Some(Putter::Idle),
-        (Event::PutShort, Putter::Putting(lacked, 0, items))
-            if items.len() > 1 && lacked == items.len() => Some(Putter::Idle),
-        (Event::PutNothing, Putter::Putting(0, 0, _)) => Some(Putter::Idle),
-        (Event::PutClosed, Putter::FoundShut) => Some(Putter::Idle),
-        (Event::CloseBegins, Putter::Idle) => Some(Putter::Closing(false)),
-        (Event::CloseEnds, Putter::Closing(true)) => Some(Putter::Idle),
+        (Event::PutSome(count), PutStand::Putting(0, stored, _)) if count > 0 && stored == count =>
+            Some(PutStand::Idle),
+        (Event::PutFull, PutStand::Putting(1, 0, _)) => Some(PutStand::Idle),
+        (Event::PutShort, PutStand::Putting(lacked, 0, items))
+            if items.len() > 1 && lacked == items.len() => Some(PutStand::Idle),
+        (Event::PutNothing, PutStand::Putting(0, 0, _)) => Some(PutStand::Idle),
+        (Event::PutClosed, PutStand::FoundShut) => Some(PutStand::Idle),
+        (Event::CloseBegins, PutStand::Idle) => Some(PutStand::Closing(false)),
+        (Event::CloseEnds, PutStand::Closing(true)) => Some(PutStand::Idle),
         (
             Event::TakeBegins(_)
             | Event::TakeItems(_)
@@ -98,18 +100,24 @@ pub fn put_event<'a>(put: Putter<'a>, event: Event<'a>) -> Option<Putter<'a>>
 }
 
 // What the producer is in behind an operation.
-pub fn put_effect(put: Putter<'_>, does: Operation) -> Option<Putter<'_>>
-    ensures step { IfSome result (λ after. ProducerStep (producer_of put.entry) (Effect (done does)) (producer_of after)) }
-    ensures exact { IsNone result → (after : Producer) → ¬ ProducerStep (producer_of put.entry) (Effect (done does)) after }
+pub fn put_effect(put: PutStand<'_>, does: Operation) -> Option<PutStand<'_>>
+    ensures step { IfSome result (λ after. ProducerStep (producer_of put.entry) (Effect (done does))
+        (producer_of after)) }
+    ensures exact { IsNone result → (after : Producer) →
+        ¬ ProducerStep (producer_of put.entry) (Effect (done does)) after }
 {
     match (does, put) {
-        (Operation::Enqueue(item), Putter::Putting(lacked, stored, items))
-            if items.get(stored) == Some(&item) => Some(Putter::Putting(lacked, stored + 1, items)),
-        (Operation::FindNoRoom(count), Putter::Putting(0, 0, items)) => Some(Putter::Putting(
+        (Operation::Enqueue(item), PutStand::Putting(lacked, stored, items))
+            if items.get(stored) == Some(&item) => Some(PutStand::Putting(
+            lacked,
+            stored + 1,
+            items,
+        )),
+        (Operation::FindNoRoom(count), PutStand::Putting(0, 0, items)) => Some(PutStand::Putting(
             count, 0, items,
         )),
-        (Operation::FindShut, Putter::Putting(0, 0, _)) => Some(Putter::FoundShut),
-        (Operation::Close, Putter::Closing(false)) => Some(Putter::Closing(true)),
+        (Operation::FindShut, PutStand::Putting(0, 0, _)) => Some(PutStand::FoundShut),
+        (Operation::Close, PutStand::Closing(false)) => Some(PutStand::Closing(true)),
         (Operation::Dequeue(_) | Operation::FindFewer(_) | Operation::FindClosed, _) => Some(put),
         _ => None,
     }
@@ -133,11 +141,13 @@ fn items_event(
     lacked: usize,
     from: usize,
     left: usize,
-) -> Option<Taker>
+) -> Option<TakeStand>
     requires began { from ≤ head }
     requires within { head ≤ length row.now }
-    ensures step { IfSome result (λ after. ConsumerStep (Taking lacked (stretch row.now from head) left) (Happens (TakeItems items.now why)) (consumer_of row.now head after)) }
-    ensures exact { IsNone result → (after : Consumer) → ¬ ConsumerStep (Taking lacked (stretch row.now from head) left) (Happens (TakeItems items.now why)) after }
+    ensures step { IfSome result (λ after. ConsumerStep (Taking lacked (stretch row.now from head) left)
+        (Happens (TakeItems items.now why)) (consumer_of row.now head after)) }
+    ensures exact { IsNone result → (after : Consumer) →
+        ¬ ConsumerStep (Taking lacked (stretch row.now from head) left) (Happens (TakeItems items.now why)) after }
     ensures began { IfSome result (λ after. began_at after ≤ head) }
 {
     if items.is_empty()
@@ -146,36 +156,38 @@ fn items_event(
     {
         return None;
     }
-    Some(Taker::Resting)
+    Some(TakeStand::Resting)
 }
 
 // What the consumer is in behind an event, with so many items of the row taken out.
-pub fn take_event(row: &[u64], head: usize, take: Taker, event: Event<'_>) -> Option<Taker>
+pub fn take_event(row: &[u64], head: usize, take: TakeStand, event: Event<'_>) -> Option<TakeStand>
     requires began { began_at take ≤ head }
     requires within { head ≤ length row.now }
-    ensures step { IfSome result (λ after. ConsumerStep (consumer_of row.now head take) (Happens (told event.entry)) (consumer_of row.now head after)) }
-    ensures exact { IsNone result → (after : Consumer) → ¬ ConsumerStep (consumer_of row.now head take) (Happens (told event.entry)) after }
+    ensures step { IfSome result (λ after. ConsumerStep (consumer_of row.now head take) (Happens (told event.entry))
+        (consumer_of row.now head after)) }
+    ensures exact { IsNone result → (after : Consumer) →
+        ¬ ConsumerStep (consumer_of row.now head take) (Happens (told event.entry)) after }
     ensures began { IfSome result (λ after. began_at after ≤ head) }
 {
     match (event, take) {
-        (Event::TakeBegins(wanted), Taker::Resting) if wanted > 0 => Some(Taker::Taking(
+        (Event::TakeBegins(wanted), TakeStand::Resting) if wanted > 0 => Some(TakeStand::Taking(
             0, head, wanted,
         )),
-        (Event::TakeItems(items), Taker::Taking(lacked, from, left)) => items_event(
+        (Event::TakeItems(items), TakeStand::Taking(lacked, from, left)) => items_event(
             row, head, items, true, lacked, from, left,
         ),
-        (Event::TakeSome(items), Taker::Taking(lacked, from, left)) => items_event(
+        (Event::TakeSome(items), TakeStand::Taking(lacked, from, left)) => items_event(
             row, head, items, false, lacked, from, left,
         ),
-        (Event::TakeEmpty, Taker::Taking(1, from, _)) if stretch(row, from, head).is_empty() =>
-            Some(Taker::Resting),
-        (Event::TakeShort, Taker::Taking(lacked, from, left))
+        (Event::TakeEmpty, TakeStand::Taking(1, from, _)) if stretch(row, from, head).is_empty() =>
+            Some(TakeStand::Resting),
+        (Event::TakeShort, TakeStand::Taking(lacked, from, left))
             if stretch(row, from, head).is_empty() && lacked == left && left > 1 => Some(
-            Taker::Resting,
+            TakeStand::Resting,
         ),
-        (Event::TakeNothing, Taker::Taking(0, from, _)) if stretch(row, from, head).is_empty() =>
-            Some(Taker::Resting),
-        (Event::TakeClosed, Taker::FoundClosed) => Some(Taker::Resting),
+        (Event::TakeNothing, TakeStand::Taking(0, from, _))
+            if stretch(row, from, head).is_empty() => Some(TakeStand::Resting),
+        (Event::TakeClosed, TakeStand::FoundClosed) => Some(TakeStand::Resting),
         (
             Event::PutBegins(_)
             | Event::PutStored(_)
@@ -193,34 +205,38 @@ pub fn take_event(row: &[u64], head: usize, take: Taker, event: Event<'_>) -> Op
 }
 
 // What the consumer is in where its take has taken one item more, that at the head.
-pub fn take_one(row: &[u64], head: usize, take: Taker) -> Option<Taker>
+pub fn take_one(row: &[u64], head: usize, take: TakeStand) -> Option<TakeStand>
     requires began { began_at take ≤ head }
     requires within { head < length row.now }
-    ensures step { IfSome result (λ after. ConsumerStep (consumer_of row.now head take) (Effect (Dequeue (get_or row.now head 0))) (consumer_of row.now (suc head) after)) }
-    ensures exact { IsNone result → (after : Consumer) → ¬ ConsumerStep (consumer_of row.now head take) (Effect (Dequeue (get_or row.now head 0))) after }
+    ensures step { IfSome result (λ after. ConsumerStep (consumer_of row.now head take)
+        (Effect (Dequeue (get_or row.now head 0))) (consumer_of row.now (suc head) after)) }
+    ensures exact { IsNone result → (after : Consumer) →
+        ¬ ConsumerStep (consumer_of row.now head take) (Effect (Dequeue (get_or row.now head 0))) after }
     ensures began { IfSome result (λ after. began_at after ≤ suc head) }
 {
     match take {
-        Taker::Taking(lacked, from, left) if left > 0 => {
-            Some(Taker::Taking(lacked, from, left - 1))
+        TakeStand::Taking(lacked, from, left) if left > 0 => {
+            Some(TakeStand::Taking(lacked, from, left - 1))
         }
         _ => None,
     }
 }
 
 // What the consumer is in behind an operation that takes no item.
-pub fn take_effect(row: &[u64], head: usize, take: Taker, does: Operation) -> Option<Taker>
+pub fn take_effect(row: &[u64], head: usize, take: TakeStand, does: Operation) -> Option<TakeStand>
     requires began { began_at take ≤ head }
     requires within { head ≤ length row.now }
-    ensures step { IfSome result (λ after. ConsumerStep (consumer_of row.now head take) (Effect (done does)) (consumer_of row.now head after)) }
-    ensures exact { IsNone result → IsNoItem does → (after : Consumer) → ¬ ConsumerStep (consumer_of row.now head take) (Effect (done does)) after }
+    ensures step { IfSome result (λ after. ConsumerStep (consumer_of row.now head take) (Effect (done does))
+        (consumer_of row.now head after)) }
+    ensures exact { IsNone result → IsNoItem does → (after : Consumer) →
+        ¬ ConsumerStep (consumer_of row.now head take) (Effect (done does)) after }
     ensures began { IfSome result (λ after. began_at after ≤ head) }
 {
     match (does, take) {
-        (Operation::FindFewer(count), Taker::Taking(0, from, left))
-            if stretch(row, from, head).is_empty() => { Some(Taker::Taking(count, from, left)) }
-        (Operation::FindClosed, Taker::Taking(0, from, _)) if stretch(row, from, head).is_empty() =>
-            Some(Taker::FoundClosed),
+        (Operation::FindFewer(count), TakeStand::Taking(0, from, left))
+            if stretch(row, from, head).is_empty() => { Some(TakeStand::Taking(count, from, left)) }
+        (Operation::FindClosed, TakeStand::Taking(0, from, _))
+            if stretch(row, from, head).is_empty() => Some(TakeStand::FoundClosed),
         (
             Operation::Enqueue(_)
             | Operation::FindNoRoom(_)

@@ -4,7 +4,7 @@ use Rattle.std.specs.Int.{bit_at}
 use Rattle.std.proofs.lemmas.Nat.Bits.{bit_at_lowest, bit_at-suc, bit_at_above}
 use Rattle.std.proofs.Math.Nat.{pow-succ'}
 use Rattle.bits_core.specs.declared.events.Bit.TheVariants.{Cell}
-use Rattle.bits_core.specs.Made.{Read, IsBeginning}
+use Rattle.bits_core.specs.Made.{Read, IsPrefix}
 use Rattle.register_core.specs.Word.{digit, digit_writes, digit_reads}
 
 -- a number below a power of two, with that power added, has the same digits below it and a 1 there
@@ -23,20 +23,20 @@ bit_here (suc n) v fits =
     bit_at-suc (v + 2 ^ suc n) n ∙ ap (λ k. bit_at k n) half ∙ bit_here n (v / 2) (omega (arith, pow-succ' 2 n))
 
 -- fewer digits are a beginning
-more : {A : Type 0} (xs ys : List A) (x : A) → IsBeginning xs ys → IsBeginning xs (ys ++ x ∷ [])
+more : {A : Type 0} (xs ys : List A) (x : A) → IsPrefix xs ys → IsPrefix xs (ys ++ x ∷ [])
 more xs ys x (rest, e) = (rest ++ x ∷ [], sym (append_assoc xs rest (x ∷ [])) ∙ ap (λ l. l ++ x ∷ []) e)
 
 split : (n m : ℕ) → n ≤ suc m → (n ≡ suc m) ⊎ (n ≤ m)
 split n m l = grind arith
 
-pub writes_begin : (item n m : ℕ) → n ≤ m → IsBeginning (digit_writes item n) (digit_writes item m)
+pub writes_begin : (item n m : ℕ) → n ≤ m → IsPrefix (digit_writes item n) (digit_writes item m)
 writes_begin item n zero l = let e : n ≡ 0 = omega arith in ([], append-nil (digit_writes item n) ∙ ap (digit_writes item) e)
 writes_begin item n (suc m) l = elim (split n m l) [
   | inl e ↦ ([], append-nil (digit_writes item n) ∙ ap (digit_writes item) e)
   | inr l' ↦ more (digit_writes item n) (digit_writes item m) (record { bit = m; value = digit m item }) (writes_begin item n m l')
 ]
 
-pub reads_begin : (cell item n m : ℕ) → n ≤ m → IsBeginning (digit_reads cell item n) (digit_reads cell item m)
+pub reads_begin : (cell item n m : ℕ) → n ≤ m → IsPrefix (digit_reads cell item n) (digit_reads cell item m)
 reads_begin cell item n zero l = let e : n ≡ 0 = omega arith in ([], append-nil (digit_reads cell item n) ∙ ap (digit_reads cell item) e)
 reads_begin cell item n (suc m) l = elim (split n m l) [
   | inl e ↦ ([], append-nil (digit_reads cell item n) ∙ ap (digit_reads cell item) e)

@@ -8,8 +8,8 @@ use Rattle.bits_core.specs.declared.events.Bit.TheVariants.{Cell}
 use Rattle.bits_core.specs.declared.events.Event.{Event}
 use Rattle.bits_core.specs.Bits.{other}
 use Rattle.bits_core.specs.Intervals.{IsRead}
-use Rattle.bits_core.specs.Laws.{MadeIsAccess, OwnHasPlace, OwnHasOnePlace, ClockCountsPlaces}
-use Rattle.bits_core.specs.Made.{Made, Read, events_of, own, place_of, IsBeginning}
+use Rattle.bits_core.specs.Laws.{MadeIsAccess, SubhistoryHasPlace, SubhistoryHasOnePlace, ClockCountsPlaces}
+use Rattle.bits_core.specs.Made.{Made, Read, events_of, subhistory, place_of, IsPrefix}
 use Rattle.register_core.specs.Row.{row_bit}
 use Rattle.register_core.specs.Word.{digit, digit_reads}
 use Rattle.register_core.specs.ScanState.{zero_reads, scan_phrase, row_read_by}
@@ -53,13 +53,13 @@ get_digit j item (suc n) i l = elim (split i n l) [
       ap (slice_get (digit_reads j item n ++ Read (Cell j n) (digit n item) ∷ [])) (sym at) ∙ get_behind (digit_reads j item n) (Read (Cell j n) (digit n item) ∷ []) 0 ∙ ap (λ k. Some (Read (Cell j k) (digit k item))) (sym e)
 ]
 
-module _ (is_access : MadeIsAccess) (has_place : OwnHasPlace) (one_place : OwnHasOnePlace) (counts : ClockCountsPlaces) where
+module _ (is_access : MadeIsAccess) (has_place : SubhistoryHasPlace) (one_place : SubhistoryHasOnePlace) (counts : ClockCountsPlaces) where
   -- places of own events rise with their numbers
-  rise : (s : Side) (h : List Event) (i k : ℕ) → i < k → k < length (own s h) → place_of s h i < place_of s h k
+  rise : (s : Side) (h : List Event) (i k : ℕ) → i < k → k < length (subhistory s h) → place_of s h i < place_of s h k
   rise s h i k l m = (counts s h i (place_of s h k) (omega arith)).1 (omega (arith, (has_place s h k m).before))
 
-  module _ (s : Side) (h : List Event) (made : List Made) (follows : IsBeginning (own s h) (events_of s made)) where
-    read_at : (n : ℕ) (b : Bit) (v : Bool) → slice_get made n ≡ Some (Read b v) → suc (2 * n) < length (own s h) → IsRead h s b (place_of s h (2 * n)) (place_of s h (suc (2 * n))) v
+  module _ (s : Side) (h : List Event) (made : List Made) (follows : IsPrefix (subhistory s h) (events_of s made)) where
+    read_at : (n : ℕ) (b : Bit) (v : Bool) → slice_get made n ≡ Some (Read b v) → suc (2 * n) < length (subhistory s h) → IsRead h s b (place_of s h (2 * n)) (place_of s h (suc (2 * n))) v
     read_at n b v at l =
         let r = is_access s h made follows n (Read b v) at (omega arith) in
         let e = r.1.ended l in
@@ -70,11 +70,11 @@ module _ (is_access : MadeIsAccess) (has_place : OwnHasPlace) (one_place : OwnHa
       in_phrase : (i : ℕ) (x : Made) → slice_get phrase i ≡ Some x → slice_get made (length before + i) ≡ Some x
       in_phrase i x at = ap (λ l. slice_get l (length before + i)) is ∙ get_behind before (phrase ++ after) i ∙ get_before phrase after i x at
 
-      read_in : (i : ℕ) (b : Bit) (v : Bool) → slice_get phrase i ≡ Some (Read b v) → suc (2 * (length before + i)) < length (own s h) →
+      read_in : (i : ℕ) (b : Bit) (v : Bool) → slice_get phrase i ≡ Some (Read b v) → suc (2 * (length before + i)) < length (subhistory s h) →
           IsRead h s b (begin_place s h (length before) i) (end_place s h (length before) i) v
       read_in i b v at l = read_at (length before + i) b v (in_phrase i (Read b v) at) l
 
-    turn : (n i : ℕ) → 2 * (n + suc i) < length (own s h) → end_place s h n i < begin_place s h n (suc i)
+    turn : (n i : ℕ) → 2 * (n + suc i) < length (subhistory s h) → end_place s h n i < begin_place s h n (suc i)
     turn n i l = rise s h (suc (2 * (n + i))) (2 * (n + suc i)) (omega arith) l
 
   other_other : (s : Side) → other (other s) ≡ s

@@ -12,7 +12,7 @@ use Rattle.bits_core.specs.declared.events.Event.{Event}
 use Rattle.bits_core.specs.declared.shapes.Shape.{Shape}
 use Rattle.bits_core.specs.Bits.{writer, is_by, same_side, begun_by, write_of}
 use Rattle.bits_core.specs.Lawful.{IsLawful}
-use Rattle.bits_core.specs.Made.{Made, Read, Write, begin_event, end_event, events_of, own, IsBeginning}
+use Rattle.bits_core.specs.Made.{Made, Read, Write, begin_event, end_event, events_of, subhistory, IsPrefix}
 use Rattle.register_core.specs.Row.{RowWrite, row_bit, writes_in}
 use Rattle.register_core.specs.Word.{word_writes}
 use Rattle.register_core.specs.WordLaw.{cell_write}
@@ -51,11 +51,11 @@ module _ {W : Type 0} (begins : Event → Option W) (s : Side) (its : BeginsWrit
       let r = its e w is in
       ap (same_side s) (by_writer shape h lawful place e at r.0 r.1 r.2 ∙ r.3) ∙ side_same s
 
-  from_own : (h : List Event) → Own h → filter_map begins h ≡ filter_map begins (own s h)
+  from_own : (h : List Event) → Own h → filter_map begins h ≡ filter_map begins (subhistory s h)
   from_own [] by = refl
   from_own (e ∷ h) by = go (is_by s e) refl (from_own h (λ place d w at is. by (suc place) d w at is))
     where
-      go : (t : Bool) → is_by s e ≡ t → filter_map begins h ≡ filter_map begins (own s h) → filter_map begins (e ∷ h) ≡ filter_map begins (own s (e ∷ h))
+      go : (t : Bool) → is_by s e ≡ t → filter_map begins h ≡ filter_map begins (subhistory s h) → filter_map begins (e ∷ h) ≡ filter_map begins (subhistory s (e ∷ h))
       go true is rest = rw is (ap (cons_option (begins e)) rest)
       go false is rest =
           let nothing : begins e ≡ None = none e (λ w b. let k : false ≡ true = sym is ∙ by 0 e w refl b in cc) in
@@ -68,11 +68,11 @@ module _ {W : Type 0} (begins : Event → Option W) (s : Side) (its : BeginsWrit
       none (end_event s x) (λ w b. let r = its (end_event s x) w b in none-some (access.Write r.0 r.1) (sym (end_begins_none s x) ∙ r.2)) in
       ap (cons_option (begins (begin_event s x))) (ap (λ o. cons_option o (filter_map begins (events_of s made))) nothing ∙ from_events made)
 
-  pub are_made : (shape : Shape) (h : List Event) → IsLawful shape h → (made : List Made) → IsBeginning (own s h) (events_of s made) → IsBeginning (filter_map begins h) (made_writes begins s made)
+  pub are_made : (shape : Shape) (h : List Event) → IsLawful shape h → (made : List Made) → IsPrefix (subhistory s h) (events_of s made) → IsPrefix (filter_map begins h) (made_writes begins s made)
   are_made shape h lawful made (rest, e) = (
     filter_map begins rest,
     ap (λ l. l ++ filter_map begins rest) (from_own h (own_of shape h lawful))
-        ∙ sym (filter_map-append begins (own s h) rest)
+        ∙ sym (filter_map-append begins (subhistory s h) rest)
         ∙ ap (filter_map begins) e
         ∙ from_events made,
   )

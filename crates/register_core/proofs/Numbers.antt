@@ -8,7 +8,7 @@ use Rattle.bits_core.specs.declared.events.Event.{Event}
 use Rattle.bits_core.specs.Bits.{is_by}
 use Rattle.bits_core.specs.History.{has_event, before_last}
 use Rattle.bits_core.specs.Intervals.{first_place, end_of}
-use Rattle.bits_core.specs.Made.{IsBeginning}
+use Rattle.bits_core.specs.Made.{IsPrefix}
 
 -- ---- the events before a side's last one
 
@@ -18,10 +18,10 @@ before_last-more s x k e = ap (λ b. cond b (x ∷ before_last s k) []) e
 before_last-none : (s : Side) (x : Event) (k : List Event) → has_event s k ≡ false → before_last s (x ∷ k) ≡ []
 before_last-none s x k e = ap (λ b. cond b (x ∷ before_last s k) []) e
 
-before_last-begins : (s : Side) (k : List Event) → IsBeginning (before_last s k) k
+before_last-begins : (s : Side) (k : List Event) → IsPrefix (before_last s k) k
 before_last-begins s [] = ([], refl)
 before_last-begins s (x ∷ k) =
-    elim (has_event s k) as (λ t. IsBeginning (cond t (x ∷ before_last s k) []) (x ∷ k)) [
+    elim (has_event s k) as (λ t. IsPrefix (cond t (x ∷ before_last s k) []) (x ∷ k)) [
       | true ↦ let r = before_last-begins s k in (r.0, ap (λ l. x ∷ l) r.1)
       | false ↦ (x ∷ k, refl)
     ]

@@ -8,7 +8,7 @@ use Rattle.bits_core.specs.Bits.{first_value}
 use Rattle.bits_core.specs.History.{writes_begun}
 use Rattle.bits_core.specs.Intervals.{IsRead, IsWrite, IsHeld, HasOverlap, Overlap}
 use Rattle.bits_core.specs.Lawful.{IsLawful}
-use Rattle.bits_core.specs.Made.{IsBeginning}
+use Rattle.bits_core.specs.Made.{IsPrefix}
 
 -- a logical write of the second value over the first is one write where they differ, and none where they do not
 abbrev pub logical_write : Bool → Bool → List Bool
@@ -24,7 +24,7 @@ logical_writes v (w ∷ values) = logical_write v w ++ logical_writes w values
 
 -- the writes of the bit that began are a beginning of logical writes of these values, one after the other
 abbrev pub WritesLogically : Bit → List Event → List Bool → Type 0
-WritesLogically b h values = IsBeginning (writes_begun b h) (logical_writes (first_value b) values)
+WritesLogically b h values = IsPrefix (writes_begun b h) (logical_writes (first_value b) values)
 
 -- a write of the value to the bit that overlaps an access
 abbrev pub IsOverlapping : List Event → Bit → ℕ → ℕ → Bool → ℕ → ℕ → Type 0

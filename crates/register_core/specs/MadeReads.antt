@@ -4,7 +4,7 @@ use Rattle.bits_core.specs.declared.events.Side.{Side}
 use Rattle.bits_core.specs.declared.events.Side.TheVariants.{C}
 use Rattle.bits_core.specs.declared.events.Event.{Event}
 use Rattle.bits_core.specs.Bits.{other}
-use Rattle.bits_core.specs.Made.{Made, events_of, own, place_of, IsBeginning}
+use Rattle.bits_core.specs.Made.{Made, events_of, subhistory, place_of, IsPrefix}
 use Rattle.register_core.specs.Word.{word_read}
 use Rattle.register_core.specs.WordLaw.{IsWordRead}
 use Rattle.register_core.specs.ScanState.{zero_reads, scan_phrase, row_read_by}
@@ -21,23 +21,23 @@ end_place s h n i = place_of s h (suc (2 * (n + i)))
 -- history.
 abbrev pub ScansAreMade : Type 0
 ScansAreMade =
-    (s : Side) (h : List Event) (made : List Made) → IsBeginning (own s h) (events_of s made) →
+    (s : Side) (h : List Event) (made : List Made) → IsPrefix (subhistory s h) (events_of s made) →
     (before after : List Made) (c : ℕ) → made ≡ before ++ (scan_phrase (row_read_by s) c ++ after) →
-    suc (2 * (length before + c)) < length (own s h) →
+    suc (2 * (length before + c)) < length (subhistory s h) →
     IsScan (other s) h c (begin_place s h (length before)) (end_place s h (length before))
 
 -- And so are reads of 0 with which a scan begins.
 abbrev pub ZerosAreMade : Type 0
 ZerosAreMade =
-    (s : Side) (h : List Event) (made : List Made) → IsBeginning (own s h) (events_of s made) →
+    (s : Side) (h : List Event) (made : List Made) → IsPrefix (subhistory s h) (events_of s made) →
     (before after : List Made) (n : ℕ) → made ≡ before ++ (zero_reads (row_read_by s) n ++ after) →
-    2 * (length before + n) < length (own s h) →
+    2 * (length before + n) < length (subhistory s h) →
     ReadsZeros (other s) h n (begin_place s h (length before)) (end_place s h (length before))
 
 -- A word read among them that has ended is a word read of the history.
 abbrev pub WordReadsAreMade : Type 0
 WordReadsAreMade =
-    (h : List Event) (made : List Made) → IsBeginning (own C h) (events_of C made) →
+    (h : List Event) (made : List Made) → IsPrefix (subhistory C h) (events_of C made) →
     (before after : List Made) (width j item : ℕ) → item < 2 ^ width → made ≡ before ++ (word_read width j item ++ after) →
-    2 * (length before + width) < suc (length (own C h)) →
+    2 * (length before + width) < suc (length (subhistory C h)) →
     IsWordRead width j h (begin_place C h (length before)) (end_place C h (length before)) item

@@ -9,7 +9,7 @@ use Rattle.bits_core.specs.declared.shapes.Shape.{Shape}
 use Rattle.bits_core.specs.Bits.{writer, write_of}
 use Rattle.bits_core.specs.History.{writes_begun}
 use Rattle.bits_core.specs.Lawful.{IsLawful}
-use Rattle.bits_core.specs.Made.{Made, begin_event, events_of, own, IsBeginning}
+use Rattle.bits_core.specs.Made.{Made, begin_event, events_of, subhistory, IsPrefix}
 use Rattle.register_core.specs.Row.{writes_in}
 use Rattle.register_core.specs.Word.{word_writes}
 use Rattle.register_core.specs.WordLaw.{cell_write, cell_writes}
@@ -26,18 +26,18 @@ made_writes begins s made = filter_map (λ x. begins (begin_event s x)) made
 -- writes among the accesses: those to the digits of a cell, those to its count, and those to a bit.
 abbrev pub CellWritesAreMade : Type 0
 CellWritesAreMade =
-    (shape : Shape) (h : List Event) → IsLawful shape h → (made : List Made) → IsBeginning (own P h) (events_of P made) →
-    (j : ℕ) → IsBeginning (cell_writes j h) (made_writes (cell_write j) P made)
+    (shape : Shape) (h : List Event) → IsLawful shape h → (made : List Made) → IsPrefix (subhistory P h) (events_of P made) →
+    (j : ℕ) → IsPrefix (cell_writes j h) (made_writes (cell_write j) P made)
 
 abbrev pub CountWritesAreMade : Type 0
 CountWritesAreMade =
-    (shape : Shape) (h : List Event) → IsLawful shape h → (s : Side) (made : List Made) → IsBeginning (own s h) (events_of s made) →
-    IsBeginning (count_begun s h) (made_writes (count_write s) s made)
+    (shape : Shape) (h : List Event) → IsLawful shape h → (s : Side) (made : List Made) → IsPrefix (subhistory s h) (events_of s made) →
+    IsPrefix (count_begun s h) (made_writes (count_write s) s made)
 
 abbrev pub BitWritesAreMade : Type 0
 BitWritesAreMade =
-    (shape : Shape) (h : List Event) → IsLawful shape h → (b : Bit) (made : List Made) → IsBeginning (own (writer b) h) (events_of (writer b) made) →
-    IsBeginning (writes_begun b h) (made_writes (write_of b) (writer b) made)
+    (shape : Shape) (h : List Event) → IsLawful shape h → (b : Bit) (made : List Made) → IsPrefix (subhistory (writer b) h) (events_of (writer b) made) →
+    IsPrefix (writes_begun b h) (made_writes (write_of b) (writer b) made)
 
 -- The accesses of word writes, of unary writes and of logical writes have these writes and no others.
 abbrev pub WordsWrite : Type 0

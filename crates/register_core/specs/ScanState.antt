@@ -4,7 +4,7 @@ use Rattle.bits_core.specs.declared.events.Side.{Side}
 use Rattle.bits_core.specs.declared.events.Bit.{Bit}
 use Rattle.bits_core.specs.declared.events.Access.{Access}
 use Rattle.bits_core.specs.declared.events.Access.TheVariants as begins
-use Rattle.bits_core.specs.Made.{Made, answered, IsBeginning}
+use Rattle.bits_core.specs.Made.{Made, answered, IsPrefix}
 pub use Rattle.register_core.specs.Phrases.{zero_reads, scan_phrase, row_read_by}
 
 -- the reader's side, the modulus, how many bits were read as 0, and whether one was read as 1
@@ -45,7 +45,7 @@ IsScanOf row modulus made c = (c < modulus) × (made ≡ scan_phrase row c)
 
 -- a scan of the row begins with the accesses
 abbrev pub BeginsScan : (ℕ → Bit) → ℕ → List Made → Type 0
-BeginsScan row modulus made = (c : ℕ) × (c < modulus) × IsBeginning made (scan_phrase row c)
+BeginsScan row modulus made = (c : ℕ) × (c < modulus) × IsPrefix made (scan_phrase row c)
 
 -- Once these accesses of a scan were made, this one is next, and a scan goes on whatever it answers, but for a 0 of the
 -- last bit; there is none where they are a whole scan.

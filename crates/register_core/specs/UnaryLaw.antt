@@ -10,7 +10,7 @@ use Rattle.bits_core.specs.Bits.{other}
 use Rattle.bits_core.specs.History.{before_last}
 use Rattle.bits_core.specs.Intervals.{IsRead}
 use Rattle.bits_core.specs.Lawful.{IsLawful}
-use Rattle.bits_core.specs.Made.{IsBeginning}
+use Rattle.bits_core.specs.Made.{IsPrefix}
 use Rattle.register_core.specs.Row.{RowWrite, row_bit, row_write}
 use Rattle.register_core.specs.Unary.{writes_of, numbered_of, numbered_value, ended, begun_writes}
 
@@ -38,7 +38,7 @@ count_ended s h = count_begun s (before_last s h)
 
 -- the writes to the side's count are a beginning of those of unary writes of these values, one after the other
 abbrev pub WritesUnary : Side → List Event → List ℕ → Type 0
-WritesUnary s h values = IsBeginning (count_begun s h) (writes_of values)
+WritesUnary s h values = IsPrefix (count_begun s h) (writes_of values)
 
 -- how many of the numbered unary writes had all their accesses ended before a place, and how many had begun
 abbrev pub ended_before : Side → List Event → List ℕ → ℕ → ℕ

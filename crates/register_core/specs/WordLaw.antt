@@ -7,7 +7,7 @@ use Rattle.bits_core.specs.declared.events.Event.{Event}
 use Rattle.bits_core.specs.declared.shapes.Shape.{Shape}
 use Rattle.bits_core.specs.Intervals.{IsRead, IsWrite, Overlap}
 use Rattle.bits_core.specs.Lawful.{IsLawful}
-use Rattle.bits_core.specs.Made.{IsBeginning}
+use Rattle.bits_core.specs.Made.{IsPrefix}
 use Rattle.register_core.specs.Row.{RowWrite, row_write}
 use Rattle.register_core.specs.Word.{digit, word_writes}
 
@@ -28,7 +28,7 @@ cell_writes j h = filter_map (cell_write j) h
 
 -- the writes to the digits of the cell are a beginning of those of word writes of these items, one after the other
 abbrev pub WritesWords : ℕ → ℕ → List Event → List ℕ → Type 0
-WritesWords width j h items = IsBeginning (cell_writes j h) (word_writes width items)
+WritesWords width j h items = IsPrefix (cell_writes j h) (word_writes width items)
 
 -- write number n to the digits of the cell, counted from 0, with its interval
 pub record IsDigitWrite (j : ℕ) (h : List Event) (n start stop : ℕ) : Type 0 where

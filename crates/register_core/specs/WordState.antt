@@ -3,7 +3,7 @@ use Rattle.std.specs.Prelude.{◌≡◌, ℕ, suc, ◌+◌, ◌^◌, ◌<◌, Bo
 use Rattle.bits_core.specs.declared.events.Bit.TheVariants.{Cell}
 use Rattle.bits_core.specs.declared.events.Access.{Access}
 use Rattle.bits_core.specs.declared.events.Access.TheVariants.{Read, Write}
-use Rattle.bits_core.specs.Made.{Made, answered, IsBeginning}
+use Rattle.bits_core.specs.Made.{Made, answered, IsPrefix}
 use Rattle.register_core.specs.Row.{writes_in}
 use Rattle.register_core.specs.Word.{digit, digit_writes, digit_reads, word_read}
 
@@ -48,7 +48,7 @@ IsReadOf width cell made item = (item < 2 ^ width) × (made ≡ word_read width 
 
 -- a word read of the cell begins with the accesses
 abbrev pub BeginsRead : ℕ → ℕ → List Made → Type 0
-BeginsRead width cell made = (item : ℕ) × (item < 2 ^ width) × IsBeginning made (word_read width cell item)
+BeginsRead width cell made = (item : ℕ) × (item < 2 ^ width) × IsPrefix made (word_read width cell item)
 
 -- Once these accesses of a word read were made, this one is next, and a word read goes on whatever it answers; there is
 -- none where they are a whole word read.

@@ -57,7 +57,8 @@ impl BitWriter {
     pub fn write(&mut self, value: bool)
         requires { due_change self.old ≡ None }
         ensures state { self.new ≡ record self.old { wanted = value } }
-        ensures stands { (first : Bool) (values : List Bool) (made : List Made) → BitStands self.old first values made → BitStands self.new first (values ++ value ∷ []) made }
+        ensures stands { (first : Bool) (values : List Bool) (made : List Made) → BitStands self.old first values made →
+            BitStands self.new first (values ++ value ∷ []) made }
     {
         self.wanted = value;
     }
@@ -65,7 +66,8 @@ impl BitWriter {
     /// The write that is due, and none where the bit holds the value asked for.
     pub fn next(&self) -> Option<Access>
         ensures due { result ≡ due_change self.now }
-        ensures stands { (first : Bool) (values : List Bool) (made : List Made) → BitStands self.now first values made → IsNext (bit_writes self.now.bit first values) made result }
+        ensures stands { (first : Bool) (values : List Bool) (made : List Made) → BitStands self.now first values made →
+            IsNext (bit_writes self.now.bit first values) made result }
     {
         if self.held == self.wanted {
             None
@@ -78,7 +80,9 @@ impl BitWriter {
     pub fn feed(&mut self, answer: bool)
         requires { due_change self.old ≢ None }
         ensures state { self.new ≡ record self.old { held = self.old.wanted } }
-        ensures stands { (first : Bool) (values : List Bool) (made : List Made) (access : Access) → BitStands self.old first values made → due_change self.old ≡ Some access → BitStands self.new first values (made ++ answered access answer ∷ []) }
+        ensures stands { (first : Bool) (values : List Bool) (made : List Made) (access : Access) →
+            BitStands self.old first values made → due_change self.old ≡ Some access →
+            BitStands self.new first values (made ++ answered access answer ∷ []) }
     {
         let _ = answer;
         self.held = self.wanted;

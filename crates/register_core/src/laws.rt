@@ -9,7 +9,8 @@ ghost use Rattle.register_core.specs.Word.{DigitsTellItems};
 ghost use Rattle.register_core.specs.WordLaw.{DigitsAreSafe, WordIsSafe};
 
 use bits_core::laws::{
-    clock_counts_places, held_is_by_interval, made_is_access, own_has_one_place, own_has_place,
+    clock_counts_places, held_is_by_interval, made_is_access, subhistory_has_one_place,
+    subhistory_has_place,
 };
 
 /// A bit whose writer makes logical writes is regular.
@@ -82,8 +83,8 @@ pub fn reads_are_made()
     ensures words { WordReadsAreMade }
 {
     made_is_access();
-    own_has_place();
-    own_has_one_place();
+    subhistory_has_place();
+    subhistory_has_one_place();
     clock_counts_places();
 }
 

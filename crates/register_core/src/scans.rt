@@ -75,7 +75,8 @@ impl UnaryScan {
     #[inline(always)]
     pub fn next(&self) -> Option<Access>
         ensures due { result ≡ due_scan self.now }
-        ensures stands { (made : List Made) → ScanStands self.now made → IsNextScan (row_read_by self.now.side) self.now.modulus made result }
+        ensures stands { (made : List Made) → ScanStands self.now made →
+            IsNextScan (row_read_by self.now.side) self.now.modulus made result }
     {
         if self.found {
             return None;
@@ -93,7 +94,8 @@ impl UnaryScan {
         requires due { due_scan self.old ≢ None }
         requires one { LastIsDue self.old → answer ≡ true }
         ensures state { self.new ≡ scan_read self.old answer }
-        ensures stands { (made : List Made) (access : Access) → ScanStands self.old made → due_scan self.old ≡ Some access → ScanStands self.new (made ++ answered access answer ∷ []) }
+        ensures stands { (made : List Made) (access : Access) → ScanStands self.old made →
+            due_scan self.old ≡ Some access → ScanStands self.new (made ++ answered access answer ∷ []) }
     {
         if answer {
             self.found = true;
@@ -106,7 +108,8 @@ impl UnaryScan {
     #[inline(always)]
     pub fn value(&self) -> Option<u64>
         ensures state { result ≡ (if self.now.found then Some self.now.zeros else None) }
-        ensures stands { (made : List Made) → ScanStands self.now made → IsValueRead (row_read_by self.now.side) self.now.modulus made result }
+        ensures stands { (made : List Made) → ScanStands self.now made →
+            IsValueRead (row_read_by self.now.side) self.now.modulus made result }
     {
         if self.found { Some(self.zeros) } else { None }
     }

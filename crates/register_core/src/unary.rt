@@ -87,7 +87,8 @@ impl UnaryWriter {
         requires below { value < self.old.modulus }
         requires idle { due_unary self.old ≡ None }
         ensures state { self.new ≡ record self.old { value = value } }
-        ensures stands { (values : List ℕ) (made : List Made) → UnaryStands self.old values made → UnaryStands self.new (values ++ value ∷ []) made }
+        ensures stands { (values : List ℕ) (made : List Made) → UnaryStands self.old values made →
+            UnaryStands self.new (values ++ value ∷ []) made }
     {
         self.value = value as usize;
         self.place = clear_down(&self.bits, self.value);
@@ -97,7 +98,8 @@ impl UnaryWriter {
     #[inline(always)]
     pub fn next(&self) -> Option<Access>
         ensures due { result ≡ due_unary self.now }
-        ensures stands { (values : List ℕ) (made : List Made) → UnaryStands self.now values made → IsNext (count_writes self.now.side values) made result }
+        ensures stands { (values : List ℕ) (made : List Made) → UnaryStands self.now values made →
+            IsNext (count_writes self.now.side values) made result }
     {
         if !self.bits[self.value] {
             Some(write_to(self.side, self.value as u8, true))
@@ -114,8 +116,10 @@ impl UnaryWriter {
         requires { due_unary self.old ≢ None }
         ensures state { self.new ≡ row_fed self.old }
         ensures kept { IsSameRow self.old self.new }
-        ensures left { (x : RowWrite) (rest : List RowWrite) → due_writes self.old ≡ x ∷ rest → due_writes self.new ≡ rest }
-        ensures stands { (values : List ℕ) (made : List Made) (access : Access) → UnaryStands self.old values made → due_unary self.old ≡ Some access → UnaryStands self.new values (made ++ answered access answer ∷ []) }
+        ensures left { (x : RowWrite) (rest : List RowWrite) → due_writes self.old ≡ x ∷ rest →
+            due_writes self.new ≡ rest }
+        ensures stands { (values : List ℕ) (made : List Made) (access : Access) → UnaryStands self.old values made →
+            due_unary self.old ≡ Some access → UnaryStands self.new values (made ++ answered access answer ∷ []) }
     {
         let _ = answer;
         if !self.bits[self.value] {

@@ -55,7 +55,8 @@ impl WordWriter {
     #[inline(always)]
     pub fn next(&self) -> Option<Access>
         ensures due { result ≡ due_write self.now }
-        ensures stands { (made : List Made) → WriterStands self.now made → IsNext (word_write self.now.width self.now.cell self.now.item) made result }
+        ensures stands { (made : List Made) → WriterStands self.now made →
+            IsNext (word_write self.now.width self.now.cell self.now.item) made result }
     {
         if self.written < self.width {
             let value = (self.item >> self.written) % 2 == 1;
@@ -78,7 +79,8 @@ impl WordWriter {
     pub fn feed(&mut self, answer: bool)
         requires { due_write self.old ≢ None }
         ensures state { self.new ≡ record self.old { written = suc self.old.written } }
-        ensures stands { (made : List Made) (access : Access) → WriterStands self.old made → due_write self.old ≡ Some access → WriterStands self.new (made ++ answered access answer ∷ []) }
+        ensures stands { (made : List Made) (access : Access) → WriterStands self.old made →
+            due_write self.old ≡ Some access → WriterStands self.new (made ++ answered access answer ∷ []) }
     {
         let _ = answer;
         self.written += 1;
@@ -131,7 +133,8 @@ impl WordReader {
     #[inline(always)]
     pub fn next(&self) -> Option<Access>
         ensures due { result ≡ due_read self.now }
-        ensures stands { (made : List Made) → ReaderStands self.now made → IsNextRead self.now.width self.now.cell made result }
+        ensures stands { (made : List Made) → ReaderStands self.now made →
+            IsNextRead self.now.width self.now.cell made result }
     {
         if self.read < self.width {
             Some(Access::Read(Bit::Cell(self.cell as u8, self.read as u8)))
@@ -153,7 +156,8 @@ impl WordReader {
     pub fn feed(&mut self, answer: bool)
         requires { due_read self.old ≢ None }
         ensures state { self.new ≡ read_digit self.old answer }
-        ensures stands { (made : List Made) (access : Access) → ReaderStands self.old made → due_read self.old ≡ Some access → ReaderStands self.new (made ++ answered access answer ∷ []) }
+        ensures stands { (made : List Made) (access : Access) → ReaderStands self.old made →
+            due_read self.old ≡ Some access → ReaderStands self.new (made ++ answered access answer ∷ []) }
     {
         if answer {
             self.value += 1 << self.read;
@@ -165,7 +169,8 @@ impl WordReader {
     #[inline(always)]
     pub fn value(&self) -> Option<u64>
         ensures state { result ≡ (if nat_lt self.now.read self.now.width then None else Some self.now.value) }
-        ensures stands { (made : List Made) → ReaderStands self.now made → IsItemRead self.now.width self.now.cell made result }
+        ensures stands { (made : List Made) → ReaderStands self.now made →
+            IsItemRead self.now.width self.now.cell made result }
     {
         if self.read == self.width {
             Some(self.value)

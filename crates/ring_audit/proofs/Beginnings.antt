@@ -8,7 +8,7 @@ use Rattle.bits_core.specs.declared.events.Access.{Access}
 use Rattle.bits_core.specs.declared.events.Access.TheVariants as begins
 use Rattle.bits_core.specs.declared.events.Event.{Event}
 use Rattle.bits_core.specs.Bits.{begun_access, begun_by}
-use Rattle.bits_core.specs.Made.{Made, Read, Write, access_of, answered, begin_event, end_event, events_of, IsBeginning, opening_event}
+use Rattle.bits_core.specs.Made.{Made, Read, Write, access_of, answered, begin_event, end_event, events_of, IsPrefix, opening_event}
 
 -- ---- one access
 
@@ -72,7 +72,7 @@ pub record GoesOnWith (s : Side) (made whole : List Made) (e : Event) : Type 0 w
   pub whole_is : whole ≡ made ++ next ∷ rest
   pub begins : e ≡ begin_event s next
 
-pub next_begins : (s : Side) (made whole : List Made) (e : Event) → IsBeginning (events_of s made ++ e ∷ []) (events_of s whole) → GoesOnWith s made whole e
+pub next_begins : (s : Side) (made whole : List Made) (e : Event) → IsPrefix (events_of s made ++ e ∷ []) (events_of s whole) → GoesOnWith s made whole e
 next_begins s [] [] e (rest, p) = absurd (cc)
 next_begins s [] (y ∷ whole) e (rest, p) = record { next = y; rest = whole; whole_is = refl; begins = cc }
 next_begins s (m ∷ made) [] e (rest, p) = absurd (cc)
@@ -95,7 +95,7 @@ pub record GoesOnBy (s : Side) (made whole : List Made) (b e : Event) : Type 0 w
   pub begins : b ≡ begin_event s next
   pub ends : e ≡ end_event s next
 
-pub next_ends : (s : Side) (made whole : List Made) (b e : Event) → IsBeginning (events_of s made ++ b ∷ e ∷ []) (events_of s whole) → GoesOnBy s made whole b e
+pub next_ends : (s : Side) (made whole : List Made) (b e : Event) → IsPrefix (events_of s made ++ b ∷ e ∷ []) (events_of s whole) → GoesOnBy s made whole b e
 next_ends s [] [] b e (rest, p) = absurd (cc)
 next_ends s [] (y ∷ whole) b e (rest, p) = record { next = y; rest = whole; whole_is = refl; begins = cc; ends = cc }
 next_ends s (m ∷ made) [] b e (rest, p) = absurd (cc)

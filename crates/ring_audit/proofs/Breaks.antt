@@ -16,7 +16,7 @@ use Rattle.bits_core.specs.Laws.{BeginningIsLawful, FaultBreaks}
 use Rattle.bits_core.specs.Lawful.{IsLawful}
 use Rattle.bits_core.specs.declared.events.Side.{Side}
 use Rattle.bits_core.specs.Bits.{is_by}
-use Rattle.bits_core.specs.Made.{own, IsBeginning}
+use Rattle.bits_core.specs.Made.{subhistory, IsPrefix}
 use Rattle.ring_audit.specs.Audit.{IsOfPrograms, IsFound, IsKindAt, IsFirstBreak, Statement, Lawful, Fault, IsFinding, lawful_until, tells_lawful}
 use Rattle.ring_audit.specs.PutReading.{PutsStand, WerePut}
 use Rattle.ring_audit.specs.TakeReading.{TakesStand, WereTaken}
@@ -72,8 +72,8 @@ pub both_read :
     ((es : List Event) (items stored : List ℕ) → PutsStand shape r.puts es items stored → WerePut shape es items) →
     ((es : List Event) (items : List ℕ) → TakesStand shape r.takes es items → WereTaken shape es items told) → (h : List Event) → ReadingStands shape r h → BothFollow shape h
 both_read shape r told puts_so takes_so h st =
-    let p = puts_so (own P h) st.items st.stored st.puts_stand in
-    let t = takes_so (own C h) r.taken st.takes_stand in
+    let p = puts_so (subhistory P h) st.items st.stored st.puts_stand in
+    let t = takes_so (subhistory C h) r.taken st.takes_stand in
     ((p.calls, p.are, p.events), (t.calls, t.are, t.events))
 
 pub found :
@@ -82,8 +82,8 @@ pub found :
     ((es : List Event) (items : List ℕ) → TakesStand shape r.takes es items → WereTaken shape es items told) → put ≡ take r.counted r.put →
     (h : List Event) → IsLawful shape h → ReadingStands shape r h → IsFound shape h put r.taken told
 found shape r told put puts_so takes_so kept h lawful st =
-    let p = puts_so (own P h) st.items st.stored st.puts_stand in
-    let t = takes_so (own C h) r.taken st.takes_stand in
+    let p = puts_so (subhistory P h) st.items st.stored st.puts_stand in
+    let t = takes_so (subhistory C h) r.taken st.takes_stand in
     let items_are : put ≡ st.items =
     kept ∙ ap (λ n. take n r.put) st.counted_is ∙ ap (take (length st.items)) st.put_is ∙ take_at st.items st.stored (length st.items) refl in
     record {
@@ -110,13 +110,13 @@ length_part (e ∷ h) (suc n) l = ap suc (length_part h n (omega (arith, l)))
 
 -- ---- exactly
 
-own-append : (s : Side) (h g : List Event) → own s (h ++ g) ≡ own s h ++ own s g
+own-append : (s : Side) (h g : List Event) → subhistory s (h ++ g) ≡ subhistory s h ++ subhistory s g
 own-append s h g = filter-append (is_by s) h g
 
-pub begins_take : (s : Side) (h : List Event) (n : ℕ) (all : List Event) → IsBeginning (own s h) all → IsBeginning (own s (take n h)) all
+pub begins_take : (s : Side) (h : List Event) (n : ℕ) (all : List Event) → IsPrefix (subhistory s h) all → IsPrefix (subhistory s (take n h)) all
 begins_take s h n all (rest, e) = (
-  own s (drop n h) ++ rest,
-  sym (append_assoc (own s (take n h)) (own s (drop n h)) rest) ∙ ap (λ l. l ++ rest) (sym (own-append s (take n h) (drop n h)) ∙ ap (own s) (take-append-drop n h)) ∙ e,
+  subhistory s (drop n h) ++ rest,
+  sym (append_assoc (subhistory s (take n h)) (subhistory s (drop n h)) rest) ∙ ap (λ l. l ++ rest) (sym (own-append s (take n h) (drop n h)) ∙ ap (subhistory s) (take-append-drop n h)) ∙ e,
 )
 
 -- a beginning of a history of the programs is of the programs

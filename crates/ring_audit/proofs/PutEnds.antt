@@ -10,7 +10,7 @@ use Rattle.bits_core.specs.declared.events.Access.TheVariants as begins
 use Rattle.bits_core.specs.declared.events.Event.{Event}
 use Rattle.bits_core.specs.declared.shapes.Shape.{Shape}
 use Rattle.bits_core.specs.Shape.{AllFit, capacity_of, modulus_of, width_of, batch_of}
-use Rattle.bits_core.specs.Made.{Made, Read, Write, access_of, end_event, events_of, IsBeginning, opening_event}
+use Rattle.bits_core.specs.Made.{Made, Read, Write, access_of, end_event, events_of, IsPrefix, opening_event}
 use Rattle.register_core.specs.Row.{RowWrite, row_bit, writes_in}
 use Rattle.register_core.specs.Word.{digit, digit_writes, word_write, word_read}
 use Rattle.register_core.specs.WordState.{ReaderStands, BeginsRead, IsNextRead, due_read}
@@ -94,7 +94,7 @@ early shape c seen items t l = begun_items shape c seen items [] t l ∙ append-
 -- they are a beginning of the events of a list that begins with the accesses made, and with the open one behind them
 pub begins_so :
     (made rest : List Made) (o : Option Access) → ((a : Access) → o ≡ Some a → (x : Made) × (more : List Made) × (rest ≡ x ∷ more) × (access_of x ≡ a)) →
-    IsBeginning (events_of P made ++ open_events P o) (events_of P (made ++ rest))
+    IsPrefix (events_of P made ++ open_events P o) (events_of P (made ++ rest))
 begins_so made rest None open_is = (events_of P rest, ap (λ l. l ++ events_of P rest) (append-nil (events_of P made)) ∙ sym (events_of-append P made rest))
 begins_so made rest (Some a) open_is =
     let (x, more, rest_is, same) = open_is a refl in (
@@ -141,8 +141,8 @@ by_puts law shape r es items stored st closes part rest items_are made_is close_
     record {
       calls = closes_of st.puts closes;
       are = st.are;
-      events = subst (λ l. IsBeginning l (events_of P (front ++ close_phrase closes))) (sym st.events_are)
-          (subst (λ l. IsBeginning (events_of P st.made ++ open_events P r.open_access) (events_of P l)) (sym program) (begins_so st.made rest r.open_access opens));
+      events = subst (λ l. IsPrefix l (events_of P (front ++ close_phrase closes))) (sym st.events_are)
+          (subst (λ l. IsPrefix (events_of P st.made ++ open_events P r.open_access) (events_of P l)) (sym program) (begins_so st.made rest r.open_access opens));
       put = items_are ∙ sym (append-nil (all_put st.puts))
           ∙ sym (items-behind shape first_count st.puts [] (length es) (all_count law shape first_count st.puts (law.0 shape).0 st.are) reached)
           ∙ ap (λ l. items_put shape first_count l (length es)) (append-nil st.puts);
@@ -164,8 +164,8 @@ by_put law shape r es items stored st x part rest more is_put items_are made_is 
     record {
       calls = closes_of (st.puts ++ x ∷ []) false;
       are = are-push shape first_count st.puts x st.are is_put;
-      events = subst (λ l. IsBeginning l (events_of P (put_phrases shape first_count (st.puts ++ x ∷ []) ++ []))) (sym st.events_are)
-          (subst (λ l. IsBeginning (events_of P st.made ++ open_events P r.open_access) (events_of P l)) (sym program) (begins_so st.made rest r.open_access opens));
+      events = subst (λ l. IsPrefix l (events_of P (put_phrases shape first_count (st.puts ++ x ∷ []) ++ []))) (sym st.events_are)
+          (subst (λ l. IsPrefix (events_of P st.made ++ open_events P r.open_access) (events_of P l)) (sym program) (begins_so st.made rest r.open_access opens));
       put = items_are ∙ ap (λ l. all_put st.puts ++ l) (sym (put_so (length es - events_in front) refl))
           ∙ sym (items-behind shape first_count st.puts (x ∷ []) (length es) (all_count law shape first_count st.puts (law.0 shape).0 st.are) reached);
     }

@@ -4,7 +4,7 @@ use Rattle.bits_core.specs.declared.events.Side.{Side}
 use Rattle.bits_core.specs.declared.events.Access.{Access}
 use Rattle.bits_core.specs.declared.events.Event.{Event}
 use Rattle.bits_core.specs.Bits.{begun_by}
-use Rattle.bits_core.specs.Made.{Made, access_of, answered, end_event, events_of, IsBeginning, opening_event}
+use Rattle.bits_core.specs.Made.{Made, access_of, answered, end_event, events_of, IsPrefix, opening_event}
 use Rattle.ring_audit.specs.Sides.{open_events, EndsSo}
 use Rattle.ring_audit.proofs.Beginnings.{begin_is, access_is, answer_is, begun_is, ended_is, same_access, GoesOnWith, next_begins, GoesOnBy, next_ends, events_of-append, length-events}
 
@@ -51,22 +51,22 @@ ended s es made o a v is some =
 -- a program whose events begin so goes on with an access that the event begins
 pub rest_on :
     (s : Side) (es : List Event) (made whole : List Made) (o : Option Access) (e : Event) → es ≡ events_of s made ++ open_events s o → o ≡ None →
-    IsBeginning (es ++ e ∷ []) (events_of s whole) → GoesOnWith s made whole e
-rest_on s es made whole o e is none begins = next_begins s made whole e (subst (λ l. IsBeginning (l ++ e ∷ []) (events_of s whole)) (at_rest s es made o is none) begins)
+    IsPrefix (es ++ e ∷ []) (events_of s whole) → GoesOnWith s made whole e
+rest_on s es made whole o e is none begins = next_begins s made whole e (subst (λ l. IsPrefix (l ++ e ∷ []) (events_of s whole)) (at_rest s es made o is none) begins)
 
 -- or with the open one, which it ends
 pub work_on :
     (s : Side) (es : List Event) (made whole : List Made) (o : Option Access) (a : Access) (e : Event) → es ≡ events_of s made ++ open_events s o → o ≡ Some a →
-    IsBeginning (es ++ e ∷ []) (events_of s whole) → GoesOnBy s made whole (opening_event s a) e
+    IsPrefix (es ++ e ∷ []) (events_of s whole) → GoesOnBy s made whole (opening_event s a) e
 work_on s es made whole o a e is some begins =
-    next_ends s made whole (opening_event s a) e (subst (λ l. IsBeginning l (events_of s whole)) (at_work s es made o a e is some) begins)
+    next_ends s made whole (opening_event s a) e (subst (λ l. IsPrefix l (events_of s whole)) (at_work s es made o a e is some) begins)
 
 -- ---- where it stops
 
 -- a begin while an access is open
 pub begin_in_access :
     (s : Side) (es : List Event) (made whole : List Made) (o : Option Access) (a : Access) (e : Event) (b : Access) → es ≡ events_of s made ++ open_events s o → o ≡ Some a →
-    begun_by e ≡ Some b → IsBeginning (es ++ e ∷ []) (events_of s whole) → ⊥
+    begun_by e ≡ Some b → IsPrefix (es ++ e ∷ []) (events_of s whole) → ⊥
 begin_in_access s es made whole o a e b is some begun begins =
     let on = work_on s es made whole o a e is some begins in
     let clash : Some b ≡ None = sym begun ∙ ap begun_by on.ends ∙ ended_is s on.next in
@@ -75,7 +75,7 @@ begin_in_access s es made whole o a e b is some begun begins =
 -- an end while none is open
 pub end_at_rest :
     (s : Side) (es : List Event) (made whole : List Made) (o : Option Access) (e : Event) → es ≡ events_of s made ++ open_events s o → o ≡ None → begun_by e ≡ None →
-    IsBeginning (es ++ e ∷ []) (events_of s whole) → ⊥
+    IsPrefix (es ++ e ∷ []) (events_of s whole) → ⊥
 end_at_rest s es made whole o e is none no_begin begins =
     let on = rest_on s es made whole o e is none begins in
     let clash : None ≡ Some (access_of on.next) = sym no_begin ∙ ap begun_by on.begins ∙ begun_is s on.next in
@@ -84,7 +84,7 @@ end_at_rest s es made whole o e is none no_begin begins =
 -- an event that does not end the access that is open
 pub wrong_end :
     (s : Side) (es : List Event) (made whole : List Made) (o : Option Access) (a : Access) (e : Event) → es ≡ events_of s made ++ open_events s o → o ≡ Some a → e.side ≡ s →
-    ((v : Bool) → EndsSo a e v → ⊥) → IsBeginning (es ++ e ∷ []) (events_of s whole) → ⊥
+    ((v : Bool) → EndsSo a e v → ⊥) → IsPrefix (es ++ e ∷ []) (events_of s whole) → ⊥
 wrong_end s es made whole o a e is some by no_end begins =
     let on = work_on s es made whole o a e is some begins in
     let same : access_of on.next ≡ a = same_access s a on.next on.begins in

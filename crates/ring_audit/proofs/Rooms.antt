@@ -8,10 +8,10 @@ use Rattle.bits_core.specs.Shape.{batch_of}
 use Rattle.bits_core.specs.declared.events.Side.{Side}
 use Rattle.bits_core.specs.declared.events.Side.TheVariants.{P, C}
 use Rattle.bits_core.specs.Bits.{is_by}
-use Rattle.bits_core.specs.Laws.{BeginningIsLawful, OwnChanges}
+use Rattle.bits_core.specs.Laws.{BeginningIsLawful, SubhistoryChanges}
 use Rattle.bits_core.specs.Lawful.{IsLawful}
 use Rattle.ring_core.specs.Puts.{Put}
-use Rattle.bits_core.specs.Made.{Made, own}
+use Rattle.bits_core.specs.Made.{Made, subhistory}
 use Rattle.ring_audit.specs.declared.puts.Stage.{Stage}
 use Rattle.ring_audit.specs.declared.puts.Stage.TheVariants.{Resting, Scanning, Choosing, Storing, Counting, Closing, Closed}
 use Rattle.ring_audit.specs.Audit.{IsFound, IsFinding, FitsIn, HasTooFewSlots, statement_in}
@@ -33,7 +33,7 @@ on_err (Err x) g = g
 -- ---- an event for whose item there is no room
 
 pub put_needs :
-    OwnChanges → (shape : Shape) (puts new : PutReading) (takes : TakeReading) (counted : ℕ) (put taken : List ℕ) (e : Event) (item put_room taken_room : ℕ) → e.side ≡ P →
+    SubhistoryChanges → (shape : Shape) (puts new : PutReading) (takes : TakeReading) (counted : ℕ) (put taken : List ℕ) (e : Event) (item put_room taken_room : ℕ) → e.side ≡ P →
     HasReadPut shape puts new e (p.Stores item) → put_room ≤ length put → (h : List Event) → ReadingStands shape (reading puts takes counted put taken) h →
     NeedsRoom shape new takes counted put_room taken_room (h ++ e ∷ [])
 put_needs changes shape puts new takes counted put taken e item put_room taken_room by read full h st = record {
@@ -44,7 +44,7 @@ put_needs changes shape puts new takes counted put taken e item put_room taken_r
 }
 
 pub take_needs :
-    OwnChanges → (shape : Shape) (puts : PutReading) (takes new : TakeReading) (counted : ℕ) (put taken kept : List ℕ) (e : Event) (put_room taken_room : ℕ) → e.side ≡ C →
+    SubhistoryChanges → (shape : Shape) (puts : PutReading) (takes new : TakeReading) (counted : ℕ) (put taken kept : List ℕ) (e : Event) (put_room taken_room : ℕ) → e.side ≡ C →
     HasReadTake shape takes new e c.Takes → kept ≡ new.consumer.items → taken_room < length taken + length kept → (h : List Event) →
     ReadingStands shape (reading puts takes counted put taken) h → NeedsRoom shape puts new counted put_room taken_room (h ++ e ∷ [])
 take_needs changes shape puts takes new counted put taken kept e put_room taken_room by read same full h st = record {
@@ -55,22 +55,22 @@ take_needs changes shape puts takes new counted put taken kept e put_room taken_
 }
 
 -- no more items are taken than there are events
-length-own : (s : Side) (h : List Event) → length (own s h) ≤ length h
+length-own : (s : Side) (h : List Event) → length (subhistory s h) ≤ length h
 length-own s [] = omega arith
 length-own s (e ∷ h) =
-    elim (is_by s e) as (λ b. length (if b then e ∷ own s h else own s h) ≤ suc (length h)) [
+    elim (is_by s e) as (λ b. length (if b then e ∷ subhistory s h else subhistory s h) ≤ suc (length h)) [
       | true ↦ omega (arith, length-own s h)
       | false ↦ omega (arith, length-own s h)
     ]
 
 pub take_short :
-    OwnChanges → (shape : Shape) (puts : PutReading) (takes new : TakeReading) (counted : ℕ) (put taken kept : List ℕ) (e : Event) (taken_room : ℕ) → e.side ≡ C →
+    SubhistoryChanges → (shape : Shape) (puts : PutReading) (takes new : TakeReading) (counted : ℕ) (put taken kept : List ℕ) (e : Event) (taken_room : ℕ) → e.side ≡ C →
     HasReadTake shape takes new e c.Takes → kept ≡ new.consumer.items → taken_room < length taken + length kept → (h : List Event) →
     ReadingStands shape (reading puts takes counted put taken) h → taken_room < length (h ++ e ∷ [])
 take_short changes shape puts takes new counted put taken kept e taken_room by read same full h st =
     let stands : ReadingStands shape (reading puts new counted put (taken ++ kept)) (h ++ e ∷ []) =
     take_takes changes shape (reading puts takes counted put taken) new e (taken ++ kept) by read (ap (λ l. taken ++ l) same) h st in
-    omega (arith, full, length-append taken kept, few_taken shape new (own C (h ++ e ∷ [])) (taken ++ kept) stands.takes_stand, length-own C (h ++ e ∷ []))
+    omega (arith, full, length-append taken kept, few_taken shape new (subhistory C (h ++ e ∷ [])) (taken ++ kept) stands.takes_stand, length-own C (h ++ e ∷ []))
 
 -- ---- what is told of it
 

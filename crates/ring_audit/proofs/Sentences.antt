@@ -5,7 +5,7 @@ use Rattle.bits_core.specs.declared.events.Side.{Side}
 use Rattle.bits_core.specs.declared.events.Side.TheVariants.{P, C}
 use Rattle.bits_core.specs.declared.events.Event.{Event}
 use Rattle.bits_core.specs.declared.shapes.Shape.{Shape}
-use Rattle.bits_core.specs.Made.{clock, own, IsBeginning}
+use Rattle.bits_core.specs.Made.{clock, subhistory, IsPrefix}
 use Rattle.ring_core.specs.Counts.{first_count}
 use Rattle.ring_core.specs.Items.{items_put, items_taken, IsTold}
 use Rattle.ring_core.specs.Linear.{IsLinearizableRun}
@@ -13,8 +13,8 @@ use Rattle.ring_core.specs.RingLaw.{InEveryRun, RingLaw}
 use Rattle.ring_core.specs.RunLaws.{ClosedStays}
 use Rattle.ring_audit.specs.Audit.{IsFound, MeetsSentence, Statement, Lawful, Fault, IsFinding, SaysLinearizable, SaysSentence}
 
-clock_end : (s : Side) (h : List Event) → clock s h (length h) ≡ length (own s h)
-clock_end s h = ap (λ l. length (own s l)) (take-length h)
+clock_end : (s : Side) (h : List Event) → clock s h (length h) ≡ length (subhistory s h)
+clock_end s h = ap (λ l. length (subhistory s l)) (take-length h)
 
 sentence : InEveryRun RingLaw → ClosedStays → (shape : Shape) (h : List Event) (put taken : List ℕ) (told : Bool) → IsFound shape h put taken told → MeetsSentence shape h put taken told
 sentence holds stays shape h put taken told f =
@@ -22,7 +22,7 @@ sentence holds stays shape h put taken told f =
     let put_so : items_put shape first_count f.puts.puts (clock P h (length h)) ≡ put = ap (items_put shape first_count f.puts.puts) (clock_end P h) ∙ sym f.put_is in
     let taken_so : items_taken shape first_count f.takes.takes (clock C h (length h)) ≡ taken = ap (items_taken shape first_count f.takes.takes) (clock_end C h) ∙ sym f.taken_is in
     record {
-      prefix = subst (λ l. IsBeginning l put) taken_so (subst (IsBeginning (items_taken shape first_count f.takes.takes (clock C h (length h)))) put_so (law.prefix (length h)));
+      prefix = subst (λ l. IsPrefix l put) taken_so (subst (IsPrefix (items_taken shape first_count f.takes.takes (clock C h (length h)))) put_so (law.prefix (length h)));
       all = λ e.
           (let at : IsTold shape f.takes (clock C h (length h)) = subst (IsTold shape f.takes) (sym (clock_end C h)) (f.told_is.0 e) in
           let (all_put, all_taken, closes, behind) = law.closed (length h) (length h) at (omega arith) in

@@ -7,9 +7,9 @@ use Rattle.bits_core.specs.declared.events.Access.{Access}
 use Rattle.bits_core.specs.declared.events.Event.{Event}
 use Rattle.bits_core.specs.declared.shapes.Shape.{Shape}
 use Rattle.bits_core.specs.Shape.{capacity_of, width_of}
-use Rattle.bits_core.specs.Made.{Made, Read, answered, end_event, events_of, IsBeginning, opening_event}
-use Rattle.ring_core.specs.declared.consumers.TakeReply.{TakeReply}
-use Rattle.ring_core.specs.declared.consumers.TakeReply.TheVariants as replies
+use Rattle.bits_core.specs.Made.{Made, Read, answered, end_event, events_of, IsPrefix, opening_event}
+use Rattle.ring_core.specs.declared.replies.TakeReply.{TakeReply}
+use Rattle.ring_core.specs.declared.replies.TakeReply.TheVariants as replies
 use Rattle.register_core.specs.Word.{digit, digit_reads, word_read}
 use Rattle.ring_core.specs.Counts.{Count, first_count, batch_phrase}
 use Rattle.ring_core.specs.Takes.{Take, Item, ItemAfterClose, Empty, Takes, End, Open, Closed, count_after, taken_count, words_read, items_phrase, accesses_before_word, take_phrase, take_phrases, end_phrase, take_program, AreTakes}
@@ -129,7 +129,7 @@ taken-under_way shape wanted calls more t has reached not_ended =
 -- they are a beginning of the events of a list that goes on with the access
 open_begins :
     (made rest : List Made) (a : Access) (o : Option Access) → ((b : Access) → o ≡ Some b → b ≡ a) →
-    IsBeginning (events_of C made ++ open_events C o) (events_of C (made ++ answered a true ∷ rest))
+    IsPrefix (events_of C made ++ open_events C o) (events_of C (made ++ answered a true ∷ rest))
 open_begins made rest a None same = (
   events_of C (answered a true ∷ rest),
   ap (λ l. l ++ events_of C (answered a true ∷ rest)) (append-nil (events_of C made)) ∙ sym (events_of-append C made (answered a true ∷ rest)),
@@ -189,8 +189,8 @@ taken_at shape p o es items (Some a) reply st is_due goes rests replied =
     record {
       calls = more;
       are = has.are;
-      events = subst (λ l. IsBeginning l (events_of C (take_program shape more))) (sym st.events_are)
-          (subst (λ l. IsBeginning (events_of C st.made ++ open_events C o) (events_of C l)) (sym program) (open_begins st.made rest a o same));
+      events = subst (λ l. IsPrefix l (events_of C (take_program shape more))) (sym st.events_are)
+          (subst (λ l. IsPrefix (events_of C st.made ++ open_events C o) (events_of C l)) (sym program) (open_begins st.made rest a o same));
       taken = st.items_are ∙ taken-under_way shape p.wanted st.calls more (length es) has reached not_ended;
       told_is = says_not (tells_closed reply) (IsTold shape more (length es)) (ap tells_closed answers) (λ told. absurd (omega (arith, told.1, not_ended)));
     }

@@ -1,8 +1,8 @@
 -- The items that a reader of takes was brought are those that the takes took.
 use Rattle.std.proofs.Common.{◌≡◌, inl, inr, ℕ, Bool, true, false, Option, Some, None, List, [], ◌∷◌, ◌++◌, refl, sym, ap, ap₂, ◌∙◌, append_assoc, append-nil}
 use Rattle.bits_core.specs.declared.shapes.Shape.{Shape}
-use Rattle.ring_core.specs.declared.consumers.TakeReply.{TakeReply}
-use Rattle.ring_core.specs.declared.consumers.TakeReply.TheVariants as replies
+use Rattle.ring_core.specs.declared.replies.TakeReply.{TakeReply}
+use Rattle.ring_core.specs.declared.replies.TakeReply.TheVariants as replies
 use Rattle.ring_core.specs.Takes.{Take, Item, ItemAfterClose, Empty, Takes}
 use Rattle.ring_core.specs.ConsumerCalls.{take_reply_to, last_take_reply, last_items, reply_at_end, items_at_end, IsReplyToTake, AreItemsOfTake, IsAfterTake, items_reply}
 use Rattle.ring_core.specs.Items.{taken_of, all_taken}

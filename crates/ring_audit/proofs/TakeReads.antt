@@ -8,7 +8,7 @@ use Rattle.bits_core.specs.declared.events.Access.{Access}
 use Rattle.bits_core.specs.declared.events.Access.TheVariants as begins
 use Rattle.bits_core.specs.declared.events.Event.{Event}
 use Rattle.bits_core.specs.declared.shapes.Shape.{Shape}
-use Rattle.bits_core.specs.Made.{Made, Read, access_of, answered, begin_event, end_event, events_of, IsBeginning, opening_event}
+use Rattle.bits_core.specs.Made.{Made, Read, access_of, answered, begin_event, end_event, events_of, IsPrefix, opening_event}
 use Rattle.register_core.specs.Row.{RowWrite, row_bit}
 use Rattle.register_core.specs.Word.{digit_reads}
 use Rattle.register_core.specs.WordState.{ReaderState, due_read}
@@ -16,7 +16,7 @@ use Rattle.register_core.specs.ScanState.{ScanState, zero_reads, scan_phrase, ro
 use Rattle.register_core.specs.UnaryState.{due_writes, first_access}
 use Rattle.bits_core.specs.Shape.{take_batch_of}
 use Rattle.ring_core.specs.Counts.{first_count}
-use Rattle.ring_core.specs.declared.consumers.TakeReply.{TakeReply}
+use Rattle.ring_core.specs.declared.replies.TakeReply.{TakeReply}
 use Rattle.ring_core.specs.Calls.{LastBitIsDue}
 use Rattle.ring_core.specs.Takes.{Takes, End, Open, Closed, words_read, take_phrases, end_phrase, take_program, AreTakes}
 use Rattle.ring_core.specs.Items.{Tells}
@@ -187,7 +187,7 @@ next_or law shape r es items p due a st none same stands goes of_takes =
     let on = rest_on shape r es items st (opening_event C a) none of_takes in
     let is_a : access_of on.next ≡ a = same_access C a on.next on.begins in
     let (part, made_is) = front_at p.stage p st.calls st.made stands.made_is in
-    let begins : IsBeginning (take_phrases shape first_count st.calls.takes) st.made = (part, sym (made_is ∙ ap (λ s. take_phrases s first_count st.calls.takes ++ part) same)) in
+    let begins : IsPrefix (take_phrases shape first_count st.calls.takes) st.made = (part, sym (made_is ∙ ap (λ s. take_phrases s first_count st.calls.takes ++ part) same)) in
     subst (λ z. (z ≡ due) ⊎ (EndInCellRead st.made × TakesPart shape p.wanted due z)) is_a
     (law shape p.wanted st.calls of_takes.0 st.made due on.next on.rest begins (subst (λ s. TakeGoesOn s p.wanted st.calls st.made due) same goes) of_takes.1 on.whole_is)
 

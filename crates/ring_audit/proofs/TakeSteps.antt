@@ -8,8 +8,8 @@ use Rattle.bits_core.specs.declared.events.Event.{Event}
 use Rattle.bits_core.specs.declared.shapes.Shape.{Shape}
 use Rattle.bits_core.specs.Made.{Made, Read, access_of, answered, end_event}
 use Rattle.ring_core.specs.declared.consumers.Stage.TheVariants.{Counting}
-use Rattle.ring_core.specs.declared.consumers.TakeReply.{TakeReply}
-use Rattle.ring_core.specs.declared.consumers.TakeReply.TheVariants as replies
+use Rattle.ring_core.specs.declared.replies.TakeReply.{TakeReply}
+use Rattle.ring_core.specs.declared.replies.TakeReply.TheVariants as replies
 use Rattle.ring_core.specs.Takes.{Takes}
 use Rattle.ring_core.specs.GoingOn.{EndInCellRead}
 use Rattle.ring_core.specs.ConsumerState.{ConsumerState, due_take, is_taking}

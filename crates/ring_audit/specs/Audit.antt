@@ -9,7 +9,7 @@ use Rattle.bits_core.specs.declared.shapes.Shape.{Shape}
 use Rattle.bits_core.specs.Shape.{batch_of}
 use Rattle.bits_core.specs.Audit.{IsFirstFault}
 use Rattle.bits_core.specs.Lawful.{IsLawful}
-use Rattle.bits_core.specs.Made.{IsBeginning}
+use Rattle.bits_core.specs.Made.{IsPrefix}
 use Rattle.ring_audit.specs.declared.audits.Finding.{Finding}
 use Rattle.ring_audit.specs.declared.audits.Finding.TheVariants as findings
 use Rattle.ring_audit.specs.declared.audits.Found.{Found}
@@ -94,10 +94,10 @@ tells_lawful (Fault place kind) = false
 -- told, all that were put were taken, and in no longer history of the programs are there more; and in whichever way the events
 -- are read as calls, the law of the ring holds of these.
 pub record MeetsSentence (shape : Shape) (h : List Event) (put taken : List ℕ) (told : Bool) : Type 0 where
-  pub prefix : IsBeginning taken put
+  pub prefix : IsPrefix taken put
   pub all : IsTrue told → taken ≡ put
   pub stays :
-      IsTrue told → (h' : List Event) (put' taken' : List ℕ) (told' : Bool) → IsBeginning h h' → IsFound shape h' put' taken' told' →
+      IsTrue told → (h' : List Event) (put' taken' : List ℕ) (told' : Bool) → IsPrefix h h' → IsFound shape h' put' taken' told' →
       (put' ≡ put) × (taken' ≡ taken)
   pub law : (puts : Puts) (takes : Takes) → IsRun shape h puts takes → RingLaw shape h puts takes
 

@@ -7,7 +7,7 @@ use Rattle.bits_core.specs.declared.events.Access.TheVariants as begins
 use Rattle.bits_core.specs.declared.events.Event.{Event}
 use Rattle.bits_core.specs.declared.shapes.Shape.{Shape}
 use Rattle.bits_core.specs.Shape.{AllFit, capacity_of, modulus_of, width_of, batch_of}
-use Rattle.bits_core.specs.Made.{Made, Write, events_of, IsBeginning}
+use Rattle.bits_core.specs.Made.{Made, Write, events_of, IsPrefix}
 use Rattle.register_core.specs.Row.{RowWrite, row_bit, first_bits, writes_in, bits_after}
 use Rattle.register_core.specs.Word.{digit_writes}
 use Rattle.register_core.specs.WordState.{ReaderState, ReaderStands}
@@ -159,5 +159,5 @@ HasReadPut shape old new e Counts =
 pub record WerePut (shape : Shape) (es : List Event) (items : List ℕ) : Type 0 where
   pub calls : Puts
   pub are : ArePuts shape 0 calls.puts
-  pub events : IsBeginning es (events_of P (put_program shape calls))
+  pub events : IsPrefix es (events_of P (put_program shape calls))
   pub put : items ≡ items_put shape first_count calls.puts (length es)

@@ -3,7 +3,7 @@ use Rattle.std.specs.Prelude.{◌≡◌, ℕ, ◌<◌, ◌⊎◌, List, ◌++◌
 use Rattle.bits_core.specs.declared.events.Side.TheVariants.{P, C}
 use Rattle.bits_core.specs.declared.events.Event.{Event}
 use Rattle.bits_core.specs.declared.shapes.Shape.{Shape}
-use Rattle.bits_core.specs.Made.{own}
+use Rattle.bits_core.specs.Made.{subhistory}
 use Rattle.ring_audit.specs.Sides.{AreOfPuts, AreOfTakes}
 use Rattle.ring_audit.specs.PutReading.{PutReading, PutsStand}
 use Rattle.ring_audit.specs.TakeReading.{TakeReading, TakesStand}
@@ -23,8 +23,8 @@ reading puts takes counted put taken = record { puts = puts; takes = takes; put 
 pub record ReadingStands (shape : Shape) (r : Reading) (h : List Event) : Type 0 where
   pub items : List ℕ
   pub stored : List ℕ
-  pub puts_stand : PutsStand shape r.puts (own P h) items stored
-  pub takes_stand : TakesStand shape r.takes (own C h) r.taken
+  pub puts_stand : PutsStand shape r.puts (subhistory P h) items stored
+  pub takes_stand : TakesStand shape r.takes (subhistory C h) r.taken
   pub put_is : r.put ≡ items ++ stored
   pub counted_is : r.counted ≡ length items
 
@@ -37,4 +37,4 @@ pub record NeedsRoom (shape : Shape) (puts : PutReading) (takes : TakeReading) (
 
 -- the events of both sides are a beginning of those of calls
 abbrev pub BothFollow : Shape → List Event → Type 0
-BothFollow shape h = AreOfPuts shape (own P h) × AreOfTakes shape (own C h)
+BothFollow shape h = AreOfPuts shape (subhistory P h) × AreOfTakes shape (subhistory C h)

@@ -7,7 +7,7 @@ use Rattle.bits_core.specs.declared.events.Bit.{Bit}
 use Rattle.bits_core.specs.declared.events.Access.TheVariants as begins
 use Rattle.bits_core.specs.declared.events.Event.{Event}
 use Rattle.bits_core.specs.declared.shapes.Shape.{Shape}
-use Rattle.bits_core.specs.Made.{answered, end_event, events_of, IsBeginning, opening_event}
+use Rattle.bits_core.specs.Made.{answered, end_event, events_of, IsPrefix, opening_event}
 use Rattle.ring_core.specs.Puts.{Puts, put_program, ArePuts}
 use Rattle.ring_core.specs.Takes.{Takes, take_program, AreTakes}
 
@@ -22,10 +22,10 @@ EndsSo access e v = e ≡ end_event e.side (answered access v)
 
 -- the events are a beginning of those of calls of the producer, or of the consumer
 abbrev pub AreOfPuts : Shape → List Event → Type 0
-AreOfPuts shape es = (calls : Puts) × ArePuts shape 0 calls.puts × IsBeginning es (events_of P (put_program shape calls))
+AreOfPuts shape es = (calls : Puts) × ArePuts shape 0 calls.puts × IsPrefix es (events_of P (put_program shape calls))
 
 abbrev pub AreOfTakes : Shape → List Event → Type 0
-AreOfTakes shape es = (calls : Takes) × AreTakes shape 0 calls.takes calls.end × IsBeginning es (events_of C (take_program shape calls))
+AreOfTakes shape es = (calls : Takes) × AreTakes shape 0 calls.takes calls.end × IsPrefix es (events_of C (take_program shape calls))
 
 -- the access writes the bit that would be read next
 abbrev pub WritesNext : Option Access → Access → Type 0

@@ -4,7 +4,7 @@ use Rattle.bits_core.specs.declared.events.Side.TheVariants.{C}
 use Rattle.bits_core.specs.declared.events.Access.{Access}
 use Rattle.bits_core.specs.declared.events.Event.{Event}
 use Rattle.bits_core.specs.declared.shapes.Shape.{Shape}
-use Rattle.bits_core.specs.Made.{Made, events_of, IsBeginning}
+use Rattle.bits_core.specs.Made.{Made, events_of, IsPrefix}
 use Rattle.bits_core.specs.Shape.{take_batch_of}
 use Rattle.ring_core.specs.Counts.{first_count}
 use Rattle.ring_core.specs.Takes.{Takes, take_program, AreTakes}
@@ -13,8 +13,8 @@ use Rattle.ring_core.specs.GoingOn.{EndInCellRead}
 use Rattle.ring_core.specs.ConsumerState.{ConsumerState, due_take, is_taking}
 use Rattle.ring_core.specs.ConsumerCalls.{ConsumerStands}
 use Rattle.ring_core.specs.declared.consumers.Stage.TheVariants.{Counting}
-use Rattle.ring_core.specs.declared.consumers.TakeReply.{TakeReply}
-use Rattle.ring_core.specs.declared.consumers.TakeReply.TheVariants as replies
+use Rattle.ring_core.specs.declared.replies.TakeReply.{TakeReply}
+use Rattle.ring_core.specs.declared.replies.TakeReply.TheVariants as replies
 use Rattle.ring_audit.specs.declared.takes.TakeStep.{TakeStep}
 use Rattle.ring_audit.specs.declared.takes.TakeStep.TheVariants.{Stops, GoesOn, Takes as TakesItems}
 use Rattle.ring_audit.specs.Sides.{open_events, AreOfTakes}
@@ -74,6 +74,6 @@ HasReadTake shape old new e TakesItems =
 pub record WereTaken (shape : Shape) (es : List Event) (items : List ℕ) (told : Bool) : Type 0 where
   pub calls : Takes
   pub are : AreTakes shape 0 calls.takes calls.end
-  pub events : IsBeginning es (events_of C (take_program shape calls))
+  pub events : IsPrefix es (events_of C (take_program shape calls))
   pub taken : items ≡ items_taken shape first_count calls.takes (length es)
   pub told_is : IsTrue told ↔ IsTold shape calls (length es)

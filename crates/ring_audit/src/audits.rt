@@ -1,6 +1,5 @@
 //! The audit of a history: of its bits and of the programs of its two sides.
 ghost use Rattle.std.specs.Prelude.{◌≡◌, ◌↔◌, ◌⊎◌, ◌++◌, ◌∷◌, [], ℕ, ◌+◌, List, Bool, true, false, IfOk, OnErr, OnOk, IsTrue, ◌<◌, ◌≤◌, length, take};
-ghost use Rattle.bits_core.specs.declared.events.Event.{Event as AnEvent};
 ghost use Rattle.bits_core.specs.Lawful.{IsLawful};
 ghost use Rattle.ring_audit.specs.Audit.{FitsIn, HasTooFewSlots, IsFinding, IsFound, IsOfPrograms, SaysLinearizable, SaysSentence, lawful_until, statement, statement_in, tells_lawful};
 ghost use Rattle.bits_core.specs.Audit.{IsVerdict};
@@ -9,7 +8,7 @@ ghost use Rattle.ring_audit.specs.Reading.{NeedsRoom, ReadingStands, BothFollow,
 use crate::faults::AuditFault;
 use crate::puts::{PutReader, PutStep};
 use crate::takes::{TakeReader, TakeStep};
-use bits_core::laws::{beginning_is_lawful, fault_breaks, own_changes};
+use bits_core::laws::{beginning_is_lawful, fault_breaks, subhistory_changes};
 use bits_core::{Event, Filled, Kind, Shape, Side, Store, Verdict, audit_bits};
 use ring_core::laws::{closed_stays, ring_is_linearizable, ring_law};
 use std::alloc::Allocator;
@@ -109,20 +108,30 @@ impl Readers {
         requires { self.old.takes.consumer.shape ≡ self.old.puts.shape }
         ensures put_shape { self.new.puts.shape ≡ self.old.puts.shape }
         ensures take_shape { self.new.takes.consumer.shape ≡ self.old.takes.consumer.shape }
-        ensures goes_on { IfOk result (λ on. on ≡ true → (h : List AnEvent) → ReadingStands self.old.puts.shape (reading self.old.puts self.old.takes self.old.counted (S.items put.old) (S.items taken.old)) h
-            → ReadingStands self.old.puts.shape (reading self.new.puts self.new.takes self.new.counted (S.items put.new) (S.items taken.new)) (h ++ event ∷ [])) }
-        ensures stops { IfOk result (λ on. on ≡ false → (h : List AnEvent) → ReadingStands self.old.puts.shape (reading self.old.puts self.old.takes self.old.counted (S.items put.old) (S.items taken.old)) h
+        ensures goes_on { IfOk result (λ on. on ≡ true → (h : List Event) →
+            ReadingStands self.old.puts.shape (reading self.old.puts self.old.takes self.old.counted (S.items put.old)
+            (S.items taken.old)) h
+            → ReadingStands self.old.puts.shape (reading self.new.puts self.new.takes self.new.counted (S.items put.new)
+            (S.items taken.new)) (h ++ event ∷ [])) }
+        ensures stops { IfOk result (λ on. on ≡ false → (h : List Event) →
+            ReadingStands self.old.puts.shape (reading self.old.puts self.old.takes self.old.counted (S.items put.old)
+            (S.items taken.old)) h
             → ¬ BothFollow self.old.puts.shape (h ++ event ∷ [])) }
-        ensures refused { OnErr result ((h : List AnEvent) → ReadingStands self.old.puts.shape (reading self.old.puts self.old.takes self.old.counted (S.items put.old) (S.items taken.old)) h
-            → NeedsRoom self.old.puts.shape self.new.puts self.new.takes self.new.counted (S.room put.old) (S.room taken.old) (h ++ event ∷ [])) }
-        ensures full { OnErr result ((S.room put.old ≤ length (S.items put.old)) ⊎ ((h : List AnEvent) → ReadingStands self.old.puts.shape (reading self.old.puts self.old.takes self.old.counted (S.items put.old) (S.items taken.old)) h
+        ensures refused { OnErr result ((h : List Event) →
+            ReadingStands self.old.puts.shape (reading self.old.puts self.old.takes self.old.counted (S.items put.old)
+            (S.items taken.old)) h
+            → NeedsRoom self.old.puts.shape self.new.puts self.new.takes self.new.counted (S.room put.old)
+            (S.room taken.old) (h ++ event ∷ [])) }
+        ensures full { OnErr result ((S.room put.old ≤ length (S.items put.old)) ⊎
+            ((h : List Event) → ReadingStands self.old.puts.shape
+            (reading self.old.puts self.old.takes self.old.counted (S.items put.old) (S.items taken.old)) h
             → S.room taken.old < length (h ++ event ∷ []))) }
         ensures few { IfOk result (λ on. length (S.items put.new) ≤ length (S.items put.old) + 1) }
         ensures rooms { (S.room put.new ≡ S.room put.old) × (S.room taken.new ≡ S.room taken.old) }
         ensures put_slots { (first : S) → S.same_slots first put.old → S.same_slots first put.new }
         ensures taken_slots { (first : S) → S.same_slots first taken.old → S.same_slots first taken.new }
     {
-        own_changes();
+        subhistory_changes();
         match event.side {
             Side::P => match self.puts.read(event) {
                 PutStep::Stops => Ok(false),
@@ -150,8 +159,11 @@ impl Readers {
     // Whether a take was told that the ring is closed. What was read so far is of the programs.
     fn told(&self) -> bool
         requires { self.now.takes.consumer.shape ≡ self.now.puts.shape }
-        ensures follow { (h : List AnEvent) (put taken : List ℕ) → ReadingStands self.now.puts.shape (reading self.now.puts self.now.takes self.now.counted put taken) h → BothFollow self.now.puts.shape h }
-        ensures found { (h : List AnEvent) (put taken : List ℕ) → IsLawful self.now.puts.shape h → ReadingStands self.now.puts.shape (reading self.now.puts self.now.takes self.now.counted put taken) h
+        ensures follow { (h : List Event) (put taken : List ℕ) →
+            ReadingStands self.now.puts.shape (reading self.now.puts self.now.takes self.now.counted put taken) h →
+            BothFollow self.now.puts.shape h }
+        ensures found { (h : List Event) (put taken : List ℕ) → IsLawful self.now.puts.shape h →
+            ReadingStands self.now.puts.shape (reading self.now.puts self.now.takes self.now.counted put taken) h
             → IsFound self.now.puts.shape h (take self.now.counted put) taken result }
     {
         self.puts.follow();
@@ -234,12 +246,17 @@ fn find_filled<'a>(
 ) -> Result<Found, AuditFault>
     requires no_put { put.old.used ≡ 0 }
     requires none_taken { taken.old.used ≡ 0 }
-    ensures found { IfOk result (λ found. IsFinding shape.now events.now (statement_in put.new.slots.now taken.new.slots.now found)) }
-    ensures exact { IfOk result (λ found. IsTrue (tells_lawful (statement_in put.new.slots.now taken.new.slots.now found)) ↔ IsOfPrograms shape.now events.now) }
-    ensures sentence { IfOk result (λ found. SaysSentence shape.now events.now (statement_in put.new.slots.now taken.new.slots.now found)) }
+    ensures found { IfOk result (λ found. IsFinding shape.now events.now
+        (statement_in put.new.slots.now taken.new.slots.now found)) }
+    ensures exact { IfOk result (λ found. IsTrue (tells_lawful
+        (statement_in put.new.slots.now taken.new.slots.now found)) ↔ IsOfPrograms shape.now events.now) }
+    ensures sentence { IfOk result (λ found. SaysSentence shape.now events.now
+        (statement_in put.new.slots.now taken.new.slots.now found)) }
     ensures within { IfOk result (λ found. FitsIn (length put.new.slots.now) (length taken.new.slots.now) found) }
-    ensures refused { OnErr result (HasTooFewSlots shape.now events.now (length put.new.slots.now) (length taken.new.slots.now)) }
-    ensures few { OnErr result ((length put.new.slots.now < length events.now) ⊎ (length taken.new.slots.now < length events.now)) }
+    ensures refused { OnErr result (HasTooFewSlots shape.now events.now (length put.new.slots.now)
+        (length taken.new.slots.now)) }
+    ensures few { OnErr result ((length put.new.slots.now < length events.now) ⊎
+        (length taken.new.slots.now < length events.now)) }
     ensures put_slots { put.new.slots.ghost_name ≡ put.old.slots.ghost_name }
     ensures taken_slots { taken.new.slots.ghost_name ≡ taken.old.slots.ghost_name }
 {
@@ -268,9 +285,11 @@ pub fn audit_into(
     taken: &mut [u64],
 ) -> Result<Found, AuditFault>
     ensures found { IfOk result (λ found. IsFinding shape.now events.now (statement_in put.new taken.new found)) }
-    ensures exact { IfOk result (λ found. IsTrue (tells_lawful (statement_in put.new taken.new found)) ↔ IsOfPrograms shape.now events.now) }
+    ensures exact { IfOk result (λ found. IsTrue (tells_lawful (statement_in put.new taken.new found)) ↔
+        IsOfPrograms shape.now events.now) }
     ensures sentence { IfOk result (λ found. SaysSentence shape.now events.now (statement_in put.new taken.new found)) }
-    ensures linearizable { IfOk result (λ found. SaysLinearizable shape.now events.now (statement_in put.new taken.new found)) }
+    ensures linearizable { IfOk result (λ found. SaysLinearizable shape.now events.now
+        (statement_in put.new taken.new found)) }
     // There are no more items than slots.
     ensures within { IfOk result (λ found. FitsIn (length put.new) (length taken.new) found) }
     // It is refused only where the slots are too few.
@@ -294,7 +313,8 @@ fn find_in<S: Store<u64>>(
 ) -> Result<Found, AuditFault>
     requires no_put { S.items put.old ≡ [] }
     requires none_taken { S.items taken.old ≡ [] }
-    ensures found { IfOk result (λ found. IsFinding shape.now events.now (statement_in (S.items put.new) (S.items taken.new) found)) }
+    ensures found { IfOk result (λ found. IsFinding shape.now events.now
+        (statement_in (S.items put.new) (S.items taken.new) found)) }
     ensures within { IfOk result (λ found. FitsIn (length (S.items put.new)) (length (S.items taken.new)) found) }
     ensures refused { OnErr result (HasTooFewSlots shape.now events.now (S.room put.new) (S.room taken.new)) }
     ensures few { OnErr result ((S.room put.new < length events.now) ⊎ (S.room taken.new < length events.now)) }

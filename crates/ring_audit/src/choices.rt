@@ -1,10 +1,8 @@
 //! The few events of one side of which the next one has to be one.
 ghost use Rattle.std.specs.Prelude.{◌≡◌, ◌≢◌, ℕ, Bool, None, Some};
 ghost use Rattle.bits_core.specs.declared.events.Side.TheVariants.{P};
-ghost use Rattle.bits_core.specs.declared.events.Bit.{Bit as ABit};
+ghost use Rattle.bits_core.specs.declared.events.Bit.{Bit};
 ghost use Rattle.bits_core.specs.declared.events.Bit.TheVariants.{Cell};
-ghost use Rattle.bits_core.specs.declared.events.Event.{Event as AnEvent};
-ghost use Rattle.bits_core.specs.declared.events.Access.{Access as AnAccess};
 ghost use Rattle.bits_core.specs.declared.events.Access.TheVariants as begins;
 ghost use Rattle.bits_core.specs.Made.{opening_event};
 ghost use Rattle.ring_audit.specs.Dues.{AreInOrder, act_rank};
@@ -24,7 +22,7 @@ pub struct Dues {
 
 // The event with which the side begins the access.
 pub fn opening(side: Side, access: Option<Access>) -> Option<Event>
-    ensures some { (a : AnAccess) → access ≡ Some a → result ≡ Some (opening_event side a) }
+    ensures some { (a : Access) → access ≡ Some a → result ≡ Some (opening_event side a) }
     ensures none { access ≡ None → result ≡ None }
 {
     match access {
@@ -35,7 +33,8 @@ pub fn opening(side: Side, access: Option<Access>) -> Option<Event>
 
 // The events with which the side may end the access.
 pub fn ends(side: Side, access: Access) -> Dues
-    ensures only { (e : AnEvent) (v : Bool) → e.side ≡ side → EndsSo access e v → result.first ≢ Some e → result.second ≢ Some e → ⊥ }
+    ensures only { (e : Event) (v : Bool) → e.side ≡ side → EndsSo access e v → result.first ≢ Some e →
+        result.second ≢ Some e → ⊥ }
     ensures order { AreInOrder result }
 {
     match access {
@@ -66,9 +65,12 @@ pub fn ends(side: Side, access: Access) -> Dues
 
 // The producer's writes of either value to the bit that would be read next, and another event.
 pub fn writes(read: Option<Access>, other: Option<Event>) -> Dues
-    ensures writes { (b : ABit) (v : Bool) → read ≡ Some (begins.Read b) → result.first ≢ Some (opening_event P (begins.Write b v)) → result.second ≢ Some (opening_event P (begins.Write b v)) → ⊥ }
+    ensures writes { (b : Bit) (v : Bool) → read ≡ Some (begins.Read b) →
+        result.first ≢ Some (opening_event P (begins.Write b v)) →
+        result.second ≢ Some (opening_event P (begins.Write b v)) → ⊥ }
     ensures other { result.third ≡ other }
-    ensures order { ((b : ABit) → read ≡ Some (begins.Read b) → (j : ℕ) × (i : ℕ) × (b ≡ Cell j i)) → ((e : AnEvent) → other ≡ Some e → act_rank e.bit e.act ≡ 2) → AreInOrder result }
+    ensures order { ((b : Bit) → read ≡ Some (begins.Read b) → (j : ℕ) × (i : ℕ) × (b ≡ Cell j i)) →
+        ((e : Event) → other ≡ Some e → act_rank e.bit e.act ≡ 2) → AreInOrder result }
 {
     match read {
         Some(access) => match access {

@@ -1,13 +1,12 @@
 //! Which events of a side go on with the programs behind a history.
 ghost use Rattle.std.specs.Prelude.{◌≡◌, ◌↔◌, ◌++◌, ◌∷◌, [], List, Some, IsTrue, IfSome, MatchOption, true, false};
-ghost use Rattle.bits_core.specs.declared.events.Event.{Event as AnEvent};
 ghost use Rattle.ring_audit.specs.Reading.{BothFollow};
 ghost use Rattle.ring_audit.specs.Dues.{AreInOrder, BothStand, GoesOnBehind, IsDueOf, IsNoneOf};
 
 use crate::choices::{Dues, only};
 use crate::puts::{PutReader, PutStep};
 use crate::takes::{TakeReader, TakeStep};
-use bits_core::laws::own_changes;
+use bits_core::laws::subhistory_changes;
 use bits_core::{Event, Shape, Side};
 
 // The readers of both sides.
@@ -34,10 +33,14 @@ impl Followers {
         requires { self.old.takes.consumer.shape ≡ self.old.puts.shape }
         ensures put_shape { self.new.puts.shape ≡ self.old.puts.shape }
         ensures take_shape { self.new.takes.consumer.shape ≡ self.old.takes.consumer.shape }
-        ensures goes_on { result ≡ true → (h : List AnEvent) → BothStand self.old.puts.shape self.old.puts self.old.takes h → BothStand self.old.puts.shape self.new.puts self.new.takes (h ++ event ∷ []) }
-        ensures stops { result ≡ false → (h : List AnEvent) → BothStand self.old.puts.shape self.old.puts self.old.takes h → ¬ BothFollow self.old.puts.shape (h ++ event ∷ []) }
+        ensures goes_on { result ≡ true → (h : List Event) →
+            BothStand self.old.puts.shape self.old.puts self.old.takes h →
+            BothStand self.old.puts.shape self.new.puts self.new.takes (h ++ event ∷ []) }
+        ensures stops { result ≡ false → (h : List Event) →
+            BothStand self.old.puts.shape self.old.puts self.old.takes h →
+            ¬ BothFollow self.old.puts.shape (h ++ event ∷ []) }
     {
-        own_changes();
+        subhistory_changes();
         match event.side {
             Side::P => match self.puts.read(event) {
                 PutStep::Stops => false,
@@ -56,7 +59,8 @@ impl Followers {
     // What was read so far is of the programs.
     fn follow(&self)
         requires { self.now.takes.consumer.shape ≡ self.now.puts.shape }
-        ensures { (h : List AnEvent) → BothStand self.now.puts.shape self.now.puts self.now.takes h → BothFollow self.now.puts.shape h }
+        ensures { (h : List Event) → BothStand self.now.puts.shape self.now.puts self.now.takes h →
+            BothFollow self.now.puts.shape h }
     {
         self.puts.follow();
         let _told = self.takes.told();
@@ -65,10 +69,11 @@ impl Followers {
     // The events of the side of which the next one has to be one.
     fn candidates(&mut self, side: Side) -> Dues
         requires { self.old.takes.consumer.shape ≡ self.old.puts.shape }
-        ensures only { (h : List AnEvent) (e : AnEvent) → BothStand self.old.puts.shape self.old.puts self.old.takes h → e.side ≡ side → IsNoneOf result e → ¬ GoesOnBehind self.old.puts.shape h e }
+        ensures only { (h : List Event) (e : Event) → BothStand self.old.puts.shape self.old.puts self.old.takes h →
+            e.side ≡ side → IsNoneOf result e → ¬ GoesOnBehind self.old.puts.shape h e }
         ensures order { AreInOrder result }
     {
-        own_changes();
+        subhistory_changes();
         match side {
             Side::P => self.puts.candidates(),
             Side::C => self.takes.candidates(),
@@ -78,8 +83,10 @@ impl Followers {
 
 // The readers after these events, where they are of the programs.
 fn read_all(shape: &Shape, events: &[Event]) -> Option<Followers>
-    ensures shapes { IfSome result (λ readers. (readers.puts.shape ≡ shape.now) × (readers.takes.consumer.shape ≡ shape.now)) }
-    ensures stands { MatchOption result ((e : AnEvent) → ¬ GoesOnBehind shape.now events.now e) (λ readers. BothStand shape.now readers.puts readers.takes events.now) }
+    ensures shapes { IfSome result (λ readers. (readers.puts.shape ≡ shape.now) ×
+        (readers.takes.consumer.shape ≡ shape.now)) }
+    ensures stands { MatchOption result ((e : Event) → ¬ GoesOnBehind shape.now events.now e)
+        (λ readers. BothStand shape.now readers.puts readers.takes events.now) }
 {
     let mut readers = Followers::new(shape);
     for i in 0..events.len() {
@@ -106,7 +113,8 @@ fn goes_on(shape: &Shape, events: &[Event], event: Event) -> bool
 
 // The event, where it is of the side and goes on with the programs behind these.
 fn kept(shape: &Shape, events: &[Event], side: Side, event: Option<Event>) -> Option<Event>
-    ensures { (e : AnEvent) → (result ≡ Some e) ↔ ((event ≡ Some e) × (e.side ≡ side) × GoesOnBehind shape.now events.now e) }
+    ensures { (e : Event) → (result ≡ Some e) ↔
+        ((event ≡ Some e) × (e.side ≡ side) × GoesOnBehind shape.now events.now e) }
 {
     match event {
         None => None,
@@ -122,7 +130,7 @@ fn kept(shape: &Shape, events: &[Event], side: Side, event: Option<Event>) -> Op
 
 // Events of which each is one that is of the side and goes on with the programs behind these.
 fn candidates(shape: &Shape, events: &[Event], side: Side) -> Dues
-    ensures only { (e : AnEvent) → e.side ≡ side → IsNoneOf result e → ¬ GoesOnBehind shape.now events.now e }
+    ensures only { (e : Event) → e.side ≡ side → IsNoneOf result e → ¬ GoesOnBehind shape.now events.now e }
     ensures order { AreInOrder result }
 {
     match read_all(shape, events) {
@@ -143,7 +151,7 @@ fn candidates(shape: &Shape, events: &[Event], side: Side) -> Dues
 /// For example, behind no event they are `P read r0`, the begin of a put, and `P write x 1`, that of the close. In
 /// use: `lamport_ring audit --why`.
 pub fn due_behind(shape: &Shape, events: &[Event], side: Side) -> Dues
-    ensures due { (e : AnEvent) → IsDueOf result e ↔ ((e.side ≡ side) × GoesOnBehind shape.now events.now e) }
+    ensures due { (e : Event) → IsDueOf result e ↔ ((e.side ≡ side) × GoesOnBehind shape.now events.now e) }
     ensures order { AreInOrder result }
 {
     let some = candidates(shape, events, side);

@@ -2,11 +2,9 @@
 ghost use Rattle.std.specs.Prelude.{◌≡◌, ◌≢◌, ◌≤◌, ◌<◌, ◌↔◌, ◌++◌, ◌∷◌, [], ℕ, List, None, Some, Bool, true, false, IsTrue};
 ghost use Rattle.bits_core.specs.declared.events.Side.TheVariants.{P};
 ghost use Rattle.bits_core.specs.declared.events.Bit.TheVariants.{Cell};
-ghost use Rattle.bits_core.specs.declared.events.Event.{Event as AnEvent};
 ghost use Rattle.bits_core.specs.Made.{answered, end_event, opening_event};
 ghost use Rattle.bits_core.specs.Shape.{modulus_of, batch_of};
 ghost use Rattle.ring_core.specs.Counts.{LeavesRoom, LeavesRoomFor};
-ghost use Rattle.bits_core.specs.declared.events.Access.{Access as AnAccess};
 ghost use Rattle.ring_audit.specs.Sides.{AreOfPuts};
 ghost use Rattle.ring_audit.specs.Dues.{AreInOrder, IsNoneOf};
 ghost use Rattle.ring_audit.specs.PutReading.{PutsStand, HasReadPut, WerePut};
@@ -66,9 +64,33 @@ impl Model for PutReader {
 
     ghost Value = { PutReading };
 
-    ghost view = { λ r. record { shape = r.shape; count = r.count; next = r.next; cell = r.cell; stage = r.stage; scan = r.scan; word = r.word; room = r.room; some = r.some; row = r.row; open_access = r.open_access } };
+    ghost view = { λ r. record {
+      shape = r.shape;
+      count = r.count;
+      next = r.next;
+      cell = r.cell;
+      stage = r.stage;
+      scan = r.scan;
+      word = r.word;
+      room = r.room;
+      some = r.some;
+      row = r.row;
+      open_access = r.open_access;
+    } };
 
-    ghost invariant = { λ r. IsPutReading (record { shape = r.shape; count = r.count; next = r.next; cell = r.cell; stage = r.stage; scan = r.scan; word = r.word; room = r.room; some = r.some; row = r.row; open_access = r.open_access }) };
+    ghost invariant = { λ r. IsPutReading (record {
+      shape = r.shape;
+      count = r.count;
+      next = r.next;
+      cell = r.cell;
+      stage = r.stage;
+      scan = r.scan;
+      word = r.word;
+      room = r.room;
+      some = r.some;
+      row = r.row;
+      open_access = r.open_access;
+    }) };
 }
 
 // The most items that may be stored behind a scan of this value, where one may.
@@ -358,7 +380,9 @@ impl PutReader {
 
     /// The events of which the next one of any puts has to be one. Nothing else is said of the reader then.
     pub fn candidates(&mut self) -> Dues
-        ensures only { (es : List AnEvent) (items stored : List ℕ) (e : AnEvent) → PutsStand self.old.shape self.old es items stored → e.side ≡ P → IsNoneOf result e → ¬ AreOfPuts self.old.shape (es ++ e ∷ []) }
+        ensures only { (es : List Event) (items stored : List ℕ) (e : Event) →
+            PutsStand self.old.shape self.old es items stored → e.side ≡ P → IsNoneOf result e →
+            ¬ AreOfPuts self.old.shape (es ++ e ∷ []) }
         ensures order { AreInOrder result }
     {
         match self.open_access {
@@ -370,7 +394,9 @@ impl PutReader {
     // While no access is open: the begins of which the next one has to be one.
     fn openings(&mut self) -> Dues
         requires { self.old.open_access ≡ None }
-        ensures only { (es : List AnEvent) (items stored : List ℕ) (access : AnAccess) → PutsStand self.old.shape self.old es items stored → IsNoneOf result (opening_event P access) → ¬ AreOfPuts self.old.shape (es ++ opening_event P access ∷ []) }
+        ensures only { (es : List Event) (items stored : List ℕ) (access : Access) →
+            PutsStand self.old.shape self.old es items stored → IsNoneOf result (opening_event P access) →
+            ¬ AreOfPuts self.old.shape (es ++ opening_event P access ∷ []) }
         ensures order { AreInOrder result }
     {
         puts_go_on();
@@ -394,7 +420,9 @@ impl PutReader {
     fn word_or_count(&mut self) -> Dues
         requires none { self.old.open_access ≡ None }
         requires stage { self.old.stage ≡ Choosing }
-        ensures only { (es : List AnEvent) (items stored : List ℕ) (access : AnAccess) → PutsStand self.old.shape self.old es items stored → IsNoneOf result (opening_event P access) → ¬ AreOfPuts self.old.shape (es ++ opening_event P access ∷ []) }
+        ensures only { (es : List Event) (items stored : List ℕ) (access : Access) →
+            PutsStand self.old.shape self.old es items stored → IsNoneOf result (opening_event P access) →
+            ¬ AreOfPuts self.old.shape (es ++ opening_event P access ∷ []) }
         ensures order { AreInOrder result }
     {
         puts_go_on();
@@ -407,7 +435,8 @@ impl PutReader {
 
     /// What was read so far is a beginning of the events of puts.
     pub fn follow(&self)
-        ensures { (es : List AnEvent) (items stored : List ℕ) → PutsStand self.now.shape self.now es items stored → WerePut self.now.shape es items }
+        ensures { (es : List Event) (items stored : List ℕ) → PutsStand self.now.shape self.now es items stored →
+            WerePut self.now.shape es items }
     {
         counts_are_written();
         let _due = self.word.next();

@@ -2,8 +2,6 @@
 ghost use Rattle.std.specs.Prelude.{◌≡◌, ◌≢◌, ◌≤◌, ◌++◌, ◌∷◌, [], ℕ, List, None, Some, Bool, true, false};
 ghost use Rattle.bits_core.specs.declared.events.Bit.TheVariants.{R};
 ghost use Rattle.bits_core.specs.declared.events.Side.TheVariants.{C};
-ghost use Rattle.bits_core.specs.declared.events.Event.{Event as AnEvent};
-ghost use Rattle.bits_core.specs.declared.events.Access.{Access as AnAccess};
 ghost use Rattle.bits_core.specs.Made.{answered, end_event, opening_event};
 ghost use Rattle.ring_core.specs.ConsumerState.{IsBetweenWords, due_take};
 ghost use Rattle.bits_core.specs.Shape.{take_batch_of};
@@ -48,7 +46,8 @@ impl Model for TakeReader {
 
     ghost view = { λ r. record { consumer = r.consumer; open_access = r.open_access } };
 
-    ghost invariant = { λ r. IsTakeReading (record { consumer = r.consumer; open_access = r.open_access }) × (r.most ≡ take_batch_of r.consumer.shape) × (1 ≤ r.most) };
+    ghost invariant = { λ r. IsTakeReading (record { consumer = r.consumer; open_access = r.open_access }) ×
+        (r.most ≡ take_batch_of r.consumer.shape) × (1 ≤ r.most) };
 }
 
 impl TakeReader {
@@ -91,8 +90,12 @@ impl TakeReader {
     // An access begins: whether it is one that may.
     fn begin(&mut self, access: Access) -> bool
         ensures shape { self.new.consumer.shape ≡ self.old.consumer.shape }
-        ensures goes_on { result ≡ true → (es : List AnEvent) (items : List ℕ) → TakesStand self.old.consumer.shape self.old es items → TakesStand self.old.consumer.shape self.new (es ++ opening_event C access ∷ []) items }
-        ensures stops { result ≡ false → (es : List AnEvent) (items : List ℕ) → TakesStand self.old.consumer.shape self.old es items → ¬ AreOfTakes self.old.consumer.shape (es ++ opening_event C access ∷ []) }
+        ensures goes_on { result ≡ true → (es : List Event) (items : List ℕ) →
+            TakesStand self.old.consumer.shape self.old es items →
+            TakesStand self.old.consumer.shape self.new (es ++ opening_event C access ∷ []) items }
+        ensures stops { result ≡ false → (es : List Event) (items : List ℕ) →
+            TakesStand self.old.consumer.shape self.old es items →
+            ¬ AreOfTakes self.old.consumer.shape (es ++ opening_event C access ∷ []) }
     {
         match self.open_access {
             Some(_) => false,
@@ -121,8 +124,11 @@ impl TakeReader {
         ensures shape { self.new.consumer.shape ≡ self.old.consumer.shape }
         ensures due { result ≡ due_take self.new.consumer }
         ensures open_access { self.new.open_access ≡ None }
-        ensures stands { (es : List AnEvent) (items : List ℕ) → TakesStand self.old.consumer.shape self.old es items → TakesStand self.old.consumer.shape self.new es items }
-        ensures only { (es : List AnEvent) (items : List ℕ) (access : AnAccess) → TakesStand self.old.consumer.shape self.old es items → result ≢ Some access → AreOfTakes self.old.consumer.shape (es ++ opening_event C access ∷ [])
+        ensures stands { (es : List Event) (items : List ℕ) → TakesStand self.old.consumer.shape self.old es items →
+            TakesStand self.old.consumer.shape self.new es items }
+        ensures only { (es : List Event) (items : List ℕ) (access : Access) →
+            TakesStand self.old.consumer.shape self.old es items → result ≢ Some access →
+            AreOfTakes self.old.consumer.shape (es ++ opening_event C access ∷ [])
             → IsBetweenWords self.new.consumer × WritesTakeCount access }
     {
         takes_go_on();
@@ -145,9 +151,12 @@ impl TakeReader {
         ensures due { result ≡ due_take self.new.consumer }
         ensures open_access { self.new.open_access ≡ None }
         ensures write { (i : ℕ) × (v : Bool) × (result ≡ Some (Access.Write (R i) v)) }
-        ensures stands { (es : List AnEvent) (items : List ℕ) (access : AnAccess) → TakesStand self.old.consumer.shape self.old es items → result ≡ Some access
-            → TakesStand self.old.consumer.shape (record self.new { open_access = Some access }) (es ++ opening_event C access ∷ []) items }
-        ensures only { (es : List AnEvent) (items : List ℕ) (access : AnAccess) → TakesStand self.old.consumer.shape self.old es items → result ≢ Some access → WritesTakeCount access
+        ensures stands { (es : List Event) (items : List ℕ) (access : Access) →
+            TakesStand self.old.consumer.shape self.old es items → result ≡ Some access
+            → TakesStand self.old.consumer.shape (record self.new { open_access = Some access })
+            (es ++ opening_event C access ∷ []) items }
+        ensures only { (es : List Event) (items : List ℕ) (access : Access) →
+            TakesStand self.old.consumer.shape self.old es items → result ≢ Some access → WritesTakeCount access
             → ¬ AreOfTakes self.old.consumer.shape (es ++ opening_event C access ∷ []) }
     {
         takes_go_on();
@@ -159,7 +168,8 @@ impl TakeReader {
     fn finish(&mut self, access: Access, answer: bool) -> TakeStep
         requires { self.old.open_access ≡ Some access }
         ensures shape { self.new.consumer.shape ≡ self.old.consumer.shape }
-        ensures read { HasReadTake self.old.consumer.shape self.old self.new (end_event C (answered access answer)) result }
+        ensures read { HasReadTake self.old.consumer.shape self.old self.new (end_event C (answered access answer))
+            result }
     {
         last_reads_are_one();
         if self.consumer.expects_one() && !answer {
@@ -179,7 +189,9 @@ impl TakeReader {
 
     /// The events of which the next one of any takes has to be one. Nothing else is said of the reader then.
     pub fn candidates(&mut self) -> Dues
-        ensures only { (es : List AnEvent) (items : List ℕ) (e : AnEvent) → TakesStand self.old.consumer.shape self.old es items → e.side ≡ C → IsNoneOf result e → ¬ AreOfTakes self.old.consumer.shape (es ++ e ∷ []) }
+        ensures only { (es : List Event) (items : List ℕ) (e : Event) →
+            TakesStand self.old.consumer.shape self.old es items → e.side ≡ C → IsNoneOf result e →
+            ¬ AreOfTakes self.old.consumer.shape (es ++ e ∷ []) }
         ensures order { AreInOrder result }
     {
         match self.open_access {
@@ -191,7 +203,9 @@ impl TakeReader {
     // While no access is open: the begins of which the next one has to be one.
     fn openings(&mut self) -> Dues
         requires { self.old.open_access ≡ None }
-        ensures only { (es : List AnEvent) (items : List ℕ) (access : AnAccess) → TakesStand self.old.consumer.shape self.old es items → IsNoneOf result (opening_event C access) → ¬ AreOfTakes self.old.consumer.shape (es ++ opening_event C access ∷ []) }
+        ensures only { (es : List Event) (items : List ℕ) (access : Access) →
+            TakesStand self.old.consumer.shape self.old es items → IsNoneOf result (opening_event C access) →
+            ¬ AreOfTakes self.old.consumer.shape (es ++ opening_event C access ∷ []) }
         ensures order { AreInOrder result }
     {
         let word = opening(Side::C, self.due());
@@ -208,7 +222,8 @@ impl TakeReader {
 
     /// Whether a take was told that the ring is closed, and what was read so far.
     pub fn told(&self) -> bool
-        ensures { (es : List AnEvent) (items : List ℕ) → TakesStand self.now.consumer.shape self.now es items → WereTaken self.now.consumer.shape es items result }
+        ensures { (es : List Event) (items : List ℕ) → TakesStand self.now.consumer.shape self.now es items →
+            WereTaken self.now.consumer.shape es items result }
     {
         let _due = self.consumer.next();
         was_told(self.consumer.reply())

@@ -11,7 +11,7 @@ use Rattle.bits_core.specs.declared.shapes.Shape.{Shape}
 use Rattle.bits_core.specs.Shape.{batch_of, capacity_of, modulus_of, take_batch_of, width_of}
 use Rattle.register_core.specs.Phrases.{word_read, word_write}
 use Rattle.bits_core.specs.Bits.{other}
-use Rattle.bits_core.specs.Made.{Made, Read, own, clock, place_of, IsPlaceOf, IsBeginning}
+use Rattle.bits_core.specs.Made.{Made, Read, subhistory, clock, place_of, IsPlaceOf, IsPrefix}
 use Rattle.register_core.specs.ScanState.{scan_phrase, row_read_by}
 use Rattle.ring_core.specs.Counts.{distance, first_count}
 use Rattle.ring_core.specs.Puts.{Put, Puts, Stored, Full, stored_in, close_phrase, put_program}
@@ -103,12 +103,12 @@ module _ (facts : OwnFacts) (shape : Shape) (h : List Event) (puts : Puts) (take
   takes_ended_are : (t : ℕ) → counts_ended (take_spans shape takes) t ≡ takes_ended shape takes t
   takes_ended_are t = sym (ap length (takes_items shape first_count takes.takes takes.end t) ∙ length-ended_items (take_spans shape takes) t)
 
-  put_number : (w : ℕ) → (first : List Put) × IsBeginning first puts.puts × (tally (sizes (put_spans shape puts)) w ≡ stored_in 0 first)
+  put_number : (w : ℕ) → (first : List Put) × IsPrefix first puts.puts × (tally (sizes (put_spans shape puts)) w ≡ stored_in 0 first)
   put_number w =
       let (before, after, e, f) = put_tally shape first_count puts.puts w in
       (before, (after, sym e), omega (arith, f))
 
-  take_number : (w : ℕ) → (first : List Take) × IsBeginning first takes.takes × (tally (sizes (take_spans shape takes)) w ≡ taken_in 0 first)
+  take_number : (w : ℕ) → (first : List Take) × IsPrefix first takes.takes × (tally (sizes (take_spans shape takes)) w ≡ taken_in 0 first)
   take_number w =
       let (before, after, e, f) = take_tally shape first_count takes.takes takes.end w in
       (before, (after, sym e), omega (arith, f))
@@ -125,8 +125,8 @@ module _ (facts : OwnFacts) (shape : Shape) (h : List Event) (puts : Puts) (take
   reads_count : {X : Type 0} →
       (s : Side) (start seen : ℕ) (x : Span) (calls : List X) (items : List X → ℕ) (ended_are begun_are : ℕ → ℕ) (writes : List Span) (least most : ℕ) →
       ((t : ℕ) → counts_ended writes t ≡ ended_are t) → ((t : ℕ) → counts_begun writes t ≡ begun_are t) →
-      ((w : ℕ) → (first : List X) × IsBeginning first calls × (tally (sizes writes) w ≡ items first)) →
-      x.seen ≡ seen → x.scan ≡ scan_events s seen → start + scan_events s seen ≤ length (own s h) →
+      ((w : ℕ) → (first : List X) × IsPrefix first calls × (tally (sizes writes) w ≡ items first)) →
+      x.seen ≡ seen → x.scan ≡ scan_events s seen → start + scan_events s seen ≤ length (subhistory s h) →
       by_span.ReadsCount (modulus_of shape) (clock s h) (clock (other s) h) writes start x least most →
       ReadsCount s shape h start seen calls items ended_are begun_are least most
   reads_count s start seen x calls items ended_are begun_are writes least most ends begins numbers seen_is scan_is l r =

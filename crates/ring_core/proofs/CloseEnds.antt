@@ -8,7 +8,7 @@ use Rattle.bits_core.specs.declared.events.Event.{Event}
 use Rattle.bits_core.specs.declared.shapes.Shape.{Shape}
 use Rattle.bits_core.specs.Bits.{is_by}
 use Rattle.bits_core.specs.Intervals.{IsWrite, first_place}
-use Rattle.bits_core.specs.Made.{own, clock, events_of, IsPlaceOf, IsBeginning}
+use Rattle.bits_core.specs.Made.{subhistory, clock, events_of, IsPlaceOf, IsPrefix}
 use Rattle.ring_core.specs.Counts.{first_count}
 use Rattle.ring_core.specs.Puts.{Puts, put_phrases, put_program}
 use Rattle.ring_core.specs.Items.{events_in}
@@ -63,13 +63,13 @@ pub place_within : (s : Side) (h : List Event) (i place : ℕ) → IsPlaceOf s h
 place_within s h i place q = elim (at_most_or_above (length h) place) [
   | inr l ↦ l
   | inl l ↦ absurd (
-      let here : clock s h place ≡ length (own s h) = ap (λ l. length (own s l)) (take_all h place l) in
-      let past : clock s h (suc place) ≡ length (own s h) = ap (λ l. length (own s l)) (take_all h (suc place) (omega (arith, l))) in
+      let here : clock s h place ≡ length (subhistory s h) = ap (λ l. length (subhistory s l)) (take_all h place l) in
+      let past : clock s h (suc place) ≡ length (subhistory s h) = ap (λ l. length (subhistory s l)) (take_all h (suc place) (omega (arith, l))) in
       omega (arith, here, past, q.before, q.past))
 ]
 
 pub not_ended :
-    OwnFacts → (shape : Shape) (h : List Event) (puts : Puts) → IsBeginning (own P h) (events_of P (put_program shape puts)) →
+    OwnFacts → (shape : Shape) (h : List Event) (puts : Puts) → IsPrefix (subhistory P h) (events_of P (put_program shape puts)) →
     (place : ℕ) → clock P h place < events_in (put_phrases shape first_count puts.puts) + 2 → place ≤ length h →
     (v : Bool) (start stop : ℕ) → IsWrite h X v start stop → ¬ (stop < place)
 not_ended facts shape h puts follows place few within v start stop w ended =

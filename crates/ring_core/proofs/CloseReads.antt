@@ -10,9 +10,9 @@ use Rattle.bits_core.specs.declared.events.Event.{Event}
 use Rattle.bits_core.specs.declared.shapes.Shape.{Shape}
 use Rattle.bits_core.specs.Shape.{capacity_of, width_of}
 use Rattle.bits_core.specs.Intervals.{IsRead, IsWrite, IsHeld, HasOverlap, end_of}
-use Rattle.bits_core.specs.Laws.{OwnHasPlace, OwnHasOnePlace, ClockCountsPlaces, MadeIsAccess, AccessIsMade}
+use Rattle.bits_core.specs.Laws.{SubhistoryHasPlace, SubhistoryHasOnePlace, ClockCountsPlaces, MadeIsAccess, AccessIsMade}
 use Rattle.bits_core.specs.Lawful.{IsLawful}
-use Rattle.bits_core.specs.Made.{Made, Read, Write, access_of, events_of, own, clock, place_of, IsPlaceOf, IsBeginning}
+use Rattle.bits_core.specs.Made.{Made, Read, Write, access_of, events_of, subhistory, clock, place_of, IsPlaceOf, IsPrefix}
 use Rattle.register_core.specs.Row.{RowWrite, row_bit, writes_in}
 use Rattle.register_core.specs.Word.{word_write, digit_writes}
 use Rattle.register_core.specs.ScanState.{scan_phrase, zero_reads, row_read_by}
@@ -94,14 +94,14 @@ close_there (x ∷ xs) = close_there xs
 
 -- the published facts of the own events of a side
 pub record OwnFacts : Type 0 where
-  pub has_place : OwnHasPlace
-  pub one_place : OwnHasOnePlace
+  pub has_place : SubhistoryHasPlace
+  pub one_place : SubhistoryHasOnePlace
   pub counts : ClockCountsPlaces
   pub made : MadeIsAccess
   pub accesses : AccessIsMade
 
 module _ (facts : OwnFacts) (shape : Shape) (h : List Event) (lawful : IsLawful shape h) (puts : List Put) (closes : Bool)
-    (follows : IsBeginning (own P h) (events_of P (put_phrases shape first_count puts ++ close_phrase closes))) where
+    (follows : IsPrefix (subhistory P h) (events_of P (put_phrases shape first_count puts ++ close_phrase closes))) where
   abbrev front : List Made
   front = put_phrases shape first_count puts
 
@@ -128,11 +128,11 @@ module _ (facts : OwnFacts) (shape : Shape) (h : List Event) (lawful : IsLawful 
       omega (arith, clock_up (clock P h) producer_clock (suc start) place l, at_start.past)
 
   -- where the clock has passed the close, it has ended
-  close_ended : (place : ℕ) → 2 * length front + 2 ≤ clock P h place → clock P h place ≤ length (own P h) → (start : ℕ) × (stop : ℕ) × IsWrite h X true start stop × (stop < place)
+  close_ended : (place : ℕ) → 2 * length front + 2 ≤ clock P h place → clock P h place ≤ length (subhistory P h) → (start : ℕ) × (stop : ℕ) × IsWrite h X true start stop × (stop < place)
   close_ended place l within =
-      let longer : 2 * length front + 2 ≤ length (own P h) = omega arith in
+      let longer : 2 * length front + 2 ≤ length (subhistory P h) = omega arith in
       let (rest, e) = follows in
-      let total : length (own P h) ≤ 2 * length all = omega (arith, length-append (own P h) rest, ap length e, length-events P all) in
+      let total : length (subhistory P h) ≤ 2 * length all = omega (arith, length-append (subhistory P h) rest, ap length e, length-events P all) in
       let there : slice_get all (length front) ≡ Some (Write X true) = by_closing closes total longer in
       let (stop, made_at) = facts.made P h all follows (length front) (Write X true) there (omega arith) in
       let (stop_is, ends) = made_at.ended (omega arith) in
@@ -143,7 +143,7 @@ module _ (facts : OwnFacts) (shape : Shape) (h : List Event) (lawful : IsLawful 
       ] in
       (place_of P h (2 * length front), stop, made_at.access, before)
     where
-      by_closing : (b : Bool) → length (own P h) ≤ 2 * length (front ++ close_phrase b) → 2 * length front + 2 ≤ length (own P h) → slice_get (front ++ close_phrase b) (length front) ≡ Some (Write X true)
+      by_closing : (b : Bool) → length (subhistory P h) ≤ 2 * length (front ++ close_phrase b) → 2 * length front + 2 ≤ length (subhistory P h) → slice_get (front ++ close_phrase b) (length front) ≡ Some (Write X true)
       by_closing true m longer = close_there front
       by_closing false m longer = absurd (omega (arith, length-append front []))
 

@@ -6,7 +6,7 @@ use Rattle.bits_core.specs.declared.events.Side.{Side}
 use Rattle.bits_core.specs.declared.events.Side.TheVariants.{P, C}
 use Rattle.bits_core.specs.declared.events.Event.{Event}
 use Rattle.bits_core.specs.Bits.{is_by}
-use Rattle.bits_core.specs.Made.{own, clock, IsBeginning}
+use Rattle.bits_core.specs.Made.{subhistory, clock, IsPrefix}
 use Rattle.ring_core.specs.Counts.{first_count}
 use Rattle.ring_core.specs.Puts.{FollowsPuts}
 use Rattle.ring_core.specs.Takes.{FollowsTakes}
@@ -15,15 +15,15 @@ use Rattle.ring_core.specs.RingLaw.{RingLaw, InEveryRun}
 use Rattle.ring_core.specs.RunLaws.{ClosedStays}
 
 -- the own events of a beginning begin those of the whole
-own_begins : (s : Side) (h h' : List Event) (program : List Event) → IsBeginning h h' → IsBeginning (own s h') program → IsBeginning (own s h) program
+own_begins : (s : Side) (h h' : List Event) (program : List Event) → IsPrefix h h' → IsPrefix (subhistory s h') program → IsPrefix (subhistory s h) program
 own_begins s h h' program (later, e) (rest, f) = (
-  own s later ++ rest,
-  sym (append_assoc (own s h) (own s later) rest) ∙ ap (λ l. l ++ rest) (sym (filter-append (is_by s) h later) ∙ ap (own s) e) ∙ f,
+  subhistory s later ++ rest,
+  sym (append_assoc (subhistory s h) (subhistory s later) rest) ∙ ap (λ l. l ++ rest) (sym (filter-append (is_by s) h later) ∙ ap (subhistory s) e) ∙ f,
 )
 
 -- the clock of the whole at the end of a beginning
-clock_there : (s : Side) (h h' : List Event) → IsBeginning h h' → clock s h' (length h) ≡ length (own s h)
-clock_there s h h' (later, e) = ap (λ l. length (own s (take (length h) l))) (sym e) ∙ ap (λ l. length (own s l)) (take-append_seam h later)
+clock_there : (s : Side) (h h' : List Event) → IsPrefix h h' → clock s h' (length h) ≡ length (subhistory s h)
+clock_there s h h' (later, e) = ap (λ l. length (subhistory s (take (length h) l))) (sym e) ∙ ap (λ l. length (subhistory s l)) (take-append_seam h later)
 
 pub closed-stays : InEveryRun RingLaw → ItemsAreRead → TakenAreRead → ClosedStays
 closed-stays holds puts_read takes_read shape h h' puts puts' takes takes' run run' begins told =
@@ -38,8 +38,8 @@ closed-stays holds puts_read takes_read shape h h' puts puts' takes takes' run r
     let longer : at ≤ length h' = omega (arith, length-append h later, ap length e) in
     let here = law.closed at at told' (omega arith) in
     let end = law.closed at (length h') told' longer in
-    let end_p : clock P h' (length h') ≡ length (own P h') = ap (λ l. length (own P l)) (take-length h') in
-    let end_c : clock C h' (length h') ≡ length (own C h') = ap (λ l. length (own C l)) (take-length h') in (
+    let end_p : clock P h' (length h') ≡ length (subhistory P h') = ap (λ l. length (subhistory P l)) (take-length h') in
+    let end_c : clock C h' (length h') ≡ length (subhistory C h') = ap (λ l. length (subhistory C l)) (take-length h') in (
       ap (items_put shape first_count puts'.puts) (sym end_p) ∙ end.0 ∙ sym here.0 ∙ ap (items_put shape first_count puts'.puts) (clock_there P h h' begins) ∙ sym put_same,
       ap (items_taken shape first_count takes'.takes) (sym end_c) ∙ end.1 ∙ sym here.1 ∙ ap (items_taken shape first_count takes'.takes) (clock_there C h h' begins) ∙ sym taken_same,
     )

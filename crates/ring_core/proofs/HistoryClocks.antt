@@ -4,11 +4,11 @@ use Rattle.bits_core.specs.declared.events.Side.{Side}
 use Rattle.bits_core.specs.declared.events.Side.TheVariants.{P, C}
 use Rattle.bits_core.specs.declared.events.Event.{Event}
 use Rattle.bits_core.specs.Bits.{same_side, is_by}
-use Rattle.bits_core.specs.Made.{own, clock}
+use Rattle.bits_core.specs.Made.{subhistory, clock}
 use Rattle.ring_core.proofs.OverSpans.Clocks.{Clocks}
 
 -- a side's own events behind a first event, which is its own or not
-own-first : (s : Side) (e : Event) (h : List Event) (b : Bool) → is_by s e ≡ b → own s (e ∷ h) ≡ (if b then e ∷ own s h else own s h)
+own-first : (s : Side) (e : Event) (h : List Event) (b : Bool) → is_by s e ≡ b → subhistory s (e ∷ h) ≡ (if b then e ∷ subhistory s h else subhistory s h)
 own-first s e h b by = rw by refl
 
 pub clock-yes : (s : Side) (e : Event) (h : List Event) (place : ℕ) → is_by s e ≡ true → clock s (e ∷ h) (suc place) ≡ suc (clock s h place)

@@ -11,8 +11,8 @@ use Rattle.bits_core.specs.Shape.{modulus_of}
 use Rattle.bits_core.specs.Bits.{other}
 use Rattle.bits_core.specs.Intervals.{IsRead}
 use Rattle.bits_core.specs.Lawful.{IsLawful}
-use Rattle.bits_core.specs.Laws.{OwnHasOnePlace, MadeIsAccess}
-use Rattle.bits_core.specs.Made.{Made, Read, events_of, own, IsBeginning}
+use Rattle.bits_core.specs.Laws.{SubhistoryHasOnePlace, MadeIsAccess}
+use Rattle.bits_core.specs.Made.{Made, Read, events_of, subhistory, IsPrefix}
 use Rattle.register_core.specs.Row.{row_bit}
 use Rattle.register_core.specs.ScanState.{zero_reads, row_read_by}
 use Rattle.register_core.specs.UnaryLaw.{NumberedStayWithin, ReadsZeros, UnaryHasOne}
@@ -51,7 +51,7 @@ counted_within shape n (l ∷ looks) last e =
 -- so the last bit is not read as 0 behind all others
 never_reads :
     UnaryHasOne → NumberedStayWithin → (shape : Shape) (h : List Event) → IsLawful shape h → (s : Side) (looks : List Look) (behind : List Made) → IsQuiet s behind →
-    IsBeginning (own s h) (events_of s (look_accesses s shape first_count looks behind)) → NeverReadsAll s shape h
+    IsPrefix (subhistory s h) (events_of s (look_accesses s shape first_count looks behind)) → NeverReadsAll s shape h
 never_reads has_one stay_within shape h lawful s looks behind quiet follows last e start stop zeros =
     has_one shape h lawful s (counted_in shape looks) (writes_unary shape h lawful s looks behind follows quiet) last start stop
     (λ n _. stay_within (counted_in shape looks) last (counted_within shape 0 looks last e) n) zeros
@@ -68,10 +68,10 @@ behind_list [] ys i n x e at = let same : n ≡ i = omega (arith, e) in ap (slic
 behind_list (y ∷ xs) ys i zero x e at = absurd (omega (arith, e))
 behind_list (y ∷ xs) ys i (suc n) x e at = behind_list xs ys i n x (omega (arith, e)) at
 
-module _ (has_one : UnaryHasOne) (stay_within : NumberedStayWithin) (zeros_made : ZerosAreMade) (made_is : MadeIsAccess) (one_place : OwnHasOnePlace) where
-  module _ (s : Side) (h : List Event) (made : List Made) (follows : IsBeginning (own (other s) h) (events_of (other s) made))
+module _ (has_one : UnaryHasOne) (stay_within : NumberedStayWithin) (zeros_made : ZerosAreMade) (made_is : MadeIsAccess) (one_place : SubhistoryHasOnePlace) where
+  module _ (s : Side) (h : List Event) (made : List Made) (follows : IsPrefix (subhistory (other s) h) (events_of (other s) made))
       (before after : List Made) (last : ℕ) (parts : made ≡ before ++ (zero_reads (row_bit s) last ++ Read (row_bit s last) false ∷ after))
-      (ended : 2 * (length before + suc last) ≤ length (own (other s) h)) where
+      (ended : 2 * (length before + suc last) ≤ length (subhistory (other s) h)) where
     -- the reads of 0 below the last bit are reads of the history
     zeros_there : ReadsZeros s h last (begin_place (other s) h (length before)) (end_place (other s) h (length before))
     zeros_there =
@@ -106,10 +106,10 @@ module _ (has_one : UnaryHasOne) (stay_within : NumberedStayWithin) (zeros_made 
       let parts' : made ≡ before ++ (zero_reads (row_bit s) last ++ Read (row_bit s last) false ∷ after) =
       parts ∙ ap (λ n. before ++ (zero_reads (row_bit s) n ++ after)) (sym size) ∙
       ap (λ l. before ++ l) (append_assoc (zero_reads (row_bit s) last) (Read (row_bit s last) false ∷ []) after) in
-      elim (at_most_or_above (2 * (length before + modulus_of shape)) (length (own (other s) h))) [
+      elim (at_most_or_above (2 * (length before + modulus_of shape)) (length (subhistory (other s) h))) [
         | inr m ↦ m
         | inl m ↦ absurd (
-            let ended : 2 * (length before + suc last) ≤ length (own (other s) h) = omega (arith, m, size) in
+            let ended : 2 * (length before + suc last) ≤ length (subhistory (other s) h) = omega (arith, m, size) in
             never last size (begin_place (other s) h (length before)) (end_place (other s) h (length before))
             (zeros_there s h made follows before after last parts' ended) (last_there s h made follows before after last parts' ended))
       ]

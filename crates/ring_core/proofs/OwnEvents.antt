@@ -14,8 +14,8 @@ use Rattle.bits_core.specs.declared.shapes.Shape.{Shape}
 use Rattle.bits_core.specs.Bits.{same_side, is_by, doer}
 use Rattle.bits_core.specs.History.{has_event, before_last}
 use Rattle.bits_core.specs.Lawful.{IsLawful}
-use Rattle.bits_core.specs.Laws.{OwnHasPlace}
-use Rattle.bits_core.specs.Made.{own, clock, place_of}
+use Rattle.bits_core.specs.Laws.{SubhistoryHasPlace}
+use Rattle.bits_core.specs.Made.{subhistory, clock, place_of}
 use Rattle.register_core.specs.Row.{row_write}
 use Rattle.register_core.specs.UnaryLaw.{number_in_count, count_write, count_begun, count_ended}
 use Rattle.ring_core.proofs.OverSpans.Clocks.{IsPlace}
@@ -29,29 +29,29 @@ by_case false yet other = other refl
 
 -- ---- clocks and places
 
-own-yes : (s : Side) (e : Event) (h : List Event) → is_by s e ≡ true → own s (e ∷ h) ≡ e ∷ own s h
-own-yes s e h f = ap (λ (b : Bool). if b then e ∷ own s h else own s h) f
+own-yes : (s : Side) (e : Event) (h : List Event) → is_by s e ≡ true → subhistory s (e ∷ h) ≡ e ∷ subhistory s h
+own-yes s e h f = ap (λ (b : Bool). if b then e ∷ subhistory s h else subhistory s h) f
 
-own-no : (s : Side) (e : Event) (h : List Event) → is_by s e ≡ false → own s (e ∷ h) ≡ own s h
-own-no s e h f = ap (λ (b : Bool). if b then e ∷ own s h else own s h) f
+own-no : (s : Side) (e : Event) (h : List Event) → is_by s e ≡ false → subhistory s (e ∷ h) ≡ subhistory s h
+own-no s e h f = ap (λ (b : Bool). if b then e ∷ subhistory s h else subhistory s h) f
 
 -- the own events before a place, and those from there on
-own_parts : (s : Side) (h : List Event) (place : ℕ) → own s h ≡ own s (take place h) ++ own s (drop place h)
-own_parts s h place = ap (own s) (sym (take-append-drop place h)) ∙ filter-append (is_by s) (take place h) (drop place h)
+own_parts : (s : Side) (h : List Event) (place : ℕ) → subhistory s h ≡ subhistory s (take place h) ++ subhistory s (drop place h)
+own_parts s h place = ap (subhistory s) (sym (take-append-drop place h)) ∙ filter-append (is_by s) (take place h) (drop place h)
 
 -- the own events before a place are as many first own events as the clock says there
-own_take : (s : Side) (h : List Event) (place : ℕ) → own s (take place h) ≡ take (clock s h place) (own s h)
+own_take : (s : Side) (h : List Event) (place : ℕ) → subhistory s (take place h) ≡ take (clock s h place) (subhistory s h)
 own_take s h place =
-    sym (ap (take (length (own s (take place h)))) (own_parts s h place) ∙ take-append_seam (own s (take place h)) (own s (drop place h)))
+    sym (ap (take (length (subhistory s (take place h)))) (own_parts s h place) ∙ take-append_seam (subhistory s (take place h)) (subhistory s (drop place h)))
 
 -- the clock says no more than there are
-pub clock_within : (s : Side) (h : List Event) (place : ℕ) → clock s h place ≤ length (own s h)
+pub clock_within : (s : Side) (h : List Event) (place : ℕ) → clock s h place ≤ length (subhistory s h)
 clock_within s h place =
-    omega (arith, ap length (own_parts s h place), length-append (own s (take place h)) (own s (drop place h)))
+    omega (arith, ap length (own_parts s h place), length-append (subhistory s (take place h)) (subhistory s (drop place h)))
 
 -- at the end it says how many there are
-pub clock_end : (s : Side) (h : List Event) → clock s h (length h) ≡ length (own s h)
-clock_end s h = ap (λ l. length (own s l)) (take-length h)
+pub clock_end : (s : Side) (h : List Event) → clock s h (length h) ≡ length (subhistory s h)
+clock_end s h = ap (λ l. length (subhistory s l)) (take-length h)
 
 -- a clock goes up
 pub clock_rises : (s : Side) (h : List Event) (a b : ℕ) → a ≤ b → clock s h a ≤ clock s h b
@@ -59,7 +59,7 @@ clock_rises P h a b l = clock_up (clock P h) (clock_p (clock P h) (clock C h) (c
 clock_rises C h a b l = clock_up (clock C h) (clock_c (clock P h) (clock C h) (clocks_of h)) a b l
 
 -- an own event has one place
-pub one_place : OwnHasPlace → (s : Side) (h : List Event) (i place : ℕ) → IsPlace (clock s h) i place → place ≡ place_of s h i
+pub one_place : SubhistoryHasPlace → (s : Side) (h : List Event) (i place : ℕ) → IsPlace (clock s h) i place → place ≡ place_of s h i
 one_place has_place s h i place (before, past) =
     let q = has_place s h i (omega (arith, past, clock_within s h (suc place))) in
     elim (at_most_or_above place (place_of s h i)) [
@@ -117,7 +117,7 @@ other_none C by (R i) WriteEnd d f = refl
 other_none C by X act d f = refl
 other_none C by (Cell j i) act d f = refl
 
-own_count : (s : Side) (h : List Event) → AreByDoers h → count_begun s h ≡ count_begun s (own s h)
+own_count : (s : Side) (h : List Event) → AreByDoers h → count_begun s h ≡ count_begun s (subhistory s h)
 own_count s [] d = refl
 own_count s (e ∷ h) d =
     by_case (is_by s e)
@@ -125,19 +125,19 @@ own_count s (e ∷ h) d =
     (λ f. rw (own-no s e h f, other_none s e.side e.bit e.act d.0 f) (own_count s h d.1))
 
 -- in a lawful history
-pub count_begun_own : (shape : Shape) (s : Side) (h : List Event) → IsLawful shape h → count_begun s h ≡ count_begun s (own s h)
+pub count_begun_own : (shape : Shape) (s : Side) (h : List Event) → IsLawful shape h → count_begun s h ≡ count_begun s (subhistory s h)
 count_begun_own shape s h lawful = own_count s h (lawful_doers shape h lawful)
 
 -- before a place
 pub count_begun_before :
     (shape : Shape) (s : Side) (h : List Event) → IsLawful shape h → (place : ℕ) →
-    count_begun s (take place h) ≡ count_begun s (take (clock s h place) (own s h))
+    count_begun s (take place h) ≡ count_begun s (take (clock s h place) (subhistory s h))
 count_begun_before shape s h lawful place =
     own_count s (take place h) (doers_take h place (lawful_doers shape h lawful)) ∙ ap (count_begun s) (own_take s h place)
 
 -- ---- the own events but the last
 
-some_own : (s : Side) (h : List Event) → has_event s h ≡ true → 1 ≤ length (own s h)
+some_own : (s : Side) (h : List Event) → has_event s h ≡ true → 1 ≤ length (subhistory s h)
 some_own s [] f = absurd (let g : true ≡ false = sym f in cc)
 some_own s (e ∷ h) f =
     by_case (is_by s e)
@@ -146,7 +146,7 @@ some_own s (e ∷ h) f =
     let k : has_event s h ≡ true = rw g at f in
     omega (arith, ap length (own-no s e h g), some_own s h k))
 
-none_own : (s : Side) (h : List Event) → has_event s h ≡ false → own s h ≡ []
+none_own : (s : Side) (h : List Event) → has_event s h ≡ false → subhistory s h ≡ []
 none_own s [] f = refl
 none_own s (e ∷ h) f =
     by_case (is_by s e)
@@ -161,26 +161,26 @@ take_more (suc n) e xs l =
     let same : suc n - 1 ≡ n = omega arith in
     ap (λ (k : ℕ). e ∷ take k xs) same
 
-own_before : (s : Side) (h : List Event) → own s (before_last s h) ≡ take (length (own s h) - 1) (own s h)
+own_before : (s : Side) (h : List Event) → subhistory s (before_last s h) ≡ take (length (subhistory s h) - 1) (subhistory s h)
 own_before s [] = refl
 own_before s (e ∷ h) =
     by_case (has_event s h)
     (λ f. by_case (is_by s e)
     (λ g.
-    let n : ℕ = length (own s h) in
+    let n : ℕ = length (subhistory s h) in
     let less : suc n - 1 ≡ n = omega arith in
-    ap (own s) (before_last-yes s e h f) ∙ own-yes s e (before_last s h) g ∙ ap (λ (l : List Event). e ∷ l) (own_before s h) ∙
-    take_more n e (own s h) (some_own s h f) ∙ ap (λ (k : ℕ). take k (e ∷ own s h)) (sym less) ∙
+    ap (subhistory s) (before_last-yes s e h f) ∙ own-yes s e (before_last s h) g ∙ ap (λ (l : List Event). e ∷ l) (own_before s h) ∙
+    take_more n e (subhistory s h) (some_own s h f) ∙ ap (λ (k : ℕ). take k (e ∷ subhistory s h)) (sym less) ∙
     ap (λ (l : List Event). take (length l - 1) l) (sym (own-yes s e h g)))
     (λ g.
-    ap (own s) (before_last-yes s e h f) ∙ own-no s e (before_last s h) g ∙ own_before s h ∙
+    ap (subhistory s) (before_last-yes s e h f) ∙ own-no s e (before_last s h) g ∙ own_before s h ∙
     ap (λ (l : List Event). take (length l - 1) l) (sym (own-no s e h g))))
     (λ f. by_case (is_by s e)
     (λ g.
-    ap (own s) (before_last-no s e h f) ∙
+    ap (subhistory s) (before_last-no s e h f) ∙
     ap (λ (l : List Event). take (length l - 1) l) (sym (own-yes s e h g ∙ ap (λ (l : List Event). e ∷ l) (none_own s h f))))
     (λ g.
-    ap (own s) (before_last-no s e h f) ∙ ap (λ (l : List Event). take (length l - 1) l) (sym (own-no s e h g ∙ none_own s h f))))
+    ap (subhistory s) (before_last-no s e h f) ∙ ap (λ (l : List Event). take (length l - 1) l) (sym (own-no s e h g ∙ none_own s h f))))
 
 take-take_less : (xs : List Event) (n : ℕ) → n ≤ length xs → take (length (take n xs) - 1) (take n xs) ≡ take (n - 1) xs
 take-take_less xs zero l = refl
@@ -196,9 +196,9 @@ take-take_less (x ∷ y ∷ xs) (suc (suc n)) l =
 -- the writes of a side's count that had ended before a place are those of its own events there but the last
 pub count_ended_before :
     (shape : Shape) (s : Side) (h : List Event) → IsLawful shape h → (place : ℕ) →
-    count_ended s (take place h) ≡ count_begun s (take (clock s h place - 1) (own s h))
+    count_ended s (take place h) ≡ count_begun s (take (clock s h place - 1) (subhistory s h))
 count_ended_before shape s h lawful place =
     own_count s (before_last s (take place h)) (doers_before s (take place h) (doers_take h place (lawful_doers shape h lawful))) ∙
     ap (count_begun s)
     (own_before s (take place h) ∙ ap (λ (l : List Event). take (length l - 1) l) (own_take s h place) ∙
-    take-take_less (own s h) (clock s h place) (clock_within s h place))
+    take-take_less (subhistory s h) (clock s h place) (clock_within s h place))

@@ -10,7 +10,7 @@ use Rattle.bits_core.specs.declared.events.Event.{Event}
 use Rattle.bits_core.specs.declared.shapes.Shape.{Shape}
 use Rattle.bits_core.specs.Shape.{batch_of, capacity_of, modulus_of, take_batch_of, width_of}
 use Rattle.bits_core.specs.Intervals as intervals
-use Rattle.bits_core.specs.Made.{Made, Read, events_of, own, clock, place_of, IsPlaceOf, IsBeginning}
+use Rattle.bits_core.specs.Made.{Made, Read, events_of, subhistory, clock, place_of, IsPlaceOf, IsPrefix}
 use Rattle.register_core.specs.MadeReads.{ScansAreMade, WordReadsAreMade}
 use Rattle.register_core.specs.MadeWrites.{CellWritesAreMade}
 use Rattle.register_core.specs.ScanState.{scan_phrase, row_read_by}
@@ -64,7 +64,7 @@ asks_at shape program k start x answer r asks =
     )
 
 -- the two places of the producer's and the consumer's events
-own_ends : (s : Side) (h : List Event) (i place : ℕ) → IsPlace (clock s h) i place → i < length (own s h)
+own_ends : (s : Side) (h : List Event) (i place : ℕ) → IsPlace (clock s h) i place → i < length (subhistory s h)
 own_ends s h i place (here, past) = omega (arith, past, clock_within s h (suc place))
 
 -- how many events the puts of a program have
@@ -91,12 +91,12 @@ module _ (facts : OwnFacts) (regular : UnaryIsRegular) (scans_made : ScansAreMad
   close_reads : AreCloseReads (clock P h) (clock C h) (put_spans shape puts) (take_spans shape takes)
   close_reads s k x answer st asks first last e is_first is_last ends =
       let program : List Made = look_accesses C shape first_count (take_looks takes.takes takes.end) [] in
-      let follows : IsBeginning (own C h) (events_of C program) = take_events shape h takes run.takes_follow in
+      let follows : IsPrefix (subhistory C h) (events_of C program) = take_events shape h takes run.takes_follow in
       let (front, back, program_is, start_is) =
       asks_at shape program k s x answer (look_from_first C shape (take_looks takes.takes takes.end) [] s k x st) asks in
       let word : x.word ≡ 2 = asks_word C shape (take_looks takes.takes takes.end) s k x answer st asks in
       let e_is : e ≡ suc (2 * length front) = omega (arith, ends, word, start_is) in
-      let last_own : suc (2 * length front) < length (own C h) = omega (arith, own_ends C h e last is_last, e_is) in
+      let last_own : suc (2 * length front) < length (subhistory C h) = omega (arith, own_ends C h e last is_last, e_is) in
       let x_at : slice_get program (length front) ≡ Some (Read X answer) = ap (λ l. slice_get l (length front)) program_is ∙ there front (Read X answer) back in
       let (stop, made_at) = facts.made C h program follows (length front) (Read X answer) x_at (omega (arith, last_own)) in
       let (stop_is, answers) = made_at.ended last_own in
@@ -192,24 +192,24 @@ module _ (facts : OwnFacts) (regular : UnaryIsRegular) (scans_made : ScansAreMad
       ends_told Open told = absurd told
       ends_told (Closed seen again) told = last_two shape first_count takes.takes seen again
 
-      is_closed : (b : Bool) → IsBeginning (own P h) (events_of P (put_phrases shape first_count puts.puts ++ close_phrase b)) → 2 * length (put_phrases shape first_count puts.puts) < length (own P h) → b ≡ true
+      is_closed : (b : Bool) → IsPrefix (subhistory P h) (events_of P (put_phrases shape first_count puts.puts ++ close_phrase b)) → 2 * length (put_phrases shape first_count puts.puts) < length (subhistory P h) → b ≡ true
       is_closed true follows more = refl
       is_closed false (rest, e) more =
-          absurd (omega (arith, more, length-append (own P h) rest, ap length e, length-events P (put_phrases shape first_count puts.puts ++ []), length-append (put_phrases shape first_count puts.puts) []))
+          absurd (omega (arith, more, length-append (subhistory P h) rest, ap length e, length-events P (put_phrases shape first_count puts.puts ++ []), length-append (put_phrases shape first_count puts.puts) []))
 
   -- the clock where an interval ends
-  at_end : (s : Side) (stop e : ℕ) → IsPlaceOf s h e stop ⊎ ((length (own s h) ≤ e) × (stop ≡ length h)) → clock s h stop ≤ e
+  at_end : (s : Side) (stop e : ℕ) → IsPlaceOf s h e stop ⊎ ((length (subhistory s h) ≤ e) × (stop ≡ length h)) → clock s h stop ≤ e
   at_end s stop e (inl q) = omega (arith, q.before)
   at_end s stop e (inr (few, past)) = omega (arith, few, clock_within s h stop)
 
   -- an own event stands before the end of an interval that ends with a later one
-  by_end : (s : Side) (start stop i e : ℕ) → IsPlaceOf s h i start → IsPlaceOf s h e stop ⊎ ((length (own s h) ≤ e) × (stop ≡ length h)) → stop < start → i ≤ e → ⊥
+  by_end : (s : Side) (start stop i e : ℕ) → IsPlaceOf s h i start → IsPlaceOf s h e stop ⊎ ((length (subhistory s h) ≤ e) × (stop ≡ length h)) → stop < start → i ≤ e → ⊥
   by_end s start stop i e q (inl r) l m = absurd (omega (arith, clock_rises s h (suc stop) start l, r.past, q.before, m))
   by_end s start stop i e q (inr (few, past)) l m =
       absurd (omega (arith, clock_rises s h stop start (omega arith), ap (clock s h) past, clock_end s h, q.before, q.past, clock_within s h (suc start)))
 
   -- an event of the producer is none of the consumer, and none past the end
-  apart : (start stop i e : ℕ) → IsPlaceOf P h i start → IsPlaceOf C h e stop ⊎ ((length (own C h) ≤ e) × (stop ≡ length h)) → start ≡ stop → ⊥
+  apart : (start stop i e : ℕ) → IsPlaceOf P h i start → IsPlaceOf C h e stop ⊎ ((length (subhistory C h) ≤ e) × (stop ≡ length h)) → start ≡ stop → ⊥
   apart start stop i e q (inl r) same =
       let both : clock C h (suc start) ≡ suc (clock C h start) = ap (λ t. clock C h (suc t)) same ∙ r.past ∙ ap suc (sym r.before) ∙ ap (λ t. suc (clock C h t)) (sym same) in
       one_at_once ((clocks_of h).tick start) (omega (arith, q.before, q.past)) both

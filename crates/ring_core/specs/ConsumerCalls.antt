@@ -5,15 +5,15 @@ use Rattle.bits_core.specs.declared.events.Bit.TheVariants.{X}
 use Rattle.bits_core.specs.declared.events.Access.{Access}
 use Rattle.bits_core.specs.declared.shapes.Shape.{Shape}
 use Rattle.bits_core.specs.Shape.{AllFit, capacity_of, modulus_of, width_of}
-use Rattle.bits_core.specs.Made.{Made, Read, answered, IsBeginning}
+use Rattle.bits_core.specs.Made.{Made, Read, answered, IsPrefix}
 use Rattle.register_core.specs.WordState.{ReaderStands}
 use Rattle.register_core.specs.ScanState.{scan_phrase, new_scan, row_read_by, ScanStands}
 use Rattle.register_core.specs.Unary.{count_writes}
 use Rattle.register_core.specs.UnaryState.{new_row, UnaryStands}
-use Rattle.ring_core.specs.declared.consumers.TakeReply as replies
-use Rattle.ring_core.specs.declared.consumers.TakeReply.TheVariants as reply
-use Rattle.ring_core.specs.declared.consumers.TakeBatchReply as batch_replies
-use Rattle.ring_core.specs.declared.consumers.TakeBatchReply.TheVariants as batch_replied
+use Rattle.ring_core.specs.declared.replies.TakeReply as replies
+use Rattle.ring_core.specs.declared.replies.TakeReply.TheVariants as reply
+use Rattle.ring_core.specs.declared.replies.TakeBatchReply as batch_replies
+use Rattle.ring_core.specs.declared.replies.TakeBatchReply.TheVariants as batch_replied
 use Rattle.ring_core.specs.declared.consumers.Stage.{Stage}
 use Rattle.ring_core.specs.declared.consumers.Stage.TheVariants.{Idle, Scanning, Checking, Rescanning, Loading, Counting}
 use Rattle.ring_core.specs.Counts.{distance, Count, first_count, number_past}
@@ -83,7 +83,7 @@ pub record HasTakeMore (shape : Shape) (wanted : ℕ) (calls more : Takes) : Typ
 
 -- the accesses are those of the calls and a beginning of one take more
 abbrev pub BeginsTake : Shape → ℕ → Takes → List Made → Type 0
-BeginsTake shape wanted calls made = (more : Takes) × HasTakeMore shape wanted calls more × IsBeginning made (take_program shape more)
+BeginsTake shape wanted calls made = (more : Takes) × HasTakeMore shape wanted calls more × IsPrefix made (take_program shape more)
 
 -- Behind these calls, with these accesses made, a take goes on with the access: whatever it is answered, but for a 0 of the
 -- last bit of the count, the accesses made and it begin those of the calls and of one take more.

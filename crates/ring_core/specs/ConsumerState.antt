@@ -10,7 +10,7 @@ use Rattle.register_core.specs.ScanState.{ScanState, due_scan}
 use Rattle.register_core.specs.WordState.{ReaderState, due_read}
 use Rattle.register_core.specs.UnaryState.{UnaryState, due_unary}
 use Rattle.ring_core.specs.Calls.{IsScanning, IsCounted, IsBeingCountedOn}
-use Rattle.ring_core.specs.declared.consumers.TakeReply.{TakeReply}
+use Rattle.ring_core.specs.declared.replies.TakeReply.{TakeReply}
 use Rattle.ring_core.specs.declared.consumers.Stage.{Stage}
 use Rattle.ring_core.specs.declared.consumers.Stage.TheVariants.{Idle, Scanning, Checking, Rescanning, Loading, Counting}
 

@@ -6,7 +6,7 @@ use Rattle.bits_core.specs.declared.events.Access.{Access}
 use Rattle.bits_core.specs.declared.events.Access.TheVariants as begins
 use Rattle.bits_core.specs.declared.shapes.Shape.{Shape}
 use Rattle.bits_core.specs.Shape.{modulus_of, take_batch_of}
-use Rattle.bits_core.specs.Made.{Made, Read, access_of, IsBeginning}
+use Rattle.bits_core.specs.Made.{Made, Read, access_of, IsPrefix}
 use Rattle.register_core.specs.ScanState.{row_read_by}
 use Rattle.ring_core.specs.Counts.{first_count}
 use Rattle.ring_core.specs.Puts.{Puts, put_program, ArePuts}
@@ -49,7 +49,7 @@ TakesPart shape wanted a b = (ReadsFirstDigit a × WritesTakeCount b × (1 < wan
 abbrev pub TakesGoOn : Type 0
 TakesGoOn =
     (shape : Shape) (wanted : ℕ) (calls b : Takes) (made : List Made) (a : Access) (y : Made) (rest : List Made) →
-    IsBeginning (take_phrases shape first_count calls.takes) made → TakeGoesOn shape wanted calls made a → AreTakes shape 0 b.takes b.end →
+    IsPrefix (take_phrases shape first_count calls.takes) made → TakeGoesOn shape wanted calls made a → AreTakes shape 0 b.takes b.end →
     take_program shape b ≡ made ++ y ∷ rest → (access_of y ≡ a) ⊎ (EndInCellRead made × TakesPart shape wanted a (access_of y))
 
 -- where one item may be taken under one count write, programs of the consumer that begin with the same accesses, answered alike, go on

@@ -3,7 +3,7 @@ use Rattle.std.specs.Prelude.{◌≡◌, ℕ, ◌-◌, ◌*◌, ◌≤◌, nat_l
 use Rattle.bits_core.specs.declared.events.Side.TheVariants.{P, C}
 use Rattle.bits_core.specs.declared.events.Event.{Event}
 use Rattle.bits_core.specs.declared.shapes.Shape.{Shape}
-use Rattle.bits_core.specs.Made.{Made, own}
+use Rattle.bits_core.specs.Made.{Made, subhistory}
 use Rattle.ring_core.specs.Counts.{Count, first_count}
 use Rattle.ring_core.specs.Puts.{Put, Stored, Full, stored_after, accesses_before_count, put_phrase, Puts, FollowsPuts}
 use Rattle.ring_core.specs.Takes.{Take, Item, ItemAfterClose, Empty, End, Open, Closed, count_after, accesses_before_word, words_read, take_phrase, take_program, Takes, FollowsTakes}
@@ -92,13 +92,13 @@ IsTold shape calls t = Tells calls.end × (events_in (take_program shape calls) 
 -- the items put in a history, the items taken in it, and whether its consumer was told that the ring is closed, by the
 -- calls that its sides follow
 abbrev pub items_put_in : Shape → List Event → Puts → List ℕ
-items_put_in shape h calls = items_put shape first_count calls.puts (length (own P h))
+items_put_in shape h calls = items_put shape first_count calls.puts (length (subhistory P h))
 
 abbrev pub items_taken_in : Shape → List Event → Takes → List ℕ
-items_taken_in shape h calls = items_taken shape first_count calls.takes (length (own C h))
+items_taken_in shape h calls = items_taken shape first_count calls.takes (length (subhistory C h))
 
 abbrev pub ToldIn : Shape → List Event → Takes → Type 0
-ToldIn shape h calls = IsTold shape calls (length (own C h))
+ToldIn shape h calls = IsTold shape calls (length (subhistory C h))
 
 -- they are the history's own: whichever calls its events are read as, they are the same
 abbrev pub ItemsAreRead : Type 0

@@ -1,14 +1,14 @@
 -- Linearizability (Herlihy and Wing, 1990): the calls of the two sides, which overlap, answer as the operations of a queue do
 -- that come one after the other, in an order that keeps the time of the calls.
 use Rattle.std.specs.Prelude.{◌≡◌, ℕ, suc, ◌+◌, ◌≤◌, Bool, true, false, List, [], ◌∷◌, ◌++◌, length, filter, map, nat_le, if◌then◌else◌}
-use Rattle.queue_calls.specs.Queue.{Does, Enqueue, FindFull, Close, Dequeue, FindEmpty, FindClosed, exactly, queue, IsLegal}
+use Rattle.queue_calls.specs.Queue.{Operation, Enqueue, FindFull, Close, Dequeue, FindEmpty, FindClosed, exactly, queue, IsLegal}
 use Rattle.bits_core.specs.declared.events.Side.{Side}
 use Rattle.bits_core.specs.declared.events.Side.TheVariants.{P, C}
 use Rattle.bits_core.specs.declared.events.Event.{Event}
 use Rattle.bits_core.specs.declared.shapes.Shape.{Shape}
 use Rattle.bits_core.specs.Shape.{capacity_of}
 use Rattle.bits_core.specs.Bits.{same_side}
-use Rattle.bits_core.specs.Made.{own, clock}
+use Rattle.bits_core.specs.Made.{subhistory, clock}
 use Rattle.ring_core.specs.Counts.{Count, first_count}
 use Rattle.ring_core.specs.Puts.{Put, Stored, Full, Puts, stored_after, accesses_before_count, put_phrase, close_phrase}
 use Rattle.ring_core.specs.Takes.{Take, Item, ItemAfterClose, Empty, End, Open, Closed, Takes, count_after, words_read, accesses_before_word, take_phrase, end_phrase}
@@ -18,27 +18,27 @@ use Rattle.ring_core.specs.RingLaw.{IsRun}
 -- ---- the operations of the calls
 
 -- an operation of a side, and its call: the side's own events from start up to stop
-pub record Operation : Type 0 where
+pub record TimedOperation : Type 0 where
   pub side : Side
-  pub does : Does
+  pub does : Operation
   pub start : ℕ
   pub stop : ℕ
 
 -- the operations of one call
-abbrev pub operations : Side → ℕ → ℕ → List Does → List Operation
+abbrev pub operations : Side → ℕ → ℕ → List Operation → List TimedOperation
 operations side start stop does = map (λ d. record { side = side; does = d; start = start; stop = stop }) does
 
 -- those of a call that has so many own events from start on, where it has taken effect within the side's first t events; it takes
 -- effect with its event number effect, counted from 1
-abbrev pub call_operations : Side → (start long effect t : ℕ) → List Does → List Operation
+abbrev pub call_operations : Side → (start long effect t : ℕ) → List Operation → List TimedOperation
 call_operations side start long effect t ds = (if nat_le (start + effect) t then operations side start (start + long) ds else [])
 
 -- what a put does, several items one by one, and what a take does
-abbrev pub put_does : Put → List Does
+abbrev pub put_does : Put → List Operation
 put_does (Stored seen items) = map Enqueue items
 put_does (Full seen) = FindFull ∷ []
 
-abbrev pub take_does : Take → List Does
+abbrev pub take_does : Take → List Operation
 take_does (Item seen items) = map Dequeue items
 take_does (ItemAfterClose seen again items) = map Dequeue items
 take_does (Empty seen) = FindEmpty ∷ []
@@ -56,7 +56,7 @@ take_effect shape c (Empty seen) = events_in (take_phrase shape c (Empty seen))
 
 -- the operations of puts and of the close behind them, from own event start on, behind the producer's count; a close takes effect
 -- with its first event
-abbrev pub put_operations : Shape → Count → ℕ → List Put → Bool → ℕ → List Operation
+abbrev pub put_operations : Shape → Count → ℕ → List Put → Bool → ℕ → List TimedOperation
 put_operations shape c start [] false t = []
 put_operations shape c start [] true t = call_operations P start (events_in (close_phrase true)) 1 t (Close ∷ [])
 put_operations shape c start (x ∷ puts) closes t =
@@ -64,7 +64,7 @@ put_operations shape c start (x ∷ puts) closes t =
     put_operations shape (stored_after shape c x) (start + events_in (put_phrase shape c x)) puts closes t
 
 -- the operations of takes and of their end, behind k taken items
-abbrev pub take_operations : Shape → Count → ℕ → List Take → End → ℕ → List Operation
+abbrev pub take_operations : Shape → Count → ℕ → List Take → End → ℕ → List TimedOperation
 take_operations shape c start [] Open t = []
 take_operations shape c start [] (Closed seen again) t =
     call_operations C start (events_in (end_phrase (Closed seen again))) (events_in (end_phrase (Closed seen again))) t (FindClosed ∷ [])
@@ -75,32 +75,32 @@ take_operations shape c start (x ∷ takes) end t =
 -- ---- linearizability
 
 -- the operations of one side
-abbrev pub of_side : Side → List Operation → List Operation
+abbrev pub of_side : Side → List TimedOperation → List TimedOperation
 of_side s order = filter (λ o. same_side s o.side) order
 
 -- what operations do
-abbrev pub done_by : List Operation → List Does
+abbrev pub done_by : List TimedOperation → List Operation
 done_by order = map (λ o. o.does) order
 
 -- a had ended before b began: at some moment all events of the call of a have come, and none of that of b
-abbrev pub EndsBefore : List Event → Operation → Operation → Type 0
+abbrev pub EndsBefore : List Event → TimedOperation → TimedOperation → Type 0
 EndsBefore h a b = (t : ℕ) × (a.stop ≤ clock a.side h t) × (clock b.side h t ≤ b.start)
 
 -- no operation stands behind one that began after it had ended
-abbrev pub KeepsTime : List Event → List Operation → Type 0
-KeepsTime h order = (a b : Operation) (front between rest : List Operation) → order ≡ front ++ a ∷ between ++ b ∷ rest → ¬ EndsBefore h b a
+abbrev pub KeepsTime : List Event → List TimedOperation → Type 0
+KeepsTime h order = (a b : TimedOperation) (front between rest : List TimedOperation) → order ≡ front ++ a ∷ between ++ b ∷ rest → ¬ EndsBefore h b a
 
 -- an order of the operations of both sides: each side's are those of its calls, in their order; they are those of a queue that is
 -- empty and open at first; and they keep the time of the calls
-pub record IsLinearization (shape : Shape) (h : List Event) (puts : Puts) (takes : Takes) (order : List Operation) : Type 0 where
-  pub producer : of_side P order ≡ put_operations shape first_count 0 puts.puts puts.closes (length (own P h))
-  pub consumer : of_side C order ≡ take_operations shape first_count 0 takes.takes takes.end (length (own C h))
+pub record IsLinearization (shape : Shape) (h : List Event) (puts : Puts) (takes : Takes) (order : List TimedOperation) : Type 0 where
+  pub producer : of_side P order ≡ put_operations shape first_count 0 puts.puts puts.closes (length (subhistory P h))
+  pub consumer : of_side C order ≡ take_operations shape first_count 0 takes.takes takes.end (length (subhistory C h))
   pub legal : IsLegal (exactly (capacity_of shape)) (queue [] false) (done_by order)
   pub keeps_time : KeepsTime h order
 
 -- there is one
 abbrev pub IsLinearizableRun : Shape → List Event → Puts → Takes → Type 0
-IsLinearizableRun shape h puts takes = (order : List Operation) × IsLinearization shape h puts takes order
+IsLinearizableRun shape h puts takes = (order : List TimedOperation) × IsLinearization shape h puts takes order
 
 -- whichever calls the events of the two sides are read as, they are linearizable
 abbrev pub EachReadingIsLinearizable : Shape → List Event → Type 0

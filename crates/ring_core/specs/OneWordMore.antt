@@ -2,7 +2,7 @@
 use Rattle.std.specs.Prelude.{◌≡◌, ℕ, ◌+◌, ◌%◌, ◌^◌, ◌<◌, ◌≤◌, List, [], ◌∷◌, ◌++◌, length}
 use Rattle.bits_core.specs.declared.shapes.Shape.{Shape}
 use Rattle.bits_core.specs.Shape.{AllFit, capacity_of, width_of}
-use Rattle.bits_core.specs.Made.{IsBeginning}
+use Rattle.bits_core.specs.Made.{IsPrefix}
 use Rattle.register_core.specs.Phrases.{word_read}
 use Rattle.ring_core.specs.Takes.{words_read}
 
@@ -20,4 +20,4 @@ ItemsFitByOneMore = (shape : Shape) (items : List ℕ) (item : ℕ) → AllFit s
 abbrev pub WordsGoOn : Type 0
 WordsGoOn =
     (shape : Shape) (n many : ℕ) (items : List ℕ) → length items ≤ many → AllFit shape items →
-    (all : List ℕ) × (length all ≡ many) × AllFit shape all × IsBeginning (words_read shape n items) (words_read shape n all)
+    (all : List ℕ) × (length all ≡ many) × AllFit shape all × IsPrefix (words_read shape n items) (words_read shape n all)

@@ -3,7 +3,7 @@ use Rattle.std.specs.Prelude.{◌≡◌, ℕ, ◌+◌, ◌-◌, nat_le, List, []
 use Rattle.bits_core.specs.declared.events.Side.TheVariants.{P, C}
 use Rattle.bits_core.specs.declared.events.Event.{Event}
 use Rattle.bits_core.specs.declared.shapes.Shape.{Shape}
-use Rattle.bits_core.specs.Made.{own}
+use Rattle.bits_core.specs.Made.{subhistory}
 use Rattle.ring_core.specs.Counts.{Count, first_count}
 use Rattle.ring_core.specs.Items.{events_in}
 use Rattle.ring_core.specs.Puts.{Put, Stored, Full, stored_after, put_phrase, Puts, FollowsPuts}
@@ -16,10 +16,10 @@ over events after s (x ∷ xs) t = if nat_le (events s x) t then x ∷ over even
 
 -- the calls that have ended in a history, by those that its sides follow
 abbrev pub puts_over_in : Shape → List Event → Puts → List Put
-puts_over_in shape h calls = over (λ c x. events_in (put_phrase shape c x)) (stored_after shape) first_count calls.puts (length (own P h))
+puts_over_in shape h calls = over (λ c x. events_in (put_phrase shape c x)) (stored_after shape) first_count calls.puts (length (subhistory P h))
 
 abbrev pub takes_over_in : Shape → List Event → Takes → List Take
-takes_over_in shape h calls = over (λ c x. events_in (take_phrase shape c x)) (count_after shape) first_count calls.takes (length (own C h))
+takes_over_in shape h calls = over (λ c x. events_in (take_phrase shape c x)) (count_after shape) first_count calls.takes (length (subhistory C h))
 
 -- the same of lists of calls within the first t events: of puts behind the producer's count, and of takes behind k items
 abbrev pub puts_over : Shape → Count → List Put → ℕ → List Put

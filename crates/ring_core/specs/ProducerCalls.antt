@@ -4,13 +4,13 @@ use Rattle.bits_core.specs.declared.events.Side.TheVariants.{P}
 use Rattle.bits_core.specs.declared.events.Access.{Access}
 use Rattle.bits_core.specs.declared.shapes.Shape.{Shape}
 use Rattle.bits_core.specs.Shape.{capacity_of, modulus_of, width_of}
-use Rattle.bits_core.specs.Made.{Made, answered, IsBeginning}
+use Rattle.bits_core.specs.Made.{Made, answered, IsPrefix}
 use Rattle.register_core.specs.WordState.{WriterStands}
 use Rattle.register_core.specs.ScanState.{scan_phrase, new_scan, row_read_by, ScanStands}
 use Rattle.register_core.specs.Unary.{count_writes}
 use Rattle.register_core.specs.UnaryState.{new_row, UnaryStands}
-use Rattle.ring_core.specs.declared.producers.BatchReply as replies
-use Rattle.ring_core.specs.declared.producers.BatchReply.TheVariants as reply
+use Rattle.ring_core.specs.declared.replies.BatchReply as replies
+use Rattle.ring_core.specs.declared.replies.BatchReply.TheVariants as reply
 use Rattle.ring_core.specs.declared.producers.Stage.{Stage}
 use Rattle.ring_core.specs.declared.producers.Stage.TheVariants.{Idle, Scanning, Storing, Counting, Closing}
 use Rattle.ring_core.specs.Counts.{LeavesRoomFor, number_past, Count, first_count}
@@ -78,7 +78,7 @@ longest shape Close = 1
 
 -- the accesses are those of the calls and a beginning of the call that was begun so
 abbrev pub BeginsCall : Shape → Call → Puts → List Made → Type 0
-BeginsCall shape c calls made = (more : Puts) × HasCallMore shape c calls more × IsBeginning made (put_program shape more)
+BeginsCall shape c calls made = (more : Puts) × HasCallMore shape c calls more × IsPrefix made (put_program shape more)
 
 -- Behind these calls, with these accesses made, the call under way goes on with the access: whatever it is answered, but
 -- for a 0 of the last bit of the count, the accesses made and it begin those of the calls and of the one under way.

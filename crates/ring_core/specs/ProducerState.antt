@@ -11,10 +11,10 @@ use Rattle.register_core.specs.WordState.{WriterState, due_write}
 use Rattle.register_core.specs.UnaryState.{UnaryState, due_unary}
 use Rattle.ring_core.specs.Calls.{IsScanning, IsCounted, IsBeingCountedOn}
 use Rattle.ring_core.specs.Puts.{IsBatch}
-use Rattle.ring_core.specs.declared.producers.PutReply.{PutReply}
-use Rattle.ring_core.specs.declared.producers.PutReply.TheVariants as one
-use Rattle.ring_core.specs.declared.producers.BatchReply.{BatchReply}
-use Rattle.ring_core.specs.declared.producers.BatchReply.TheVariants.{Stored, Full, Closed}
+use Rattle.ring_core.specs.declared.replies.PutReply.{PutReply}
+use Rattle.ring_core.specs.declared.replies.PutReply.TheVariants as one
+use Rattle.ring_core.specs.declared.replies.BatchReply.{BatchReply}
+use Rattle.ring_core.specs.declared.replies.BatchReply.TheVariants.{Stored, Full, Closed}
 use Rattle.ring_core.specs.declared.producers.Stage.{Stage}
 use Rattle.ring_core.specs.declared.producers.Stage.TheVariants.{Idle, Scanning, Storing, Counting, Closing}
 

@@ -5,7 +5,7 @@ use Rattle.bits_core.specs.declared.events.Bit.TheVariants.{X}
 use Rattle.bits_core.specs.declared.events.Event.{Event}
 use Rattle.bits_core.specs.declared.shapes.Shape.{Shape}
 use Rattle.bits_core.specs.Shape.{AllFit, batch_of, capacity_of, modulus_of, width_of}
-use Rattle.bits_core.specs.Made.{Made, Write, events_of, own, IsBeginning}
+use Rattle.bits_core.specs.Made.{Made, Write, events_of, subhistory, IsPrefix}
 use Rattle.register_core.specs.Phrases.{bits_after, word_write, scan_phrase, row_read_by}
 use Rattle.ring_core.specs.Counts.{distance, LeavesRoom, LeavesRoomFor, number_past, Count, first_count, count_bits, batch_phrase}
 
@@ -107,4 +107,4 @@ IsPutOf shape n items (Full seen) = Unit {0}
 -- the producer of a history makes these calls, the last perhaps cut
 pub record FollowsPuts (shape : Shape) (h : List Event) (calls : Puts) : Type 0 where
   pub are : ArePuts shape 0 calls.puts
-  pub events : IsBeginning (own P h) (events_of P (put_program shape calls))
+  pub events : IsPrefix (subhistory P h) (events_of P (put_program shape calls))

@@ -2,7 +2,7 @@
 use Rattle.std.specs.Prelude.{◌≡◌, true, List, ◌++◌}
 use Rattle.bits_core.specs.declared.events.Side.TheVariants.{P, C}
 use Rattle.bits_core.specs.declared.shapes.Shape.{Shape}
-use Rattle.bits_core.specs.Made.{events_of, IsBeginning}
+use Rattle.bits_core.specs.Made.{events_of, IsPrefix}
 use Rattle.ring_core.specs.Puts.{Put, Puts, put_program, ArePuts}
 use Rattle.ring_core.specs.Items.{Tells}
 use Rattle.ring_core.specs.Takes.{Take, Takes, take_program, AreTakes}
@@ -21,11 +21,11 @@ TakesAreRead =
 abbrev pub PutsAreFirst : Type 0
 PutsAreFirst =
     (shape : Shape) (a b : Puts) → ArePuts shape 0 a.puts → ArePuts shape 0 b.puts →
-    IsBeginning (events_of P (put_program shape a)) (events_of P (put_program shape b)) →
+    IsPrefix (events_of P (put_program shape a)) (events_of P (put_program shape b)) →
     ((more : List Put) × (b.puts ≡ a.puts ++ more)) × (a.closes ≡ true → a ≡ b)
 
 abbrev pub TakesAreFirst : Type 0
 TakesAreFirst =
     (shape : Shape) (a b : Takes) → AreTakes shape 0 a.takes a.end → AreTakes shape 0 b.takes b.end →
-    IsBeginning (events_of C (take_program shape a)) (events_of C (take_program shape b)) →
+    IsPrefix (events_of C (take_program shape a)) (events_of C (take_program shape b)) →
     ((more : List Take) × (b.takes ≡ a.takes ++ more)) × (Tells a.end → a ≡ b)

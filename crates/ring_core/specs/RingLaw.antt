@@ -10,7 +10,7 @@ use Rattle.bits_core.specs.declared.shapes.Shape.{Shape}
 use Rattle.bits_core.specs.Shape.{capacity_of, modulus_of, width_of}
 use Rattle.bits_core.specs.Intervals as intervals
 use Rattle.bits_core.specs.Intervals.{IsLawful}
-use Rattle.bits_core.specs.Made.{own, clock, IsPlaceOf, IsBeginning}
+use Rattle.bits_core.specs.Made.{subhistory, clock, IsPlaceOf, IsPrefix}
 use Rattle.ring_core.specs.Counts.{distance, first_count}
 use Rattle.register_core.specs.Phrases.{word_write, word_read}
 use Rattle.ring_core.specs.Puts.{Stored, Full, Puts, put_phrases, put_program, FollowsPuts}
@@ -28,7 +28,7 @@ pub record IsRun (shape : Shape) (h : List Event) (puts : Puts) (takes : Takes) 
 -- from the place of a side's own event i to that of its own event e, or past the end of the history where that one has not come
 pub record IsInterval (s : Side) (h : List Event) (i e start stop : ℕ) : Type 0 where
   pub begins : IsPlaceOf s h i start
-  pub ends : IsPlaceOf s h e stop ⊎ ((length (own s h) ≤ e) × (stop ≡ length h))
+  pub ends : IsPlaceOf s h e stop ⊎ ((length (subhistory s h) ≤ e) × (stop ≡ length h))
 
 -- at every moment no more items are taken than put, and at most as many are put and not taken as the ring has cells
 abbrev pub IsWithin : Shape → List Event → Puts → Takes → Type 0
@@ -53,7 +53,7 @@ CellsAreQuiet shape h puts takes =
 -- at every moment the items taken are a prefix of the items put
 abbrev pub TakenArePrefix : Shape → List Event → Puts → Takes → Type 0
 TakenArePrefix shape h puts takes =
-    (t : ℕ) → IsBeginning (items_taken shape first_count takes.takes (clock C h t)) (items_put shape first_count puts.puts (clock P h t))
+    (t : ℕ) → IsPrefix (items_taken shape first_count takes.takes (clock C h t)) (items_put shape first_count puts.puts (clock P h t))
 
 -- word read i of a take behind k items, once it has ended, also where the count write is still to come, gives item number k + i of those put
 abbrev pub TakesMatchPuts : Shape → List Event → Puts → Takes → Type 0
@@ -66,7 +66,7 @@ TakesMatchPuts shape h puts takes =
 -- taken that had ended, and no write of the close bit had ended
 abbrev pub EmptyIsFresh : Shape → List Event → Puts → Takes → Type 0
 EmptyIsFresh shape h puts takes =
-    (seen k start stop : ℕ) → IsTakeAt shape takes (Empty seen) k start stop → stop ≤ length (own C h) →
+    (seen k start stop : ℕ) → IsTakeAt shape takes (Empty seen) k start stop → stop ≤ length (subhistory C h) →
     (first : ℕ) × IsPlaceOf C h start first × (puts_ended shape puts (clock P h first) ≤ takes_ended shape takes (clock C h first)) ×
     ((v : Bool) (from to : ℕ) → intervals.IsWrite h X v from to → ¬ (to < first))
 
@@ -74,13 +74,13 @@ EmptyIsFresh shape h puts takes =
 -- the capacity
 abbrev pub FullIsFresh : Shape → List Event → Puts → Takes → Type 0
 FullIsFresh shape h puts takes =
-    (seen n start stop : ℕ) → IsPutAt shape puts (Full seen) n start stop → stop ≤ length (own P h) →
+    (seen n start stop : ℕ) → IsPutAt shape puts (Full seen) n start stop → stop ≤ length (subhistory P h) →
     (first : ℕ) × IsPlaceOf P h start first × (takes_ended shape takes (clock C h first) + capacity_of shape ≤ n)
 
 -- and where a put begins whose items fill all the room that its scan left, the items stored up to and with it are
 abbrev pub FillIsFresh : Shape → List Event → Puts → Takes → Type 0
 FillIsFresh shape h puts takes =
-    (seen : ℕ) (items : List ℕ) (n start stop : ℕ) → IsPutAt shape puts (Stored seen items) n start stop → start + scan_events P seen ≤ length (own P h) →
+    (seen : ℕ) (items : List ℕ) (n start stop : ℕ) → IsPutAt shape puts (Stored seen items) n start stop → start + scan_events P seen ≤ length (subhistory P h) →
     distance (modulus_of shape) (n % modulus_of shape) seen + length items ≡ capacity_of shape →
     (first : ℕ) × IsPlaceOf P h start first × (takes_ended shape takes (clock C h first) + capacity_of shape ≤ n + length items)
 
@@ -88,7 +88,7 @@ FillIsFresh shape h puts takes =
 -- taken up to and with it
 abbrev pub DrainIsFresh : Shape → List Event → Puts → Takes → Type 0
 DrainIsFresh shape h puts takes =
-    (seen : ℕ) (items : List ℕ) (k start stop : ℕ) → IsTakeAt shape takes (Item seen items) k start stop → start + scan_events C seen ≤ length (own C h) →
+    (seen : ℕ) (items : List ℕ) (k start stop : ℕ) → IsTakeAt shape takes (Item seen items) k start stop → start + scan_events C seen ≤ length (subhistory C h) →
     distance (modulus_of shape) seen (k % modulus_of shape) ≡ length items → 1 ≤ length items →
     (first : ℕ) × IsPlaceOf C h start first × (puts_ended shape puts (clock P h first) ≤ k + length items)
 

@@ -9,7 +9,7 @@ use Rattle.bits_core.specs.declared.shapes.Shape.{Shape}
 use Rattle.bits_core.specs.Shape.{modulus_of}
 use Rattle.bits_core.specs.Intervals as intervals
 use Rattle.bits_core.specs.Intervals.{IsLawful}
-use Rattle.bits_core.specs.Made.{Made, events_of, own, IsBeginning}
+use Rattle.bits_core.specs.Made.{Made, events_of, subhistory, IsPrefix}
 use Rattle.bits_core.specs.Bits.{other}
 use Rattle.bits_core.specs.Steps.{MayFollow}
 use Rattle.register_core.specs.Phrases.{row_bit, zero_reads}
@@ -24,7 +24,7 @@ use Rattle.ring_core.specs.RingLaw.{IsRun}
 abbrev pub ClosedStays : Type 0
 ClosedStays =
     (shape : Shape) (h h' : List Event) (puts puts' : Puts) (takes takes' : Takes) → IsRun shape h puts takes → IsRun shape h' puts' takes' →
-    IsBeginning h h' → ToldIn shape h takes →
+    IsPrefix h h' → ToldIn shape h takes →
     (items_put_in shape h' puts' ≡ items_put_in shape h puts) × (items_taken_in shape h' takes' ≡ items_taken_in shape h takes)
 
 -- no read of the last bit of the count that side s writes answers 0, behind reads of 0 in all bits below, one after the other
@@ -36,8 +36,8 @@ NeverReadsAll s shape h =
 -- the other side, which has made the accesses of a list, has not ended reads of 0 in all bits of that count in a row
 abbrev pub NeverMisses : Side → Shape → List Event → Type 0
 NeverMisses s shape h =
-    (made before after : List Made) → IsBeginning (own (other s) h) (events_of (other s) made) →
-    made ≡ before ++ (zero_reads (row_bit s) (modulus_of shape) ++ after) → length (own (other s) h) < 2 * (length before + modulus_of shape)
+    (made before after : List Made) → IsPrefix (subhistory (other s) h) (events_of (other s) made) →
+    made ≡ before ++ (zero_reads (row_bit s) (modulus_of shape) ++ after) → length (subhistory (other s) h) < 2 * (length before + modulus_of shape)
 
 abbrev pub PutsAreSeen : Type 0
 PutsAreSeen = (shape : Shape) (h : List Event) (puts : Puts) → IsLawful shape h → FollowsPuts shape h puts → NeverReadsAll P shape h × NeverMisses P shape h
@@ -50,19 +50,19 @@ TakesAreSeen = (shape : Shape) (h : List Event) (takes : Takes) → IsLawful sha
 abbrev pub RunsByPut : Type 0
 RunsByPut =
     (shape : Shape) (h : List Event) (e : Event) (puts more : Puts) (takes : Takes) → IsRun shape h puts takes → e.side ≡ P → MayFollow shape h e →
-    ArePuts shape 0 more.puts → IsBeginning (own P h ++ e ∷ []) (events_of P (put_program shape more)) → IsRun shape (h ++ e ∷ []) more takes
+    ArePuts shape 0 more.puts → IsPrefix (subhistory P h ++ e ∷ []) (events_of P (put_program shape more)) → IsRun shape (h ++ e ∷ []) more takes
 
 abbrev pub RunsByTake : Type 0
 RunsByTake =
     (shape : Shape) (h : List Event) (e : Event) (puts : Puts) (takes more : Takes) → IsRun shape h puts takes → e.side ≡ C → MayFollow shape h e →
-    AreTakes shape 0 more.takes more.end → IsBeginning (own C h ++ e ∷ []) (events_of C (take_program shape more)) → IsRun shape (h ++ e ∷ []) puts more
+    AreTakes shape 0 more.takes more.end → IsPrefix (subhistory C h ++ e ∷ []) (events_of C (take_program shape more)) → IsRun shape (h ++ e ∷ []) puts more
 
 -- a take that has ended found the ring empty, and a put the ring full
 abbrev pub FindsEmpty : Shape → List Event → Takes → Type 0
-FindsEmpty shape h takes = (seen : ℕ) × (k : ℕ) × (start : ℕ) × (stop : ℕ) × IsTakeAt shape takes (Empty seen) k start stop × (stop ≤ length (own C h))
+FindsEmpty shape h takes = (seen : ℕ) × (k : ℕ) × (start : ℕ) × (stop : ℕ) × IsTakeAt shape takes (Empty seen) k start stop × (stop ≤ length (subhistory C h))
 
 abbrev pub FindsFull : Shape → List Event → Puts → Type 0
-FindsFull shape h puts = (seen : ℕ) × (n : ℕ) × (start : ℕ) × (stop : ℕ) × IsPutAt shape puts (Full seen) n start stop × (stop ≤ length (own P h))
+FindsFull shape h puts = (seen : ℕ) × (n : ℕ) × (start : ℕ) × (stop : ℕ) × IsPutAt shape puts (Full seen) n start stop × (stop ≤ length (subhistory P h))
 
 -- The premises can be met, also where a write overlaps a read that has ended, a take found the ring empty, a put found it full,
 -- an item is put and taken, and the consumer is told that the ring is closed.

@@ -5,7 +5,7 @@ use Rattle.bits_core.specs.declared.events.Bit.TheVariants.{X}
 use Rattle.bits_core.specs.declared.events.Event.{Event}
 use Rattle.bits_core.specs.declared.shapes.Shape.{Shape}
 use Rattle.bits_core.specs.Shape.{AllFit, capacity_of, modulus_of, take_batch_of, width_of}
-use Rattle.bits_core.specs.Made.{Made, Read, events_of, own, IsBeginning}
+use Rattle.bits_core.specs.Made.{Made, Read, events_of, subhistory, IsPrefix}
 use Rattle.register_core.specs.Phrases.{bits_after, word_read, scan_phrase, row_read_by}
 use Rattle.ring_core.specs.Counts.{distance, ShowsItem, number_past, Count, first_count, count_bits, batch_phrase}
 
@@ -113,4 +113,4 @@ AreTakes shape k (x ∷ takes) end = IsTake shape k x × AreTakes shape (taken_a
 -- the consumer of a history makes these calls, the last perhaps cut
 pub record FollowsTakes (shape : Shape) (h : List Event) (calls : Takes) : Type 0 where
   pub are : AreTakes shape 0 calls.takes calls.end
-  pub events : IsBeginning (own C h) (events_of C (take_program shape calls))
+  pub events : IsPrefix (subhistory C h) (events_of C (take_program shape calls))

@@ -3,7 +3,7 @@ use Rattle.std.specs.Prelude.{◌≡◌, List, length}
 use Rattle.bits_core.specs.declared.events.Side.TheVariants.{P, C}
 use Rattle.bits_core.specs.declared.events.Event.{Event}
 use Rattle.bits_core.specs.declared.shapes.Shape.{Shape}
-use Rattle.bits_core.specs.Made.{events_of, own}
+use Rattle.bits_core.specs.Made.{events_of, subhistory}
 use Rattle.ring_core.specs.Puts.{Puts, put_program, ArePuts}
 use Rattle.ring_core.specs.Takes.{Takes, take_program, AreTakes}
 use Rattle.ring_core.specs.Items.{all_put, all_taken, items_put_in, items_taken_in}
@@ -13,11 +13,11 @@ use Rattle.ring_core.specs.CallsAt.{puts_begun, takes_begun}
 -- that have begun
 abbrev pub WholePutsCount : Type 0
 WholePutsCount =
-    (shape : Shape) (h : List Event) (calls : Puts) → ArePuts shape 0 calls.puts → own P h ≡ events_of P (put_program shape calls) →
-    (items_put_in shape h calls ≡ all_put calls.puts) × (puts_begun shape calls (length (own P h)) ≡ length (all_put calls.puts))
+    (shape : Shape) (h : List Event) (calls : Puts) → ArePuts shape 0 calls.puts → subhistory P h ≡ events_of P (put_program shape calls) →
+    (items_put_in shape h calls ≡ all_put calls.puts) × (puts_begun shape calls (length (subhistory P h)) ≡ length (all_put calls.puts))
 
 -- where the consumer's events are those of whole calls, all their items are taken, and as many are counted so
 abbrev pub WholeTakesCount : Type 0
 WholeTakesCount =
-    (shape : Shape) (h : List Event) (calls : Takes) → AreTakes shape 0 calls.takes calls.end → own C h ≡ events_of C (take_program shape calls) →
-    (items_taken_in shape h calls ≡ all_taken calls.takes) × (takes_begun shape calls (length (own C h)) ≡ length (all_taken calls.takes))
+    (shape : Shape) (h : List Event) (calls : Takes) → AreTakes shape 0 calls.takes calls.end → subhistory C h ≡ events_of C (take_program shape calls) →
+    (items_taken_in shape h calls ≡ all_taken calls.takes) × (takes_begun shape calls (length (subhistory C h)) ≡ length (all_taken calls.takes))

@@ -6,7 +6,8 @@ ghost use Rattle.bits_core.specs.Made.{Made, answered};
 ghost use Rattle.bits_core.specs.Open.{IsOpenRight};
 ghost use Rattle.ring_core.specs.ConsumerCalls.{items_reply, take_batch_reply};
 
-use crate::consumers::{Consumer, TakeBatchReply, TakeReply};
+use crate::consumers::Consumer;
+use crate::replies::{TakeBatchReply, TakeReply};
 use bits_core::{Access, Bit};
 use register_core::{UnaryScan, WordReader};
 use std::marker::Model;
@@ -33,7 +34,8 @@ impl Model for TakeScan {
 
     ghost view = { λ s. record s.of.value { scan = s.scan } };
 
-    ghost invariant = { λ s. ((s.of.value.stage ≡ Scanning) ⊎ (s.of.value.stage ≡ Rescanning)) × IsConsumer (record s.of.value { scan = s.scan }) };
+    ghost invariant = { λ s. ((s.of.value.stage ≡ Scanning) ⊎ (s.of.value.stage ≡ Rescanning)) ×
+        IsConsumer (record s.of.value { scan = s.scan }) };
 }
 
 impl TakeScan {
@@ -51,8 +53,11 @@ impl TakeScan {
         ensures due { due_take self.now ≡ Some result }
         ensures below { self.now.scan.zeros < modulus_of self.now.shape }
         ensures right { IsOpenRight self.now.shape C result }
-        ensures goes_on { (calls : Takes) (made : List Made) → ConsumerStands self.now calls made → (is_taking self.now ≡ true) × TakeGoesOn self.now.shape self.now.wanted calls made result }
-        ensures bounded { (calls : Takes) (made : List Made) → ConsumerStands self.now calls made → is_taking self.now ≡ true → length made < length (take_program self.now.shape calls) + longest_taking self.now.shape self.now.wanted }
+        ensures goes_on { (calls : Takes) (made : List Made) → ConsumerStands self.now calls made →
+            (is_taking self.now ≡ true) × TakeGoesOn self.now.shape self.now.wanted calls made result }
+        ensures bounded { (calls : Takes) (made : List Made) → ConsumerStands self.now calls made →
+            is_taking self.now ≡ true →
+            length made < length (take_program self.now.shape calls) + longest_taking self.now.shape self.now.wanted }
     {
         match self.scan.next() {
             Some(access) => access,
@@ -64,7 +69,8 @@ impl TakeScan {
     #[inline(always)]
     pub fn expects_one(&self) -> bool
         ensures due { IsTrue result ↔ LastBitIsDue self.now.shape C (due_take self.now) }
-        ensures stands { (calls : Takes) (made : List Made) → ConsumerStands self.now calls made → IsTrue result → EndsInZeros self.now.shape C made }
+        ensures stands { (calls : Takes) (made : List Made) → ConsumerStands self.now calls made → IsTrue result →
+            EndsInZeros self.now.shape C made }
     {
         self.scan.expects_one()
     }
@@ -75,7 +81,9 @@ impl TakeScan {
     pub fn zero(&mut self)
         requires not_last { LastBitIsDue self.old.shape C (due_take self.old) → false ≡ true }
         ensures state { self.new ≡ record self.old { scan = scan_read self.old.scan false } }
-        ensures stands { (calls : Takes) (made : List Made) (access : Access) → ConsumerStands self.old calls made → due_take self.old ≡ Some access → ConsumerHasMoved self.old self.new calls (made ++ answered access false ∷ []) }
+        ensures stands { (calls : Takes) (made : List Made) (access : Access) → ConsumerStands self.old calls made →
+            due_take self.old ≡ Some access →
+            ConsumerHasMoved self.old self.new calls (made ++ answered access false ∷ []) }
     {
         self.scan.feed(false);
     }
@@ -120,8 +128,11 @@ impl TakeWord {
         ensures below { self.now.word.read < self.now.word.width }
         ensures right { IsOpenRight self.now.shape C result }
         ensures not_last { LastBitIsDue self.now.shape C (due_take self.now) → false ≡ true }
-        ensures goes_on { (calls : Takes) (made : List Made) → ConsumerStands self.now calls made → (is_taking self.now ≡ true) × TakeGoesOn self.now.shape self.now.wanted calls made result }
-        ensures bounded { (calls : Takes) (made : List Made) → ConsumerStands self.now calls made → is_taking self.now ≡ true → length made < length (take_program self.now.shape calls) + longest_taking self.now.shape self.now.wanted }
+        ensures goes_on { (calls : Takes) (made : List Made) → ConsumerStands self.now calls made →
+            (is_taking self.now ≡ true) × TakeGoesOn self.now.shape self.now.wanted calls made result }
+        ensures bounded { (calls : Takes) (made : List Made) → ConsumerStands self.now calls made →
+            is_taking self.now ≡ true →
+            length made < length (take_program self.now.shape calls) + longest_taking self.now.shape self.now.wanted }
     {
         match self.word.next() {
             Some(access) => access,
@@ -143,7 +154,9 @@ impl TakeWord {
     pub fn feed(&mut self, answer: bool)
         requires not_last { suc self.old.word.read ≢ self.old.word.width }
         ensures state { self.new ≡ record self.old { word = read_digit self.old.word answer } }
-        ensures stands { (calls : Takes) (made : List Made) (access : Access) → ConsumerStands self.old calls made → due_take self.old ≡ Some access → ConsumerHasMoved self.old self.new calls (made ++ answered access answer ∷ []) }
+        ensures stands { (calls : Takes) (made : List Made) (access : Access) → ConsumerStands self.old calls made →
+            due_take self.old ≡ Some access →
+            ConsumerHasMoved self.old self.new calls (made ++ answered access answer ∷ []) }
     {
         self.word.feed(answer);
     }

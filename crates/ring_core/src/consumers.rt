@@ -9,37 +9,12 @@ ghost use Rattle.ring_core.specs.ConsumerCalls.{take_batch_reply};
 
 use crate::consumer_parts::{TakeScan, TakeWord, by_number, is_first_digit, item_reply, keep_one};
 use crate::counts::{has_item, items_shown, past_in};
+use crate::replies::{TakeBatchReply, TakeReply};
 use bits_core::{Access, Bit, Shape, Side};
 use register_core::{UnaryScan, UnaryWriter, WordReader};
 use std::alloc::AllocError;
 use std::marker::Model;
 use std::snapshot::Snapshot;
-
-/// What a take was answered.
-///
-/// In use: `uses::steps::take_amid_put`.
-#[derive(Clone, Copy, PartialEq, Eq, Debug)]
-pub enum TakeReply {
-    /// This item was taken.
-    Item(u64),
-    /// The ring was empty.
-    Empty,
-    /// The ring is closed, and every item put was taken.
-    Closed,
-}
-
-/// What a take of several items was answered.
-///
-/// In use: the answer of `ring_seats::take_all_open`.
-#[derive(Clone, Copy, PartialEq, Eq, Debug)]
-pub enum TakeBatchReply {
-    /// So many items were taken, which [`Consumer::items`] tells.
-    Taken(u64),
-    /// The ring was empty.
-    Empty,
-    /// The ring is closed, and every item put was taken.
-    Closed,
-}
 
 /// How far the take under way has come.
 #[derive(Clone, Copy, Debug)]
@@ -78,9 +53,35 @@ impl Model for Consumer {
 
     ghost Value = { ConsumerState };
 
-    ghost view = { λ p. record { shape = p.shape; count = p.count; cell = p.cell; stage = p.stage; scan = p.scan; word = p.word; row = p.row; told = p.told; items = take p.taken p.items; wanted = p.wanted; most = p.most; reply = p.reply } };
+    ghost view = { λ p. record {
+      shape = p.shape;
+      count = p.count;
+      cell = p.cell;
+      stage = p.stage;
+      scan = p.scan;
+      word = p.word;
+      row = p.row;
+      told = p.told;
+      items = take p.taken p.items;
+      wanted = p.wanted;
+      most = p.most;
+      reply = p.reply;
+    } };
 
-    ghost invariant = { λ p. IsConsumer (record { shape = p.shape; count = p.count; cell = p.cell; stage = p.stage; scan = p.scan; word = p.word; row = p.row; told = p.told; items = take p.taken p.items; wanted = p.wanted; most = p.most; reply = p.reply }) × (p.taken ≤ 64) × (p.wanted ≤ 64) × (p.most ≤ 64) };
+    ghost invariant = { λ p. IsConsumer (record {
+      shape = p.shape;
+      count = p.count;
+      cell = p.cell;
+      stage = p.stage;
+      scan = p.scan;
+      word = p.word;
+      row = p.row;
+      told = p.told;
+      items = take p.taken p.items;
+      wanted = p.wanted;
+      most = p.most;
+      reply = p.reply;
+    }) × (p.taken ≤ 64) × (p.wanted ≤ 64) × (p.most ≤ 64) };
 }
 
 // By hand, as a derived one clones each field, which costs the proof ten times as much.
@@ -101,7 +102,7 @@ impl Consumer {
     ghost use Rattle.register_core.specs.Row.{RowWrite};
     ghost use Rattle.register_core.specs.UnaryState.{due_writes};
     ghost use Rattle.ring_core.specs.declared.consumers.Stage.TheVariants.{Scanning, Checking, Rescanning, Loading, Counting};
-    ghost use Rattle.ring_core.specs.declared.consumers.TakeReply.TheVariants.{Closed};
+    ghost use Rattle.ring_core.specs.declared.replies.TakeReply.TheVariants.{Closed};
     ghost use Rattle.ring_core.specs.Calls.{LastBitIsDue, EndsInZeros};
     ghost use Rattle.ring_core.specs.Takes.{Takes, take_program};
     ghost use Rattle.ring_core.specs.Lengths.{longest_taking};
@@ -137,7 +138,8 @@ impl Consumer {
         ensures shape { self.new.shape ≡ self.old.shape }
         ensures begun { self.old.told ≡ false → (is_taking self.new ≡ true) × (self.new.wanted ≡ 1) }
         ensures refused { self.old.told ≡ true → self.new ≡ record self.old { reply = Some Closed } }
-        ensures stands { (calls : Takes) (made : List Made) → ConsumerStands self.old calls made → ConsumerStands self.new calls made }
+        ensures stands { (calls : Takes) (made : List Made) → ConsumerStands self.old calls made →
+            ConsumerStands self.new calls made }
     {
         self.take_all(1);
     }
@@ -153,7 +155,8 @@ impl Consumer {
         ensures shape { self.new.shape ≡ self.old.shape }
         ensures begun { self.old.told ≡ false → (is_taking self.new ≡ true) × (self.new.wanted ≡ most) }
         ensures refused { self.old.told ≡ true → self.new ≡ record self.old { reply = Some Closed } }
-        ensures stands { (calls : Takes) (made : List Made) → ConsumerStands self.old calls made → ConsumerStands self.new calls made }
+        ensures stands { (calls : Takes) (made : List Made) → ConsumerStands self.old calls made →
+            ConsumerStands self.new calls made }
     {
         if self.told {
             self.reply = Some(TakeReply::Closed);
@@ -174,10 +177,15 @@ impl Consumer {
     pub fn next(&self) -> Option<Access>
         ensures due { result ≡ due_take self.now }
         ensures right { IfSome result (IsOpenRight self.now.shape C) }
-        ensures rest { (calls : Takes) (made : List Made) → ConsumerStands self.now calls made → result ≡ None → (is_taking self.now ≡ false) × (made ≡ take_program self.now.shape calls) }
-        ensures goes_on { (calls : Takes) (made : List Made) (access : Access) → ConsumerStands self.now calls made → result ≡ Some access → (is_taking self.now ≡ true) × TakeGoesOn self.now.shape self.now.wanted calls made access }
+        ensures rest { (calls : Takes) (made : List Made) → ConsumerStands self.now calls made → result ≡ None →
+            (is_taking self.now ≡ false) × (made ≡ take_program self.now.shape calls) }
+        ensures goes_on { (calls : Takes) (made : List Made) (access : Access) → ConsumerStands self.now calls made →
+            result ≡ Some access → (is_taking self.now ≡ true) ×
+            TakeGoesOn self.now.shape self.now.wanted calls made access }
         ensures few { is_taking self.now ≡ true → self.now.wanted ≤ take_batch_of self.now.shape }
-        ensures bounded { (calls : Takes) (made : List Made) → ConsumerStands self.now calls made → is_taking self.now ≡ true → length made < length (take_program self.now.shape calls) + longest_taking self.now.shape self.now.wanted }
+        ensures bounded { (calls : Takes) (made : List Made) → ConsumerStands self.now calls made →
+            is_taking self.now ≡ true →
+            length made < length (take_program self.now.shape calls) + longest_taking self.now.shape self.now.wanted }
     {
         match self.stage {
             Stage::Idle => None,
@@ -199,7 +207,9 @@ impl Consumer {
         ensures shape { self.new.shape ≡ self.old.shape }
         ensures wanted { self.new.wanted ≡ self.old.wanted }
         ensures counting { self.old.stage ≡ Counting → is_taking self.new ≡ true → self.new.stage ≡ Counting }
-        ensures stands { (calls : Takes) (made : List Made) (access : Access) → ConsumerStands self.old calls made → due_take self.old ≡ Some access → ConsumerHasMoved self.old self.new calls (made ++ answered access answer ∷ []) }
+        ensures stands { (calls : Takes) (made : List Made) (access : Access) → ConsumerStands self.old calls made →
+            due_take self.old ≡ Some access →
+            ConsumerHasMoved self.old self.new calls (made ++ answered access answer ∷ []) }
     {
         match self.stage {
             Stage::Idle => {}
@@ -217,7 +227,9 @@ impl Consumer {
         requires one { LastBitIsDue self.old.shape C (due_take self.old) → answer ≡ true }
         ensures shape { self.new.shape ≡ self.old.shape }
         ensures wanted { self.new.wanted ≡ self.old.wanted }
-        ensures stands { (calls : Takes) (made : List Made) (access : Access) → ConsumerStands self.old calls made → due_take self.old ≡ Some access → ConsumerHasMoved self.old self.new calls (made ++ answered access answer ∷ []) }
+        ensures stands { (calls : Takes) (made : List Made) (access : Access) → ConsumerStands self.old calls made →
+            due_take self.old ≡ Some access →
+            ConsumerHasMoved self.old self.new calls (made ++ answered access answer ∷ []) }
     {
         self.scan.feed(answer);
         match self.scan.value() {
@@ -239,7 +251,9 @@ impl Consumer {
         requires stage { self.old.stage ≡ Checking }
         ensures shape { self.new.shape ≡ self.old.shape }
         ensures wanted { self.new.wanted ≡ self.old.wanted }
-        ensures stands { (calls : Takes) (made : List Made) (access : Access) → ConsumerStands self.old calls made → due_take self.old ≡ Some access → ConsumerHasMoved self.old self.new calls (made ++ answered access answer ∷ []) }
+        ensures stands { (calls : Takes) (made : List Made) (access : Access) → ConsumerStands self.old calls made →
+            due_take self.old ≡ Some access →
+            ConsumerHasMoved self.old self.new calls (made ++ answered access answer ∷ []) }
     {
         if answer {
             self.scan = UnaryScan::new(&self.shape, Side::C);
@@ -256,7 +270,9 @@ impl Consumer {
         requires one { LastBitIsDue self.old.shape C (due_take self.old) → answer ≡ true }
         ensures shape { self.new.shape ≡ self.old.shape }
         ensures wanted { self.new.wanted ≡ self.old.wanted }
-        ensures stands { (calls : Takes) (made : List Made) (access : Access) → ConsumerStands self.old calls made → due_take self.old ≡ Some access → ConsumerHasMoved self.old self.new calls (made ++ answered access answer ∷ []) }
+        ensures stands { (calls : Takes) (made : List Made) (access : Access) → ConsumerStands self.old calls made →
+            due_take self.old ≡ Some access →
+            ConsumerHasMoved self.old self.new calls (made ++ answered access answer ∷ []) }
     {
         self.scan.feed(answer);
         match self.scan.value() {
@@ -281,7 +297,9 @@ impl Consumer {
         requires stage { self.old.stage ≡ Loading }
         ensures shape { self.new.shape ≡ self.old.shape }
         ensures wanted { self.new.wanted ≡ self.old.wanted }
-        ensures stands { (calls : Takes) (made : List Made) (access : Access) → ConsumerStands self.old calls made → due_take self.old ≡ Some access → ConsumerHasMoved self.old self.new calls (made ++ answered access answer ∷ []) }
+        ensures stands { (calls : Takes) (made : List Made) (access : Access) → ConsumerStands self.old calls made →
+            due_take self.old ≡ Some access →
+            ConsumerHasMoved self.old self.new calls (made ++ answered access answer ∷ []) }
     {
         self.word.feed(answer);
         match self.word.value() {
@@ -307,8 +325,11 @@ impl Consumer {
         ensures shape { self.new.shape ≡ self.old.shape }
         ensures wanted { self.new.wanted ≡ self.old.wanted }
         ensures counting { is_taking self.new ≡ true → self.new.stage ≡ Counting }
-        ensures left { (x : RowWrite) (rest : List RowWrite) → due_writes self.old.row ≡ x ∷ rest → due_writes self.new.row ≡ rest }
-        ensures stands { (calls : Takes) (made : List Made) (access : Access) → ConsumerStands self.old calls made → due_take self.old ≡ Some access → ConsumerHasMoved self.old self.new calls (made ++ answered access answer ∷ []) }
+        ensures left { (x : RowWrite) (rest : List RowWrite) → due_writes self.old.row ≡ x ∷ rest →
+            due_writes self.new.row ≡ rest }
+        ensures stands { (calls : Takes) (made : List Made) (access : Access) → ConsumerStands self.old calls made →
+            due_take self.old ≡ Some access →
+            ConsumerHasMoved self.old self.new calls (made ++ answered access answer ∷ []) }
     {
         self.row.feed(answer);
         if self.row.next().is_none() {
@@ -383,7 +404,8 @@ impl Consumer {
         ensures wanted { self.new.wanted ≡ length self.old.items }
         ensures stage { self.new.stage ≡ Counting }
         ensures due { (i : ℕ) × (v : Bool) × (due_take self.new ≡ Some (Access.Write (R i) v)) }
-        ensures stands { (calls : Takes) (made : List Made) → ConsumerStands self.old calls made → ConsumerStands self.new calls made }
+        ensures stands { (calls : Takes) (made : List Made) → ConsumerStands self.old calls made →
+            ConsumerStands self.new calls made }
     {
         self.row.write(past_in(self.count, self.taken as u64, self.shape.modulus()));
         self.wanted = self.taken;
@@ -416,7 +438,8 @@ impl Consumer {
     #[inline(always)]
     pub fn reply(&self) -> Option<TakeReply>
         ensures state { result ≡ self.now.reply }
-        ensures stands { (calls : Takes) (made : List Made) → ConsumerStands self.now calls made → IsReplyToTake calls (is_taking self.now) result }
+        ensures stands { (calls : Takes) (made : List Made) → ConsumerStands self.now calls made →
+            IsReplyToTake calls (is_taking self.now) result }
     {
         self.reply
     }
@@ -425,7 +448,8 @@ impl Consumer {
     #[inline(always)]
     pub fn batch_reply(&self) -> Option<TakeBatchReply>
         ensures state { result ≡ take_batch_reply self.now.reply self.now.items }
-        ensures stands { (calls : Takes) (made : List Made) → ConsumerStands self.now calls made → IsBatchReplyToTake calls (is_taking self.now) result }
+        ensures stands { (calls : Takes) (made : List Made) → ConsumerStands self.now calls made →
+            IsBatchReplyToTake calls (is_taking self.now) result }
     {
         match self.reply {
             None => None,
@@ -437,7 +461,8 @@ impl Consumer {
     #[inline(always)]
     pub fn items(&self) -> &[u64]
         ensures state { result.now ≡ self.now.items }
-        ensures stands { (calls : Takes) (made : List Made) → ConsumerStands self.now calls made → AreItemsOfTake calls (is_taking self.now) result.now }
+        ensures stands { (calls : Takes) (made : List Made) → ConsumerStands self.now calls made →
+            AreItemsOfTake calls (is_taking self.now) result.now }
     {
         &self.items[..self.taken]
     }
@@ -447,7 +472,8 @@ impl Consumer {
     #[inline(always)]
     pub fn expects_one(&self) -> bool
         ensures due { IsTrue result ↔ LastBitIsDue self.now.shape C (due_take self.now) }
-        ensures stands { (calls : Takes) (made : List Made) → ConsumerStands self.now calls made → IsTrue result → EndsInZeros self.now.shape C made }
+        ensures stands { (calls : Takes) (made : List Made) → ConsumerStands self.now calls made → IsTrue result →
+            EndsInZeros self.now.shape C made }
     {
         match self.stage {
             Stage::Scanning => self.scan.expects_one(),

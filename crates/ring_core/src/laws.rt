@@ -24,7 +24,7 @@ ghost use Rattle.ring_core.specs.Whole.{WholePutsCount, WholeTakesCount};
 
 use bits_core::laws::{
     access_is_made, clock_counts_places, empty_is_lawful, lawful_by_one_more, made_is_access,
-    own_changes, own_has_one_place, own_has_place,
+    subhistory_changes, subhistory_has_one_place, subhistory_has_place,
 };
 use queue_calls::laws::counted_is_linearizable;
 use register_core::laws::{
@@ -188,7 +188,7 @@ pub fn last_bit_is_one()
     numbered_stay_within();
     reads_are_made();
     made_is_access();
-    own_has_one_place();
+    subhistory_has_one_place();
 }
 
 /// A history whose two sides follow their programs has that again after one event more, where the event may
@@ -198,7 +198,7 @@ pub fn runs_by_one_more()
     ensures take { RunsByTake }
 {
     lawful_by_one_more();
-    own_changes();
+    subhistory_changes();
 }
 
 /// There is a lawful history whose two sides follow their programs, in which a write overlaps a read, a take finds
@@ -247,8 +247,8 @@ pub fn ring_law()
     ensures closed { InEveryRun ClosedIsTrue }
 {
     digits_tell_items();
-    own_has_place();
-    own_has_one_place();
+    subhistory_has_place();
+    subhistory_has_one_place();
     clock_counts_places();
     made_is_access();
     access_is_made();
@@ -268,8 +268,8 @@ pub fn ring_law()
 pub fn ring_is_linearizable()
     ensures { InEveryRun IsLinearizableRun }
 {
-    own_has_place();
-    own_has_one_place();
+    subhistory_has_place();
+    subhistory_has_one_place();
     clock_counts_places();
     made_is_access();
     access_is_made();
@@ -286,8 +286,8 @@ pub fn ring_is_linearizable()
 pub fn recorded_is_linearizable()
     ensures { RecordedIsLinearizable }
 {
-    own_has_place();
-    own_has_one_place();
+    subhistory_has_place();
+    subhistory_has_one_place();
     clock_counts_places();
     made_is_access();
     access_is_made();

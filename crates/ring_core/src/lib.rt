@@ -8,9 +8,11 @@ mod counts;
 pub mod laws;
 mod producer_parts;
 mod producers;
+mod replies;
 
 pub use consumer_parts::{TakeScan, TakeWord};
-pub use consumers::{Consumer, TakeBatchReply, TakeReply};
+pub use consumers::Consumer;
 pub use counts::{distance, has_item, has_room, items_shown};
 pub use producer_parts::{PutScan, PutWord};
-pub use producers::{BatchReply, Producer, PutReply};
+pub use producers::Producer;
+pub use replies::{BatchReply, PutReply, TakeBatchReply, TakeReply};

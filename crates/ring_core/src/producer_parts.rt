@@ -48,8 +48,11 @@ impl PutScan {
         ensures due { due_put self.now ≡ Some result }
         ensures below { self.now.scan.zeros < modulus_of self.now.shape }
         ensures right { IsOpenRight self.now.shape P result }
-        ensures goes_on { (calls : Puts) (made : List Made) → ProducerStands self.now calls made → (c : Call) × (call_of self.now ≡ Some c) × PutGoesOn self.now.shape calls c made result }
-        ensures bounded { (calls : Puts) (made : List Made) (c : Call) → ProducerStands self.now calls made → call_of self.now ≡ Some c → length made < length (put_program self.now.shape calls) + longest self.now.shape c }
+        ensures goes_on { (calls : Puts) (made : List Made) → ProducerStands self.now calls made → (c : Call) ×
+            (call_of self.now ≡ Some c) × PutGoesOn self.now.shape calls c made result }
+        ensures bounded { (calls : Puts) (made : List Made) (c : Call) → ProducerStands self.now calls made →
+            call_of self.now ≡ Some c →
+            length made < length (put_program self.now.shape calls) + longest self.now.shape c }
     {
         match self.scan.next() {
             Some(access) => access,
@@ -61,7 +64,8 @@ impl PutScan {
     #[inline(always)]
     pub fn expects_one(&self) -> bool
         ensures due { IsTrue result ↔ LastBitIsDue self.now.shape P (due_put self.now) }
-        ensures stands { (calls : Puts) (made : List Made) → ProducerStands self.now calls made → IsTrue result → EndsInZeros self.now.shape P made }
+        ensures stands { (calls : Puts) (made : List Made) → ProducerStands self.now calls made → IsTrue result →
+            EndsInZeros self.now.shape P made }
     {
         self.scan.expects_one()
     }
@@ -72,7 +76,9 @@ impl PutScan {
     pub fn zero(&mut self)
         requires not_last { LastBitIsDue self.old.shape P (due_put self.old) → false ≡ true }
         ensures state { self.new ≡ record self.old { scan = scan_read self.old.scan false } }
-        ensures stands { (calls : Puts) (made : List Made) (access : Access) → ProducerStands self.old calls made → due_put self.old ≡ Some access → ProducerHasMoved self.old self.new calls (made ++ answered access false ∷ []) }
+        ensures stands { (calls : Puts) (made : List Made) (access : Access) → ProducerStands self.old calls made →
+            due_put self.old ≡ Some access →
+            ProducerHasMoved self.old self.new calls (made ++ answered access false ∷ []) }
     {
         self.scan.feed(false);
     }
@@ -115,8 +121,11 @@ impl PutWord {
         ensures below { self.now.word.written < self.now.word.width }
         ensures right { IsOpenRight self.now.shape P result }
         ensures not_last { LastBitIsDue self.now.shape P (due_put self.now) → false ≡ true }
-        ensures goes_on { (calls : Puts) (made : List Made) → ProducerStands self.now calls made → (c : Call) × (call_of self.now ≡ Some c) × PutGoesOn self.now.shape calls c made result }
-        ensures bounded { (calls : Puts) (made : List Made) (c : Call) → ProducerStands self.now calls made → call_of self.now ≡ Some c → length made < length (put_program self.now.shape calls) + longest self.now.shape c }
+        ensures goes_on { (calls : Puts) (made : List Made) → ProducerStands self.now calls made → (c : Call) ×
+            (call_of self.now ≡ Some c) × PutGoesOn self.now.shape calls c made result }
+        ensures bounded { (calls : Puts) (made : List Made) (c : Call) → ProducerStands self.now calls made →
+            call_of self.now ≡ Some c →
+            length made < length (put_program self.now.shape calls) + longest self.now.shape c }
     {
         match self.word.next() {
             Some(access) => access,
@@ -137,8 +146,13 @@ impl PutWord {
     #[inline(always)]
     pub fn feed(&mut self, answer: bool)
         requires not_last { suc self.old.word.written ≢ self.old.word.width }
-        ensures state { self.new ≡ record self.old { word = record self.old.word { written = suc self.old.word.written } } }
-        ensures stands { (calls : Puts) (made : List Made) (access : Access) → ProducerStands self.old calls made → due_put self.old ≡ Some access → ProducerHasMoved self.old self.new calls (made ++ answered access answer ∷ []) }
+        ensures state { self.new ≡ record self.old {
+          word = record
+              self.old.word { written = suc self.old.word.written };
+        } }
+        ensures stands { (calls : Puts) (made : List Made) (access : Access) → ProducerStands self.old calls made →
+            due_put self.old ≡ Some access →
+            ProducerHasMoved self.old self.new calls (made ++ answered access answer ∷ []) }
     {
         self.word.feed(answer);
     }

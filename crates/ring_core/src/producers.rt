@@ -8,37 +8,12 @@ ghost use Rattle.ring_core.specs.Counts as counts;
 
 use crate::counts::{distance, has_room, past_in};
 use crate::producer_parts::{PutScan, PutWord};
+use crate::replies::{BatchReply, PutReply};
 use bits_core::{Access, Bit, Shape, Side};
 use register_core::{UnaryScan, UnaryWriter, WordWriter};
 use std::alloc::AllocError;
 use std::marker::Model;
 use std::snapshot::Snapshot;
-
-/// What a put was answered.
-///
-/// In use: `uses::by_hand::put_by_hand`.
-#[derive(Clone, Copy, PartialEq, Eq, Debug)]
-pub enum PutReply {
-    /// The item was stored.
-    Stored,
-    /// The ring was full.
-    Full,
-    /// The producer had closed the ring.
-    Closed,
-}
-
-/// What a put of several items was answered.
-///
-/// In use: `uses::batches::put_batch`.
-#[derive(Clone, Copy, PartialEq, Eq, Debug)]
-pub enum BatchReply {
-    /// So many items were stored, from the first on.
-    Stored(u64),
-    /// The ring was full.
-    Full,
-    /// The producer had closed the ring.
-    Closed,
-}
 
 /// How many of so many items a producer that has put `n` stores, where the consumer's count `d` leaves room.
 #[inline(always)]
@@ -106,9 +81,37 @@ impl Model for Producer {
 
     ghost Value = { ProducerState };
 
-    ghost view = { λ p. record { shape = p.shape; count = p.count; cell = p.cell; stage = p.stage; scan = p.scan; word = p.word; row = p.row; closed = p.closed; items = take p.offered p.items; most = p.most; index = p.index; batched = p.batched; reply = p.reply } };
+    ghost view = { λ p. record {
+      shape = p.shape;
+      count = p.count;
+      cell = p.cell;
+      stage = p.stage;
+      scan = p.scan;
+      word = p.word;
+      row = p.row;
+      closed = p.closed;
+      items = take p.offered p.items;
+      most = p.most;
+      index = p.index;
+      batched = p.batched;
+      reply = p.reply;
+    } };
 
-    ghost invariant = { λ p. IsProducer (record { shape = p.shape; count = p.count; cell = p.cell; stage = p.stage; scan = p.scan; word = p.word; row = p.row; closed = p.closed; items = take p.offered p.items; most = p.most; index = p.index; batched = p.batched; reply = p.reply }) × (p.offered ≤ 64) × (p.most ≤ 64) × (p.index ≤ 64) };
+    ghost invariant = { λ p. IsProducer (record {
+      shape = p.shape;
+      count = p.count;
+      cell = p.cell;
+      stage = p.stage;
+      scan = p.scan;
+      word = p.word;
+      row = p.row;
+      closed = p.closed;
+      items = take p.offered p.items;
+      most = p.most;
+      index = p.index;
+      batched = p.batched;
+      reply = p.reply;
+    }) × (p.offered ≤ 64) × (p.most ≤ 64) × (p.index ≤ 64) };
 }
 
 // By hand, as a derived one clones each field, which costs the proof ten times as much.
@@ -130,8 +133,8 @@ impl Producer {
     ghost use Rattle.register_core.specs.UnaryState.{due_writes};
     ghost use Rattle.ring_core.specs.Calls.{LastBitIsDue, EndsInZeros};
     ghost use Rattle.ring_core.specs.declared.producers.Stage.TheVariants.{Scanning, Storing, Counting};
-    ghost use Rattle.ring_core.specs.declared.producers.BatchReply.{BatchReply};
-    ghost use Rattle.ring_core.specs.declared.producers.BatchReply.TheVariants.{Closed};
+    ghost use Rattle.ring_core.specs.declared.replies.BatchReply.{BatchReply};
+    ghost use Rattle.ring_core.specs.declared.replies.BatchReply.TheVariants.{Closed};
     ghost use Rattle.ring_core.specs.Puts.{IsBatch, Puts, put_program};
     ghost use Rattle.ring_core.specs.ProducerCalls.{new_producer, no_puts, ProducerStands, PutGoesOn, ProducerHasMoved, IsReplyToCall, longest, closes_with};
     ghost use Rattle.ring_core.specs.ProducerState.{Call, Put, Close, IsProducerButScan, IsProducerButWord, due_put, call_of, item_reply, put_reply, batch_reply};
@@ -165,10 +168,12 @@ impl Producer {
         requires idle { due_put self.old ≡ None }
         requires fits { item < 2 ^ width_of self.old.shape }
         ensures shape { self.new.shape ≡ self.old.shape }
-        ensures begun { self.old.closed ≡ false → (call_of self.new ≡ Some (Put (item ∷ []))) × (self.new.closed ≡ false) }
+        ensures begun { self.old.closed ≡ false → (call_of self.new ≡ Some (Put (item ∷ []))) ×
+            (self.new.closed ≡ false) }
         ensures kind { self.new.batched ≡ false }
         ensures refused { self.old.closed ≡ true → self.new ≡ record self.old { batched = false; reply = Some Closed } }
-        ensures stands { (calls : Puts) (made : List Made) → ProducerStands self.old calls made → ProducerStands self.new calls made }
+        ensures stands { (calls : Puts) (made : List Made) → ProducerStands self.old calls made →
+            ProducerStands self.new calls made }
     {
         self.batched = false;
         self.offer(&[item]);
@@ -182,10 +187,12 @@ impl Producer {
         requires idle { due_put self.old ≡ None }
         requires batch { IsBatch self.old.shape items.now }
         ensures shape { self.new.shape ≡ self.old.shape }
-        ensures begun { self.old.closed ≡ false → (call_of self.new ≡ Some (Put items.now)) × (self.new.closed ≡ false) }
+        ensures begun { self.old.closed ≡ false → (call_of self.new ≡ Some (Put items.now)) ×
+            (self.new.closed ≡ false) }
         ensures kind { self.new.batched ≡ true }
         ensures refused { self.old.closed ≡ true → self.new ≡ record self.old { batched = true; reply = Some Closed } }
-        ensures stands { (calls : Puts) (made : List Made) → ProducerStands self.old calls made → ProducerStands self.new calls made }
+        ensures stands { (calls : Puts) (made : List Made) → ProducerStands self.old calls made →
+            ProducerStands self.new calls made }
     {
         self.batched = true;
         self.offer(items);
@@ -198,9 +205,11 @@ impl Producer {
         requires few { length items.now ≤ 64 }
         ensures shape { self.new.shape ≡ self.old.shape }
         ensures kind { self.new.batched ≡ self.old.batched }
-        ensures begun { self.old.closed ≡ false → (call_of self.new ≡ Some (Put items.now)) × (self.new.closed ≡ false) }
+        ensures begun { self.old.closed ≡ false → (call_of self.new ≡ Some (Put items.now)) ×
+            (self.new.closed ≡ false) }
         ensures refused { self.old.closed ≡ true → self.new ≡ record self.old { reply = Some Closed } }
-        ensures stands { (calls : Puts) (made : List Made) → ProducerStands self.old calls made → ProducerStands self.new calls made }
+        ensures stands { (calls : Puts) (made : List Made) → ProducerStands self.old calls made →
+            ProducerStands self.new calls made }
     {
         if self.closed {
             self.reply = Some(BatchReply::Closed);
@@ -222,7 +231,8 @@ impl Producer {
         ensures shape { self.new.shape ≡ self.old.shape }
         ensures begun { self.old.closed ≡ false → call_of self.new ≡ Some Close }
         ensures again { self.old.closed ≡ true → self.new ≡ record self.old { reply = None } }
-        ensures stands { (calls : Puts) (made : List Made) → ProducerStands self.old calls made → ProducerStands self.new calls made }
+        ensures stands { (calls : Puts) (made : List Made) → ProducerStands self.old calls made →
+            ProducerStands self.new calls made }
     {
         self.reply = None;
         if !self.closed {
@@ -239,9 +249,14 @@ impl Producer {
     pub fn next(&self) -> Option<Access>
         ensures due { result ≡ due_put self.now }
         ensures right { IfSome result (IsOpenRight self.now.shape P) }
-        ensures rest { (calls : Puts) (made : List Made) → ProducerStands self.now calls made → result ≡ None → (call_of self.now ≡ None) × (made ≡ put_program self.now.shape calls) }
-        ensures goes_on { (calls : Puts) (made : List Made) (access : Access) → ProducerStands self.now calls made → result ≡ Some access → (c : Call) × (call_of self.now ≡ Some c) × PutGoesOn self.now.shape calls c made access }
-        ensures bounded { (calls : Puts) (made : List Made) (c : Call) → ProducerStands self.now calls made → call_of self.now ≡ Some c → length made < length (put_program self.now.shape calls) + longest self.now.shape c }
+        ensures rest { (calls : Puts) (made : List Made) → ProducerStands self.now calls made → result ≡ None →
+            (call_of self.now ≡ None) × (made ≡ put_program self.now.shape calls) }
+        ensures goes_on { (calls : Puts) (made : List Made) (access : Access) → ProducerStands self.now calls made →
+            result ≡ Some access → (c : Call) × (call_of self.now ≡ Some c) ×
+            PutGoesOn self.now.shape calls c made access }
+        ensures bounded { (calls : Puts) (made : List Made) (c : Call) → ProducerStands self.now calls made →
+            call_of self.now ≡ Some c →
+            length made < length (put_program self.now.shape calls) + longest self.now.shape c }
     {
         match self.stage {
             Stage::Idle => None,
@@ -260,7 +275,9 @@ impl Producer {
         requires one { LastBitIsDue self.old.shape P (due_put self.old) → answer ≡ true }
         ensures shape { self.new.shape ≡ self.old.shape }
         ensures kind { self.new.batched ≡ self.old.batched }
-        ensures stands { (calls : Puts) (made : List Made) (access : Access) → ProducerStands self.old calls made → due_put self.old ≡ Some access → ProducerHasMoved self.old self.new calls (made ++ answered access answer ∷ []) }
+        ensures stands { (calls : Puts) (made : List Made) (access : Access) → ProducerStands self.old calls made →
+            due_put self.old ≡ Some access →
+            ProducerHasMoved self.old self.new calls (made ++ answered access answer ∷ []) }
     {
         match self.stage {
             Stage::Idle => {}
@@ -278,7 +295,9 @@ impl Producer {
         requires one { LastBitIsDue self.old.shape P (due_put self.old) → answer ≡ true }
         ensures shape { self.new.shape ≡ self.old.shape }
         ensures kind { self.new.batched ≡ self.old.batched }
-        ensures stands { (calls : Puts) (made : List Made) (access : Access) → ProducerStands self.old calls made → due_put self.old ≡ Some access → ProducerHasMoved self.old self.new calls (made ++ answered access answer ∷ []) }
+        ensures stands { (calls : Puts) (made : List Made) (access : Access) → ProducerStands self.old calls made →
+            due_put self.old ≡ Some access →
+            ProducerHasMoved self.old self.new calls (made ++ answered access answer ∷ []) }
     {
         self.scan.feed(answer);
         match self.scan.value() {
@@ -301,7 +320,9 @@ impl Producer {
         requires stage { self.old.stage ≡ Storing }
         ensures shape { self.new.shape ≡ self.old.shape }
         ensures kind { self.new.batched ≡ self.old.batched }
-        ensures stands { (calls : Puts) (made : List Made) (access : Access) → ProducerStands self.old calls made → due_put self.old ≡ Some access → ProducerHasMoved self.old self.new calls (made ++ answered access answer ∷ []) }
+        ensures stands { (calls : Puts) (made : List Made) (access : Access) → ProducerStands self.old calls made →
+            due_put self.old ≡ Some access →
+            ProducerHasMoved self.old self.new calls (made ++ answered access answer ∷ []) }
     {
         self.word.feed(answer);
         if self.word.next().is_none() {
@@ -322,8 +343,11 @@ impl Producer {
         requires stage { self.old.stage ≡ Counting }
         ensures shape { self.new.shape ≡ self.old.shape }
         ensures kind { self.new.batched ≡ self.old.batched }
-        ensures left { (x : RowWrite) (rest : List RowWrite) → due_writes self.old.row ≡ x ∷ rest → due_writes self.new.row ≡ rest }
-        ensures stands { (calls : Puts) (made : List Made) (access : Access) → ProducerStands self.old calls made → due_put self.old ≡ Some access → ProducerHasMoved self.old self.new calls (made ++ answered access answer ∷ []) }
+        ensures left { (x : RowWrite) (rest : List RowWrite) → due_writes self.old.row ≡ x ∷ rest →
+            due_writes self.new.row ≡ rest }
+        ensures stands { (calls : Puts) (made : List Made) (access : Access) → ProducerStands self.old calls made →
+            due_put self.old ≡ Some access →
+            ProducerHasMoved self.old self.new calls (made ++ answered access answer ∷ []) }
     {
         self.row.feed(answer);
         if self.row.next().is_none() {
@@ -402,7 +426,9 @@ impl Producer {
     #[inline(always)]
     pub fn reply(&self) -> Option<PutReply>
         ensures state { result ≡ put_reply self.now }
-        ensures stands { (calls : Puts) (made : List Made) → ProducerStands self.now calls made → self.now.batched ≡ false → (answer : Option BatchReply) × IsReplyToCall calls (call_of self.now) answer × (result ≡ item_reply answer) }
+        ensures stands { (calls : Puts) (made : List Made) → ProducerStands self.now calls made →
+            self.now.batched ≡ false → (answer : Option BatchReply) × IsReplyToCall calls (call_of self.now) answer ×
+            (result ≡ item_reply answer) }
     {
         if self.batched {
             return None;
@@ -420,7 +446,8 @@ impl Producer {
     #[inline(always)]
     pub fn batch_reply(&self) -> Option<BatchReply>
         ensures state { result ≡ batch_reply self.now }
-        ensures stands { (calls : Puts) (made : List Made) → ProducerStands self.now calls made → self.now.batched ≡ true → IsReplyToCall calls (call_of self.now) result }
+        ensures stands { (calls : Puts) (made : List Made) → ProducerStands self.now calls made →
+            self.now.batched ≡ true → IsReplyToCall calls (call_of self.now) result }
     {
         if self.batched { self.reply } else { None }
     }
@@ -428,7 +455,8 @@ impl Producer {
     /// Whether a close was made or is under way.
     pub fn is_closed(&self) -> bool
         ensures state { result ≡ self.now.closed }
-        ensures stands { (calls : Puts) (made : List Made) → ProducerStands self.now calls made → result ≡ closes_with calls (call_of self.now) }
+        ensures stands { (calls : Puts) (made : List Made) → ProducerStands self.now calls made →
+            result ≡ closes_with calls (call_of self.now) }
     {
         self.closed
     }
@@ -438,7 +466,8 @@ impl Producer {
     #[inline(always)]
     pub fn expects_one(&self) -> bool
         ensures due { IsTrue result ↔ LastBitIsDue self.now.shape P (due_put self.now) }
-        ensures stands { (calls : Puts) (made : List Made) → ProducerStands self.now calls made → IsTrue result → EndsInZeros self.now.shape P made }
+        ensures stands { (calls : Puts) (made : List Made) → ProducerStands self.now calls made → IsTrue result →
+            EndsInZeros self.now.shape P made }
     {
         match self.stage {
             Stage::Scanning => self.scan.expects_one(),

@@ -13,7 +13,7 @@ use Rattle.bits_core.specs.Shape.{modulus_of}
 use Rattle.bits_core.specs.Bits.{other, same_side, is_by, begun_by}
 use Rattle.bits_core.specs.History.{open_access}
 use Rattle.bits_core.specs.Lawful.{IsLawful}
-use Rattle.bits_core.specs.Made.{Made, Read, Write, answered, begin_event, end_event, events_of, own, IsBeginning}
+use Rattle.bits_core.specs.Made.{Made, Read, Write, answered, begin_event, end_event, events_of, subhistory, IsPrefix}
 use Rattle.register_core.specs.ScanState.{zero_reads, row_read_by}
 use Rattle.ring_core.specs.Calls.{EndsInZeros}
 use Rattle.ring_seats.specs.Programs.{Follows, IsRing, begin_of, ending_event}
@@ -23,14 +23,14 @@ pub same_side-same : (x : Side) → same_side x x ≡ true
 same_side-same P = refl
 same_side-same C = refl
 
-pub own-mine : LawsBelow → (x : Side) (h : List Event) (e : Event) → is_by x e ≡ true → own x (h ++ e ∷ []) ≡ own x h ++ e ∷ []
-own-mine laws x h e by = laws.own_changes x h e ∙ ap (λ t. if t then own x h ++ e ∷ [] else own x h) by
+pub own-mine : LawsBelow → (x : Side) (h : List Event) (e : Event) → is_by x e ≡ true → subhistory x (h ++ e ∷ []) ≡ subhistory x h ++ e ∷ []
+own-mine laws x h e by = laws.subhistory_changes x h e ∙ ap (λ t. if t then subhistory x h ++ e ∷ [] else subhistory x h) by
 
-pub own-theirs : LawsBelow → (x : Side) (h : List Event) (e : Event) → is_by x e ≡ false → own x (h ++ e ∷ []) ≡ own x h
-own-theirs laws x h e by = laws.own_changes x h e ∙ ap (λ t. if t then own x h ++ e ∷ [] else own x h) by
+pub own-theirs : LawsBelow → (x : Side) (h : List Event) (e : Event) → is_by x e ≡ false → subhistory x (h ++ e ∷ []) ≡ subhistory x h
+own-theirs laws x h e by = laws.subhistory_changes x h e ∙ ap (λ t. if t then subhistory x h ++ e ∷ [] else subhistory x h) by
 
 -- each side of such a history follows its program
-pub ring_follows : (shape : Shape) (h : List Event) → IsRing shape h → (x : Side) → Follows shape x (own x h)
+pub ring_follows : (shape : Shape) (h : List Event) → IsRing shape h → (x : Side) → Follows shape x (subhistory x h)
 ring_follows shape h r P = (r.puts, r.run.puts_follow.are, r.run.puts_follow.events)
 ring_follows shape h r C = (r.takes, r.run.takes_follow.are, r.run.takes_follow.events)
 
@@ -42,7 +42,7 @@ pub length-events_of : (s : Side) (xs : List Made) → length (events_of s xs) �
 length-events_of s [] = refl
 length-events_of s (x ∷ xs) = omega (arith, length-events_of s xs)
 
-pub events_begin : (s : Side) (xs ys : List Made) → IsBeginning xs ys → IsBeginning (events_of s xs) (events_of s ys)
+pub events_begin : (s : Side) (xs ys : List Made) → IsPrefix xs ys → IsPrefix (events_of s xs) (events_of s ys)
 events_begin s xs ys b = (events_of s b.0, sym (events_of-append s xs b.0) ∙ ap (events_of s) b.1)
 
 pub begin_same : (s : Side) (a : Access) (v : Bool) → begin_event s (answered a v) ≡ begin_of s a
@@ -57,7 +57,7 @@ events_more s made a v =
     sym (append_assoc (events_of s made) (begin_of s a ∷ []) (ending_event s a v ∷ []))
 
 -- a beginning of a beginning
-pub shorter : (xs : List Event) (e : Event) (ys : List Event) → IsBeginning (xs ++ e ∷ []) ys → IsBeginning xs ys
+pub shorter : (xs : List Event) (e : Event) (ys : List Event) → IsPrefix (xs ++ e ∷ []) ys → IsPrefix xs ys
 shorter xs e ys b = (e ∷ b.0, sym (append_assoc xs (e ∷ []) b.0) ∙ b.1)
 
 -- ---- what is open
@@ -81,22 +81,22 @@ length-zeros row zero = refl
 length-zeros row (suc n) = omega (arith, length-append (zero_reads row n) (Read (row n) false ∷ []), length-zeros row n)
 
 -- a side never ends reads of 0 in all bits of the other's count, where that one follows its program
-pub misses : LawsBelow → (shape : Shape) (x : Side) (h : List Event) → IsLawful shape h → Follows shape (other x) (own (other x) h) → (before : List Made)
-    → own x h ≡ events_of x (before ++ zero_reads (row_read_by x) (modulus_of shape)) → ⊥
+pub misses : LawsBelow → (shape : Shape) (x : Side) (h : List Event) → IsLawful shape h → Follows shape (other x) (subhistory (other x) h) → (before : List Made)
+    → subhistory x h ≡ events_of x (before ++ zero_reads (row_read_by x) (modulus_of shape)) → ⊥
 misses laws shape P h lawful f before is =
     let made : List Made = before ++ zero_reads (row_read_by P) (modulus_of shape) in
     let never = (laws.takes_seen shape h f.0 lawful (record { are = f.1; events = f.2 })).1 in
-    let lt = never made before [] ([], append-nil (own P h) ∙ is) (ap (λ (l : List Made). before ++ l) (sym (append-nil (zero_reads (row_read_by P) (modulus_of shape))))) in
+    let lt = never made before [] ([], append-nil (subhistory P h) ∙ is) (ap (λ (l : List Made). before ++ l) (sym (append-nil (zero_reads (row_read_by P) (modulus_of shape))))) in
     omega (arith, lt, ap length is, length-events_of P made, length-append before (zero_reads (row_read_by P) (modulus_of shape)), length-zeros (row_read_by P) (modulus_of shape))
 misses laws shape C h lawful f before is =
     let made : List Made = before ++ zero_reads (row_read_by C) (modulus_of shape) in
     let never = (laws.puts_seen shape h f.0 lawful (record { are = f.1; events = f.2 })).1 in
-    let lt = never made before [] ([], append-nil (own C h) ∙ is) (ap (λ (l : List Made). before ++ l) (sym (append-nil (zero_reads (row_read_by C) (modulus_of shape))))) in
+    let lt = never made before [] ([], append-nil (subhistory C h) ∙ is) (ap (λ (l : List Made). before ++ l) (sym (append-nil (zero_reads (row_read_by C) (modulus_of shape))))) in
     omega (arith, lt, ap length is, length-events_of C made, length-append before (zero_reads (row_read_by C) (modulus_of shape)), length-zeros (row_read_by C) (modulus_of shape))
 
 -- so the last bit, behind reads of 0 in all others, is not read as 0
-pub no_zero : LawsBelow → (shape : Shape) (x : Side) (h : List Event) → IsLawful shape h → Follows shape (other x) (own (other x) h) → (made : List Made) (i : ℕ) → suc i ≡ modulus_of shape → EndsInZeros shape x made
-    → own x h ≡ events_of x (made ++ Read (row_read_by x i) false ∷ []) → ⊥
+pub no_zero : LawsBelow → (shape : Shape) (x : Side) (h : List Event) → IsLawful shape h → Follows shape (other x) (subhistory (other x) h) → (made : List Made) (i : ℕ) → suc i ≡ modulus_of shape → EndsInZeros shape x made
+    → subhistory x h ≡ events_of x (made ++ Read (row_read_by x i) false ∷ []) → ⊥
 no_zero laws shape x h lawful f made i size zeros is =
     let before : List Made = zeros.0 in
     let last : ℕ = zeros.1 in

@@ -9,7 +9,7 @@ use Rattle.bits_core.specs.Bits.{other}
 use Rattle.bits_core.specs.History.{open_access}
 use Rattle.bits_core.specs.Lawful.{IsLawful}
 use Rattle.bits_core.specs.Open.{IsOpenRight}
-use Rattle.bits_core.specs.Made.{Made, answered, events_of, own, IsBeginning}
+use Rattle.bits_core.specs.Made.{Made, answered, events_of, subhistory, IsPrefix}
 use Rattle.ring_core.specs.Calls.{LastBitIsDue, EndsInZeros}
 use Rattle.ring_seats.specs.Ring.{Ring, RingEnd}
 use Rattle.ring_seats.specs.Programs.{Follows, IsRing, GoesOn, begin_of, ending_event}
@@ -27,8 +27,8 @@ pub record MachineLaws (k : Machine) : Type 0 where
   pub never : (m : k.State) (c : k.Call) → k.Rests m → k.Busy m c → ⊥
   pub one : (m : k.State) (c d : k.Call) → k.Busy m c → k.Busy m d → c ≡ d
   pub at_rest : (m : k.State) (calls : k.Calls) (made : List Made) → k.Stands m calls made → k.Rests m → (made ≡ k.program (k.shape_of m) calls) × (k.due m ≡ None)
-  pub follows : (shape : Shape) (c : k.Call) (calls more : k.Calls) (list : List Event) → k.More shape c calls more → IsBeginning list (events_of k.side (k.program shape more)) → Follows shape k.side list
-  pub part : (m : k.State) (c : k.Call) (calls more : k.Calls) (made : List Made) (list : List Event) → k.Stands m calls made → k.More (k.shape_of m) c calls more → IsBeginning list (events_of k.side (k.program (k.shape_of m) more)) →
+  pub follows : (shape : Shape) (c : k.Call) (calls more : k.Calls) (list : List Event) → k.More shape c calls more → IsPrefix list (events_of k.side (k.program shape more)) → Follows shape k.side list
+  pub part : (m : k.State) (c : k.Call) (calls more : k.Calls) (made : List Made) (list : List Event) → k.Stands m calls made → k.More (k.shape_of m) c calls more → IsPrefix list (events_of k.side (k.program (k.shape_of m) more)) →
       k.Part (k.shape_of m) c (events_of k.side (k.program (k.shape_of m) calls)) list
   pub stays : (m : k.State) (c : k.Call) (calls : k.Calls) → k.Busy m c → k.After m m calls calls
   pub goes : (m m' : k.State) (c d : k.Call) (calls more : k.Calls) → k.Busy m c → k.Busy m' d → k.After m m' calls more → (d ≡ c) × (more ≡ calls)
@@ -42,7 +42,7 @@ pub record MachineLaws (k : Machine) : Type 0 where
 pub record Next (k : Machine) (m : k.State) (calls : k.Calls) (made : List Made) (a : Access) : Type 0 where
   pub one : k.Call
   pub is : k.Busy m one
-  pub goes : (answer : Bool) → (LastBitIsDue (k.shape_of m) k.side (Some a) → answer ≡ true) → (more : k.Calls) × k.More (k.shape_of m) one calls more × IsBeginning (made ++ answered a answer ∷ []) (k.program (k.shape_of m) more)
+  pub goes : (answer : Bool) → (LastBitIsDue (k.shape_of m) k.side (Some a) → answer ≡ true) → (more : k.Calls) × k.More (k.shape_of m) one calls more × IsPrefix (made ++ answered a answer ∷ []) (k.program (k.shape_of m) more)
   pub few : length made < length (k.program (k.shape_of m) calls) + k.longest (k.shape_of m) one
 
 -- what a machine tells of its due access: by its calls and accesses it goes on, and whether a 0 as its answer may not be
@@ -59,12 +59,12 @@ pub right_there : (k : Machine) (e : RingEnd) (m : k.State) (calls : k.Calls) (m
 right_there k e m calls made at a d = subst (λ (z : Shape × Side). IsOpenRight z.0 z.1 a) (λ i. (at.shape_is i, sym at.side_is i)) d.right
 
 module _ (laws : LawsBelow) (k : Machine) (ks : MachineLaws k) (m : k.State) (calls : k.Calls) (made : List Made) (a : Access) (next : Next k m calls made a) where
-  begins : (answer : Bool) → (LastBitIsDue (k.shape_of m) k.side (Some a) → answer ≡ true) → (more : k.Calls) × k.More (k.shape_of m) next.one calls more × IsBeginning (events_of k.side (made ++ answered a answer ∷ [])) (events_of k.side (k.program (k.shape_of m) more))
+  begins : (answer : Bool) → (LastBitIsDue (k.shape_of m) k.side (Some a) → answer ≡ true) → (more : k.Calls) × k.More (k.shape_of m) next.one calls more × IsPrefix (events_of k.side (made ++ answered a answer ∷ [])) (events_of k.side (k.program (k.shape_of m) more))
   begins answer may = let b = next.goes answer may in (b.0, b.1, events_begin k.side (made ++ answered a answer ∷ []) (k.program (k.shape_of m) b.0) b.2)
 
-  begun_so : (more : k.Calls) × k.More (k.shape_of m) next.one calls more × IsBeginning (events_of k.side made ++ begin_of k.side a ∷ []) (events_of k.side (k.program (k.shape_of m) more))
+  begun_so : (more : k.Calls) × k.More (k.shape_of m) next.one calls more × IsPrefix (events_of k.side made ++ begin_of k.side a ∷ []) (events_of k.side (k.program (k.shape_of m) more))
   begun_so = let b = begins true (λ _. refl) in
-      (b.0, b.1, shorter (events_of k.side made ++ begin_of k.side a ∷ []) (ending_event k.side a true) (events_of k.side (k.program (k.shape_of m) b.0)) (subst (λ (l : List Event). IsBeginning l (events_of k.side (k.program (k.shape_of m) b.0))) (events_more k.side made a true) b.2))
+      (b.0, b.1, shorter (events_of k.side made ++ begin_of k.side a ∷ []) (ending_event k.side a true) (events_of k.side (k.program (k.shape_of m) b.0)) (subst (λ (l : List Event). IsPrefix l (events_of k.side (k.program (k.shape_of m) b.0))) (events_more k.side made a true) b.2))
 
   follows_begun : (list : List Event) → list ≡ events_of k.side made → Follows (k.shape_of m) k.side (list ++ begin_of k.side a ∷ [])
   follows_begun list is = subst (λ (l : List Event). Follows (k.shape_of m) k.side (l ++ begin_of k.side a ∷ [])) (sym is)
@@ -72,7 +72,7 @@ module _ (laws : LawsBelow) (k : Machine) (ks : MachineLaws k) (m : k.State) (ca
 
   module _ (expects : Bool) (due_is : IsTrue expects ↔ LastBitIsDue (k.shape_of m) k.side (Some a)) (zeros : IsTrue expects → EndsInZeros (k.shape_of m) k.side made) where
     -- the last bit is never read as 0
-    answers_one : (h : List Event) → IsLawful (k.shape_of m) h → Follows (k.shape_of m) (other k.side) (own (other k.side) h) → (v : Bool) → own k.side h ≡ events_of k.side (made ++ answered a v ∷ []) → LastBitIsDue (k.shape_of m) k.side (Some a) → v ≡ true
+    answers_one : (h : List Event) → IsLawful (k.shape_of m) h → Follows (k.shape_of m) (other k.side) (subhistory (other k.side) h) → (v : Bool) → subhistory k.side h ≡ events_of k.side (made ++ answered a v ∷ []) → LastBitIsDue (k.shape_of m) k.side (Some a) → v ≡ true
     answers_one h lawful f true is last = refl
     answers_one h lawful f false is last =
         absurd (no_zero laws (k.shape_of m) k.side h lawful f made last.0 last.2 (zeros (due_is.1 last)) (is ∙ ap (λ (x : Made). events_of k.side (made ++ x ∷ [])) (last_false k.side a last.0 last.1)))
@@ -82,8 +82,8 @@ module _ (laws : LawsBelow) (k : Machine) (ks : MachineLaws k) (m : k.State) (ca
         let x : Side = k.side in
         let h' : List Event = h ++ ending_event x a v ∷ [] in
         let whole : list ++ ending_event x a v ∷ [] ≡ events_of x (made ++ answered a v ∷ []) = ap (λ (l : List Event). l ++ ending_event x a v ∷ []) is ∙ sym (events_more x made a v) in
-        let own_is : own x h' ≡ events_of x (made ++ answered a v ∷ []) = own-mine laws x h (ending_event x a v) (by_end x a v) ∙ ap (λ (l : List Event). l ++ ending_event x a v ∷ []) mine ∙ whole in
-        let theirs : Follows (k.shape_of m) (other x) (own (other x) h') = subst (Follows (k.shape_of m) (other x)) (sym (own-theirs laws (other x) h (ending_event x a v) (not_by_end x a v))) (ring_follows (k.shape_of m) h ring (other x)) in
+        let own_is : subhistory x h' ≡ events_of x (made ++ answered a v ∷ []) = own-mine laws x h (ending_event x a v) (by_end x a v) ∙ ap (λ (l : List Event). l ++ ending_event x a v ∷ []) mine ∙ whole in
+        let theirs : Follows (k.shape_of m) (other x) (subhistory (other x) h') = subst (Follows (k.shape_of m) (other x)) (sym (own-theirs laws (other x) h (ending_event x a v) (not_by_end x a v))) (ring_follows (k.shape_of m) h ring (other x)) in
         let b = begins v (answers_one h' lawful theirs v own_is) in
         subst (Follows (k.shape_of m) x) (sym whole) (ks.follows (k.shape_of m) next.one calls b.0 (events_of x (made ++ answered a v ∷ [])) b.1 b.2)
 
@@ -151,7 +151,7 @@ module _ (laws : LawsBelow) (k : Machine) (ks : MachineLaws k) (e : RingEnd) (m 
           let same : next.one ≡ c = ks.one m next.one c next.is is in
           let f = begun_so laws k ks m calls made a next in
           subst (λ (z : Shape × k.Call). k.Part z.0 z.1 (events_of k.side (k.program (k.shape_of m) calls)) b.list) (λ i. (shape_b s.1.same i, same i))
-          (ks.part m next.one calls f.0 made b.list at.stands f.1 (subst (λ (l : List Event). IsBeginning l (events_of k.side (k.program (k.shape_of m) f.0))) (sym (list_begun s)) f.2));
+          (ks.part m next.one calls f.0 made b.list at.stands f.1 (subst (λ (l : List Event). IsPrefix l (events_of k.side (k.program (k.shape_of m) f.0))) (sym (list_begun s)) f.2));
     }
 
     module _ (v : Bool) (s : HasStepped e b a (Some v)) where
@@ -165,7 +165,7 @@ module _ (laws : LawsBelow) (k : Machine) (ks : MachineLaws k) (e : RingEnd) (m 
       one_due =
           let st = s.1.stands in
           let ring : IsRing (k.shape_of m) st.history = subst (λ (z : Shape). IsRing z st.history) (sym (shape_b s.1.same)) st.ring in
-          let mine : own k.side st.history ≡ events_of k.side (made ++ answered a v ∷ []) = ap (λ (x : Side). own x st.history) (sym (s.1.same.side ∙ at.side_is)) ∙ st.list_is ∙ list_ended in
+          let mine : subhistory k.side st.history ≡ events_of k.side (made ++ answered a v ∷ []) = ap (λ (x : Side). subhistory x st.history) (sym (s.1.same.side ∙ at.side_is)) ∙ st.list_is ∙ list_ended in
           answers_one laws k ks m calls made a next d.expects one_is (d.zeros calls made at.stands) st.history ring.run.lawful (ring_follows (k.shape_of m) st.history ring (other k.side)) v mine
 
       pub one_there : LastBitIsDue (k.shape_of m) k.side (k.due m) → v ≡ true
@@ -192,5 +192,5 @@ module _ (laws : LawsBelow) (k : Machine) (ks : MachineLaws k) (e : RingEnd) (m 
               let same : next.one ≡ c = sym (ks.goes m m' next.one c calls more next.is is after).0 in
               let f = begins laws k ks m calls made a next v one_due in
               subst (λ (z : Shape × k.Call). k.Part z.0 z.1 (events_of k.side (k.program (k.shape_of m) calls)) b.list) (λ i. (shape_b s.1.same i, same i))
-              (ks.part m next.one calls f.0 made b.list at.stands f.1 (subst (λ (l : List Event). IsBeginning l (events_of k.side (k.program (k.shape_of m) f.0))) (sym list_ended) f.2));
+              (ks.part m next.one calls f.0 made b.list at.stands f.1 (subst (λ (l : List Event). IsPrefix l (events_of k.side (k.program (k.shape_of m) f.0))) (sym list_ended) f.2));
         }

@@ -11,10 +11,10 @@ use Rattle.bits_core.specs.Shape.{width_of}
 use Rattle.ring_core.specs.Calls.{LastBitIsDue, EndsInZeros}
 use Rattle.ring_core.specs.declared.producers.Stage.{Stage}
 use Rattle.ring_core.specs.declared.producers.Stage.TheVariants.{Idle, Scanning, Storing, Counting, Closing}
-use Rattle.ring_core.specs.declared.producers.PutReply as items_replies
-use Rattle.ring_core.specs.declared.producers.PutReply.TheVariants as item_reply_is
-use Rattle.ring_core.specs.declared.producers.BatchReply as replies
-use Rattle.ring_core.specs.declared.producers.BatchReply.TheVariants as reply
+use Rattle.ring_core.specs.declared.replies.PutReply as items_replies
+use Rattle.ring_core.specs.declared.replies.PutReply.TheVariants as item_reply_is
+use Rattle.ring_core.specs.declared.replies.BatchReply as replies
+use Rattle.ring_core.specs.declared.replies.BatchReply.TheVariants as reply
 use Rattle.ring_core.specs.Puts.{IsBatch, Put, Puts, put_program, ArePuts}
 use Rattle.ring_core.specs.ProducerState as producer
 use Rattle.ring_core.specs.ProducerState.{ProducerState, Call, Close, due_put, call_of, call_at, producer_due_at}

@@ -7,9 +7,9 @@ use Rattle.register_core.specs.Row.{RowWrite}
 use Rattle.register_core.specs.ScanState.{ScanState}
 use Rattle.register_core.specs.UnaryState.{due_writes}
 use Rattle.register_core.specs.WordState.{WriterState}
-use Rattle.ring_core.specs.declared.producers.PutReply as items_replies
-use Rattle.ring_core.specs.declared.producers.BatchReply as replies
-use Rattle.ring_core.specs.declared.producers.BatchReply.TheVariants as reply
+use Rattle.ring_core.specs.declared.replies.PutReply as items_replies
+use Rattle.ring_core.specs.declared.replies.BatchReply as replies
+use Rattle.ring_core.specs.declared.replies.BatchReply.TheVariants as reply
 use Rattle.ring_core.specs.Puts.{Puts, ArePuts}
 use Rattle.ring_core.specs.ProducerState as producer
 use Rattle.ring_core.specs.declared.producers.Stage.{Stage}

@@ -12,8 +12,8 @@ use Rattle.bits_core.specs.Open.{IsOpenRight}
 use Rattle.ring_core.specs.Calls.{LastBitIsDue, EndsInZeros}
 use Rattle.ring_core.specs.declared.consumers.Stage.{Stage}
 use Rattle.ring_core.specs.declared.consumers.Stage.TheVariants.{Idle, Scanning, Checking, Rescanning, Loading, Counting}
-use Rattle.ring_core.specs.declared.consumers.TakeReply as replies
-use Rattle.ring_core.specs.declared.consumers.TakeReply.TheVariants as reply
+use Rattle.ring_core.specs.declared.replies.TakeReply as replies
+use Rattle.ring_core.specs.declared.replies.TakeReply.TheVariants as reply
 use Rattle.ring_core.specs.Lengths.{longest_taking}
 use Rattle.ring_core.specs.Takes.{Take, Takes, take_program, AreTakes}
 use Rattle.ring_core.specs.ConsumerState.{due_take, ConsumerState, is_taking, takes_at, consumer_due_at}

@@ -7,8 +7,8 @@ use Rattle.register_core.specs.Row.{RowWrite}
 use Rattle.register_core.specs.ScanState.{ScanState}
 use Rattle.register_core.specs.UnaryState.{due_writes}
 use Rattle.register_core.specs.WordState.{ReaderState}
-use Rattle.ring_core.specs.declared.consumers.TakeReply as replies
-use Rattle.ring_core.specs.declared.consumers.TakeReply.TheVariants as reply
+use Rattle.ring_core.specs.declared.replies.TakeReply as replies
+use Rattle.ring_core.specs.declared.replies.TakeReply.TheVariants as reply
 use Rattle.ring_core.specs.declared.consumers.Stage.{Stage}
 use Rattle.ring_core.specs.declared.consumers.Stage.TheVariants.{Counting}
 use Rattle.ring_core.specs.Takes.{Takes, AreTakes}

@@ -5,10 +5,10 @@ use Rattle.bits_core.specs.declared.events.Event.{Event}
 use Rattle.bits_core.specs.declared.events.Side.TheVariants.{C}
 use Rattle.bits_core.specs.declared.shapes.Shape.{Shape}
 use Rattle.bits_core.specs.Made.{Made, events_of}
-use Rattle.ring_core.specs.declared.consumers.TakeReply as replies
-use Rattle.ring_core.specs.declared.consumers.TakeReply.TheVariants as reply
-use Rattle.ring_core.specs.declared.consumers.TakeBatchReply as batch_replies
-use Rattle.ring_core.specs.declared.consumers.TakeBatchReply.TheVariants as batch_reply
+use Rattle.ring_core.specs.declared.replies.TakeReply as replies
+use Rattle.ring_core.specs.declared.replies.TakeReply.TheVariants as reply
+use Rattle.ring_core.specs.declared.replies.TakeBatchReply as batch_replies
+use Rattle.ring_core.specs.declared.replies.TakeBatchReply.TheVariants as batch_reply
 use Rattle.ring_core.specs.Items.{taken_of}
 use Rattle.ring_core.specs.Takes as takes
 use Rattle.ring_core.specs.Takes.{AreTakes, End, Open, Take, Takes, take_program}

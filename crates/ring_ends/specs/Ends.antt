@@ -3,14 +3,14 @@ use Rattle.std.specs.Prelude.{◌≡◌, ℕ, Bool, true, false, Option, Some, N
 use Rattle.bits_core.specs.declared.shapes.Shape.{Shape}
 use Rattle.bits_core.specs.declared.events.Side.TheVariants.{P, C}
 use Rattle.bits_core.specs.declared.events.Event.{Event}
-use Rattle.bits_core.specs.Made.{events_of, IsBeginning}
-use Rattle.ring_core.specs.declared.producers.PutReply as put_replies
-use Rattle.ring_core.specs.declared.producers.BatchReply as batch_replies
-use Rattle.ring_core.specs.declared.producers.BatchReply.TheVariants as batch_reply
-use Rattle.ring_core.specs.declared.consumers.TakeReply as take_replies
-use Rattle.ring_core.specs.declared.consumers.TakeReply.TheVariants as take_reply
-use Rattle.ring_core.specs.declared.consumers.TakeBatchReply as take_batch_replies
-use Rattle.ring_core.specs.declared.consumers.TakeBatchReply.TheVariants as take_batch_reply
+use Rattle.bits_core.specs.Made.{events_of, IsPrefix}
+use Rattle.ring_core.specs.declared.replies.PutReply as put_replies
+use Rattle.ring_core.specs.declared.replies.BatchReply as batch_replies
+use Rattle.ring_core.specs.declared.replies.BatchReply.TheVariants as batch_reply
+use Rattle.ring_core.specs.declared.replies.TakeReply as take_replies
+use Rattle.ring_core.specs.declared.replies.TakeReply.TheVariants as take_reply
+use Rattle.ring_core.specs.declared.replies.TakeBatchReply as take_batch_replies
+use Rattle.ring_core.specs.declared.replies.TakeBatchReply.TheVariants as take_batch_reply
 use Rattle.ring_core.specs.Puts.{Put, Puts, put_program}
 use Rattle.ring_core.specs.Takes.{Takes, take_program}
 use Rattle.ring_core.specs.ProducerState as producer
@@ -45,7 +45,7 @@ pub record HasPutPart (shape : Shape) (c : producer.Call) (whole list : List Eve
   pub before : HasPuts shape whole calls
   pub more : Puts
   pub is_more : puts.HasCallMore shape c calls more
-  pub part : IsBeginning list (events_of P (put_program shape more))
+  pub part : IsPrefix list (events_of P (put_program shape more))
 
 -- A put of items added exactly its phrase, and this is the phrase's reply. After a close it is answered so and adds nothing.
 abbrev pub PutAdds : Bool → Shape → Puts → List ℕ → batch_replies.BatchReply → List Event → List Event → Type 0
@@ -101,7 +101,7 @@ pub record HasTakePart (shape : Shape) (wanted : ℕ) (whole list : List Event) 
   pub before : HasTakes shape whole calls
   pub more : Takes
   pub is_more : takes.HasTakeMore shape wanted calls more
-  pub part : IsBeginning list (events_of C (take_program shape more))
+  pub part : IsPrefix list (events_of C (take_program shape more))
 
 -- A take of at most so many items added exactly its phrase, and this is the phrase's reply. Once one was told that the ring is closed
 -- it is answered so and adds nothing.

@@ -6,9 +6,9 @@ use Rattle.bits_core.specs.declared.events.Side.TheVariants.{P, C}
 use Rattle.bits_core.specs.declared.events.Access.{Access}
 use Rattle.bits_core.specs.declared.events.Event.{Event}
 use Rattle.bits_core.specs.Made.{Made, events_of}
-use Rattle.ring_core.specs.declared.consumers.TakeReply.TheVariants as take_reply
-use Rattle.ring_core.specs.declared.producers.BatchReply as replies
-use Rattle.ring_core.specs.declared.producers.BatchReply.TheVariants as reply
+use Rattle.ring_core.specs.declared.replies.TakeReply.TheVariants as take_reply
+use Rattle.ring_core.specs.declared.replies.BatchReply as replies
+use Rattle.ring_core.specs.declared.replies.BatchReply.TheVariants as reply
 use Rattle.ring_core.specs.Puts.{Puts, put_program}
 use Rattle.ring_core.specs.Takes.{Takes, take_program}
 use Rattle.ring_core.specs.ProducerState.{ProducerState, Call, Put, Close, due_put, call_of}

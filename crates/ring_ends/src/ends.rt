@@ -115,7 +115,8 @@ pub trait TakeEnd {
         ensures idle { idle self.new }
         ensures same { IsSameEnd (end self.old) (end self.new) }
         ensures lawful { StandsAs C (end self.new) }
-        ensures phrase { HasTakenAll (end self.new).ring.shape (length into.old) (end self.old).list (end self.new).list result into.new }
+        ensures phrase { HasTakenAll (end self.new).ring.shape (length into.old) (end self.old).list (end self.new).list
+            result into.new }
         ensures within { number_brought result ≤ length into.old }
         ensures long { length into.new ≡ length into.old }
         ensures others { drop (number_brought result) into.new ≡ drop (number_brought result) into.old }

@@ -34,7 +34,12 @@ impl Model for Finished {
 
     ghost Value = { Ending };
 
-    ghost view = { λ f. record { id = f.seat.table_id; history = f.seat.me.0.known; closed = f.closed; told = f.told } };
+    ghost view = { λ f. record {
+      id = f.seat.table_id;
+      history = f.seat.me.0.known;
+      closed = f.closed;
+      told = f.told;
+    } };
 
     ghost invariant = { λ f. KnowsAll f.seat.me.0 };
 }
@@ -66,8 +71,10 @@ impl<A: Allocator> FlickerRing<A> {
         oracle_c: O2,
     ) -> (Putter<'a, O1>, Taker<'a, O2>)
         requires { start ≡ self.now.id }
-        ensures putter { (result.0.end ≡ record { ring = self.now; side = P; list = []; known = []; loads = [] }) × (result.0.call ≡ None) }
-        ensures taker { (result.1.end ≡ record { ring = self.now; side = C; list = []; known = []; loads = [] }) × (result.1.taking ≡ false) }
+        ensures putter { (result.0.end ≡ record { ring = self.now; side = P; list = []; known = []; loads = [] }) ×
+            (result.0.call ≡ None) }
+        ensures taker { (result.1.end ≡ record { ring = self.now; side = C; list = []; known = []; loads = [] }) ×
+            (result.1.taking ≡ false) }
         ensures lawful { StandsAs P result.0.end × StandsAs C result.1.end }
         ensures oracles { (result.0.oracle ≡ oracle_p) × (result.1.oracle ≡ oracle_c) }
     {

@@ -3,8 +3,8 @@ ghost use Rattle.std.specs.Prelude.{◌≡◌, ◌≢◌, ◌⊎◌, ℕ, ◌+�
 ghost use Rattle.bits_core.specs.declared.events.Event.{Event};
 ghost use Rattle.bits_core.specs.Made.{Made};
 ghost use Rattle.bits_core.specs.Shape.{width_of};
-ghost use Rattle.ring_core.specs.declared.producers.PutReply.TheVariants.{Closed};
-ghost use Rattle.ring_core.specs.declared.producers.BatchReply.TheVariants as batch_reply;
+ghost use Rattle.ring_core.specs.declared.replies.PutReply.TheVariants.{Closed};
+ghost use Rattle.ring_core.specs.declared.replies.BatchReply.TheVariants as batch_reply;
 ghost use Rattle.ring_core.specs.Lengths.{longest_put};
 ghost use Rattle.ring_core.specs.Puts.{Puts, IsBatch};
 ghost use Rattle.ring_core.specs.ProducerState.{Call, Put, Close, due_put, call_of};
@@ -48,9 +48,17 @@ impl<'a, O: Oracle + Drop> Model for Putter<'a, O> {
 
     ghost Value = { PutterState O };
 
-    ghost view = { λ p. record { end = p.stepper; call = call_of p.machine; batched = p.machine.batched; start = without_last p.steps p.stepper.list; oracle = p.oracle } };
+    ghost view = { λ p. record {
+      end = p.stepper;
+      call = call_of p.machine;
+      batched = p.machine.batched;
+      start = without_last p.steps p.stepper.list;
+      oracle = p.oracle;
+    } };
 
-    ghost invariant = { λ p. IsMachine producing p.stepper p.machine (whole_put (call_of p.machine) p.stepper.list (without_last p.steps p.stepper.list)) × IsMarked p.steps p.stepper.list (longest_at p.machine.shape (call_of p.machine)) };
+    ghost invariant = { λ p. IsMachine producing p.stepper p.machine
+        (whole_put (call_of p.machine) p.stepper.list (without_last p.steps p.stepper.list)) ×
+        IsMarked p.steps p.stepper.list (longest_at p.machine.shape (call_of p.machine)) };
 }
 
 // One step of the call under way.
@@ -62,7 +70,9 @@ fn advance<'a, O: Oracle>(
     requires at { (calls : Puts) × (made : List Made) × MachineAt producing stepper.old machine.old calls made }
     ensures rests { call_of machine.old ≡ None → (machine.new ≡ machine.old) × (stepper.new ≡ stepper.old) }
     ensures kind { machine.new.batched ≡ machine.old.batched }
-    ensures steps { (calls : Puts) (made : List Made) → MachineAt producing stepper.old machine.old calls made → (c : Call) → call_of machine.old ≡ Some c → MachineStep producing stepper.old machine.old stepper.new machine.new calls }
+    ensures steps { (calls : Puts) (made : List Made) → MachineAt producing stepper.old machine.old calls made →
+        (c : Call) → call_of machine.old ≡ Some c →
+        MachineStep producing stepper.old machine.old stepper.new machine.new calls }
     ensures oracle { IsAskedOnce O.answers oracle.old oracle.new }
     ensures answered { AreAnswered stepper.old stepper.new (O.answers oracle.old) (O.answers oracle.new) }
 {
@@ -85,7 +95,8 @@ fn finish_scan<'a, O: Oracle>(
     oracle: &mut O,
 )
     requires { MachineBusy producing stepper.old machine.old }
-    ensures { MachineWent producing stepper.old machine.old stepper.new machine.new (O.answers oracle.old) (O.answers oracle.new) }
+    ensures { MachineWent producing stepper.old machine.old stepper.new machine.new (O.answers oracle.old)
+        (O.answers oracle.new) }
 {
     laws_below();
     let Some(mut scan) = machine.scan() else {
@@ -113,7 +124,8 @@ fn write_word<'a, O: Oracle>(
     oracle: &mut O,
 )
     requires { MachineBusy producing stepper.old machine.old }
-    ensures { MachineWent producing stepper.old machine.old stepper.new machine.new (O.answers oracle.old) (O.answers oracle.new) }
+    ensures { MachineWent producing stepper.old machine.old stepper.new machine.new (O.answers oracle.old)
+        (O.answers oracle.new) }
 {
     laws_below();
     let Some(mut word) = machine.word() else {
@@ -141,7 +153,8 @@ fn write_count<'a, O: Oracle>(
     oracle: &mut O,
 )
     requires { MachineBusy producing stepper.old machine.old }
-    ensures { MachineWent producing stepper.old machine.old stepper.new machine.new (O.answers oracle.old) (O.answers oracle.new) }
+    ensures { MachineWent producing stepper.old machine.old stepper.new machine.new (O.answers oracle.old)
+        (O.answers oracle.new) }
 {
     laws_below();
     let ring = stepper.words();
@@ -163,7 +176,8 @@ fn finish<'a, O: Oracle>(
     oracle: &mut O,
 )
     requires { (calls : Puts) × MachineReady producing stepper.old machine.old calls }
-    ensures { MachineEnded producing stepper.old machine.old stepper.new machine.new (O.answers oracle.old) (O.answers oracle.new) }
+    ensures { MachineEnded producing stepper.old machine.old stepper.new machine.new (O.answers oracle.old)
+        (O.answers oracle.new) }
 {
     laws_below();
     'accesses: loop {
@@ -198,9 +212,11 @@ fn steps_behind(steps: u64, machine: &Producer) -> u64
 fn begin_put(machine: &mut Producer, item: u64)
     requires stands { (calls : Puts) × (made : List Made) × ProducerStands machine.old calls made }
     requires fits { item < 2 ^ width_of machine.old.shape }
-    requires call { (call_of machine.old ≡ None) ⊎ ((call_of machine.old ≡ Some (Put (item ∷ []))) × (machine.old.batched ≡ false)) }
+    requires call { (call_of machine.old ≡ None) ⊎
+        ((call_of machine.old ≡ Some (Put (item ∷ []))) × (machine.old.batched ≡ false)) }
     ensures kind { machine.new.batched ≡ false }
-    ensures begins { (calls : Puts) (made : List Made) → ProducerStands machine.old calls made → CallBegins producing machine.old machine.new calls made (Put (item ∷ [])) }
+    ensures begins { (calls : Puts) (made : List Made) → ProducerStands machine.old calls made →
+        CallBegins producing machine.old machine.new calls made (Put (item ∷ [])) }
 {
     if machine.next().is_none() {
         machine.put(item);
@@ -212,9 +228,11 @@ fn begin_put(machine: &mut Producer, item: u64)
 fn begin_put_all(machine: &mut Producer, items: &[u64])
     requires stands { (calls : Puts) × (made : List Made) × ProducerStands machine.old calls made }
     requires batch { IsBatch machine.old.shape items.now }
-    requires call { (call_of machine.old ≡ None) ⊎ ((call_of machine.old ≡ Some (Put items.now)) × (machine.old.batched ≡ true)) }
+    requires call { (call_of machine.old ≡ None) ⊎
+        ((call_of machine.old ≡ Some (Put items.now)) × (machine.old.batched ≡ true)) }
     ensures kind { machine.new.batched ≡ true }
-    ensures begins { (calls : Puts) (made : List Made) → ProducerStands machine.old calls made → CallBegins producing machine.old machine.new calls made (Put items.now) }
+    ensures begins { (calls : Puts) (made : List Made) → ProducerStands machine.old calls made →
+        CallBegins producing machine.old machine.new calls made (Put items.now) }
 {
     if machine.next().is_none() {
         machine.put_all(items);
@@ -225,7 +243,8 @@ fn begin_put_all(machine: &mut Producer, items: &[u64])
 fn begin_close(machine: &mut Producer)
     requires stands { (calls : Puts) × (made : List Made) × ProducerStands machine.old calls made }
     requires call { (call_of machine.old ≡ None) ⊎ (call_of machine.old ≡ Some Close) }
-    ensures begins { (calls : Puts) (made : List Made) → ProducerStands machine.old calls made → CallBegins producing machine.old machine.new calls made Close }
+    ensures begins { (calls : Puts) (made : List Made) → ProducerStands machine.old calls made →
+        CallBegins producing machine.old machine.new calls made Close }
 {
     if machine.next().is_none() {
         machine.close();
@@ -238,15 +257,22 @@ impl<'a, O: Oracle + Drop> Putter<'a, O> {
     /// the width, and to be the same until the reply.
     pub fn step_put(&mut self, item: u64) -> Option<PutReply>
         requires fits { item < 2 ^ width_of self.old.end.ring.shape }
-        requires call { (self.old.call ≡ None) ⊎ ((self.old.call ≡ Some (Put (item ∷ []))) × (self.old.batched ≡ false)) }
+        requires call { (self.old.call ≡ None) ⊎
+            ((self.old.call ≡ Some (Put (item ∷ []))) × (self.old.batched ≡ false)) }
         ensures same { IsSameEnd self.old.end self.new.end }
         ensures lawful { StandsAs P self.new.end }
-        ensures one { ((result ≡ Some Closed) × (self.new.end ≡ self.old.end)) ⊎ ((e : Event) × Grows self.old.end self.new.end e) }
-        ensures none { IfNone result ((self.new.call ≡ Some (Put (item ∷ []))) × (self.new.batched ≡ false) × (puts_whole self.new ≡ puts_whole self.old) × HasPutPart self.new.end.ring.shape (Put (item ∷ [])) (puts_whole self.new) self.new.end.list) }
-        ensures some { IfSome result (λ r. (self.new.call ≡ None) × HasPut self.new.end.ring.shape item (puts_whole self.old) self.new.end.list r) }
-        ensures few { length self.new.end.list ≤ length (puts_whole self.old) + 2 * longest_put self.new.end.ring.shape }
+        ensures one { ((result ≡ Some Closed) × (self.new.end ≡ self.old.end)) ⊎
+            ((e : Event) × Grows self.old.end self.new.end e) }
+        ensures none { IfNone result ((self.new.call ≡ Some (Put (item ∷ []))) × (self.new.batched ≡ false) ×
+            (puts_whole self.new ≡ puts_whole self.old) ×
+            HasPutPart self.new.end.ring.shape (Put (item ∷ [])) (puts_whole self.new) self.new.end.list) }
+        ensures some { IfSome result (λ r. (self.new.call ≡ None) ×
+            HasPut self.new.end.ring.shape item (puts_whole self.old) self.new.end.list r) }
+        ensures few { length self.new.end.list ≤ length (puts_whole self.old) + 2 * longest_put
+            self.new.end.ring.shape }
         ensures oracle { IsAskedOnce O.answers self.old.oracle self.new.oracle }
-        ensures answered { AreAnswered self.old.end self.new.end (O.answers self.old.oracle) (O.answers self.new.oracle) }
+        ensures answered { AreAnswered self.old.end self.new.end (O.answers self.old.oracle)
+            (O.answers self.new.oracle) }
     {
         laws_below();
         begin_put(&mut self.machine, item);
@@ -262,12 +288,18 @@ impl<'a, O: Oracle + Drop> Putter<'a, O> {
         requires call { (self.old.call ≡ None) ⊎ ((self.old.call ≡ Some (Put items.now)) × (self.old.batched ≡ true)) }
         ensures same { IsSameEnd self.old.end self.new.end }
         ensures lawful { StandsAs P self.new.end }
-        ensures one { ((result ≡ Some batch_reply.Closed) × (self.new.end ≡ self.old.end)) ⊎ ((e : Event) × Grows self.old.end self.new.end e) }
-        ensures none { IfNone result ((self.new.call ≡ Some (Put items.now)) × (self.new.batched ≡ true) × (puts_whole self.new ≡ puts_whole self.old) × HasPutPart self.new.end.ring.shape (Put items.now) (puts_whole self.new) self.new.end.list) }
-        ensures some { IfSome result (λ r. (self.new.call ≡ None) × HasPutAll self.new.end.ring.shape items.now (puts_whole self.old) self.new.end.list r) }
-        ensures few { length self.new.end.list ≤ length (puts_whole self.old) + 2 * longest_of self.new.end.ring.shape items.now }
+        ensures one { ((result ≡ Some batch_reply.Closed) × (self.new.end ≡ self.old.end)) ⊎
+            ((e : Event) × Grows self.old.end self.new.end e) }
+        ensures none { IfNone result ((self.new.call ≡ Some (Put items.now)) × (self.new.batched ≡ true) ×
+            (puts_whole self.new ≡ puts_whole self.old) ×
+            HasPutPart self.new.end.ring.shape (Put items.now) (puts_whole self.new) self.new.end.list) }
+        ensures some { IfSome result (λ r. (self.new.call ≡ None) ×
+            HasPutAll self.new.end.ring.shape items.now (puts_whole self.old) self.new.end.list r) }
+        ensures few { length self.new.end.list ≤ length (puts_whole self.old) + 2 * longest_of self.new.end.ring.shape
+            items.now }
         ensures oracle { IsAskedOnce O.answers self.old.oracle self.new.oracle }
-        ensures answered { AreAnswered self.old.end self.new.end (O.answers self.old.oracle) (O.answers self.new.oracle) }
+        ensures answered { AreAnswered self.old.end self.new.end (O.answers self.old.oracle)
+            (O.answers self.new.oracle) }
     {
         laws_below();
         begin_put_all(&mut self.machine, items);
@@ -282,12 +314,16 @@ impl<'a, O: Oracle + Drop> Putter<'a, O> {
         requires call { (self.old.call ≡ None) ⊎ (self.old.call ≡ Some Close) }
         ensures same { IsSameEnd self.old.end self.new.end }
         ensures lawful { StandsAs P self.new.end }
-        ensures one { ((result ≡ true) × (self.new.end ≡ self.old.end)) ⊎ ((e : Event) × Grows self.old.end self.new.end e) }
-        ensures goes_on { result ≡ false → (self.new.call ≡ Some Close) × (puts_whole self.new ≡ puts_whole self.old) × HasPutPart self.new.end.ring.shape Close (puts_whole self.new) self.new.end.list }
-        ensures over { result ≡ true → (self.new.call ≡ None) × HasClosed self.new.end.ring.shape (puts_whole self.old) self.new.end.list }
+        ensures one { ((result ≡ true) × (self.new.end ≡ self.old.end)) ⊎
+            ((e : Event) × Grows self.old.end self.new.end e) }
+        ensures goes_on { result ≡ false → (self.new.call ≡ Some Close) × (puts_whole self.new ≡ puts_whole self.old) ×
+            HasPutPart self.new.end.ring.shape Close (puts_whole self.new) self.new.end.list }
+        ensures over { result ≡ true → (self.new.call ≡ None) ×
+            HasClosed self.new.end.ring.shape (puts_whole self.old) self.new.end.list }
         ensures few { length self.new.end.list ≤ length (puts_whole self.old) + 2 }
         ensures oracle { IsAskedOnce O.answers self.old.oracle self.new.oracle }
-        ensures answered { AreAnswered self.old.end self.new.end (O.answers self.old.oracle) (O.answers self.new.oracle) }
+        ensures answered { AreAnswered self.old.end self.new.end (O.answers self.old.oracle)
+            (O.answers self.new.oracle) }
     {
         laws_below();
         begin_close(&mut self.machine);

@@ -7,7 +7,9 @@ ghost use Rattle.ring_seats.specs.Words.{word_place};
 use crate::meetings::Finished;
 use atomic_table::{Seat, Shared, Table};
 use bits_core::{Bit, MemoryFault, Shape};
-use ring_seats::{Flickering, Kind, LastWords, RuleOf, View, Words, close_table, flicker_table};
+use ring_seats::{
+    Flickering, LastWords, RuleOf, View, WordKind, Words, close_table, flicker_table,
+};
 use std::alloc::Allocator;
 use std::marker::{Model, PhantomData};
 
@@ -30,14 +32,14 @@ impl Pad {
 /// A ring of one producer and one consumer, of one kind. To a contract a ring is its shape, and which ring it is.
 #[derive(Drop)]
 #[repr(C)]
-pub struct RingIn<K: Kind, A: Allocator> {
+pub struct RingIn<K: WordKind, A: Allocator> {
     before: Pad,
     table: Table<(), View, Shape, RuleOf<K>, A>,
     shape: Shape,
     after: Pad,
 }
 
-impl<K: Kind, A: Allocator> Model for RingIn<K, A> {
+impl<K: WordKind, A: Allocator> Model for RingIn<K, A> {
     ghost use Rattle.std.specs.Prelude.{◌≡◌, ◌<◌};
     ghost use Rattle.ring_seats.specs.Ring.{Ring};
 
@@ -45,13 +47,15 @@ impl<K: Kind, A: Allocator> Model for RingIn<K, A> {
 
     ghost view = { λ r. record { shape = r.shape; id = r.table.shared.table_id } };
 
-    ghost invariant = { λ r. (r.table.shared.key ≡ r.shape) × (r.table.shared.table_id.words ≡ K.count r.shape) × (r.table.shared.table_id.slots ≡ 0) × (0 < K.count r.shape) };
+    ghost invariant = { λ r. (r.table.shared.key ≡ r.shape) × (r.table.shared.table_id.words ≡ K.count r.shape) ×
+        (r.table.shared.table_id.slots ≡ 0) × (0 < K.count r.shape) };
 }
 
-impl<K: Kind, A: Allocator> RingIn<K, A> {
+impl<K: WordKind, A: Allocator> RingIn<K, A> {
     // The ring of a table whose key is the shape.
     pub(crate) fn of(table: Table<(), View, Shape, RuleOf<K>, A>, shape: Shape) -> RingIn<K, A>
-        requires { (table.shared.key ≡ shape) × (table.shared.table_id.words ≡ K.count shape) × (table.shared.table_id.slots ≡ 0) × (0 < K.count shape) }
+        requires { (table.shared.key ≡ shape) × (table.shared.table_id.words ≡ K.count shape) ×
+            (table.shared.table_id.slots ≡ 0) × (0 < K.count shape) }
         ensures { result ≡ record { shape = shape; id = table.shared.table_id } }
     {
         RingIn {
@@ -72,13 +76,14 @@ impl<K: Kind, A: Allocator> RingIn<K, A> {
     /// The words of the ring, with the rule that holds of them between any two atomic steps of whichever thread. Its
     /// type says so: a step of a [`Shared`] has to keep the rule of its type, for its key, which is the ring's shape.
     pub fn table(&self) -> &Shared<(), View, Shape, RuleOf<K>>
-        ensures { (result.now.key ≡ self.now.shape) × (result.now.table_id ≡ self.now.id) × (result.now.table_id.words ≡ K.count self.now.shape) }
+        ensures { (result.now.key ≡ self.now.shape) × (result.now.table_id ≡ self.now.id) ×
+            (result.now.table_id.words ≡ K.count self.now.shape) }
     {
         &self.table.shared
     }
 
     /// The words of the ring as they stand, where its run is over: they show the history that is left of it, as this kind of ring
-    /// has it ([`Kind`]). They are as many as it has. What is left of the run is of this ring; both are gone. It makes no access
+    /// has it ([`WordKind`]). They are as many as it has. What is left of the run is of this ring; both are gone. It makes no access
     /// and takes no memory.
     ///
     /// In use: `uses::two_threads::pass_through`.
@@ -114,12 +119,12 @@ pub type FlickerRing<A> = RingIn<Flickering, A>;
 ///
 /// In use: `uses::two_threads::pass_through`, as that of a counter ring.
 #[derive(Drop)]
-pub struct StartIn<K: Kind> {
+pub struct StartIn<K: WordKind> {
     pub(crate) seat: Seat<(), View>,
     kind: PhantomData<K>,
 }
 
-impl<K: Kind> Model for StartIn<K> {
+impl<K: WordKind> Model for StartIn<K> {
     ghost use Rattle.std.specs.Prelude.{◌≡◌, []};
     ghost use Rattle.atomic_table.specs.Seated.{TableId, table_id_coded};
     ghost use Rattle.ring_seats.specs.Rule.{joint};
@@ -133,7 +138,7 @@ impl<K: Kind> Model for StartIn<K> {
     ghost invariant = { λ s. s.seat.me ≡ (joint [] [] [] [], []) };
 }
 
-impl<K: Kind> StartIn<K> {
+impl<K: WordKind> StartIn<K> {
     // The start of the ring that this seat is of, which nobody else has.
     pub(crate) fn of(seat: Seat<(), View>) -> StartIn<K>
         requires { seat.me ≡ (joint [] [] [] [], []) }

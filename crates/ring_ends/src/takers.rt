@@ -2,8 +2,8 @@
 ghost use Rattle.std.specs.Prelude.{◌≡◌, ◌≢◌, ◌⊎◌, ℕ, ◌+◌, ◌*◌, ◌<◌, ◌≤◌, true, false, Some, None, List, [], ◌∷◌, ◌++◌, length, take, drop, IfSome, IfNone};
 ghost use Rattle.bits_core.specs.declared.events.Event.{Event};
 ghost use Rattle.bits_core.specs.Made.{Made};
-ghost use Rattle.ring_core.specs.declared.consumers.TakeReply.TheVariants.{Closed};
-ghost use Rattle.ring_core.specs.declared.consumers.TakeBatchReply.TheVariants as batch_reply;
+ghost use Rattle.ring_core.specs.declared.replies.TakeReply.TheVariants.{Closed};
+ghost use Rattle.ring_core.specs.declared.replies.TakeBatchReply.TheVariants as batch_reply;
 ghost use Rattle.bits_core.specs.Shape.{take_batch_of};
 ghost use Rattle.ring_core.specs.Lengths.{longest_taking};
 ghost use Rattle.ring_core.specs.Takes.{Takes};
@@ -48,9 +48,17 @@ impl<'a, O: Oracle + Drop> Model for Taker<'a, O> {
 
     ghost Value = { TakerState O };
 
-    ghost view = { λ p. record { end = p.stepper; taking = is_taking p.machine; wanted = p.machine.wanted; start = without_last p.steps p.stepper.list; oracle = p.oracle } };
+    ghost view = { λ p. record {
+      end = p.stepper;
+      taking = is_taking p.machine;
+      wanted = p.machine.wanted;
+      start = without_last p.steps p.stepper.list;
+      oracle = p.oracle;
+    } };
 
-    ghost invariant = { λ p. IsMachine consuming p.stepper p.machine (whole_take (is_taking p.machine) p.stepper.list (without_last p.steps p.stepper.list)) × IsMarked p.steps p.stepper.list (longest_while p.machine.shape (is_taking p.machine) p.machine.wanted) };
+    ghost invariant = { λ p. IsMachine consuming p.stepper p.machine
+        (whole_take (is_taking p.machine) p.stepper.list (without_last p.steps p.stepper.list)) ×
+        IsMarked p.steps p.stepper.list (longest_while p.machine.shape (is_taking p.machine) p.machine.wanted) };
 }
 
 // One step of the take under way.
@@ -61,7 +69,8 @@ fn advance<'a, O: Oracle>(
 )
     requires at { (calls : Takes) × (made : List Made) × MachineAt consuming stepper.old machine.old calls made }
     ensures rests { is_taking machine.old ≡ false → (machine.new ≡ machine.old) × (stepper.new ≡ stepper.old) }
-    ensures steps { (calls : Takes) (made : List Made) → MachineAt consuming stepper.old machine.old calls made → is_taking machine.old ≡ true → MachineStep consuming stepper.old machine.old stepper.new machine.new calls }
+    ensures steps { (calls : Takes) (made : List Made) → MachineAt consuming stepper.old machine.old calls made →
+        is_taking machine.old ≡ true → MachineStep consuming stepper.old machine.old stepper.new machine.new calls }
     ensures wanted { machine.new.wanted ≡ machine.old.wanted }
     ensures oracle { IsAskedOnce O.answers oracle.old oracle.new }
     ensures answered { AreAnswered stepper.old stepper.new (O.answers oracle.old) (O.answers oracle.new) }
@@ -85,7 +94,8 @@ fn finish_scan<'a, O: Oracle>(
     oracle: &mut O,
 )
     requires { MachineBusy consuming stepper.old machine.old }
-    ensures { MachineWent consuming stepper.old machine.old stepper.new machine.new (O.answers oracle.old) (O.answers oracle.new) }
+    ensures { MachineWent consuming stepper.old machine.old stepper.new machine.new (O.answers oracle.old)
+        (O.answers oracle.new) }
 {
     laws_below();
     let Some(mut scan) = machine.scan() else {
@@ -113,7 +123,8 @@ fn read_word<'a, O: Oracle>(
     oracle: &mut O,
 )
     requires { MachineBusy consuming stepper.old machine.old }
-    ensures { MachineWent consuming stepper.old machine.old stepper.new machine.new (O.answers oracle.old) (O.answers oracle.new) }
+    ensures { MachineWent consuming stepper.old machine.old stepper.new machine.new (O.answers oracle.old)
+        (O.answers oracle.new) }
 {
     laws_below();
     let Some(mut word) = machine.word() else {
@@ -141,7 +152,8 @@ fn write_count<'a, O: Oracle>(
     oracle: &mut O,
 )
     requires { MachineBusy consuming stepper.old machine.old }
-    ensures { MachineWent consuming stepper.old machine.old stepper.new machine.new (O.answers oracle.old) (O.answers oracle.new) }
+    ensures { MachineWent consuming stepper.old machine.old stepper.new machine.new (O.answers oracle.old)
+        (O.answers oracle.new) }
 {
     laws_below();
     let ring = stepper.words();
@@ -163,7 +175,8 @@ fn finish<'a, O: Oracle>(
     oracle: &mut O,
 )
     requires { (calls : Takes) × MachineReady consuming stepper.old machine.old calls }
-    ensures { MachineEnded consuming stepper.old machine.old stepper.new machine.new (O.answers oracle.old) (O.answers oracle.new) }
+    ensures { MachineEnded consuming stepper.old machine.old stepper.new machine.new (O.answers oracle.old)
+        (O.answers oracle.new) }
 {
     laws_below();
     'accesses: loop {
@@ -199,7 +212,9 @@ fn steps_behind(steps: u64, machine: &Consumer) -> u64
 fn begin_take(machine: &mut Consumer)
     requires stands { (calls : Takes) × (made : List Made) × ConsumerStands machine.old calls made }
     ensures few { is_taking machine.old ≡ true → machine.old.wanted ≤ take_batch_of machine.old.shape }
-    ensures begins { (calls : Takes) (made : List Made) → ConsumerStands machine.old calls made → CallBegins consuming machine.old machine.new calls made (wants_next (is_taking machine.old) machine.old.wanted 1) }
+    ensures begins { (calls : Takes) (made : List Made) → ConsumerStands machine.old calls made →
+        CallBegins consuming machine.old machine.new calls made
+        (wants_next (is_taking machine.old) machine.old.wanted 1) }
 {
     if machine.next().is_none() {
         machine.take();
@@ -213,7 +228,9 @@ fn begin_take_all(machine: &mut Consumer, most: u64)
     requires some { 1 ≤ most }
     requires few { most ≤ take_batch_of machine.old.shape }
     ensures few { is_taking machine.old ≡ true → machine.old.wanted ≤ take_batch_of machine.old.shape }
-    ensures begins { (calls : Takes) (made : List Made) → ConsumerStands machine.old calls made → CallBegins consuming machine.old machine.new calls made (wants_next (is_taking machine.old) machine.old.wanted most) }
+    ensures begins { (calls : Takes) (made : List Made) → ConsumerStands machine.old calls made →
+        CallBegins consuming machine.old machine.new calls made
+        (wants_next (is_taking machine.old) machine.old.wanted most) }
 {
     if machine.next().is_none() {
         machine.take_all(most);
@@ -232,12 +249,14 @@ fn put_first(items: &[u64], into: &mut [u64])
 
 // What the last take was answered, with its items in the first places. During a take none, and the places stay as they were.
 fn bring(machine: &Consumer, into: &mut [u64]) -> Option<TakeBatchReply>
-    requires { IfSome (take_batch_reply machine.now.reply machine.now.items) (λ _. length machine.now.items ≤ length into.old) }
+    requires { IfSome (take_batch_reply machine.now.reply machine.now.items)
+        (λ _. length machine.now.items ≤ length into.old) }
     ensures told { result ≡ take_batch_reply machine.now.reply machine.now.items }
     ensures long { length into.new ≡ length into.old }
     ensures none { IfNone result (into.new ≡ into.old) }
     ensures first { IfSome result (λ _. take (length machine.now.items) into.new ≡ machine.now.items) }
-    ensures others { IfSome result (λ _. drop (length machine.now.items) into.new ≡ drop (length machine.now.items) into.old) }
+    ensures others { IfSome result (λ _. drop (length machine.now.items) into.new ≡ drop (length machine.now.items)
+        into.old) }
 {
     let reply = machine.batch_reply()?;
     put_first(machine.items(), into);
@@ -250,13 +269,20 @@ impl<'a, O: Oracle + Drop> Taker<'a, O> {
     pub fn step_take(&mut self) -> Option<TakeReply>
         ensures same { IsSameEnd self.old.end self.new.end }
         ensures lawful { StandsAs C self.new.end }
-        ensures one { ((result ≡ Some Closed) × (self.new.end ≡ self.old.end)) ⊎ ((e : Event) × Grows self.old.end self.new.end e) }
-        ensures none { IfNone result ((self.new.taking ≡ true) × (takes_whole self.new ≡ takes_whole self.old) × HasTakePart self.new.end.ring.shape (wants_next self.old.taking self.old.wanted 1) (takes_whole self.new) self.new.end.list) }
-        ensures some { IfSome result (λ r. (self.new.taking ≡ false) × HasTakenOf self.new.end.ring.shape (wants_next self.old.taking self.old.wanted 1) (takes_whole self.old) self.new.end.list r) }
+        ensures one { ((result ≡ Some Closed) × (self.new.end ≡ self.old.end)) ⊎
+            ((e : Event) × Grows self.old.end self.new.end e) }
+        ensures none { IfNone result ((self.new.taking ≡ true) × (takes_whole self.new ≡ takes_whole self.old) ×
+            HasTakePart self.new.end.ring.shape (wants_next self.old.taking self.old.wanted 1) (takes_whole self.new)
+            self.new.end.list) }
+        ensures some { IfSome result (λ r. (self.new.taking ≡ false) ×
+            HasTakenOf self.new.end.ring.shape (wants_next self.old.taking self.old.wanted 1) (takes_whole self.old)
+            self.new.end.list r) }
         ensures wanted { self.new.taking ≡ true → self.new.wanted ≡ wants_next self.old.taking self.old.wanted 1 }
-        ensures few { length self.new.end.list ≤ length (takes_whole self.old) + 2 * longest_taking self.new.end.ring.shape (wants_next self.old.taking self.old.wanted 1) }
+        ensures few { length self.new.end.list ≤ length (takes_whole self.old) + 2 * longest_taking
+            self.new.end.ring.shape (wants_next self.old.taking self.old.wanted 1) }
         ensures oracle { IsAskedOnce O.answers self.old.oracle self.new.oracle }
-        ensures answered { AreAnswered self.old.end self.new.end (O.answers self.old.oracle) (O.answers self.new.oracle) }
+        ensures answered { AreAnswered self.old.end self.new.end (O.answers self.old.oracle)
+            (O.answers self.new.oracle) }
     {
         laws_below();
         begin_take(&mut self.machine);
@@ -273,15 +299,21 @@ impl<'a, O: Oracle + Drop> Taker<'a, O> {
         requires wanted { self.old.taking ≡ true → self.old.wanted ≡ length into.old }
         ensures same { IsSameEnd self.old.end self.new.end }
         ensures lawful { StandsAs C self.new.end }
-        ensures one { ((result ≡ Some batch_reply.Closed) × (self.new.end ≡ self.old.end)) ⊎ ((e : Event) × Grows self.old.end self.new.end e) }
-        ensures none { IfNone result ((self.new.taking ≡ true) × (self.new.wanted ≡ length into.old) × (into.new ≡ into.old) × (takes_whole self.new ≡ takes_whole self.old) × HasTakePart self.new.end.ring.shape (length into.old) (takes_whole self.new) self.new.end.list) }
-        ensures some { IfSome result (λ r. (self.new.taking ≡ false) × HasTakenAll self.new.end.ring.shape (length into.old) (takes_whole self.old) self.new.end.list r into.new) }
+        ensures one { ((result ≡ Some batch_reply.Closed) × (self.new.end ≡ self.old.end)) ⊎
+            ((e : Event) × Grows self.old.end self.new.end e) }
+        ensures none { IfNone result ((self.new.taking ≡ true) × (self.new.wanted ≡ length into.old) ×
+            (into.new ≡ into.old) × (takes_whole self.new ≡ takes_whole self.old) ×
+            HasTakePart self.new.end.ring.shape (length into.old) (takes_whole self.new) self.new.end.list) }
+        ensures some { IfSome result (λ r. (self.new.taking ≡ false) ×
+            HasTakenAll self.new.end.ring.shape (length into.old) (takes_whole self.old) self.new.end.list r into.new) }
         ensures within { IfSome result (λ r. number_brought r ≤ length into.old) }
         ensures long { length into.new ≡ length into.old }
         ensures others { IfSome result (λ r. drop (number_brought r) into.new ≡ drop (number_brought r) into.old) }
-        ensures few { length self.new.end.list ≤ length (takes_whole self.old) + 2 * longest_taking self.new.end.ring.shape (length into.old) }
+        ensures few { length self.new.end.list ≤ length (takes_whole self.old) + 2 * longest_taking
+            self.new.end.ring.shape (length into.old) }
         ensures oracle { IsAskedOnce O.answers self.old.oracle self.new.oracle }
-        ensures answered { AreAnswered self.old.end self.new.end (O.answers self.old.oracle) (O.answers self.new.oracle) }
+        ensures answered { AreAnswered self.old.end self.new.end (O.answers self.old.oracle)
+            (O.answers self.new.oracle) }
     {
         laws_below();
         begin_take_all(&mut self.machine, into.len() as u64);

@@ -2,7 +2,7 @@
 use Rattle.std.proofs.Common.{◌≡◌, ◌∙◌, ◌+◌, ℕ, Option, None, Some, option_map, if◌then◌else◌, refl, List, [], ◌∷◌, ◌++◌, reverse, sym, ap, subst, arith, Bool, true, false, IsTrue}
 use Rattle.std.proofs.lemmas.List.{reverse-append}
 use Rattle.std.proofs.lemmas.Bool.{false≢true, true≢false}
-use Rattle.queue_calls.specs.Queue.{Capacity, Does}
+use Rattle.queue_calls.specs.Queue.{Capacity, Operation}
 use Rattle.queue_calls.specs.Calls.{Event, Mark, Happens, Effect, Point, Leads, LeadTo}
 use Rattle.queue_points.specs.Points.{Accepts, PutsIn, point_of, puts_in}
 use Rattle.queue_calls.specs.Recordings.{Line, line, begun_after, event_told}
@@ -96,16 +96,16 @@ module _ (numbers : List ℕ) (c : Came) (b : Begun) (word : Word) (told : List 
       subst (λ (m : Mark). PutsIn old.row.now old.tail m → (t : Point) → ¬ Leads (meant old.capacity) (point_of old) m t) same (refused event told_is).1)
 
 -- numbers that tell no line tell the mark of an operation
-pub tells_effect : (numbers : List ℕ) (c : Came) (b : Begun) (does : Does) → line_in numbers c ≡ None → does_in c ≡ Some does → TellsMark b numbers c (Effect does)
+pub tells_effect : (numbers : List ℕ) (c : Came) (b : Begun) (does : Operation) → line_in numbers c ≡ None → does_in c ≡ Some does → TellsMark b numbers c (Effect does)
 tells_effect numbers c b does none is =
-    ap (λ (l : Option Line). mark_told b l (does_in c)) none ∙ ap (λ (x : Option Does). option_map (λ d. Effect d) x) is
+    ap (λ (l : Option Line). mark_told b l (does_in c)) none ∙ ap (λ (x : Option Operation). option_map (λ d. Effect d) x) is
 
 -- and where they tell none, nothing leads on
 pub tells_nothing : (numbers : List ℕ) (c : Came) (b : Begun) (old : LinearizationPoints) → line_in numbers c ≡ None → does_in c ≡ None
     → LeadsNowhere b numbers old.row.now c (meant old.capacity) (point_of old) old.tail
 tells_nothing numbers c b old none is =
     λ mark tells. (let clash : None ≡ Some mark =
-    sym (ap (λ (l : Option Line). mark_told b l (does_in c)) none ∙ ap (λ (x : Option Does). option_map (λ d. Effect d) x) is) ∙ tells in absurd (cc))
+    sym (ap (λ (l : Option Line). mark_told b l (does_in c)) none ∙ ap (λ (x : Option Operation). option_map (λ d. Effect d) x) is) ∙ tells in absurd (cc))
 
 -- and nothing changed
 pub kept_so : (mark : Mark) (result : Bool) (old new : LinearizationPoints) → Accepts old mark result new → result ≡ false → new ≡ old

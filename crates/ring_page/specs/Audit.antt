@@ -17,7 +17,7 @@ use Rattle.ring_page.specs.Marks.{act_number, digit_of, index_of, row_of, side_n
 use Rattle.ring_page.specs.Programs.{TellsPrograms, unjudged}
 use Rattle.ring_page.specs.Reasons.{TellsSince}
 use Rattle.ring_page.specs.declared.audits.TheConstants.{EVENT_ROOM}
-use Rattle.ring_page.specs.declared.audits.Told.{Told}
+use Rattle.ring_page.specs.declared.audits.AuditTold.{AuditTold}
 use Rattle.ring_page.specs.declared.marks.Mark.{Mark}
 
 -- ---- marks
@@ -60,12 +60,12 @@ IsNothingSeen seen = (place : ℕ) → place < length seen → slice_index_or se
 -- ---- a trace
 
 -- the verdict, as numbers; those that it does not use are 0
-abbrev pub TellsVerdict : Verdict → Told → Type 0
+abbrev pub TellsVerdict : Verdict → AuditTold → Type 0
 TellsVerdict Lawful told = (told.outcome ≡ 0) × (told.number ≡ 0) × (told.place ≡ 0)
 TellsVerdict (Fault place kind) told = (told.outcome ≡ 1) × (told.number ≡ kind_number kind) × (told.place ≡ place)
 
 -- the numbers of the shape, which has no fault
-pub record TellsShape (shape : Shape) (told : Told) : Type 0 where
+pub record TellsShape (shape : Shape) (told : AuditTold) : Type 0 where
   pub capacity : told.capacity ≡ capacity_of shape
   pub modulus : told.modulus ≡ modulus_of shape
   pub width : told.width ≡ width_of shape
@@ -75,7 +75,7 @@ pub record TellsShape (shape : Shape) (told : Told) : Type 0 where
 
 -- the text is a trace, this is the verdict on it, and these are the marks of its events; and this is found of its programs, with the items
 -- put and taken
-pub record TellsAudit (text : List ℕ) (marks : List Mark) (put taken : List ℕ) (told : Told) : Type 0 where
+pub record TellsAudit (text : List ℕ) (marks : List Mark) (put taken : List ℕ) (told : AuditTold) : Type 0 where
   pub shape : Shape
   pub events : List Event
   pub verdict : Verdict
@@ -91,14 +91,14 @@ pub record TellsAudit (text : List ℕ) (marks : List Mark) (put taken : List �
 -- ---- no trace
 
 -- where the fault is; a number that it does not use is 0
-abbrev pub TellsPlace : TraceFault → Told → Type 0
+abbrev pub TellsPlace : TraceFault → AuditTold → Type 0
 TellsPlace (BadShape fault) told = (told.shape_fault ≡ shape_fault_number fault) × (told.place ≡ 0)
 TellsPlace (BadLine line) told = (told.shape_fault ≡ 0) × (told.place ≡ line)
 TellsPlace TooLong told = (told.shape_fault ≡ 0) × (told.place ≡ 0)
 TellsPlace OutOfMemory told = (told.shape_fault ≡ 0) × (told.place ≡ 0)
 
 -- there are no events, and no shape
-pub record TellsNoTrace (told : Told) : Type 0 where
+pub record TellsNoTrace (told : AuditTold) : Type 0 where
   pub count : told.count ≡ 0
   pub capacity : told.capacity ≡ 0
   pub modulus : told.modulus ≡ 0
@@ -109,7 +109,7 @@ pub record TellsNoTrace (told : Told) : Type 0 where
   pub programs : told.programs ≡ unjudged
 
 -- the fault, as numbers
-pub record TellsFault (fault : TraceFault) (told : Told) : Type 0 where
+pub record TellsFault (fault : TraceFault) (told : AuditTold) : Type 0 where
   pub outcome : told.outcome ≡ 2
   pub number : told.number ≡ trace_fault_number fault
   pub place : TellsPlace fault told
@@ -122,11 +122,11 @@ pub record HasTooManyEvents (text : List ℕ) : Type 0 where
   pub only : (shape : Shape) (events : List Event) → IsTrace text shape events → EVENT_ROOM < length events
 
 -- the text is no trace, for this fault; or the page has no room for its events
-pub record TellsRefusal (text : List ℕ) (told : Told) : Type 0 where
+pub record TellsRefusal (text : List ℕ) (told : AuditTold) : Type 0 where
   pub fault : TraceFault
   pub cause : IsTraceFault text fault ⊎ ((fault ≡ OutOfMemory) × HasTooManyEvents text)
   pub tells : TellsFault fault told
 
 -- what is told of a text
-abbrev pub TellsText : List ℕ → List Mark → List ℕ → List ℕ → Told → Type 0
+abbrev pub TellsText : List ℕ → List Mark → List ℕ → List ℕ → AuditTold → Type 0
 TellsText text marks put taken told = TellsAudit text marks put taken told ⊎ TellsRefusal text told

@@ -9,7 +9,7 @@ use Rattle.queue_calls.specs.declared.recordings.CallsFinding.{CallsFinding}
 use Rattle.queue_calls.specs.declared.recordings.CallsFinding.TheVariants.{Lawful, OutOfTurn, NotLinearizable}
 use Rattle.queue_calls.specs.declared.recordings.RecordingFault.{RecordingFault}
 use Rattle.queue_calls.specs.declared.recordings.RecordingFault.TheVariants.{BadLine, TooLong, OutOfMemory}
-use Rattle.queue_calls.specs.declared.reports.Report.{Report}
+use Rattle.queue_calls.specs.declared.reports.CallsReport.{CallsReport}
 use Rattle.ring_page.specs.Marks.{bit_number}
 use Rattle.ring_page.specs.declared.calls.CallsTold.{CallsTold}
 use Rattle.ring_page.specs.declared.calls.Counts.{Counts}
@@ -17,7 +17,7 @@ use Rattle.queue_calls.specs.declared.words.TheConstants.{CAUSE_WORDS}
 use Rattle.queue_calls.specs.Words.{written}
 
 -- the numbers of a report, and of none
-abbrev pub counts_of : Report → Counts
+abbrev pub counts_of : CallsReport → Counts
 counts_of report = record {
   calls = report.calls;
   stored = report.stored;

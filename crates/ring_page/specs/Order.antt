@@ -1,6 +1,6 @@
 -- What the page is told of the order in which the operations of calls take effect.
 use Rattle.std.specs.Prelude.{◌≡◌, ◌==◌, ℕ, List, [], ◌∷◌, Option, Some, None, option_map, nat_eq, nat_le, if◌then◌else◌, reverse, slice_get, take, drop, length, ◌≤◌, ◌+◌}
-use Rattle.queue_calls.specs.Queue.{Capacity, Unbounded, Between, Does, Enqueue, FindNoRoom, FindShut, Close, Dequeue, FindFewer, FindClosed}
+use Rattle.queue_calls.specs.Queue.{Capacity, Unbounded, Between, Operation, Enqueue, FindNoRoom, FindShut, Close, Dequeue, FindFewer, FindClosed}
 use Rattle.queue_calls.specs.Calls.{Mark, Happens, Effect, Point, Leads, LeadTo}
 use Rattle.call_lines.specs.Lines.{word_of}
 use Rattle.call_lines.specs.declared.lines.Word.{Word}
@@ -31,7 +31,7 @@ abbrev pub line_in : List ℕ → Came → Option Line
 line_in numbers came = line_with (word_of came.kind) (listed_in numbers came)
 
 -- the operation that they tell
-abbrev pub does_in : Came → Option Does
+abbrev pub does_in : Came → Option Operation
 does_in came =
     if came.kind == 17 then Some (Enqueue came.value) else
     if came.kind == 18 then Some (FindNoRoom came.count) else
@@ -43,7 +43,7 @@ does_in came =
     None
 
 -- the mark of a line, or of an operation, where the producer began this last
-abbrev pub mark_told : Begun → Option Line → Option Does → Option Mark
+abbrev pub mark_told : Begun → Option Line → Option Operation → Option Mark
 mark_told b (Some l) does = option_map (λ event. Happens event) (event_told b l.word l.numbers)
 mark_told b None does = option_map (λ x. Effect x) does
 

@@ -18,7 +18,7 @@ pub const EVENT_ROOM: usize = 10_000;
 /// What is told of a text, as numbers.
 #[repr(C)]
 #[derive(Clone, Copy, PartialEq, Eq, Debug)]
-pub struct Told {
+pub struct AuditTold {
     /// 0 lawful, 1 a fault of the history, 2 no trace.
     pub outcome: u64,
     /// The number of the kind of the fault, or of the trace's fault.
@@ -47,7 +47,7 @@ fn told_verdict(
     count: usize,
     since: usize,
     programs: Judged,
-) -> Told
+) -> AuditTold
     ensures verdict { TellsVerdict verdict result }
     ensures shape { TellsShape shape.now result }
     ensures count { result.count ≡ count }
@@ -58,7 +58,7 @@ fn told_verdict(
         Verdict::Lawful => (0, 0, 0),
         Verdict::Fault { place, kind } => (1, u64::from(kind.number()), place as u64),
     };
-    Told {
+    AuditTold {
         outcome,
         number,
         place,
@@ -74,7 +74,7 @@ fn told_verdict(
     }
 }
 
-fn told_fault(fault: TraceFault) -> Told
+fn told_fault(fault: TraceFault) -> AuditTold
     ensures { TellsFault fault result }
 {
     let (place, shape_fault) = match fault {
@@ -82,7 +82,7 @@ fn told_fault(fault: TraceFault) -> Told
         TraceFault::BadShape(shape_fault) => (0, u64::from(shape_fault.number())),
         TraceFault::TooLong | TraceFault::OutOfMemory => (0, 0),
     };
-    Told {
+    AuditTold {
         outcome: 2,
         number: u64::from(fault.number()),
         place,
@@ -106,7 +106,7 @@ fn audited(
     marks: &mut [Mark],
     put: &mut [u64],
     taken: &mut [u64],
-) -> Told
+) -> AuditTold
     requires room { length events.old ≡ EVENT_ROOM }
     requires seen { (length seen.old ≡ EVENT_ROOM) × IsNothingSeen seen.old }
     ensures { TellsText text.now marks.new put.new taken.new result }
@@ -161,7 +161,7 @@ pub extern "C" fn page_audit(
     marks: &mut [Mark],
     put: &mut [u64],
     taken: &mut [u64],
-    told: &mut Told,
+    told: &mut AuditTold,
 )
     ensures { TellsText text.now marks.new put.new taken.new told.new }
 {

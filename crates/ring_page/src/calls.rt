@@ -7,8 +7,8 @@ ghost use Rattle.ring_page.specs.Calls.{HasShortWords, IsFindingIn, TellsRecordi
 
 use crate::marks::bit_number;
 use queue_calls::{
-    CallsFinding, Filled, Lent, Lists, Offered, RecordingFault, RecordingIn, Report, Slots, Taken,
-    write_cause,
+    CallsFinding, CallsReport, Filled, Lent, Lists, Offered, RecordingFault, RecordingIn, Slots,
+    Taken, write_cause,
 };
 
 /// The numbers of the report on a recording that is lawful; all 0 on another.
@@ -50,7 +50,7 @@ pub struct CallsTold {
 }
 
 // The numbers of a report.
-fn counts_of(report: &Report) -> Counts
+fn counts_of(report: &CallsReport) -> Counts
     ensures { result ≡ counts_of report.now }
 {
     Counts {
@@ -134,7 +134,9 @@ fn told_refusal(fault: RecordingFault) -> CallsTold
 fn found_in(text: &[u8], lists: Lists<Lent<'_>>) -> Result<(CallsFinding, bool), RecordingFault>
     ensures found { IfOk result (λ x. IsFindingIn text.now x.0 x.1) }
     ensures refused { IfErr result (λ e. RefusesText e text.now) }
-    ensures full { IfErr result (λ e. e ≡ OutOfMemory → AreTooShort (slots_for (length lists.entry.offered.slots.now) (length lists.entry.taken.slots.now) (length lists.entry.numbers.slots.now) (length lists.entry.bytes.slots.now)) text.now) }
+    ensures full { IfErr result (λ e. e ≡ OutOfMemory →
+        AreTooShort (slots_for (length lists.entry.offered.slots.now) (length lists.entry.taken.slots.now)
+        (length lists.entry.numbers.slots.now) (length lists.entry.bytes.slots.now)) text.now) }
 {
     let mut recording = RecordingIn::within(lists);
     recording.read(text)?;
@@ -159,7 +161,8 @@ pub extern "C" fn page_calls(
     words: &mut [u8],
     told: &mut CallsTold,
 )
-    ensures { TellsRecording (slots_for (length offered.old) (length taken.old) (length numbers.old) (length bytes.old)) text.now words.old words.new told.new }
+    ensures { TellsRecording (slots_for (length offered.old) (length taken.old) (length numbers.old) (length bytes.old))
+        text.now words.old words.new told.new }
 {
     let lists = Lists {
         offered: Slots::new(offered),

@@ -10,7 +10,7 @@ mod plays;
 mod programs;
 mod reasons;
 
-pub use audits::{EVENT_ROOM, Told, page_audit};
+pub use audits::{AuditTold, EVENT_ROOM, page_audit};
 pub use calls::{CallsTold, Counts, page_calls};
 pub use marks::Mark;
 pub use near_plays::{NearPlayed, Telling, page_play_near};

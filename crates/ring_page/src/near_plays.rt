@@ -156,7 +156,8 @@ pub extern "C" fn page_play_near(
     tellings: &mut [Telling],
     told: &mut NearPlayed,
 )
-    ensures { TellsNearPlay (near_numbered miss) (fields_of asked.now items.now schedule.now oracle.now) asked.now.letters marks.new tellings.new told.new }
+    ensures { TellsNearPlay (near_numbered miss) (fields_of asked.now items.now schedule.now oracle.now)
+        asked.now.letters marks.new tellings.new told.new }
 {
     let Some(miss) = near_numbered(miss) else {
         *told = NearPlayed {

@@ -1,9 +1,10 @@
 //! The order in which the operations of recorded calls take effect.
 ghost use Rattle.std.specs.Prelude.{◌≡◌, ◌∷◌, ◌++◌, ℕ, List, [], IsTrue, Some, true, false, if◌then◌else◌, option_map};
-ghost use Rattle.queue_calls.specs.Calls.{Event as AnEvent, Happens};
+ghost use Rattle.queue_calls.specs.Calls as calls;
+ghost use Rattle.queue_calls.specs.Calls.{Happens};
 ghost use Rattle.call_lines.specs.Lines.{word_of};
 ghost use Rattle.queue_points.specs.Points.{Accepts, point_of};
-ghost use Rattle.queue_calls.specs.Queue.{Capacity as ACapacity};
+ghost use Rattle.queue_calls.specs.Queue as queues;
 ghost use Rattle.queue_calls.specs.Recordings.{begun_after, event_told, line};
 ghost use Rattle.queue_points.specs.Steps.{done};
 ghost use Rattle.queue_calls.specs.Told.{meant};
@@ -104,9 +105,11 @@ fn follow_line<'a>(
     word: Word,
     told: &'a [u64],
 ) -> bool
-    ensures followed { IsTrue result → (event : AnEvent) × (event_told begun.old word told.entry.now ≡ Some event) × Accepts points.old (Happens event) true points.new }
+    ensures followed { IsTrue result → (event : calls.Event) × (event_told begun.old word told.entry.now ≡ Some event) ×
+        Accepts points.old (Happens event) true points.new }
     ensures begun { begun.new ≡ (if result then begun_after begun.old word told.entry.now else begun.old) }
-    ensures not { result ≡ false → (event : AnEvent) → event_told begun.old word told.entry.now ≡ Some event → Accepts points.old (Happens event) false points.new }
+    ensures not { result ≡ false → (event : calls.Event) → event_told begun.old word told.entry.now ≡ Some event →
+        Accepts points.old (Happens event) false points.new }
     ensures same { result ≡ false → points.new ≡ points.old }
 {
     let Some(event) = event_told(*begun, word, told) else {
@@ -126,9 +129,12 @@ fn follow<'a>(
     numbers: &'a [u64],
     came: &Came,
 ) -> bool
-    ensures came { (items : List ℕ) (before : List Came) (capacity : ACapacity) → HaveCome numbers.entry.now items before capacity points.old begun.old →
+    ensures came { (items : List ℕ) (before : List Came) (capacity : queues.Capacity) →
+        HaveCome numbers.entry.now items before capacity points.old begun.old →
         IsTrue result → HaveCome numbers.entry.now items (before ++ came.now ∷ []) capacity points.new begun.new }
-    ensures not { result ≡ false → LeadsNowhere begun.old numbers.entry.now points.old.row.now came.now (meant points.old.capacity) (point_of points.old) points.old.tail }
+    ensures not { result ≡ false →
+        LeadsNowhere begun.old numbers.entry.now points.old.row.now came.now (meant points.old.capacity)
+        (point_of points.old) points.old.tail }
     ensures same { result ≡ false → (points.new ≡ points.old) × (begun.new ≡ begun.old) }
 {
     if let Some((word, told)) = line_in(numbers, came) {

@@ -199,7 +199,8 @@ pub extern "C" fn page_play(
     taken: &mut [u64],
     told: &mut Played,
 )
-    ensures { TellsPlay (fields_of asked.now items.now schedule.now oracle.now) asked.now.letters marks.new put.new taken.new told.new }
+    ensures { TellsPlay (fields_of asked.now items.now schedule.now oracle.now) asked.now.letters marks.new put.new
+        taken.new told.new }
 {
     let fields = fields(asked, items, schedule, oracle);
     let blank = Run {

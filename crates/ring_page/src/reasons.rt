@@ -1,7 +1,5 @@
 //! Why an answer was not permitted.
 ghost use Rattle.std.specs.Prelude.{◌≡◌, ◌<◌, Option, Some, length, slice_get, take};
-ghost use Rattle.bits_core.specs.declared.events.Event.{Event as AnEvent};
-ghost use Rattle.bits_core.specs.declared.reasons.Reason.{Reason as AReason};
 ghost use Rattle.ring_page.specs.Reasons.{FaultIsWithin, IsReasonOf, TellsSince, since_in};
 
 use bits_core::{Event, Reason, Shape, Verdict, reason_behind};
@@ -9,7 +7,8 @@ use bits_core::{Event, Reason, Shape, Verdict, reason_behind};
 // Why the event at the place may not follow those before it, and since when its bit held what it held.
 fn since_at(shape: &Shape, events: &[Event], place: usize) -> usize
     requires { place < length events.now }
-    ensures { (e : AnEvent) → slice_get events.now place ≡ Some e → (reason : Option AReason) × IsReasonOf shape.now (take place events.now) e reason × (result ≡ since_in reason) }
+    ensures { (e : Event) → slice_get events.now place ≡ Some e → (reason : Option Reason) ×
+        IsReasonOf shape.now (take place events.now) e reason × (result ≡ since_in reason) }
 {
     match reason_behind(shape, &events[..place], events[place]) {
         Some(

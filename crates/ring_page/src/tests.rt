@@ -1,5 +1,5 @@
 use crate::{
-    ANSWER_ROOM, Asked, Due, EVENT_ROOM, Judged, Mark, Played, RUN_ROOM, Told, page_audit,
+    ANSWER_ROOM, Asked, AuditTold, Due, EVENT_ROOM, Judged, Mark, Played, RUN_ROOM, page_audit,
     page_play,
 };
 use std::alloc::AllocGlobal;
@@ -41,7 +41,7 @@ const UNJUDGED: Judged = Judged {
 };
 
 // What is told before anything is told.
-const NOTHING_TOLD: Told = Told {
+const NOTHING_TOLD: AuditTold = AuditTold {
     outcome: 9,
     number: 9,
     place: 9,
@@ -57,7 +57,7 @@ const NOTHING_TOLD: Told = Told {
 };
 
 // What is told, with the first items put and taken.
-fn audit_with_items(text: &str, marks: &mut [Mark]) -> (Told, [u64; 4], [u64; 4]) {
+fn audit_with_items(text: &str, marks: &mut [Mark]) -> (AuditTold, [u64; 4], [u64; 4]) {
     let mut told = NOTHING_TOLD;
     let mut put = [7; 4];
     let mut taken = [7; 4];
@@ -65,7 +65,7 @@ fn audit_with_items(text: &str, marks: &mut [Mark]) -> (Told, [u64; 4], [u64; 4]
     (told, put, taken)
 }
 
-fn audit(text: &str, marks: &mut [Mark]) -> Told {
+fn audit(text: &str, marks: &mut [Mark]) -> AuditTold {
     let (told, _, _) = audit_with_items(text, marks);
     told
 }
@@ -120,7 +120,7 @@ fn a_lawful_trace_is_told_with_its_marks(rt: HostRuntime) {
     let told = audit(INVERSION, &mut marks);
     assert_eq!(rt;
         told,
-        Told {
+        AuditTold {
             outcome: 0,
             number: 0,
             place: 0,
@@ -155,7 +155,7 @@ fn marks_show_nothing_from_the_fault_on(rt: HostRuntime) {
     );
     assert_eq!(rt;
         told,
-        Told {
+        AuditTold {
             outcome: 1,
             number: 2,
             place: 3,

@@ -4,7 +4,7 @@ use Rattle.std.proofs.Math.Seq.{take-length}
 use Rattle.bits_core.specs.declared.events.Side.{Side}
 use Rattle.bits_core.specs.declared.events.Side.TheVariants.{P, C}
 use Rattle.bits_core.specs.declared.events.Event.{Event}
-use Rattle.bits_core.specs.Made.{clock, own}
+use Rattle.bits_core.specs.Made.{clock, subhistory}
 use Rattle.bits_core.specs.Shape.{batch_of, modulus_of}
 use Rattle.ring_core.specs.Counts.{first_count, number_past}
 use Rattle.ring_core.specs.Items.{all_put, items_put, items_put_in, IsTold, ItemsAreRead, ToldIn}
@@ -61,8 +61,8 @@ all_items script n (Stored seen items ∷ puts) (l, is, m) e =
     ∙ parts room (batch_of script.shape) left
 all_items script n (Full seen ∷ puts) (l, is, m) e = all_items script n puts m e
 
-clock_end : (s : Side) (h : List Event) → clock s h (length h) ≡ length (own s h)
-clock_end s h = ap (λ l. length (own s l)) (take-length h)
+clock_end : (s : Side) (h : List Event) → clock s h (length h) ≡ length (subhistory s h)
+clock_end s h = ap (λ l. length (subhistory s l)) (take-length h)
 
 pub put_all_items :
     InEveryRun ClosedIsTrue → ItemsAreRead → (script : Content) (letters : List Side) (h : List Event) → Plays script letters h → (puts : Puts) (takes : Takes) → FollowsPuts script.shape h puts →

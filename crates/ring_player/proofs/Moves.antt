@@ -7,8 +7,8 @@ use Rattle.bits_core.specs.declared.events.Access.{Access}
 use Rattle.bits_core.specs.declared.events.Access.TheVariants as access
 use Rattle.bits_core.specs.declared.events.Event.{Event}
 use Rattle.bits_core.specs.Bits.{is_by, other, same_side}
-use Rattle.bits_core.specs.Laws.{OwnChanges}
-use Rattle.bits_core.specs.Made.{Made, answered, begin_event, end_event, events_of, own, opening_event}
+use Rattle.bits_core.specs.Laws.{SubhistoryChanges}
+use Rattle.bits_core.specs.Made.{Made, answered, begin_event, end_event, events_of, subhistory, opening_event}
 use Rattle.ring_core.specs.Puts.{put_program}
 use Rattle.ring_core.specs.Takes.{take_program}
 use Rattle.ring_player.specs.Actors.{so_far, IsMove}
@@ -31,11 +31,11 @@ by_side s e by = ap (λ t. same_side s t) by ∙ same_side-refl s
 pub not_by : (s : Side) (e : Event) → e.side ≡ s → is_by (other s) e ≡ false
 not_by s e by = ap (λ t. same_side (other s) t) by ∙ same_side-other s
 
-pub own_by : OwnChanges → (s : Side) (h : List Event) (e : Event) → e.side ≡ s → own s (h ++ e ∷ []) ≡ own s h ++ e ∷ []
-own_by law s h e by = law s h e ∙ ap (λ t. if t then own s h ++ e ∷ [] else own s h) (by_side s e by)
+pub own_by : SubhistoryChanges → (s : Side) (h : List Event) (e : Event) → e.side ≡ s → subhistory s (h ++ e ∷ []) ≡ subhistory s h ++ e ∷ []
+own_by law s h e by = law s h e ∙ ap (λ t. if t then subhistory s h ++ e ∷ [] else subhistory s h) (by_side s e by)
 
-pub own_other : OwnChanges → (s : Side) (h : List Event) (e : Event) → e.side ≡ s → own (other s) (h ++ e ∷ []) ≡ own (other s) h
-own_other law s h e by = law (other s) h e ∙ ap (λ t. if t then own (other s) h ++ e ∷ [] else own (other s) h) (not_by s e by)
+pub own_other : SubhistoryChanges → (s : Side) (h : List Event) (e : Event) → e.side ≡ s → subhistory (other s) (h ++ e ∷ []) ≡ subhistory (other s) h
+own_other law s h e by = law (other s) h e ∙ ap (λ t. if t then subhistory (other s) h ++ e ∷ [] else subhistory (other s) h) (not_by s e by)
 
 -- ---- the events of accesses
 
@@ -71,9 +71,9 @@ done_whole : (script : Content) (s : Side) (events : List Event) → IsDoneAfter
 done_whole script P events (calls, are, whole, all, closes) = (put_program script.shape calls, whole)
 done_whole script C events (calls, are, whole, enough) = (take_program script.shape calls, whole)
 
-pub open_not_done : (script : Content) (s : Side) (h : List Event) (list : List Made) (a : Access) → own s h ≡ so_far s list (Some a) → ¬ IsDone script s h
+pub open_not_done : (script : Content) (s : Side) (h : List Event) (list : List Made) (a : Access) → subhistory s h ≡ so_far s list (Some a) → ¬ IsDone script s h
 open_not_done script s h list a are d =
-    let w = done_whole script s (own s h) d in
+    let w = done_whole script s (subhistory s h) d in
     not_whole s list w.0 (opening_event s a) (sym are ∙ w.1)
 
 -- a beginning of a program is one

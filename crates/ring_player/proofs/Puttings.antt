@@ -5,9 +5,9 @@ use Rattle.bits_core.specs.declared.events.Side.TheVariants.{P}
 use Rattle.bits_core.specs.declared.events.Access.{Access}
 use Rattle.bits_core.specs.declared.shapes.Shape.{Shape}
 use Rattle.bits_core.specs.Shape.{AllFit, batch_of, modulus_of, width_of}
-use Rattle.bits_core.specs.Made.{Made, answered, events_of, IsBeginning}
+use Rattle.bits_core.specs.Made.{Made, answered, events_of, IsPrefix}
 use Rattle.bits_core.specs.Open.{IsOpenRight}
-use Rattle.ring_core.specs.declared.producers.BatchReply.{BatchReply}
+use Rattle.ring_core.specs.declared.replies.BatchReply.{BatchReply}
 use Rattle.ring_core.specs.Calls.{LastBitIsDue}
 use Rattle.ring_core.specs.Counts.{number_past, Count, first_count}
 use Rattle.ring_core.specs.ProducerCalls.{and_put, closes_with, HasCallMore, ProducerHasMoved, IsAfterCall, IsPutOf, IsReplyToCall, last_put_reply, new_producer, no_puts, ProducerStands, put_reply_to, room_in}
@@ -248,7 +248,7 @@ unfinished law script p kept list due a s next is d =
         )
 
     begins_more : (more : Puts) (rest : List Made) → (list ++ answered a true ∷ []) ++ rest ≡ put_program script.shape more →
-        IsBeginning (events_of P (put_program script.shape d.0)) (events_of P (put_program script.shape more))
+        IsPrefix (events_of P (put_program script.shape d.0)) (events_of P (put_program script.shape more))
     begins_more more rest e = (
       events_of P (answered a true ∷ rest),
       ap (λ l. l ++ events_of P (answered a true ∷ rest)) (sym d.2) ∙ sym (events-append P list (answered a true ∷ rest)) ∙

@@ -11,9 +11,9 @@ use Rattle.bits_core.specs.declared.events.Act.TheVariants.{ReadEnd}
 use Rattle.bits_core.specs.declared.events.Event.{Event}
 use Rattle.bits_core.specs.Bits.{begun_by, is_by, other}
 use Rattle.bits_core.specs.History.{open_access}
-use Rattle.bits_core.specs.Laws.{OpenChanges, OwnChanges}
+use Rattle.bits_core.specs.Laws.{OpenChanges, SubhistoryChanges}
 use Rattle.bits_core.specs.Lawful.{IsLawful}
-use Rattle.bits_core.specs.Made.{Made, Read, answered, end_event, events_of, own, opening_event}
+use Rattle.bits_core.specs.Made.{Made, Read, answered, end_event, events_of, subhistory, opening_event}
 use Rattle.bits_core.specs.Open.{IsReading, IsWriting, bit_of}
 use Rattle.bits_core.specs.Shape.{modulus_of}
 use Rattle.register_core.specs.Row.{row_bit}
@@ -36,7 +36,7 @@ none_some a p = absurd (cc)
 
 -- where the side stands, by the access that it has open
 pub playing :
-    (s : Side) (h : List Event) (due : Option Access) (stands : Stands) (list : List Made) (o : Option Access) → open_access s h ≡ o → stands list o → own s h ≡ so_far s list o →
+    (s : Side) (h : List Event) (due : Option Access) (stands : Stands) (list : List Made) (o : Option Access) → open_access s h ≡ o → stands list o → subhistory s h ≡ so_far s list o →
     ((a : Access) → o ≡ Some a → due ≡ Some a) → IsPlaying s h due stands
 playing s h due stands list o e there own_is is_due = record {
   list = list;
@@ -48,7 +48,7 @@ playing s h due stands list o e there own_is is_due = record {
 pub there_with : (s : Side) (h : List Event) (due : Option Access) (stands : Stands) (o : Option Access) → (p : IsPlaying s h due stands) → open_access s h ≡ o → stands p.list o
 there_with s h due stands o p e = subst (stands p.list) e p.there
 
-pub own_with : (s : Side) (h : List Event) (due : Option Access) (stands : Stands) (o : Option Access) → (p : IsPlaying s h due stands) → open_access s h ≡ o → own s h ≡ so_far s p.list o
+pub own_with : (s : Side) (h : List Event) (due : Option Access) (stands : Stands) (o : Option Access) → (p : IsPlaying s h due stands) → open_access s h ≡ o → subhistory s h ≡ so_far s p.list o
 own_with s h due stands o p e = p.own_is ∙ ap (so_far s p.list) e
 
 -- an actor whose side stands still
@@ -67,7 +67,7 @@ writing (Some (access.Write b v)) w = (v, refl)
 
 -- an open access ended
 pub after_end :
-    OpenChanges → OwnChanges → (s : Side) (h h' : List Event) (due due' : Option Access) (stands stands' : Stands) (a : Access) (v : Bool) (e : Event) → (p : IsPlaying s h due stands) →
+    OpenChanges → SubhistoryChanges → (s : Side) (h h' : List Event) (due due' : Option Access) (stands stands' : Stands) (a : Access) (v : Bool) (e : Event) → (p : IsPlaying s h due stands) →
     open_access s h ≡ Some a → h' ≡ h ++ e ∷ [] → e ≡ end_event s (answered a v) → e.side ≡ s → begun_by e ≡ None → stands' (p.list ++ answered a v ∷ []) None → IsPlaying s h' due' stands'
 after_end opens owns s h h' due due' stands stands' a v e p o is end by ends there =
     subst (λ (t : List Event). IsPlaying s t due' stands') (sym is)
@@ -85,7 +85,7 @@ begun_side s (access.Read b) = refl
 begun_side s (access.Write b v) = refl
 
 pub after_begin :
-    OpenChanges → OwnChanges → (s : Side) (h h' : List Event) (due due' : Option Access) (stands stands' : Stands) (a : Access) → (p : IsPlaying s h due stands) → open_access s h ≡ None →
+    OpenChanges → SubhistoryChanges → (s : Side) (h h' : List Event) (due due' : Option Access) (stands stands' : Stands) (a : Access) → (p : IsPlaying s h due stands) → open_access s h ≡ None →
     h' ≡ h ++ opening_event s a ∷ [] → due' ≡ Some a → stands' p.list (Some a) → IsPlaying s h' due' stands'
 after_begin opens owns s h h' due due' stands stands' a p o is is_due there =
     let e : Event = opening_event s a in
@@ -119,12 +119,12 @@ row_same : (s : Side) (i j : ℕ) (m : ℕ) → suc i ≡ m → suc j ≡ m → 
 row_same s i j m e f = let same : i ≡ j = omega (arith, e, f) in ap (row_read_by s) same
 
 never_false :
-    PutsAreSeen → TakesAreSeen → (script : Content) (s : Side) (h : List Event) (list : List Made) (b : Bit) → IsLawful script.shape h → IsProgram script (other s) (own (other s) h) →
-    own s h ≡ events_of s (list ++ Read b false ∷ []) → EndsInZeros script.shape s list → (i : ℕ) → b ≡ row_read_by s i → suc i ≡ modulus_of script.shape → ⊥
+    PutsAreSeen → TakesAreSeen → (script : Content) (s : Side) (h : List Event) (list : List Made) (b : Bit) → IsLawful script.shape h → IsProgram script (other s) (subhistory (other s) h) →
+    subhistory s h ≡ events_of s (list ++ Read b false ∷ []) → EndsInZeros script.shape s list → (i : ℕ) → b ≡ row_read_by s i → suc i ≡ modulus_of script.shape → ⊥
 never_false puts takes script P h list b lawful (calls, are, begins) own_is (before, last, top, list_is) i b_is i_top =
     let made : list ++ Read b false ∷ [] ≡ before ++ (zero_reads (row_bit C) (modulus_of script.shape) ++ []) =
     all_zero (row_bit C) list before last (modulus_of script.shape) b list_is top (b_is ∙ row_same P i last (modulus_of script.shape) i_top top) in
-    let fewer = (takes script.shape h calls lawful (record { are = are.0; events = begins })).1 (list ++ Read b false ∷ []) before [] ([], append-nil (own P h) ∙ own_is) made in
+    let fewer = (takes script.shape h calls lawful (record { are = are.0; events = begins })).1 (list ++ Read b false ∷ []) before [] ([], append-nil (subhistory P h) ∙ own_is) made in
     absurd (omega (
       arith,
       fewer,
@@ -138,7 +138,7 @@ never_false puts takes script P h list b lawful (calls, are, begins) own_is (bef
 never_false puts takes script C h list b lawful (calls, are, begins) own_is (before, last, top, list_is) i b_is i_top =
     let made : list ++ Read b false ∷ [] ≡ before ++ (zero_reads (row_bit P) (modulus_of script.shape) ++ []) =
     all_zero (row_bit P) list before last (modulus_of script.shape) b list_is top (b_is ∙ row_same C i last (modulus_of script.shape) i_top top) in
-    let fewer = (puts script.shape h calls lawful (record { are = are.are; events = begins })).1 (list ++ Read b false ∷ []) before [] ([], append-nil (own C h) ∙ own_is) made in
+    let fewer = (puts script.shape h calls lawful (record { are = are.are; events = begins })).1 (list ++ Read b false ∷ []) before [] ([], append-nil (subhistory C h) ∙ own_is) made in
     absurd (omega (
       arith,
       fewer,
@@ -154,21 +154,21 @@ same_read : (b c : Bit) → Some (access.Read b) ≡ Some (access.Read c) → b 
 same_read b c e = cc
 
 pub answers_one :
-    PutsAreSeen → TakesAreSeen → OwnChanges → (script : Content) (s : Side) (h h' : List Event) (due : Option Access) (stands : Stands) (b : Bit) (v : Bool) → (p : IsPlaying s h due stands) →
-    open_access s h ≡ Some (access.Read b) → h' ≡ h ++ record { side = s; bit = b; act = ReadEnd v } ∷ [] → IsLawful script.shape h' → IsProgram script (other s) (own (other s) h) →
+    PutsAreSeen → TakesAreSeen → SubhistoryChanges → (script : Content) (s : Side) (h h' : List Event) (due : Option Access) (stands : Stands) (b : Bit) (v : Bool) → (p : IsPlaying s h due stands) →
+    open_access s h ≡ Some (access.Read b) → h' ≡ h ++ record { side = s; bit = b; act = ReadEnd v } ∷ [] → IsLawful script.shape h' → IsProgram script (other s) (subhistory (other s) h) →
     (LastBitIsDue script.shape s due → EndsInZeros script.shape s p.list) → LastBitIsDue script.shape s due → v ≡ true
 answers_one puts takes owns script s h h' due stands b true p o is lawful other_is zeros last = refl
 answers_one puts takes owns script s h h' due stands b false p o is lawful other_is zeros last =
     let e : Event = record { side = s; bit = b; act = ReadEnd false } in
     let (i, due_is, top) = last in
-    let there : own s h' ≡ events_of s (p.list ++ Read b false ∷ []) =
-    ap (own s) is ∙ own_by owns s h e refl ∙ ap (λ l. l ++ e ∷ []) (own_with s h due stands (Some (access.Read b)) p o) ∙ sym (events-more s p.list (access.Read b) false) in
-    let others : IsProgram script (other s) (own (other s) h') = subst (λ t. IsProgram script (other s) t) (sym (ap (own (other s)) is ∙ own_other owns s h e refl)) other_is in
+    let there : subhistory s h' ≡ events_of s (p.list ++ Read b false ∷ []) =
+    ap (subhistory s) is ∙ own_by owns s h e refl ∙ ap (λ l. l ++ e ∷ []) (own_with s h due stands (Some (access.Read b)) p o) ∙ sym (events-more s p.list (access.Read b) false) in
+    let others : IsProgram script (other s) (subhistory (other s) h') = subst (λ t. IsProgram script (other s) t) (sym (ap (subhistory (other s)) is ∙ own_other owns s h e refl)) other_is in
     absurd (never_false puts takes script s h' p.list b lawful others there (zeros last) i (same_read b (row_read_by s i) (sym (p.is_due (access.Read b) o) ∙ due_is)) top)
 
 -- ---- no more accesses than a count can tell
 
-own-length : (s : Side) (h : List Event) → length (own s h) ≤ length h
+own-length : (s : Side) (h : List Event) → length (subhistory s h) ≤ length h
 own-length s h = omega (arith, length-filter_both (is_by s) (λ e. not (is_by s e)) (λ e. refl) h)
 
 pub accesses_few : (s : Side) (h : List Event) (due : Option Access) (stands : Stands) (n : ℕ) → (p : IsPlaying s h due stands) → n ≡ length h → n < 2 ^ 64 → length p.list < 2 ^ 63

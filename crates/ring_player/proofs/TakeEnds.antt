@@ -4,8 +4,8 @@ use Rattle.bits_core.specs.declared.events.Side.TheVariants.{C}
 use Rattle.bits_core.specs.declared.events.Access.{Access}
 use Rattle.bits_core.specs.declared.shapes.Shape.{Shape}
 use Rattle.bits_core.specs.Made.{Made, answered, events_of}
-use Rattle.ring_core.specs.declared.consumers.TakeBatchReply.{TakeBatchReply}
-use Rattle.ring_core.specs.declared.consumers.TakeBatchReply.TheVariants as batch
+use Rattle.ring_core.specs.declared.replies.TakeBatchReply.{TakeBatchReply}
+use Rattle.ring_core.specs.declared.replies.TakeBatchReply.TheVariants as batch
 use Rattle.ring_core.specs.Calls.{LastBitIsDue}
 use Rattle.ring_core.specs.ConsumerCalls.{and_end, and_take, AreItemsOfTake, count_taken, ConsumerStands, HasTakeMore, IsAfterTake, IsReplyToTake, IsTakeOf, items_at_end, reply_at_end, take_batch_reply, take_reply_to, ends_closed}
 use Rattle.ring_core.specs.ConsumerState.{ConsumerState, due_take, is_taking}

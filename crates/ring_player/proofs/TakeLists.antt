@@ -7,7 +7,7 @@ use Rattle.bits_core.specs.declared.events.Side.TheVariants.{C}
 use Rattle.bits_core.specs.declared.shapes.Shape.{Shape}
 use Rattle.bits_core.specs.Made.{Read}
 use Rattle.register_core.specs.ScanState.{row_read_by, scan_phrase}
-use Rattle.ring_core.specs.declared.consumers.TakeReply.{TakeReply}
+use Rattle.ring_core.specs.declared.replies.TakeReply.{TakeReply}
 use Rattle.ring_core.specs.ConsumerCalls.{count_taken, ends_closed, IsTakeOf, last_items, last_take_reply, take_batch_reply, take_reply_to}
 use Rattle.ring_core.specs.Counts.{Count, first_count}
 use Rattle.ring_core.specs.Items.{all_taken, items_taken, take_ended, taken_of, Tells}

@@ -4,7 +4,7 @@ use Rattle.std.specs.Prelude.{◌-◌}
 use Rattle.bits_core.specs.declared.events.Side.TheVariants.{C}
 use Rattle.bits_core.specs.declared.events.Access.{Access}
 use Rattle.bits_core.specs.declared.shapes.Shape.{Shape}
-use Rattle.bits_core.specs.Made.{Made, answered, end_event, events_of, IsBeginning}
+use Rattle.bits_core.specs.Made.{Made, answered, end_event, events_of, IsPrefix}
 use Rattle.ring_core.specs.ConsumerCalls.{and_end, and_take, count_taken, IsTakeOf, ends_closed}
 use Rattle.ring_core.specs.ConsumerState.{ConsumerState, is_taking}
 use Rattle.ring_core.specs.Counts.{first_count}
@@ -22,7 +22,7 @@ use Rattle.ring_player.proofs.TakeLists.{all_are, empties_few, phrases-more, tak
 use Rattle.ring_player.proofs.Takings.{next_in}
 
 -- the events so far begin those with the due access made
-so_far_begins : (list : List Made) (o : Option Access) (a : Access) (v : Bool) → ((b : Access) → o ≡ Some b → Some a ≡ Some b) → IsBeginning (so_far C list o) (events_of C (list ++ answered a v ∷ []))
+so_far_begins : (list : List Made) (o : Option Access) (a : Access) (v : Bool) → ((b : Access) → o ≡ Some b → Some a ≡ Some b) → IsPrefix (so_far C list o) (events_of C (list ++ answered a v ∷ []))
 so_far_begins list None a v due = (events_of C (answered a v ∷ []), sym (events-append C list (answered a v ∷ [])))
 so_far_begins list (Some b) a v due =
     let same : a ≡ b = some_same (due b refl) in
@@ -31,7 +31,7 @@ so_far_begins list (Some b) a v due =
     some_same : Some a ≡ Some b → a ≡ b
     some_same e = cc
 
-begins-trans : {A : Type 0} (xs ys zs : List A) → IsBeginning xs ys → IsBeginning ys zs → IsBeginning xs zs
+begins-trans : {A : Type 0} (xs ys zs : List A) → IsPrefix xs ys → IsPrefix ys zs → IsPrefix xs zs
 begins-trans xs ys zs (r, e) (r', f) = (r ++ r', sym (append_assoc xs r r') ∙ ap (λ l. l ++ r') e ∙ f)
 
 pub taken_so_far :

@@ -4,7 +4,7 @@ use Rattle.std.specs.Prelude.{IfSome}
 use Rattle.bits_core.specs.declared.events.Side.TheVariants.{C}
 use Rattle.bits_core.specs.declared.events.Access.{Access}
 use Rattle.bits_core.specs.declared.shapes.Shape.{Shape}
-use Rattle.bits_core.specs.Made.{Made, answered, events_of, IsBeginning}
+use Rattle.bits_core.specs.Made.{Made, answered, events_of, IsPrefix}
 use Rattle.bits_core.specs.Open.{IsOpenRight}
 use Rattle.ring_core.specs.Calls.{LastBitIsDue}
 use Rattle.ring_core.specs.ConsumerCalls.{and_end, and_take, count_taken, ConsumerStands, ConsumerHasMoved, HasTakeMore, IsTakeOf, new_consumer, no_takes}
@@ -160,7 +160,7 @@ unfinished law script p taken told empty list due a s next is d =
         )
 
     begins_more : (more : Takes) (rest : List Made) → (list ++ answered a true ∷ []) ++ rest ≡ take_program script.shape more →
-        IsBeginning (events_of C (take_program script.shape d.0)) (events_of C (take_program script.shape more))
+        IsPrefix (events_of C (take_program script.shape d.0)) (events_of C (take_program script.shape more))
     begins_more more rest e = (
       events_of C (answered a true ∷ rest),
       ap (λ l. l ++ events_of C (answered a true ∷ rest)) (sym d.2) ∙ sym (events-append C list (answered a true ∷ rest)) ∙

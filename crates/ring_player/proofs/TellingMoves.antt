@@ -3,8 +3,8 @@ use Rattle.std.proofs.Common.{◌≡◌, ℕ, suc, ◌+◌, ◌<◌, Bool, true,
 use Rattle.std.specs.Prelude.{◌↔◌, replicate}
 use Rattle.std.proofs.lemmas.List.{map-append, replicate-append-replicate}
 use Rattle.bits_core.specs.Bits.{other}
-use Rattle.bits_core.specs.Laws.{OwnChanges}
-use Rattle.bits_core.specs.Made.{IsBeginning, own}
+use Rattle.bits_core.specs.Laws.{SubhistoryChanges}
+use Rattle.bits_core.specs.Made.{IsPrefix, subhistory}
 use Rattle.bits_core.specs.declared.events.Event.{Event}
 use Rattle.bits_core.specs.declared.events.Side.{Side}
 use Rattle.bits_core.specs.declared.events.Side.TheVariants.{P, C}
@@ -34,15 +34,15 @@ use Rattle.ring_player.proofs.Overs.{none_over_puts, none_over_takes}
 abbrev Telling : Type 0
 Telling = ℕ → List calls.Event
 
-own_first : (s : Side) (x : Event) (h : List Event) → x.side ≡ s → length (own s (x ∷ h)) ≡ suc (length (own s h))
-own_first s x h e = ap (λ (t : Bool). length (if t then x ∷ own s h else own s h)) (is_by_side s x e)
+own_first : (s : Side) (x : Event) (h : List Event) → x.side ≡ s → length (subhistory s (x ∷ h)) ≡ suc (length (subhistory s h))
+own_first s x h e = ap (λ (t : Bool). length (if t then x ∷ subhistory s h else subhistory s h)) (is_by_side s x e)
 
-own_not_first : (s : Side) (x : Event) (h : List Event) → x.side ≡ s → length (own (other s) (x ∷ h)) ≡ length (own (other s) h)
-own_not_first s x h e = ap (λ (t : Bool). length (if t then x ∷ own (other s) h else own (other s) h)) (not_by s x e)
+own_not_first : (s : Side) (x : Event) (h : List Event) → x.side ≡ s → length (subhistory (other s) (x ∷ h)) ≡ length (subhistory (other s) h)
+own_not_first s x h e = ap (λ (t : Bool). length (if t then x ∷ subhistory (other s) h else subhistory (other s) h)) (not_by s x e)
 
 -- what the last event tells, behind so many of the two sides
 abbrev last_told : Telling → Telling → (p c : ℕ) → List Event → Event → List calls.Event
-last_told f g p c h e = by_side e.side (f (p + length (own P h))) (g (c + length (own C h)))
+last_told f g p c h e = by_side e.side (f (p + length (subhistory P h))) (g (c + length (subhistory C h)))
 
 told-more : (f g : Telling) (p c : ℕ) (h : List Event) (e : Event) → calls_told f g p c (h ++ e ∷ []) ≡ calls_told f g p c h ++ last_told f g p c h e
 told-more f g p c [] e =
@@ -74,19 +74,19 @@ told-more f g p c (x ∷ h) e = by_first (λ a b. told-more f g a b h e) x.side 
 
 told-last :
     (f g : Telling) (h : List Event) (e : Event) →
-    calls_told f g 0 0 (h ++ e ∷ []) ≡ calls_told f g 0 0 h ++ by_side e.side (f (length (own P h))) (g (length (own C h)))
+    calls_told f g 0 0 (h ++ e ∷ []) ≡ calls_told f g 0 0 h ++ by_side e.side (f (length (subhistory P h))) (g (length (subhistory C h)))
 told-last f g h e =
     told-more f g 0 0 h e ∙ ap (λ l. calls_told f g 0 0 h ++ l) (ap₂ (λ (n : ℕ) (m : ℕ). by_side e.side (f n) (g m)) (omega arith) (omega arith))
 
 -- ---- what is told of it
 
-module _ (owns : OwnChanges) (script : Content) (h h' : List Event) (e : Event) (is : h' ≡ h ++ e ∷ []) where
-  begins_own : (s : Side) → e.side ≡ s → (es : List Event) → IsBeginning (own s h') es → IsBeginning (own s h) es
+module _ (owns : SubhistoryChanges) (script : Content) (h h' : List Event) (e : Event) (is : h' ≡ h ++ e ∷ []) where
+  begins_own : (s : Side) → e.side ≡ s → (es : List Event) → IsPrefix (subhistory s h') es → IsPrefix (subhistory s h) es
   begins_own s by es (rest, f) =
-      (e ∷ rest, sym (append_assoc (own s h) (e ∷ []) rest) ∙ ap (λ l. l ++ rest) (sym (ap (own s) is ∙ own_by owns s h e by)) ∙ f)
+      (e ∷ rest, sym (append_assoc (subhistory s h) (e ∷ []) rest) ∙ ap (λ l. l ++ rest) (sym (ap (subhistory s) is ∙ own_by owns s h e by)) ∙ f)
 
-  begins_other : (s : Side) → e.side ≡ s → (es : List Event) → IsBeginning (own (other s) h') es → IsBeginning (own (other s) h) es
-  begins_other s by es b = subst (λ l. IsBeginning l es) (ap (own (other s)) is ∙ own_other owns s h e by) b
+  begins_other : (s : Side) → e.side ≡ s → (es : List Event) → IsPrefix (subhistory (other s) h') es → IsPrefix (subhistory (other s) h) es
+  begins_other s by es b = subst (λ l. IsPrefix l es) (ap (subhistory (other s)) is ∙ own_other owns s h e by) b
 
   module _ (by : e.side ≡ P) (stage next : PutStage) (t : TakeStage) (items : ℕ) (before now : PutTally) (told : Option (CallEvent ℕ TakenItems)) where
     put_reading : (puts : Puts) (takes : Takes) → IsReadingAsked script h' puts takes → IsReadingAsked script h puts takes
@@ -96,13 +96,13 @@ module _ (owns : OwnChanges) (script : Content) (h h' : List Event) (e : Event) 
       takes_follow = record { are = r.takes_follow.are; events = begins_other P by _ r.takes_follow.events };
     }
 
-    one_put_more : length (own P h') ≡ suc (length (own P h))
-    one_put_more = omega (arith, ap length (ap (own P) is ∙ own_by owns P h e by), length-append (own P h) (e ∷ []))
+    one_put_more : length (subhistory P h') ≡ suc (length (subhistory P h))
+    one_put_more = omega (arith, ap length (ap (subhistory P) is ∙ own_by owns P h e by), length-append (subhistory P h) (e ∷ []))
 
-    put_few : (puts : Puts) → FollowsPuts script.shape h' puts → length (own P h) < events_in (put_program script.shape puts)
+    put_few : (puts : Puts) → FollowsPuts script.shape h' puts → length (subhistory P h) < events_in (put_program script.shape puts)
     put_few puts f =
         let (rest, b) = f.events in
-        omega (arith, one_put_more, ap length b, length-append (own P h') rest, length-events P (put_program script.shape puts))
+        omega (arith, one_put_more, ap length b, length-append (subhistory P h') rest, length-events P (put_program script.shape puts))
 
     pub put_moves :
         SaysPut stage items before now next told → items ≡ length script.items → AreAt stage t script h →
@@ -114,22 +114,22 @@ module _ (owns : OwnChanges) (script : Content) (h h' : List Event) (e : Event) 
     put_moves says all at stored full stored' full' = (
       (λ puts takes r. (
         subst (IsPutStage next script puts) (sym one_put_more) (said puts takes r).1,
-        subst (λ l. IsTakeStage t script takes (length l)) (sym (ap (own C) is ∙ own_other owns P h e by)) (at puts takes (put_reading puts takes r)).1,
+        subst (λ l. IsTakeStage t script takes (length l)) (sym (ap (subhistory C) is ∙ own_other owns P h e by)) (at puts takes (put_reading puts takes r)).1,
       )),
       (λ events tells puts takes r.
           let f : Telling = put_told script.shape (offers_of script puts) 0 first_count puts.puts puts.closes in
           let g : Telling = take_told script.shape (wants_of script takes) 0 first_count takes.takes takes.end in
           ap₂ (λ (a : List calls.Event) (b : List calls.Event). a ++ b) (tells puts takes (put_reading puts takes r))
-          ((said puts takes r).0 ∙ sym (ap (λ s. by_side s (f (length (own P h))) (g (length (own C h)))) by))
+          ((said puts takes r).0 ∙ sym (ap (λ s. by_side s (f (length (subhistory P h))) (g (length (subhistory C h)))) by))
           ∙ sym (told-last f g h e) ∙ ap (calls_told f g 0 0) (sym is)),
     )
       where
         said :
             (puts : Puts) (takes : Takes) → IsReadingAsked script h' puts takes →
-            (told_in script told ≡ put_told script.shape (offers_of script puts) 0 first_count puts.puts puts.closes (length (own P h))) × IsPutStage next script puts (suc (length (own P h)))
+            (told_in script told ≡ put_told script.shape (offers_of script puts) 0 first_count puts.puts puts.closes (length (subhistory P h))) × IsPutStage next script puts (suc (length (subhistory P h)))
         said puts takes r =
             let r' = put_reading puts takes r in
-            says script puts (length (own P h)) r.asked all (put_few puts r.puts_follow) (at puts takes r').0 (stored puts r'.puts_follow, full puts r'.puts_follow) (
+            says script puts (length (subhistory P h)) r.asked all (put_few puts r.puts_follow) (at puts takes r').0 (stored puts r'.puts_follow, full puts r'.puts_follow) (
               stored' puts r.puts_follow ∙ ap (λ n. stored_in 0 (puts_over script.shape first_count puts.puts n)) one_put_more,
               full' puts r.puts_follow ∙ ap (λ n. fulls (puts_over script.shape first_count puts.puts n)) one_put_more,
             )
@@ -142,13 +142,13 @@ module _ (owns : OwnChanges) (script : Content) (h h' : List Event) (e : Event) 
       takes_follow = record { are = r.takes_follow.are; events = begins_own C by _ r.takes_follow.events };
     }
 
-    one_take_more : length (own C h') ≡ suc (length (own C h))
-    one_take_more = omega (arith, ap length (ap (own C) is ∙ own_by owns C h e by), length-append (own C h) (e ∷ []))
+    one_take_more : length (subhistory C h') ≡ suc (length (subhistory C h))
+    one_take_more = omega (arith, ap length (ap (subhistory C) is ∙ own_by owns C h e by), length-append (subhistory C h) (e ∷ []))
 
-    take_few : (takes : Takes) → FollowsTakes script.shape h' takes → length (own C h) < events_in (take_program script.shape takes)
+    take_few : (takes : Takes) → FollowsTakes script.shape h' takes → length (subhistory C h) < events_in (take_program script.shape takes)
     take_few takes f =
         let (rest, b) = f.events in
-        omega (arith, one_take_more, ap length b, length-append (own C h') rest, length-events C (take_program script.shape takes))
+        omega (arith, one_take_more, ap length b, length-append (subhistory C h') rest, length-events C (take_program script.shape takes))
 
     -- what is counted of takes in a history
     abbrev pub IsCounted : List Event → TakeTally → Type 0
@@ -161,29 +161,29 @@ module _ (owns : OwnChanges) (script : Content) (h h' : List Event) (e : Event) 
         SaysTake t wanted before now next told →
         ((takes : Takes) → FollowsTakes script.shape h takes → wanted ≡ wanted_at script (length (all_taken (takes_over_in script.shape h takes)))) →
         AreAt stage t script h → IsCounted h before → IsCounted h' now →
-        ((takes : Takes) → FollowsTakes script.shape h' takes → IsBeginning (all_taken (takes_over_in script.shape h' takes)) script.items) →
+        ((takes : Takes) → FollowsTakes script.shape h' takes → IsPrefix (all_taken (takes_over_in script.shape h' takes)) script.items) →
         AreAt stage next script h' × ((events : List calls.Event) → TellsCalls script h events → TellsCalls script h' (events ++ told_in script told))
     take_moves says is_wanted at counted counted' first = (
       (λ puts takes r. (
-        subst (λ l. IsPutStage stage script puts (length l)) (sym (ap (own P) is ∙ own_other owns C h e by)) (at puts takes (take_reading puts takes r)).0,
+        subst (λ l. IsPutStage stage script puts (length l)) (sym (ap (subhistory P) is ∙ own_other owns C h e by)) (at puts takes (take_reading puts takes r)).0,
         subst (IsTakeStage next script takes) (sym one_take_more) (said puts takes r).1,
       )),
       (λ events tells puts takes r.
           let f : Telling = put_told script.shape (offers_of script puts) 0 first_count puts.puts puts.closes in
           let g : Telling = take_told script.shape (wants_of script takes) 0 first_count takes.takes takes.end in
           ap₂ (λ (a : List calls.Event) (b : List calls.Event). a ++ b) (tells puts takes (take_reading puts takes r))
-          ((said puts takes r).0 ∙ sym (ap (λ s. by_side s (f (length (own P h))) (g (length (own C h)))) by))
+          ((said puts takes r).0 ∙ sym (ap (λ s. by_side s (f (length (subhistory P h))) (g (length (subhistory C h)))) by))
           ∙ sym (told-last f g h e) ∙ ap (calls_told f g 0 0) (sym is)),
     )
       where
         said :
             (puts : Puts) (takes : Takes) → IsReadingAsked script h' puts takes →
-            (told_in script told ≡ take_told script.shape (wants_of script takes) 0 first_count takes.takes takes.end (length (own C h))) × IsTakeStage next script takes (suc (length (own C h)))
+            (told_in script told ≡ take_told script.shape (wants_of script takes) 0 first_count takes.takes takes.end (length (subhistory C h))) × IsTakeStage next script takes (suc (length (subhistory C h)))
         said puts takes r =
             let r' = take_reading puts takes r in
             let (now_taken, now_empty, now_told) = counted' takes r.takes_follow in
-            says script takes (length (own C h)) (is_wanted takes r'.takes_follow ∙ ap (wanted_at script) (sym (counted takes r'.takes_follow).0)) (take_few takes r.takes_follow)
-            r.takes_follow.are (subst (λ n. IsBeginning (all_taken (takes_over script.shape first_count takes.takes n)) script.items) one_take_more (first takes r.takes_follow))
+            says script takes (length (subhistory C h)) (is_wanted takes r'.takes_follow ∙ ap (wanted_at script) (sym (counted takes r'.takes_follow).0)) (take_few takes r.takes_follow)
+            r.takes_follow.are (subst (λ n. IsPrefix (all_taken (takes_over script.shape first_count takes.takes n)) script.items) one_take_more (first takes r.takes_follow))
             (at puts takes r').1 (counted takes r'.takes_follow) (
               now_taken ∙ ap (λ n. length (all_taken (takes_over script.shape first_count takes.takes n))) one_take_more,
               now_empty ∙ ap (λ n. empties (takes_over script.shape first_count takes.takes n)) one_take_more,
@@ -210,7 +210,7 @@ Stepped script script' h h' stage t told =
     AreAt stage t script' h' × ((events : List calls.Event) → TellsCalls script h events → TellsCalls script' h' (events ++ told_in script told))
 
 pub put_stepped :
-    OwnChanges → (script script' : Content) (h h' : List Event) (stage next : PutStage) (t : TakeStage) (items : ℕ) (before now : PutTally) (told : Option (CallEvent ℕ TakenItems)) → script' ≡ script →
+    SubhistoryChanges → (script script' : Content) (h h' : List Event) (stage next : PutStage) (t : TakeStage) (items : ℕ) (before now : PutTally) (told : Option (CallEvent ℕ TakenItems)) → script' ≡ script →
     IsMove script P true h h' → SaysPut stage items before now next told → items ≡ length script.items → AreAt stage t script h → ArePutsCounted script h before →
     ArePutsCounted script' h' now → Stepped script script' h h' next t told
 put_stepped owns script script' h h' stage next t items before now told same (e, is, by, not) says all at counted counted' =
@@ -226,10 +226,10 @@ AreTakesCounted script h kept =
 
 -- the items that the takes which are over took are the script's first ones
 abbrev pub AreFirst : Content → List Event → Type 0
-AreFirst script h = (takes : Takes) → FollowsTakes script.shape h takes → IsBeginning (all_taken (takes_over_in script.shape h takes)) script.items
+AreFirst script h = (takes : Takes) → FollowsTakes script.shape h takes → IsPrefix (all_taken (takes_over_in script.shape h takes)) script.items
 
 pub take_stepped :
-    OwnChanges → (script script' : Content) (h h' : List Event) (stage : PutStage) (t next : TakeStage) (wanted : ℕ) (before now : TakeTally) (told : Option (CallEvent ℕ TakenItems)) → script' ≡ script →
+    SubhistoryChanges → (script script' : Content) (h h' : List Event) (stage : PutStage) (t next : TakeStage) (wanted : ℕ) (before now : TakeTally) (told : Option (CallEvent ℕ TakenItems)) → script' ≡ script →
     IsMove script C true h h' → SaysTake t wanted before now next told →
     ((takes : Takes) → FollowsTakes script.shape h takes → wanted ≡ wanted_at script (length (all_taken (takes_over_in script.shape h takes)))) →
     AreAt stage t script h → AreTakesCounted script h before → AreTakesCounted script' h' now → AreFirst script' h' → Stepped script script' h h' stage next told

@@ -1,7 +1,7 @@
 -- What one event of a side tells of its calls, by the stage that the side is in and by what is counted of the calls that are over.
 use Rattle.std.proofs.Common.{◌≡◌, ◌⊎◌, inl, inr, ℕ, suc, ◌+◌, ◌-◌, ◌<◌, ◌≤◌, true, List, [], ◌∷◌, ◌++◌, length, take, drop, refl, sym, ap, ap₂, subst, ◌∙◌, arith, append_assoc, length-append}
 use Rattle.std.proofs.Math.Seq.{drop-append_seam, take-append_seam}
-use Rattle.bits_core.specs.Made.{IsBeginning}
+use Rattle.bits_core.specs.Made.{IsPrefix}
 use Rattle.bits_core.specs.declared.shapes.Shape.{Shape}
 use Rattle.queue_calls.specs.Calls as calls
 use Rattle.ring_core.specs.Counts.{first_count}
@@ -223,7 +223,7 @@ module _ (law : TakesTellByOne) (script : Content) (takes : Takes) (i : ℕ) (fe
 
   -- a take goes on, or it ends, by what is counted
   pub take_goes :
-      (taken taken' empty empty' : ℕ) → AreTakes shape_of 0 takes.takes takes.end → IsBeginning (all_taken over_after) script.items → IsTakeStage taking.Taking script takes i →
+      (taken taken' empty empty' : ℕ) → AreTakes shape_of 0 takes.takes takes.end → IsPrefix (all_taken over_after) script.items → IsTakeStage taking.Taking script takes i →
       taken ≡ length (all_taken over_before) → empty ≡ empties over_before → taken' ≡ length (all_taken over_after) → empty' ≡ empties over_after →
       Ends taken taken' empty empty' ⊎
       ((taken' ≤ taken) × (empty' ≤ empty) ×

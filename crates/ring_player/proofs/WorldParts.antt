@@ -8,8 +8,8 @@ use Rattle.bits_core.specs.declared.events.Event.{Event}
 use Rattle.bits_core.specs.Bits.{begun_by, other}
 use Rattle.bits_core.specs.History.{open_access}
 use Rattle.bits_core.specs.Lawful.{IsLawful}
-use Rattle.bits_core.specs.Laws.{FlickerIsByInterval, OpenChanges, OwnChanges}
-use Rattle.bits_core.specs.Made.{clock, IsBeginning, own}
+use Rattle.bits_core.specs.Laws.{FlickerIsByInterval, OpenChanges, SubhistoryChanges}
+use Rattle.bits_core.specs.Made.{clock, IsPrefix, subhistory}
 use Rattle.bits_core.specs.Memory.{MemoryState}
 use Rattle.bits_core.specs.Oracle.{turn}
 use Rattle.ring_player.specs.Actors.{IsAtTurn, IsMove, IsPlaying, PutTally, so_far}
@@ -18,7 +18,7 @@ use Rattle.std.specs.Prelude.{replicate, slice_index_or}
 use Rattle.std.proofs.lemmas.Bool.{cases_lt}
 use Rattle.std.proofs.lemmas.List.{length-append, length-replicate, take_all, take_more, take-append-drop, take-append-le, take-replicate}
 use Rattle.std.proofs.Math.Seq.{take-append-add, take-length}
-use Rattle.ring_script.specs.declared.schedules.Run.{Run}
+use Rattle.ring_script.specs.declared.schedules.LetterRun.{LetterRun}
 use Rattle.ring_script.specs.Schedule.{spelled}
 use Rattle.ring_script.specs.Content.{Content}
 use Rattle.ring_core.specs.Counts.{first_count}
@@ -47,7 +47,7 @@ grown script s h h' (Err e) ok err = inr err
 
 -- the other side stands where it was
 playing_other :
-    OpenChanges → OwnChanges → (script : Content) (s : Side) (h h' : List Event) (due : Option Access) (stands : Stands) → Grown script s h h' → IsPlaying (other s) h due stands →
+    OpenChanges → SubhistoryChanges → (script : Content) (s : Side) (h h' : List Event) (due : Option Access) (stands : Stands) → Grown script s h h' → IsPlaying (other s) h due stands →
     IsPlaying (other s) h' due stands
 playing_other opens owns script s h h' due stands (inl (e, is, by, n)) p =
     let open_same : open_access (other s) (h ++ e ∷ []) ≡ open_access (other s) h =
@@ -67,7 +67,7 @@ moves_grown script s h h' (inl (e, is, by, not)) m =
 moves_grown script s h h' (inr is) m = subst (λ (t : List Event). AreMoves script (event_sides t) [] t) (sym is) m
 
 pub producer_steps :
-    OpenChanges → OwnChanges → (script : Content) (m m' : MemoryState) (ps ps' cs : Content) (pd pd' cd : Option Access) (pt pt' ct : Stands) (a a' : ℕ → Bool) → IsWorld script m ps cs pd cd pt ct a →
+    OpenChanges → SubhistoryChanges → (script : Content) (m m' : MemoryState) (ps ps' cs : Content) (pd pd' cd : Option Access) (pt pt' ct : Stands) (a a' : ℕ → Bool) → IsWorld script m ps cs pd cd pt ct a →
     m'.shape ≡ m.shape → ps' ≡ ps → IsPlaying P m'.events pd' pt' → Grown ps P m.events m'.events → ((turns : ℕ → Bool) → IsAtTurn turns m.events a → IsAtTurn turns m'.events a') →
     IsWorld script m' ps' cs pd' cd pt' ct a'
 producer_steps opens owns script m m' ps ps' cs pd pd' cd pt pt' ct a a' w shape same playing g turns =
@@ -83,7 +83,7 @@ producer_steps opens owns script m m' ps ps' cs pd pd' cd pt pt' ct a a' w shape
     }
 
 pub consumer_steps :
-    OpenChanges → OwnChanges → (script : Content) (m m' : MemoryState) (ps cs cs' : Content) (pd cd cd' : Option Access) (pt ct ct' : Stands) (a a' : ℕ → Bool) → IsWorld script m ps cs pd cd pt ct a →
+    OpenChanges → SubhistoryChanges → (script : Content) (m m' : MemoryState) (ps cs cs' : Content) (pd cd cd' : Option Access) (pt ct ct' : Stands) (a a' : ℕ → Bool) → IsWorld script m ps cs pd cd pt ct a →
     m'.shape ≡ m.shape → cs' ≡ cs → IsPlaying C m'.events cd' ct' → Grown cs C m.events m'.events → ((turns : ℕ → Bool) → IsAtTurn turns m.events a → IsAtTurn turns m'.events a') →
     IsWorld script m' ps cs' pd cd' pt ct' a'
 consumer_steps opens owns script m m' ps cs cs' pd cd cd' pt ct ct' a a' w shape same playing g turns =
@@ -102,14 +102,14 @@ consumer_steps opens owns script m m' ps cs cs' pd cd cd' pt ct ct' a a' w shape
 
 pub plays_of :
     FlickerIsByInterval → (script : Content) (m : MemoryState) (ps cs : Content) (pd cd : Option Access) (pt ct : Stands) (a : ℕ → Bool) → IsWorld script m ps cs pd cd pt ct a →
-    IsLawful m.shape m.events → IsProgram ps P (own P m.events) → IsProgram cs C (own C m.events) → Plays script (event_sides m.events) m.events
+    IsLawful m.shape m.events → IsProgram ps P (subhistory P m.events) → IsProgram cs C (subhistory C m.events) → Plays script (event_sides m.events) m.events
 plays_of flicker script m ps cs pd cd pt ct a w lawful puts takes =
     let lawful' : IsLawful script.shape m.events = subst (λ t. IsLawful t m.events) w.shape lawful in
     record {
       played = record {
         lawful = lawful';
-        puts = subst (λ (t : Content). IsProgram t P (own P m.events)) w.put_script_is puts;
-        takes = subst (λ (t : Content). IsProgram t C (own C m.events)) w.take_script_is takes;
+        puts = subst (λ (t : Content). IsProgram t P (subhistory P m.events)) w.put_script_is puts;
+        takes = subst (λ (t : Content). IsProgram t C (subhistory C m.events)) w.take_script_is takes;
         answers = in_turn flicker script.shape m.events lawful' script.oracle a w.oracle;
       };
       moves = w.moves;
@@ -158,8 +158,8 @@ pub taken_of :
     TakenSoFar cs.shape (so_far C p.list (open_access C h)) taken told empty → (takes : Takes) → FollowsTakes script.shape h takes →
     (taken ≡ items_taken_in script.shape h takes) × ((told ≡ true) ↔ ToldIn script.shape h takes)
 taken_of read script cs h due stands taken told empty same p t takes follows =
-    let u : TakenSoFar script.shape (own C h) taken told empty =
-    subst (λ (x : Content). TakenSoFar x.shape (own C h) taken told empty) same (subst (λ l. TakenSoFar cs.shape l taken told empty) (sym p.own_is) t) in
+    let u : TakenSoFar script.shape (subhistory C h) taken told empty =
+    subst (λ (x : Content). TakenSoFar x.shape (subhistory C h) taken told empty) same (subst (λ l. TakenSoFar cs.shape l taken told empty) (sym p.own_is) t) in
     let mine : FollowsTakes script.shape h u.takes = record { are = u.are; events = u.begins } in
     let (items, told_there) = read script.shape h u.takes takes mine follows in
     let (items', told_back) = read script.shape h takes u.takes follows mine in
@@ -169,8 +169,8 @@ pub empty_of :
     TakesOverAreRead → (script cs : Content) (h : List Event) (due : Option Access) (stands : Stands) (taken : List ℕ) (told : Bool) (empty : ℕ) → cs ≡ script → (p : IsPlaying C h due stands) →
     TakenSoFar cs.shape (so_far C p.list (open_access C h)) taken told empty → (takes : Takes) → FollowsTakes script.shape h takes → empty ≡ empties (takes_over_in script.shape h takes)
 empty_of read script cs h due stands taken told empty same p t takes follows =
-    let u : TakenSoFar script.shape (own C h) taken told empty =
-    subst (λ (x : Content). TakenSoFar x.shape (own C h) taken told empty) same (subst (λ l. TakenSoFar cs.shape l taken told empty) (sym p.own_is) t) in
+    let u : TakenSoFar script.shape (subhistory C h) taken told empty =
+    subst (λ (x : Content). TakenSoFar x.shape (subhistory C h) taken told empty) same (subst (λ l. TakenSoFar cs.shape l taken told empty) (sym p.own_is) t) in
     let mine : FollowsTakes script.shape h u.takes = record { are = u.are; events = u.begins } in
     sym u.over ∙ ap empties (read script.shape h u.takes takes mine follows)
 
@@ -180,7 +180,7 @@ pub put_of :
     ItemsAreRead → (script ps : Content) (h : List Event) (due : Option Access) (stands : Stands) (put : List ℕ) (kept : PutTally) → ps ≡ script → (p : IsPlaying P h due stands) →
     PutSoFar ps.shape (so_far P p.list (open_access P h)) put kept → (puts : Puts) → FollowsPuts script.shape h puts → put ≡ items_put_in script.shape h puts
 put_of read script ps h due stands put kept same p t puts follows =
-    let u : PutSoFar script.shape (own P h) put kept = subst (λ (x : Content). PutSoFar x.shape (own P h) put kept) same (subst (λ l. PutSoFar ps.shape l put kept) (sym p.own_is) t) in
+    let u : PutSoFar script.shape (subhistory P h) put kept = subst (λ (x : Content). PutSoFar x.shape (subhistory P h) put kept) same (subst (λ l. PutSoFar ps.shape l put kept) (sym p.own_is) t) in
     let mine : FollowsPuts script.shape h u.puts = record { are = u.are; events = u.begins } in
     sym u.items ∙ read script.shape h u.puts puts mine follows
 
@@ -188,7 +188,7 @@ pub full_of :
     PutsOverAreRead → (script ps : Content) (h : List Event) (due : Option Access) (stands : Stands) (put : List ℕ) (kept : PutTally) → ps ≡ script → (p : IsPlaying P h due stands) →
     PutSoFar ps.shape (so_far P p.list (open_access P h)) put kept → (puts : Puts) → FollowsPuts script.shape h puts → kept.full ≡ fulls (puts_over_in script.shape h puts)
 full_of read script ps h due stands put kept same p t puts follows =
-    let u : PutSoFar script.shape (own P h) put kept = subst (λ (x : Content). PutSoFar x.shape (own P h) put kept) same (subst (λ l. PutSoFar ps.shape l put kept) (sym p.own_is) t) in
+    let u : PutSoFar script.shape (subhistory P h) put kept = subst (λ (x : Content). PutSoFar x.shape (subhistory P h) put kept) same (subst (λ l. PutSoFar ps.shape l put kept) (sym p.own_is) t) in
     let mine : FollowsPuts script.shape h u.puts = record { are = u.are; events = u.begins } in
     sym u.over ∙ ap fulls (read script.shape h u.puts puts mine follows)
 
@@ -196,7 +196,7 @@ pub stored_of :
     PutsOverAreRead → (script ps : Content) (h : List Event) (due : Option Access) (stands : Stands) (put : List ℕ) (kept : PutTally) → ps ≡ script → (p : IsPlaying P h due stands) →
     PutSoFar ps.shape (so_far P p.list (open_access P h)) put kept → (puts : Puts) → FollowsPuts script.shape h puts → kept.stored ≡ stored_in 0 (puts_over_in script.shape h puts)
 stored_of read script ps h due stands put kept same p t puts follows =
-    let u : PutSoFar script.shape (own P h) put kept = subst (λ (x : Content). PutSoFar x.shape (own P h) put kept) same (subst (λ l. PutSoFar ps.shape l put kept) (sym p.own_is) t) in
+    let u : PutSoFar script.shape (subhistory P h) put kept = subst (λ (x : Content). PutSoFar x.shape (subhistory P h) put kept) same (subst (λ l. PutSoFar ps.shape l put kept) (sym p.own_is) t) in
     let mine : FollowsPuts script.shape h u.puts = record { are = u.are; events = u.begins } in
     sym u.stored ∙ ap (stored_in 0) (read script.shape h u.puts puts mine follows)
 
@@ -204,57 +204,57 @@ pub ended_of :
     TakesOverAreRead → (script cs : Content) (h : List Event) (due : Option Access) (stands : Stands) (taken : List ℕ) (told : Bool) (empty : ℕ) → cs ≡ script → (p : IsPlaying C h due stands) →
     TakenSoFar cs.shape (so_far C p.list (open_access C h)) taken told empty → (takes : Takes) → FollowsTakes script.shape h takes → taken ≡ all_taken (takes_over_in script.shape h takes)
 ended_of read script cs h due stands taken told empty same p t takes follows =
-    let u : TakenSoFar script.shape (own C h) taken told empty =
-    subst (λ (x : Content). TakenSoFar x.shape (own C h) taken told empty) same (subst (λ l. TakenSoFar cs.shape l taken told empty) (sym p.own_is) t) in
+    let u : TakenSoFar script.shape (subhistory C h) taken told empty =
+    subst (λ (x : Content). TakenSoFar x.shape (subhistory C h) taken told empty) same (subst (λ l. TakenSoFar cs.shape l taken told empty) (sym p.own_is) t) in
     let mine : FollowsTakes script.shape h u.takes = record { are = u.are; events = u.begins } in
     sym u.ended ∙ ap all_taken (read script.shape h u.takes takes mine follows)
 
 -- ---- the items taken are the script's first ones
 
-clock_end : (s : Side) (h : List Event) → clock s h (length h) ≡ length (own s h)
-clock_end s h = ap (λ l. length (own s l)) (take-length h)
+clock_end : (s : Side) (h : List Event) → clock s h (length h) ≡ length (subhistory s h)
+clock_end s h = ap (λ l. length (subhistory s l)) (take-length h)
 
 -- the items taken are the first of those put
 pub front_of :
     (script ps cs : Content) (h : List Event) (pd cd : Option Access) (pt ct : Stands) (put taken : List ℕ) (kept : PutTally) (told : Bool) (empty : ℕ) → ps ≡ script → cs ≡ script →
     (p : IsPlaying P h pd pt) → (t : IsPlaying C h cd ct) → PutSoFar ps.shape (so_far P p.list (open_access P h)) put kept →
-    TakenSoFar cs.shape (so_far C t.list (open_access C h)) taken told empty → HoldsHeadline script h → IsBeginning taken put
+    TakenSoFar cs.shape (so_far C t.list (open_access C h)) taken told empty → HoldsHeadline script h → IsPrefix taken put
 front_of script ps cs h pd cd pt ct put taken kept told empty same_p same_c p t puts takes holds =
-    let u : PutSoFar script.shape (own P h) put kept = subst (λ (x : Content). PutSoFar x.shape (own P h) put kept) same_p (subst (λ l. PutSoFar ps.shape l put kept) (sym p.own_is) puts) in
-    let v : TakenSoFar script.shape (own C h) taken told empty =
-    subst (λ (x : Content). TakenSoFar x.shape (own C h) taken told empty) same_c (subst (λ l. TakenSoFar cs.shape l taken told empty) (sym t.own_is) takes) in
+    let u : PutSoFar script.shape (subhistory P h) put kept = subst (λ (x : Content). PutSoFar x.shape (subhistory P h) put kept) same_p (subst (λ l. PutSoFar ps.shape l put kept) (sym p.own_is) puts) in
+    let v : TakenSoFar script.shape (subhistory C h) taken told empty =
+    subst (λ (x : Content). TakenSoFar x.shape (subhistory C h) taken told empty) same_c (subst (λ l. TakenSoFar cs.shape l taken told empty) (sym t.own_is) takes) in
     let (rest, is) = (holds u.puts v.takes (record { are = u.are; events = u.begins }) (record { are = v.are; events = v.begins })).prefix (length h) in
     let put_so : items_put script.shape first_count u.puts.puts (clock P h (length h)) ≡ put = ap (items_put script.shape first_count u.puts.puts) (clock_end P h) ∙ u.items in
     let taken_so : items_taken script.shape first_count v.takes.takes (clock C h (length h)) ≡ taken = ap (items_taken script.shape first_count v.takes.takes) (clock_end C h) ∙ v.items in
     (rest, ap (λ l. l ++ rest) (sym taken_so) ∙ is ∙ put_so)
 
 -- so they are the first of all items, where those put are
-pub first_of : (taken items : List ℕ) (n : ℕ) → IsBeginning taken (take n items) → IsBeginning taken items
+pub first_of : (taken items : List ℕ) (n : ℕ) → IsPrefix taken (take n items) → IsPrefix taken items
 first_of taken items n (rest, e) =
     (rest ++ drop n items, sym (append_assoc taken rest (drop n items)) ∙ ap (λ l. l ++ drop n items) e ∙ take-append-drop n items)
 
-pub first_few : (taken items : List ℕ) → IsBeginning taken items → length taken ≤ length items
+pub first_few : (taken items : List ℕ) → IsPrefix taken items → length taken ≤ length items
 first_few taken items (rest, e) = omega (arith, ap length e, length-append taken rest)
 
 -- ---- the schedule
 
 -- the letters of the first runs, and of one more
-spelled-append : (xs ys : List Run) → spelled (xs ++ ys) ≡ spelled xs ++ spelled ys
+spelled-append : (xs ys : List LetterRun) → spelled (xs ++ ys) ≡ spelled xs ++ spelled ys
 unfolding spelled
 spelled-append [] ys = refl
 spelled-append (x ∷ xs) ys = ap (λ l. replicate x.count x.side ++ l) (spelled-append xs ys) ∙ sym (append_assoc (replicate x.count x.side) (spelled xs) (spelled ys))
 
-spelled-one : (x : Run) → spelled (x ∷ []) ≡ replicate x.count x.side
+spelled-one : (x : LetterRun) → spelled (x ∷ []) ≡ replicate x.count x.side
 unfolding spelled
 spelled-one x = append-nil (replicate x.count x.side)
 
 pub spelled-more :
-    (xs : List Run) (i : ℕ) (d : Run) → i < length xs → spelled (take (i + 1) xs) ≡ spelled (take i xs) ++ replicate (slice_index_or xs i d).count (slice_index_or xs i d).side
+    (xs : List LetterRun) (i : ℕ) (d : LetterRun) → i < length xs → spelled (take (i + 1) xs) ≡ spelled (take i xs) ++ replicate (slice_index_or xs i d).count (slice_index_or xs i d).side
 spelled-more xs i d l =
     ap spelled (take_more xs i d l) ∙ spelled-append (take i xs) (slice_index_or xs i d ∷ []) ∙ ap (λ t. spelled (take i xs) ++ t) (spelled-one (slice_index_or xs i d))
 
 -- the letters of the first runs and of one more are some of all
-pub within_all : (xs : List Run) (i : ℕ) (d : Run) → i < length xs → length (spelled (take i xs)) + (get_or xs i d).count ≤ length (spelled xs)
+pub within_all : (xs : List LetterRun) (i : ℕ) (d : LetterRun) → i < length xs → length (spelled (take i xs)) + (get_or xs i d).count ≤ length (spelled xs)
 unfolding spelled
 within_all [] i d h = absurd (omega (arith, h))
 within_all (x ∷ xs) zero d h = omega (arith, length-append (replicate x.count x.side) (spelled xs), length-replicate x.count x.side)

@@ -8,7 +8,7 @@ use Rattle.bits_core.specs.declared.events.Access.TheVariants as access
 use Rattle.bits_core.specs.declared.events.Bit.TheVariants as bit
 use Rattle.bits_core.specs.declared.shapes.Shape.{Shape}
 use Rattle.bits_core.specs.Shape.{batch_of, modulus_of, width_of}
-use Rattle.bits_core.specs.Made.{Made, Read, Write, answered, end_event, events_of, IsBeginning, opening_event}
+use Rattle.bits_core.specs.Made.{Made, Read, Write, answered, end_event, events_of, IsPrefix, opening_event}
 use Rattle.register_core.specs.ScanState.{row_read_by, zero_reads}
 use Rattle.ring_core.specs.Counts.{batch_phrase, Count, first_count}
 use Rattle.ring_core.specs.CountWrites.{CountsAreWritten, CountsShowNumbers}
@@ -104,7 +104,7 @@ full_few script p kept list o s =
 
 -- ---- what is put is the first of the script's items
 
-begin_take : (xs ys : List ℕ) → IsBeginning xs ys → xs ≡ take (length xs) ys
+begin_take : (xs ys : List ℕ) → IsPrefix xs ys → xs ≡ take (length xs) ys
 begin_take [] [] p = refl
 begin_take [] (y ∷ ys) p = refl
 begin_take (x ∷ xs) [] (r, e) = absurd (cc)
@@ -113,7 +113,7 @@ begin_take (x ∷ xs) (y ∷ ys) (r, e) =
     let head : x ≡ y = cc in
     ap (λ l. x ∷ l) (begin_take xs ys (r, tails)) ∙ ap (λ z. z ∷ take (length xs) ys) head
 
-put_first : (shape : Shape) (c : Count) (list : List puts.Put) (t : ℕ) → IsBeginning (items_put shape c list t) (all_put list)
+put_first : (shape : Shape) (c : Count) (list : List puts.Put) (t : ℕ) → IsPrefix (items_put shape c list t) (all_put list)
 put_first shape c [] t = ([], refl)
 put_first shape c (Full u ∷ list) t = put_first shape c list (t - events_in (put_phrase shape c (Full u)))
 put_first shape c (Stored u items ∷ list) t =
@@ -128,13 +128,13 @@ put_first shape c (Stored u items ∷ list) t =
     later : ℕ
     later = t - events_in (put_phrase shape c (Stored u items))
 
-    by_test : IsBeginning (items_put shape next list later) (all_put list) → (b : Bool) → nat_lt front t ≡ b → IsBeginning (cond b items [] ++ items_put shape next list later) (items ++ all_put list)
+    by_test : IsPrefix (items_put shape next list later) (all_put list) → (b : Bool) → nat_lt front t ≡ b → IsPrefix (cond b items [] ++ items_put shape next list later) (items ++ all_put list)
     by_test (r, e) true f = (r, append_assoc items (items_put shape next list later) r ∙ ap (λ l. items ++ l) e)
     by_test (r, e) false f =
         let none : items_put shape next list later ≡ [] = put_nothing shape next list later (omega (arith, ltb-false front t f, length-append (accesses_before_count shape c.number u items) (batch_phrase shape P c items))) in
         (items ++ all_put list, ap (λ (l : List ℕ). [] ++ l ++ (items ++ all_put list)) none)
 
-attempts_first : (script : Content) (n : ℕ) (list : List puts.Put) → AreAttempts script n list → IsBeginning (all_put list) (drop n script.items)
+attempts_first : (script : Content) (n : ℕ) (list : List puts.Put) → AreAttempts script n list → IsPrefix (all_put list) (drop n script.items)
 attempts_first script n [] m = (drop n script.items, refl)
 attempts_first script n (Stored seen items ∷ list) (l, is, m) =
     let room : ℕ = room_in script.shape (n % modulus_of script.shape) seen in
@@ -147,7 +147,7 @@ attempts_first script n (Stored seen items ∷ list) (l, is, m) =
     )
 attempts_first script n (Full seen ∷ list) (l, is, m) = attempts_first script n list m
 
-begins-trans : {A : Type 0} (xs ys zs : List A) → IsBeginning xs ys → IsBeginning ys zs → IsBeginning xs zs
+begins-trans : {A : Type 0} (xs ys zs : List A) → IsPrefix xs ys → IsPrefix ys zs → IsPrefix xs zs
 begins-trans xs ys zs (r, e) (r', f) = (r ++ r', sym (append_assoc xs r r') ∙ ap (λ l. l ++ r') e ∙ f)
 
 none_dropped : (xs : List ℕ) → drop 0 xs ≡ xs
@@ -166,7 +166,7 @@ with_open_length list (Some a) = (
 -- by one reading
 reading_so_far :
     CountsShowNumbers → CountsAreWritten → (script : Content) (digits put : ℕ) (kept : PutTally) (list : List Made) (o : Option Access) → HasWritten script digits put list o → (more : Puts) → ArePutsOf script more →
-    IsBeginning (with_open list o) (put_program script.shape more) → IsBeginning (so_far P list o) (events_of P (put_program script.shape more)) →
+    IsPrefix (with_open list o) (put_program script.shape more) → IsPrefix (so_far P list o) (events_of P (put_program script.shape more)) →
     (ended : List puts.Put) → puts_over script.shape first_count more.puts (length (so_far P list o)) ≡ ended → kept.full ≡ fulls ended → kept.stored ≡ stored_in 0 ended →
     PutSoFar script.shape (so_far P list o) (take put script.items) kept
 reading_so_far numbers written script digits put kept list o s more asked begins events ended over full stored =
@@ -179,9 +179,9 @@ reading_so_far numbers written script digits put kept list o s more asked begins
     let count : put ≡ length (items_put shape first_count more.puts t) =
     s.put_is ∙ ap (λ n. items_begun w n 0 (with_open list o)) (sym start)
     ∙ put_begun numbers written shape first_count more.puts more.closes (with_open list o) t (numbers shape).0 asked.are begins bounds.0 bounds.1 ∙ none in
-    let first : IsBeginning (items_put shape first_count more.puts t) script.items =
+    let first : IsPrefix (items_put shape first_count more.puts t) script.items =
     begins-trans (items_put shape first_count more.puts t) (all_put more.puts) script.items (put_first shape first_count more.puts t)
-    (subst (IsBeginning (all_put more.puts)) (none_dropped script.items) (attempts_first script 0 more.puts asked.attempts)) in
+    (subst (IsPrefix (all_put more.puts)) (none_dropped script.items) (attempts_first script 0 more.puts asked.attempts)) in
     record {
       puts = more;
       are = asked.are;
@@ -225,11 +225,11 @@ put_so_far numbers written script p kept digits put list o due s h next is_due =
     some_same : (a b : Access) → Some a ≡ Some b → a ≡ b
     some_same a b e = cc
 
-    open_begins : (o : Option Access) (a : Access) → ((b : Access) → o ≡ Some b → Some a ≡ Some b) → IsBeginning (with_open list o) (list ++ answered a true ∷ [])
+    open_begins : (o : Option Access) (a : Access) → ((b : Access) → o ≡ Some b → Some a ≡ Some b) → IsPrefix (with_open list o) (list ++ answered a true ∷ [])
     open_begins None a f = (answered a true ∷ [], refl)
     open_begins (Some b) a f = ([], append-nil (list ++ answered b true ∷ []) ∙ ap (λ x. list ++ answered x true ∷ []) (sym (some_same a b (f b refl))))
 
-    events_begin : (o : Option Access) (a : Access) → ((b : Access) → o ≡ Some b → Some a ≡ Some b) → IsBeginning (so_far P list o) (events_of P (list ++ answered a true ∷ []))
+    events_begin : (o : Option Access) (a : Access) → ((b : Access) → o ≡ Some b → Some a ≡ Some b) → IsPrefix (so_far P list o) (events_of P (list ++ answered a true ∷ []))
     events_begin None a f = (events_of P (answered a true ∷ []), sym (events-append P list (answered a true ∷ [])))
     events_begin (Some b) a f =
         (end_event P (answered a true) ∷ [], ap (λ x. so_far P list (Some x) ++ end_event P (answered a true) ∷ []) (sym (some_same a b (f b refl))) ∙ sym (events-more P list a true))
@@ -258,8 +258,8 @@ put_so_far numbers written script p kept digits put list o due s h next is_due =
     by_due (Some a) f (Some c) asked next =
         let (more, has, (rest, e)) = next true (λ l. refl) in
         let longer : length list < length (put_program shape more) = omega (arith, ap length e, length-append (list ++ answered a true ∷ []) rest, length-append list (answered a true ∷ [])) in
-        let whole : IsBeginning (list ++ answered a true ∷ []) (put_program shape more) = (rest, e) in
-        let whole_events : IsBeginning (events_of P (list ++ answered a true ∷ [])) (events_of P (put_program shape more)) =
+        let whole : IsPrefix (list ++ answered a true ∷ []) (put_program shape more) = (rest, e) in
+        let whole_events : IsPrefix (events_of P (list ++ answered a true ∷ [])) (events_of P (put_program shape more)) =
         (events_of P rest, sym (events-append P (list ++ answered a true ∷ []) rest) ∙ ap (events_of P) e) in
         reading_so_far numbers written script digits put kept list o h more (calls_asked script c calls more s.attempts asked has)
         (begins-trans (with_open list o) (list ++ answered a true ∷ []) (put_program shape more) (open_begins o a f) whole)

@@ -8,7 +8,7 @@ use Rattle.bits_core.specs.declared.events.Bit.{Bit}
 use Rattle.bits_core.specs.declared.events.Bit.TheVariants as bit
 use Rattle.bits_core.specs.declared.shapes.Shape.{Shape}
 use Rattle.bits_core.specs.Shape.{capacity_of, width_of}
-use Rattle.bits_core.specs.Made.{Made, Read, Write, IsBeginning}
+use Rattle.bits_core.specs.Made.{Made, Read, Write, IsPrefix}
 use Rattle.register_core.specs.Row.{RowWrite, row_bit, writes_in}
 use Rattle.register_core.specs.ScanState.{scan_phrase, row_read_by, zero_reads}
 use Rattle.register_core.specs.Word.{digit_writes, word_write}
@@ -130,7 +130,7 @@ count_begun w n seen (x ∷ y ∷ ws) l = count_begun w n (n / w) (y ∷ ws) (om
 
 -- ---- the beginning of a program
 
-split_front : {A : Type 0} (front back made : List A) → IsBeginning made (front ++ back) → IsBeginning made front ⊎ ((rest : List A) × (made ≡ front ++ rest) × IsBeginning rest back)
+split_front : {A : Type 0} (front back made : List A) → IsPrefix made (front ++ back) → IsPrefix made front ⊎ ((rest : List A) × (made ≡ front ++ rest) × IsPrefix rest back)
 split_front [] back made p = inr (made, refl, p)
 split_front (x ∷ front) back [] p = inl (x ∷ front, refl)
 split_front (x ∷ front) back (y ∷ made) (r, e) = join (split_front front back made (r, tails))
@@ -141,15 +141,15 @@ split_front (x ∷ front) back (y ∷ made) (r, e) = join (split_front front bac
     head : y ≡ x
     head = cc
 
-    join : IsBeginning made front ⊎ ((rest : List _) × (made ≡ front ++ rest) × IsBeginning rest back) →
-        IsBeginning (y ∷ made) (x ∷ front) ⊎ ((rest : List _) × (y ∷ made ≡ (x ∷ front) ++ rest) × IsBeginning rest back)
+    join : IsPrefix made front ⊎ ((rest : List _) × (made ≡ front ++ rest) × IsPrefix rest back) →
+        IsPrefix (y ∷ made) (x ∷ front) ⊎ ((rest : List _) × (y ∷ made ≡ (x ∷ front) ++ rest) × IsPrefix rest back)
     join (inl (s, f)) = inl (s, ap (λ l. y ∷ l) f ∙ ap (λ z. z ∷ front) head)
     join (inr (rest, f, p)) = inr (rest, ap (λ l. y ∷ l) f ∙ ap (λ z. z ∷ (front ++ rest)) head, p)
 
-shorter : {A : Type 0} (xs ys : List A) → IsBeginning xs ys → length xs ≤ length ys
+shorter : {A : Type 0} (xs ys : List A) → IsPrefix xs ys → length xs ≤ length ys
 shorter xs ys (r, e) = omega (arith, ap length e, length-append xs r)
 
-begin_writes : (row : ℕ → Bit) (made : List Made) (ws : List RowWrite) → IsBeginning made (writes_in row ws) → (vs : List RowWrite) × (made ≡ writes_in row vs)
+begin_writes : (row : ℕ → Bit) (made : List Made) (ws : List RowWrite) → IsPrefix made (writes_in row ws) → (vs : List RowWrite) × (made ≡ writes_in row vs)
 begin_writes row [] ws p = ([], refl)
 begin_writes row (x ∷ made) [] (r, e) = absurd (cc)
 begin_writes row (x ∷ made) (w ∷ ws) (r, e) =
@@ -162,7 +162,7 @@ close_quiet : (b : Bool) → NoCounts (close_phrase b)
 close_quiet true = tt
 close_quiet false = tt
 
-begin_quiet : (made more : List Made) → NoCounts more → IsBeginning made more → NoCounts made
+begin_quiet : (made more : List Made) → NoCounts more → IsPrefix made more → NoCounts made
 begin_quiet made more p (r, e) = no_counts-first made r (subst NoCounts (sym e) p)
 
 -- within no event nothing is put
@@ -183,13 +183,13 @@ divided w n k l = ap (λ t. t / w) (sym (add-mul n k w)) ∙ mul-div_cancel (n +
 
 pub put_begun :
     CountsShowNumbers → CountsAreWritten → (shape : Shape) (c : Count) (puts : List Put) (close : Bool) (made : List Made) (t : ℕ) → IsCount shape c → ArePuts shape c.number puts →
-    IsBeginning made (put_phrases shape c puts ++ close_phrase close) → t ≤ 2 * length made → 2 * length made ≤ t + 1 →
+    IsPrefix made (put_phrases shape c puts ++ close_phrase close) → t ≤ 2 * length made → 2 * length made ≤ t + 1 →
     items_begun (width_of shape) (c.number * width_of shape) c.number made ≡ c.number + length (items_put shape c puts t)
 put_begun numbers written shape c [] close made t is p begins low high =
     let none : c.number ≡ c.number + 0 = omega arith in
     none_begun (width_of shape) (c.number * width_of shape) c.number made (begin_quiet made (close_phrase close) (close_quiet close) begins) ∙ none
 put_begun numbers written shape c (Full u ∷ puts) close made t is p begins low high =
-    by_split (put_begun numbers written shape c puts close) (split_front scan rest made (subst (IsBeginning made) (append_assoc scan (put_phrases shape c puts) (close_phrase close)) begins))
+    by_split (put_begun numbers written shape c puts close) (split_front scan rest made (subst (IsPrefix made) (append_assoc scan (put_phrases shape c puts) (close_phrase close)) begins))
   where
     w : ℕ
     w = width_of shape
@@ -201,9 +201,9 @@ put_begun numbers written shape c (Full u ∷ puts) close made t is p begins low
     rest = put_phrases shape c puts ++ close_phrase close
 
     by_split :
-        ((made : List Made) (t : ℕ) → IsCount shape c → ArePuts shape c.number puts → IsBeginning made rest → t ≤ 2 * length made → 2 * length made ≤ t + 1 →
+        ((made : List Made) (t : ℕ) → IsCount shape c → ArePuts shape c.number puts → IsPrefix made rest → t ≤ 2 * length made → 2 * length made ≤ t + 1 →
         items_begun w (c.number * w) c.number made ≡ c.number + length (items_put shape c puts t)) →
-        (IsBeginning made scan ⊎ ((more : List Made) × (made ≡ scan ++ more) × IsBeginning more rest)) →
+        (IsPrefix made scan ⊎ ((more : List Made) × (made ≡ scan ++ more) × IsPrefix more rest)) →
         items_begun w (c.number * w) c.number made ≡ c.number + length (items_put shape c puts (t - events_in scan))
     by_split again (inl q) =
         let none : c.number ≡ c.number + 0 = omega arith in
@@ -217,7 +217,7 @@ put_begun numbers written shape c (Full u ∷ puts) close made t is p begins low
         ∙ ap (λ a. items_begun w a c.number more) nothing
         ∙ again more (t - events_in scan) is p.1 q (omega (arith, low, size)) (omega (arith, high, size))
 put_begun numbers written shape c (Stored u items ∷ puts) close made t is p begins low high =
-    by_front (put_begun numbers written shape next puts close) (split_front front (batch ++ rest) made (subst (IsBeginning made) parts begins))
+    by_front (put_begun numbers written shape next puts close) (split_front front (batch ++ rest) made (subst (IsPrefix made) parts begins))
   where
     w : ℕ
     w = width_of shape
@@ -287,7 +287,7 @@ put_begun numbers written shape c (Stored u items ∷ puts) close made t is p be
         ∙ ap (λ m. c.number + m) (sym (length-append items l))
         ∙ ap (λ (m : List ℕ). c.number + length m) (sym (put_is true (lt-ltb (events_in front) t (omega (arith, high, size, some))) l f))
 
-    by_rows : (more : List Made) → made ≡ front ++ more → IsBeginning more batch → (vs : List RowWrite) → more ≡ writes_in (row_bit P) vs →
+    by_rows : (more : List Made) → made ≡ front ++ more → IsPrefix more batch → (vs : List RowWrite) → more ≡ writes_in (row_bit P) vs →
         items_begun w (c.number * w) c.number made ≡ c.number + length (items_put shape c (Stored u items ∷ puts) t)
     by_rows more made_is r [] more_is =
         let all : made ≡ front = made_is ∙ ap (λ l. front ++ l) more_is ∙ append-nil front in
@@ -303,14 +303,14 @@ put_begun numbers written shape c (Stored u items ∷ puts) close made t is p be
         nothing
 
     by_front :
-        ((made : List Made) (t : ℕ) → IsCount shape next → ArePuts shape next.number puts → IsBeginning made rest → t ≤ 2 * length made → 2 * length made ≤ t + 1 →
+        ((made : List Made) (t : ℕ) → IsCount shape next → ArePuts shape next.number puts → IsPrefix made rest → t ≤ 2 * length made → 2 * length made ≤ t + 1 →
         items_begun w (next.number * w) next.number made ≡ next.number + length (items_put shape next puts t)) →
-        (IsBeginning made front ⊎ ((more : List Made) × (made ≡ front ++ more) × IsBeginning more (batch ++ rest))) →
+        (IsPrefix made front ⊎ ((more : List Made) × (made ≡ front ++ more) × IsPrefix more (batch ++ rest))) →
         items_begun w (c.number * w) c.number made ≡ c.number + length (items_put shape c (Stored u items ∷ puts) t)
     by_front again (inl q) = not_begun (begin_quiet made front quiet q) (omega (arith, low, shorter made front q))
     by_front again (inr (more, made_is, q)) = by_batch (split_front batch rest more q)
       where
-        by_batch : (IsBeginning more batch ⊎ ((last : List Made) × (more ≡ batch ++ last) × IsBeginning last rest)) →
+        by_batch : (IsPrefix more batch ⊎ ((last : List Made) × (more ≡ batch ++ last) × IsPrefix last rest)) →
             items_begun w (c.number * w) c.number made ≡ c.number + length (items_put shape c (Stored u items ∷ puts) t)
         by_batch (inl r) = let rows = begin_writes (row_bit P) more (count_bits shape c items) r in by_rows more made_is r rows.0 rows.1
         by_batch (inr (last, more_is, r)) =

@@ -8,16 +8,16 @@ use Rattle.bits_core.specs.declared.events.Access.TheVariants as access
 use Rattle.bits_core.specs.declared.events.Act.TheVariants.{ReadEnd}
 use Rattle.bits_core.specs.declared.events.Event.{Event}
 use Rattle.bits_core.specs.History.{open_access}
-use Rattle.bits_core.specs.Made.{Made, Read, Write, answered, events_of, own, opening_event}
+use Rattle.bits_core.specs.Made.{Made, Read, Write, answered, events_of, subhistory, opening_event}
 use Rattle.bits_core.specs.Memory.{count_below, flicker_count, is_flicker_at}
 use Rattle.ring_core.specs.ConsumerCalls.{ConsumerStands, ends_closed}
 use Rattle.ring_core.specs.ConsumerState.{ConsumerState, is_taking}
 use Rattle.ring_core.specs.ProducerCalls.{ProducerStands}
 use Rattle.ring_core.specs.ProducerState.{ProducerState, Call, Put, Close, call_of}
-use Rattle.ring_core.specs.declared.consumers.TakeBatchReply.{TakeBatchReply}
-use Rattle.ring_core.specs.declared.consumers.TakeBatchReply.TheVariants as taken
-use Rattle.ring_core.specs.declared.producers.BatchReply.{BatchReply}
-use Rattle.ring_core.specs.declared.producers.BatchReply.TheVariants as reply
+use Rattle.ring_core.specs.declared.replies.TakeBatchReply.{TakeBatchReply}
+use Rattle.ring_core.specs.declared.replies.TakeBatchReply.TheVariants as taken
+use Rattle.ring_core.specs.declared.replies.BatchReply.{BatchReply}
+use Rattle.ring_core.specs.declared.replies.BatchReply.TheVariants as reply
 use Rattle.bits_core.specs.Shape.{width_of}
 use Rattle.ring_core.specs.Items.{all_taken}
 use Rattle.ring_core.specs.Over.{empties, fulls}
@@ -36,7 +36,7 @@ so_far s list (Some a) = events_of s list ++ opening_event s a ∷ []
 pub record IsPlaying (s : Side) (h : List Event) (due : Option Access) (stands : List Made → Option Access → Type 0) : Type 0 where
   pub list : List Made
   pub there : stands list (open_access s h)
-  pub own_is : own s h ≡ so_far s list (open_access s h)
+  pub own_is : subhistory s h ≡ so_far s list (open_access s h)
   pub is_due : (a : Access) → open_access s h ≡ Some a → due ≡ Some a
 
 -- one event of the side where it was not done, and else nothing

@@ -3,7 +3,7 @@ use Rattle.std.specs.Prelude.{◌≡◌, ℕ, ◌+◌, ◌<◌, ◌≤◌, List,
 use Rattle.bits_core.specs.declared.events.Side.{Side}
 use Rattle.bits_core.specs.declared.events.Side.TheVariants.{P, C}
 use Rattle.bits_core.specs.declared.events.Event.{Event}
-use Rattle.bits_core.specs.Made.{IsBeginning, IsPlaceOf, clock, own}
+use Rattle.bits_core.specs.Made.{IsPrefix, IsPlaceOf, clock, subhistory}
 use Rattle.bits_core.specs.Shape.{capacity_of}
 use Rattle.ring_core.specs.CallsAt.{IsPutAt, scan_events, takes_ended}
 use Rattle.ring_core.specs.Items.{items_put_in, items_taken_in, ToldIn}
@@ -25,7 +25,7 @@ pub record HeadlineOf (script : Content) (h : List Event) (puts : Puts) (takes :
   pub closed : ClosedIsTrue script.shape h puts takes
   pub all : ToldIn script.shape h takes → items_put_in script.shape h puts ≡ script.items
   pub stays :
-      (h' : List Event) (puts' : Puts) (takes' : Takes) → IsRun script.shape h' puts' takes' → IsBeginning h h' → ToldIn script.shape h takes →
+      (h' : List Event) (puts' : Puts) (takes' : Takes) → IsRun script.shape h' puts' takes' → IsPrefix h h' → ToldIn script.shape h takes →
       (items_put_in script.shape h' puts' ≡ items_put_in script.shape h puts) × (items_taken_in script.shape h' takes' ≡ items_taken_in script.shape h takes)
 
 abbrev pub HoldsHeadline : Content → List Event → Type 0
@@ -41,7 +41,7 @@ abbrev pub FillsRing : Content → List Event → Type 0
 FillsRing script h =
     (puts : Puts) (takes : Takes) → ArePutsOf script puts → FollowsPuts script.shape h puts → FollowsTakes script.shape h takes →
     (seen : ℕ) (items : List ℕ) (n start stop : ℕ) → IsPutAt script.shape puts (Stored seen items) n start stop →
-    start + scan_events P seen ≤ length (own P h) → length items < length (offered script n) →
+    start + scan_events P seen ≤ length (subhistory P h) → length items < length (offered script n) →
     (first : ℕ) × IsPlaceOf P h start first × (takes_ended script.shape takes (clock C h first) + capacity_of script.shape ≤ n + length items)
 
 abbrev pub EveryPlayFills : Type 0

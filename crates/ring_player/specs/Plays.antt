@@ -6,7 +6,7 @@ use Rattle.bits_core.specs.declared.events.Bit.{Bit}
 use Rattle.bits_core.specs.declared.events.Event.{Event}
 use Rattle.bits_core.specs.Intervals.{HasOverlap, IsRead}
 use Rattle.bits_core.specs.Lawful.{IsLawful}
-use Rattle.bits_core.specs.Made.{events_of, own, IsBeginning}
+use Rattle.bits_core.specs.Made.{events_of, subhistory, IsPrefix}
 use Rattle.bits_core.specs.Shape.{batch_of, take_batch_of}
 use Rattle.ring_core.specs.ConsumerCalls.{IsTakeOf}
 use Rattle.ring_core.specs.Items.{Tells}
@@ -38,10 +38,10 @@ AreWantedBy script k (x ∷ takes) =
 
 -- these events of a side are a beginning of those of calls that the script asks for; a take that is told Closed wanted some items too
 abbrev pub IsProgram : Content → Side → List Event → Type 0
-IsProgram script P events = (calls : Puts) × ArePutsOf script calls × IsBeginning events (events_of P (put_program script.shape calls))
+IsProgram script P events = (calls : Puts) × ArePutsOf script calls × IsPrefix events (events_of P (put_program script.shape calls))
 IsProgram script C events =
     (calls : Takes) × (AreTakes script.shape 0 calls.takes calls.end × AreWantedBy script 0 calls.takes × (Tells calls.end → taken_in 0 calls.takes < script.takes)) ×
-    IsBeginning events (events_of C (take_program script.shape calls))
+    IsPrefix events (events_of C (take_program script.shape calls))
 
 -- they are those of whole calls: of puts that store all items, with the close if the script closes; or of takes that take as
 -- many items as the script wants, or of which the last is told that the ring is closed
@@ -53,7 +53,7 @@ IsDoneAfter script C events = (calls : Takes) × AreTakes script.shape 0 calls.t
 
 -- a side is done in a history
 abbrev pub IsDone : Content → Side → List Event → Type 0
-IsDone script side h = IsDoneAfter script side (own side h)
+IsDone script side h = IsDoneAfter script side (subhistory side h)
 
 -- the sides of the later events are, in order, the letters without those whose side is done in the history so far
 abbrev pub AreMoves : Content → List Side → (past later : List Event) → Type 0
@@ -85,8 +85,8 @@ HasFlickers h count = (number : ℕ → ℕ) × AreNumbered h number × (count �
 -- a history that plays the script, whatever letters made it
 pub record IsPlayed (script : Content) (h : List Event) : Type 0 where
   pub lawful : IsLawful script.shape h
-  pub puts : IsProgram script P (own P h)
-  pub takes : IsProgram script C (own C h)
+  pub puts : IsProgram script P (subhistory P h)
+  pub takes : IsProgram script C (subhistory C h)
   pub answers : AreInTurn script.oracle h
 
 -- a history is the play of the script by these letters

@@ -2,7 +2,7 @@
 use Rattle.std.specs.Prelude.{◌≡◌, ◌↔◌, ℕ, suc, ◌<◌, ◌≤◌, Bool, true, Option, Some, None, List, [], ◌∷◌, length, map, take, drop}
 use Rattle.bits_core.specs.declared.events.Event.{Event}
 use Rattle.bits_core.specs.declared.events.Side.TheVariants.{P, C}
-use Rattle.bits_core.specs.Made.{own, IsBeginning}
+use Rattle.bits_core.specs.Made.{subhistory, IsPrefix}
 use Rattle.bits_core.specs.Shape.{capacity_of}
 use Rattle.queue_calls.specs.Calls as calls
 use Rattle.queue_calls.specs.Calls.{IsLinearizable}
@@ -80,7 +80,7 @@ IsTakeStage taking.Told script takes i = events_in (take_program script.shape ta
 -- whichever calls the history is read as
 abbrev pub AreAt : PutStage → TakeStage → Content → List Event → Type 0
 AreAt p t script h =
-    (puts : Puts) (takes : Takes) → IsReadingAsked script h puts takes → IsPutStage p script puts (length (own P h)) × IsTakeStage t script takes (length (own C h))
+    (puts : Puts) (takes : Takes) → IsReadingAsked script h puts takes → IsPutStage p script puts (length (subhistory P h)) × IsTakeStage t script takes (length (subhistory C h))
 
 -- ---- one event more
 
@@ -122,6 +122,6 @@ IsTakeTally script takes i kept =
 abbrev pub SaysTake : TakeStage → (wanted : ℕ) → (before now : TakeTally) → TakeStage → Option (CallEvent ℕ TakenItems) → Type 0
 SaysTake stage wanted before now next told =
     (script : Content) (takes : Takes) (i : ℕ) → wanted ≡ wanted_at script before.taken → i < events_in (take_program script.shape takes) →
-    AreTakes script.shape 0 takes.takes takes.end → IsBeginning (all_taken (takes_over script.shape first_count takes.takes (suc i))) script.items →
+    AreTakes script.shape 0 takes.takes takes.end → IsPrefix (all_taken (takes_over script.shape first_count takes.takes (suc i))) script.items →
     IsTakeStage stage script takes i → IsTakeTally script takes i before → IsTakeTally script takes (suc i) now →
     (told_in script told ≡ take_told script.shape (wants_of script takes) 0 first_count takes.takes takes.end i) × IsTakeStage next script takes (suc i)

@@ -2,13 +2,13 @@
 ghost use Rattle.std.specs.Prelude.{◌≡◌, ◌≢◌, ◌<◌, ◌≤◌, ◌⊎◌, ℕ, ◌+◌, Bool, true, false, Some, None, List, [], ◌∷◌, ◌++◌, OnErr, OnOk, IfOk, length};
 ghost use Rattle.bits_core.specs.Bits.{other};
 ghost use Rattle.bits_core.specs.History.{open_access};
-ghost use Rattle.bits_core.specs.Made.{own, opening_event};
+ghost use Rattle.bits_core.specs.Made.{subhistory, opening_event};
 ghost use Rattle.bits_core.specs.Open.{IsOpenRight, IsReading, IsWriting};
 ghost use Rattle.ring_player.specs.Actors.{IsAtTurn, IsMove, IsPlaying};
 ghost use Rattle.ring_player.specs.Plays.{IsProgram};
 
 use crate::faults::PlayFault;
-use bits_core::laws::{open_changes, own_changes};
+use bits_core::laws::{open_changes, subhistory_changes};
 use bits_core::{Access, Event, Memory, Oracle, Side, Store};
 use ring_core::laws::last_bit_is_one;
 
@@ -48,9 +48,12 @@ pub trait Actor {
         ensures room { room self.new ≡ room self.old }
         ensures kept { kept self.new ≡ kept self.old }
         ensures stands { (list : List Made) → stands self.old list None → stands self.new list None }
-        ensures done { result ≡ None → (list : List Made) → stands self.old list None → IsDoneAfter (script self.old) (side self.old) (events_of (side self.old) list) }
-        ensures unfinished { (access : Access) → result ≡ Some access → (list : List Made) → stands self.old list None → ¬ IsDoneAfter (script self.old) (side self.old) (events_of (side self.old) list) }
-        ensures right { (access : Access) → result ≡ Some access → (list : List Made) → stands self.old list None → IsOpenRight (script self.old).shape (side self.old) access };
+        ensures done { result ≡ None → (list : List Made) → stands self.old list None →
+            IsDoneAfter (script self.old) (side self.old) (events_of (side self.old) list) }
+        ensures unfinished { (access : Access) → result ≡ Some access → (list : List Made) → stands self.old list None →
+            ¬ IsDoneAfter (script self.old) (side self.old) (events_of (side self.old) list) }
+        ensures right { (access : Access) → result ≡ Some access → (list : List Made) → stands self.old list None →
+            IsOpenRight (script self.old).shape (side self.old) access };
 
     /// The access that is due has begun.
     fn begin(&mut self)
@@ -60,7 +63,8 @@ pub trait Actor {
         ensures side { side self.new ≡ side self.old }
         ensures room { room self.new ≡ room self.old }
         ensures kept { kept self.new ≡ kept self.old }
-        ensures stands { (list : List Made) (access : Access) → due self.old ≡ Some access → stands self.old list None → stands self.new list (Some access) };
+        ensures stands { (list : List Made) (access : Access) → due self.old ≡ Some access → stands self.old list None →
+            stands self.new list (Some access) };
 
     /// Makes room for what the end of an access gives.
     fn reserve(&mut self) -> Result<(), PlayFault>
@@ -69,23 +73,28 @@ pub trait Actor {
         ensures side { side self.new ≡ side self.old }
         ensures room { room self.new ≡ room self.old }
         ensures kept { kept self.new ≡ kept self.old }
-        ensures stands { (list : List Made) (opened : Option Access) → stands self.old list opened → stands self.new list opened }
+        ensures stands { (list : List Made) (opened : Option Access) → stands self.old list opened →
+            stands self.new list opened }
         ensures ready { OnOk result (ready self.new) }
         ensures full { OnErr result (room self.old < kept self.old + wants self.old) };
 
     /// What is known where the last bit of a count is due.
     fn last_bit(&self)
-        ensures { LastBitIsDue (script self.now).shape (side self.now) (due self.now) → (list : List Made) (opened : Option Access) → stands self.now list opened → EndsInZeros (script self.now).shape (side self.now) list };
+        ensures { LastBitIsDue (script self.now).shape (side self.now) (due self.now) →
+            (list : List Made) (opened : Option Access) → stands self.now list opened →
+            EndsInZeros (script self.now).shape (side self.now) list };
 
     /// The access that is due, and that had begun, has ended with this answer.
     fn end(&mut self, answer: bool)
-        requires there { (list : List Made) × (access : Access) × (due self.old ≡ Some access) × stands self.old list (Some access) × (length list < 2 ^ 63) }
+        requires there { (list : List Made) × (access : Access) × (due self.old ≡ Some access) ×
+            stands self.old list (Some access) × (length list < 2 ^ 63) }
         requires one { LastBitIsDue (script self.old).shape (side self.old) (due self.old) → answer ≡ true }
         requires ready { ready self.old }
         ensures script { script self.new ≡ script self.old }
         ensures side { side self.new ≡ side self.old }
         ensures room { room self.new ≡ room self.old }
-        ensures stands { (list : List Made) (access : Access) → due self.old ≡ Some access → stands self.old list (Some access) → stands self.new (list ++ answered access answer ∷ []) None };
+        ensures stands { (list : List Made) (access : Access) → due self.old ≡ Some access →
+            stands self.old list (Some access) → stands self.new (list ++ answered access answer ∷ []) None };
 }
 
 /// Begins the access.
@@ -127,7 +136,7 @@ fn end_read<M: Store<Event>, A: Actor, O: Oracle>(
     requires playing { IsPlaying side memory.old.events (A.due actor.old) (A.stands actor.old) }
     requires side { A.side actor.old ≡ side }
     requires shape { memory.old.shape ≡ (A.script actor.old).shape }
-    requires other { IsProgram (A.script actor.old) (other side) (own (other side) memory.old.events) }
+    requires other { IsProgram (A.script actor.old) (other side) (subhistory (other side) memory.old.events) }
     ensures shape { memory.new.shape ≡ memory.old.shape }
     ensures script { A.script actor.new ≡ A.script actor.old }
     ensures side { A.side actor.new ≡ A.side actor.old }
@@ -135,13 +144,15 @@ fn end_read<M: Store<Event>, A: Actor, O: Oracle>(
     ensures ok { IfOk result (λ moved. IsMove (A.script actor.old) side moved memory.old.events memory.new.events) }
     ensures err { OnErr result (memory.new.events ≡ memory.old.events) }
     ensures rooms { (memory.new.room ≡ memory.old.room) × (A.room actor.new ≡ A.room actor.old) }
-    ensures full { OnErr result ((memory.old.room ≤ length memory.old.events) ⊎ (A.room actor.old < A.kept actor.old + A.wants actor.old)) }
+    ensures full { OnErr result ((memory.old.room ≤ length memory.old.events) ⊎
+        (A.room actor.old < A.kept actor.old + A.wants actor.old)) }
     ensures kept { OnErr result (A.kept actor.new ≡ A.kept actor.old) }
     ensures err_oracle { OnErr result (oracle.new ≡ oracle.old) }
-    ensures turns { (turns : ℕ → Bool) → IsAtTurn turns memory.old.events (O.answers oracle.old) → IsAtTurn turns memory.new.events (O.answers oracle.new) }
+    ensures turns { (turns : ℕ → Bool) → IsAtTurn turns memory.old.events (O.answers oracle.old) →
+        IsAtTurn turns memory.new.events (O.answers oracle.new) }
 {
     open_changes();
-    own_changes();
+    subhistory_changes();
     last_bit_is_one();
     event_count(memory);
     actor.reserve()?;
@@ -168,12 +179,14 @@ fn end_write<M: Store<Event>, A: Actor>(
     ensures ok { IfOk result (λ moved. IsMove (A.script actor.old) side moved memory.old.events memory.new.events) }
     ensures err { OnErr result (memory.new.events ≡ memory.old.events) }
     ensures rooms { (memory.new.room ≡ memory.old.room) × (A.room actor.new ≡ A.room actor.old) }
-    ensures full { OnErr result ((memory.old.room ≤ length memory.old.events) ⊎ (A.room actor.old < A.kept actor.old + A.wants actor.old)) }
+    ensures full { OnErr result ((memory.old.room ≤ length memory.old.events) ⊎
+        (A.room actor.old < A.kept actor.old + A.wants actor.old)) }
     ensures kept { OnErr result (A.kept actor.new ≡ A.kept actor.old) }
-    ensures turns { (turns answers : ℕ → Bool) → IsAtTurn turns memory.old.events answers → IsAtTurn turns memory.new.events answers }
+    ensures turns { (turns answers : ℕ → Bool) → IsAtTurn turns memory.old.events answers →
+        IsAtTurn turns memory.new.events answers }
 {
     open_changes();
-    own_changes();
+    subhistory_changes();
     event_count(memory);
     actor.reserve()?;
     memory.end_write(side)?;
@@ -198,12 +211,14 @@ fn go_on<M: Store<Event>, A: Actor>(
     ensures ok { IfOk result (λ moved. IsMove (A.script actor.old) side moved memory.old.events memory.new.events) }
     ensures err { OnErr result (memory.new.events ≡ memory.old.events) }
     ensures rooms { (memory.new.room ≡ memory.old.room) × (A.room actor.new ≡ A.room actor.old) }
-    ensures full { OnErr result ((memory.old.room ≤ length memory.old.events) ⊎ (A.room actor.old < A.kept actor.old + A.wants actor.old)) }
+    ensures full { OnErr result ((memory.old.room ≤ length memory.old.events) ⊎
+        (A.room actor.old < A.kept actor.old + A.wants actor.old)) }
     ensures kept { OnErr result (A.kept actor.new ≡ A.kept actor.old) }
-    ensures turns { (turns answers : ℕ → Bool) → IsAtTurn turns memory.old.events answers → IsAtTurn turns memory.new.events answers }
+    ensures turns { (turns answers : ℕ → Bool) → IsAtTurn turns memory.old.events answers →
+        IsAtTurn turns memory.new.events answers }
 {
     open_changes();
-    own_changes();
+    subhistory_changes();
     match actor.next() {
         None => Ok(false),
         Some(access) => {
@@ -224,7 +239,7 @@ pub fn advance<M: Store<Event>, A: Actor, O: Oracle>(
     requires playing { IsPlaying side memory.old.events (A.due actor.old) (A.stands actor.old) }
     requires side { A.side actor.old ≡ side }
     requires shape { memory.old.shape ≡ (A.script actor.old).shape }
-    requires other { IsProgram (A.script actor.old) (other side) (own (other side) memory.old.events) }
+    requires other { IsProgram (A.script actor.old) (other side) (subhistory (other side) memory.old.events) }
     ensures shape { memory.new.shape ≡ memory.old.shape }
     ensures script { A.script actor.new ≡ A.script actor.old }
     ensures side { A.side actor.new ≡ A.side actor.old }
@@ -232,9 +247,11 @@ pub fn advance<M: Store<Event>, A: Actor, O: Oracle>(
     ensures ok { IfOk result (λ moved. IsMove (A.script actor.old) side moved memory.old.events memory.new.events) }
     ensures err { OnErr result (memory.new.events ≡ memory.old.events) }
     ensures rooms { (memory.new.room ≡ memory.old.room) × (A.room actor.new ≡ A.room actor.old) }
-    ensures full { OnErr result ((memory.old.room ≤ length memory.old.events) ⊎ (A.room actor.old < A.kept actor.old + A.wants actor.old)) }
+    ensures full { OnErr result ((memory.old.room ≤ length memory.old.events) ⊎
+        (A.room actor.old < A.kept actor.old + A.wants actor.old)) }
     ensures kept { OnErr result (A.kept actor.new ≡ A.kept actor.old) }
-    ensures turns { (turns : ℕ → Bool) → IsAtTurn turns memory.old.events (O.answers oracle.old) → IsAtTurn turns memory.new.events (O.answers oracle.new) }
+    ensures turns { (turns : ℕ → Bool) → IsAtTurn turns memory.old.events (O.answers oracle.old) →
+        IsAtTurn turns memory.new.events (O.answers oracle.new) }
 {
     match memory.pending(side) {
         Some(Access::Read(_)) => end_read(memory, actor, oracle, side),

@@ -86,7 +86,8 @@ impl<'a> PutActor<'a> {
     /// An actor that has made no access.
     pub fn new(script: ScriptRef<'a>) -> Self
         ensures script { content_of result.script ≡ content_of script.entry }
-        ensures stands { PutActorStands (content_of script.entry) result.producer (record { stored = result.stored; full = result.full }) [] None }
+        ensures stands { PutActorStands (content_of script.entry) result.producer
+            (record { stored = result.stored; full = result.full }) [] None }
         ensures written { HasWritten (content_of script.entry) result.digits result.put [] None }
     {
         PutActor {
@@ -127,7 +128,14 @@ impl<'a> PutActor<'a> {
 
     /// What the accesses so far have put.
     pub fn look(&self)
-        ensures { (list : List Made) (opened : Option Access) → PutActorStands (content_of self.now.script) self.now.producer (record { stored = self.now.stored; full = self.now.full }) list opened → HasWritten (content_of self.now.script) self.now.digits self.now.put list opened → ((a : Access) → opened ≡ Some a → due_put self.now.producer ≡ Some a) → PutSoFar (content_of self.now.script).shape (so_far side_is.P list opened) (take self.now.put (content_of self.now.script).items) (record { stored = self.now.stored; full = self.now.full }) }
+        ensures { (list : List Made) (opened : Option Access) →
+            PutActorStands (content_of self.now.script) self.now.producer
+            (record { stored = self.now.stored; full = self.now.full }) list opened →
+            HasWritten (content_of self.now.script) self.now.digits self.now.put list opened →
+            ((a : Access) → opened ≡ Some a → due_put self.now.producer ≡ Some a) →
+            PutSoFar (content_of self.now.script).shape (so_far side_is.P list opened)
+            (take self.now.put (content_of self.now.script).items)
+            (record { stored = self.now.stored; full = self.now.full }) }
     {
         counts_are_written();
         self.producer.next();
@@ -137,8 +145,15 @@ impl<'a> PutActor<'a> {
     fn begin_call(&mut self)
         ensures script { content_of self.new.script ≡ content_of self.old.script }
         ensures counts { (self.new.digits ≡ self.old.digits) × (self.new.put ≡ self.old.put) }
-        ensures stands { (list : List Made) → PutActorStands (content_of self.old.script) self.old.producer (record { stored = self.old.stored; full = self.old.full }) list None → PutActorStands (content_of self.new.script) self.new.producer (record { stored = self.new.stored; full = self.new.full }) list None }
-        ensures done { call_of self.new.producer ≡ None → (list : List Made) → PutActorStands (content_of self.old.script) self.old.producer (record { stored = self.old.stored; full = self.old.full }) list None → IsDoneAfter (content_of self.old.script) side_is.P (events_of side_is.P list) }
+        ensures stands { (list : List Made) →
+            PutActorStands (content_of self.old.script) self.old.producer
+            (record { stored = self.old.stored; full = self.old.full }) list None →
+            PutActorStands (content_of self.new.script) self.new.producer
+            (record { stored = self.new.stored; full = self.new.full }) list None }
+        ensures done { call_of self.new.producer ≡ None → (list : List Made) →
+            PutActorStands (content_of self.old.script) self.old.producer
+            (record { stored = self.old.stored; full = self.old.full }) list None →
+            IsDoneAfter (content_of self.old.script) side_is.P (events_of side_is.P list) }
     {
         if self.producer.next().is_some() {
             return;
@@ -165,7 +180,9 @@ impl<'a> Actor for PutActor<'a> {
 
     ghost due = { λ a. due_put a.producer };
 
-    ghost stands = { λ a list opened. PutActorStands (content_of a.script) a.producer (record { stored = a.stored; full = a.full }) list opened × HasWritten (content_of a.script) a.digits a.put list opened };
+    ghost stands = { λ a list opened. PutActorStands (content_of a.script) a.producer
+        (record { stored = a.stored; full = a.full }) list opened ×
+        HasWritten (content_of a.script) a.digits a.put list opened };
 
     ghost ready = { λ a. Unit {0} };
 

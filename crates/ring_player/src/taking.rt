@@ -46,7 +46,8 @@ impl<'a, T: Store<u64>> TakeActor<'a, T> {
         requires { T.items taken ≡ [] }
         ensures script { content_of result.script ≡ content_of script.entry }
         ensures room { T.room result.taken ≡ T.room taken }
-        ensures stands { TakeActorStands (content_of script.entry) result.consumer (T.items result.taken) result.told result.empty [] None }
+        ensures stands { TakeActorStands (content_of script.entry) result.consumer (T.items result.taken) result.told
+            result.empty [] None }
     {
         TakeActor {
             script,
@@ -94,7 +95,11 @@ impl<'a, T: Store<u64>> TakeActor<'a, T> {
 
     /// What the accesses so far took and told.
     pub fn look(&self)
-        ensures { (list : List Made) (opened : Option Access) → TakeActorStands (content_of self.now.script) self.now.consumer (T.items self.now.taken) self.now.told self.now.empty list opened → ((a : Access) → opened ≡ Some a → due_take self.now.consumer ≡ Some a) → TakenSoFar (content_of self.now.script).shape (so_far side_is.C list opened) (T.items self.now.taken) self.now.told self.now.empty }
+        ensures { (list : List Made) (opened : Option Access) →
+            TakeActorStands (content_of self.now.script) self.now.consumer (T.items self.now.taken) self.now.told
+            self.now.empty list opened → ((a : Access) → opened ≡ Some a → due_take self.now.consumer ≡ Some a) →
+            TakenSoFar (content_of self.now.script).shape (so_far side_is.C list opened) (T.items self.now.taken)
+            self.now.told self.now.empty }
     {
         self.consumer.next();
     }
@@ -116,9 +121,16 @@ impl<'a, T: Store<u64>> TakeActor<'a, T> {
     /// Begins the next take, if none is under way and the script wants one.
     fn begin_take(&mut self)
         ensures script { content_of self.new.script ≡ content_of self.old.script }
-        ensures taken { (T.items self.new.taken ≡ T.items self.old.taken) × (T.room self.new.taken ≡ T.room self.old.taken) }
-        ensures stands { (list : List Made) → TakeActorStands (content_of self.old.script) self.old.consumer (T.items self.old.taken) self.old.told self.old.empty list None → TakeActorStands (content_of self.new.script) self.new.consumer (T.items self.new.taken) self.new.told self.new.empty list None }
-        ensures done { is_taking self.new.consumer ≡ false → (list : List Made) → TakeActorStands (content_of self.old.script) self.old.consumer (T.items self.old.taken) self.old.told self.old.empty list None → IsDoneAfter (content_of self.old.script) side_is.C (events_of side_is.C list) }
+        ensures taken { (T.items self.new.taken ≡ T.items self.old.taken) ×
+            (T.room self.new.taken ≡ T.room self.old.taken) }
+        ensures stands { (list : List Made) →
+            TakeActorStands (content_of self.old.script) self.old.consumer (T.items self.old.taken) self.old.told
+            self.old.empty list None →
+            TakeActorStands (content_of self.new.script) self.new.consumer (T.items self.new.taken) self.new.told
+            self.new.empty list None }
+        ensures done { is_taking self.new.consumer ≡ false → (list : List Made) →
+            TakeActorStands (content_of self.old.script) self.old.consumer (T.items self.old.taken) self.old.told
+            self.old.empty list None → IsDoneAfter (content_of self.old.script) side_is.C (events_of side_is.C list) }
     {
         if self.consumer.next().is_some() {
             return;
@@ -144,7 +156,8 @@ impl<'a, T: Store<u64>> Actor for TakeActor<'a, T> {
 
     ghost due = { λ a. due_take a.consumer };
 
-    ghost stands = { λ a list opened. TakeActorStands (content_of a.script) a.consumer (T.items a.taken) a.told a.empty list opened };
+    ghost stands = { λ a list opened. TakeActorStands (content_of a.script) a.consumer (T.items a.taken) a.told a.empty
+        list opened };
 
     ghost ready = { λ a. wanted_at (content_of a.script) (length (T.items a.taken)) ≤ T.spare a.taken };
 

@@ -1,9 +1,8 @@
 //! The calls of a play, one after the other, as a recorder would tell them.
 ghost use Rattle.std.specs.Prelude.{◌≡◌, ◌↔◌, true, IfOk, OnOk, List, [], ◌∷◌, ◌++◌, length, replicate};
-ghost use Rattle.bits_core.specs.declared.events.Event.{Event as AnEvent};
 ghost use Rattle.bits_core.specs.declared.events.Side.{Side};
 ghost use Rattle.bits_core.specs.declared.events.Side.TheVariants as side_is;
-ghost use Rattle.queue_calls.specs.Calls.{Event as ACall};
+ghost use Rattle.queue_calls.specs.Calls as calls;
 ghost use Rattle.ring_core.specs.Items.{ToldIn, all_taken};
 ghost use Rattle.ring_core.specs.Over.{empties, fulls, puts_over_in, takes_over_in};
 ghost use Rattle.ring_core.specs.Puts.{FollowsPuts, Puts, stored_in};
@@ -14,7 +13,7 @@ ghost use Rattle.ring_player.specs.Tellings.{AreAt, RecordsPlay, SaysPut, SaysTa
 
 use crate::faults::PlayFault;
 use crate::worlds::World;
-use bits_core::laws::own_changes;
+use bits_core::laws::subhistory_changes;
 use bits_core::{Event, Side, Store};
 use queue_calls::CallEvent;
 use ring_core::laws::{events_tell_by_one, recorded_is_linearizable};
@@ -69,7 +68,8 @@ fn put_says(
     before: PutCount,
     now: PutCount,
 ) -> (PutStage, Option<PlayedCall>)
-    ensures { SaysPut stage items (record { stored = before.stored; full = before.full }) (record { stored = now.stored; full = now.full }) result.0 result.1 }
+    ensures { SaysPut stage items (record { stored = before.stored; full = before.full })
+        (record { stored = now.stored; full = now.full }) result.0 result.1 }
 {
     events_tell_by_one();
     match stage {
@@ -117,7 +117,8 @@ fn take_says(
     before: TakeCount,
     now: TakeCount,
 ) -> (TakeStage, Option<PlayedCall>)
-    ensures { SaysTake stage wanted (record { taken = before.taken; empty = before.empty; told = before.told }) (record { taken = now.taken; empty = now.empty; told = now.told }) result.0 result.1 }
+    ensures { SaysTake stage wanted (record { taken = before.taken; empty = before.empty; told = before.told })
+        (record { taken = now.taken; empty = now.empty; told = now.told }) result.0 result.1 }
 {
     events_tell_by_one();
     match stage {
@@ -150,8 +151,10 @@ struct Stages {
 
 // What was counted of the puts that are over.
 fn put_count<E: Store<Event>, T: Store<u64>>(world: &World<'_, E, T>) -> PutCount
-    ensures stored { (puts : Puts) → FollowsPuts world.now.script.shape world.now.history puts → result.stored ≡ stored_in 0 (puts_over_in world.now.script.shape world.now.history puts) }
-    ensures full { (puts : Puts) → FollowsPuts world.now.script.shape world.now.history puts → result.full ≡ fulls (puts_over_in world.now.script.shape world.now.history puts) }
+    ensures stored { (puts : Puts) → FollowsPuts world.now.script.shape world.now.history puts →
+        result.stored ≡ stored_in 0 (puts_over_in world.now.script.shape world.now.history puts) }
+    ensures full { (puts : Puts) → FollowsPuts world.now.script.shape world.now.history puts →
+        result.full ≡ fulls (puts_over_in world.now.script.shape world.now.history puts) }
 {
     PutCount {
         stored: world.stored(),
@@ -161,9 +164,12 @@ fn put_count<E: Store<Event>, T: Store<u64>>(world: &World<'_, E, T>) -> PutCoun
 
 // What was counted of the takes that are over.
 fn take_count<E: Store<Event>, T: Store<u64>>(world: &World<'_, E, T>) -> TakeCount
-    ensures taken { (takes : Takes) → FollowsTakes world.now.script.shape world.now.history takes → result.taken ≡ length (all_taken (takes_over_in world.now.script.shape world.now.history takes)) }
-    ensures empty { (takes : Takes) → FollowsTakes world.now.script.shape world.now.history takes → result.empty ≡ empties (takes_over_in world.now.script.shape world.now.history takes) }
-    ensures told { (takes : Takes) → FollowsTakes world.now.script.shape world.now.history takes → (result.told ≡ true) ↔ ToldIn world.now.script.shape world.now.history takes }
+    ensures taken { (takes : Takes) → FollowsTakes world.now.script.shape world.now.history takes →
+        result.taken ≡ length (all_taken (takes_over_in world.now.script.shape world.now.history takes)) }
+    ensures empty { (takes : Takes) → FollowsTakes world.now.script.shape world.now.history takes →
+        result.empty ≡ empties (takes_over_in world.now.script.shape world.now.history takes) }
+    ensures told { (takes : Takes) → FollowsTakes world.now.script.shape world.now.history takes →
+        (result.told ≡ true) ↔ ToldIn world.now.script.shape world.now.history takes }
 {
     TakeCount {
         taken: world.ended_items().len(),
@@ -182,10 +188,13 @@ fn put_step<E: Store<Event>, T: Store<u64>>(
     requires at { AreAt at.old.put at.old.take world.old.script world.old.history }
     ensures script { world.new.script ≡ world.old.script }
     ensures at { OnOk result (AreAt at.new.put at.new.take world.new.script world.new.history) }
-    ensures told { IfOk result (λ told. (events : List ACall) → TellsCalls world.old.script world.old.history events → TellsCalls world.new.script world.new.history (events ++ told_in world.old.script told)) }
-    ensures letters { OnOk result ((letters : List Side) → Plays world.old.script letters world.old.history → Plays world.new.script (letters ++ side_is.P ∷ []) world.new.history) }
+    ensures told { IfOk result (λ told. (events : List calls.Event) →
+        TellsCalls world.old.script world.old.history events →
+        TellsCalls world.new.script world.new.history (events ++ told_in world.old.script told)) }
+    ensures letters { OnOk result ((letters : List Side) → Plays world.old.script letters world.old.history →
+        Plays world.new.script (letters ++ side_is.P ∷ []) world.new.history) }
 {
-    own_changes();
+    subhistory_changes();
     let before = put_count(world);
     let moved = world.step(Side::P)?;
     if !moved {
@@ -205,10 +214,13 @@ fn take_step<E: Store<Event>, T: Store<u64>>(
     requires at { AreAt at.old.put at.old.take world.old.script world.old.history }
     ensures script { world.new.script ≡ world.old.script }
     ensures at { OnOk result (AreAt at.new.put at.new.take world.new.script world.new.history) }
-    ensures told { IfOk result (λ told. (events : List ACall) → TellsCalls world.old.script world.old.history events → TellsCalls world.new.script world.new.history (events ++ told_in world.old.script told)) }
-    ensures letters { OnOk result ((letters : List Side) → Plays world.old.script letters world.old.history → Plays world.new.script (letters ++ side_is.C ∷ []) world.new.history) }
+    ensures told { IfOk result (λ told. (events : List calls.Event) →
+        TellsCalls world.old.script world.old.history events →
+        TellsCalls world.new.script world.new.history (events ++ told_in world.old.script told)) }
+    ensures letters { OnOk result ((letters : List Side) → Plays world.old.script letters world.old.history →
+        Plays world.new.script (letters ++ side_is.C ∷ []) world.new.history) }
 {
-    own_changes();
+    subhistory_changes();
     let wanted = world.wanted() as usize;
     let before = take_count(world);
     let moved = world.step(Side::C)?;
@@ -233,8 +245,11 @@ fn step_told<E: Store<Event>, T: Store<u64>>(
     requires at { AreAt at.old.put at.old.take world.old.script world.old.history }
     ensures script { world.new.script ≡ world.old.script }
     ensures at { OnOk result (AreAt at.new.put at.new.take world.new.script world.new.history) }
-    ensures told { IfOk result (λ told. (events : List ACall) → TellsCalls world.old.script world.old.history events → TellsCalls world.new.script world.new.history (events ++ told_in world.old.script told)) }
-    ensures letters { OnOk result ((letters : List Side) → Plays world.old.script letters world.old.history → Plays world.new.script (letters ++ side ∷ []) world.new.history) }
+    ensures told { IfOk result (λ told. (events : List calls.Event) →
+        TellsCalls world.old.script world.old.history events →
+        TellsCalls world.new.script world.new.history (events ++ told_in world.old.script told)) }
+    ensures letters { OnOk result ((letters : List Side) → Plays world.old.script letters world.old.history →
+        Plays world.new.script (letters ++ side ∷ []) world.new.history) }
 {
     match side {
         Side::P => put_step(world, at, items),
@@ -269,8 +284,10 @@ fn repeat_told<E: Store<Event>, T: Store<u64>, A: Allocator>(
     requires told { TellsCalls world.old.script world.old.history (call_events world.old.script told.old.items) }
     ensures script { world.new.script ≡ world.old.script }
     ensures at { OnOk result (AreAt at.new.put at.new.take world.new.script world.new.history) }
-    ensures told { OnOk result (TellsCalls world.new.script world.new.history (call_events world.new.script told.new.items)) }
-    ensures letters { OnOk result ((letters : List Side) → Plays world.old.script letters world.old.history → Plays world.old.script (letters ++ replicate count side) world.new.history) }
+    ensures told { OnOk result (TellsCalls world.new.script world.new.history
+        (call_events world.new.script told.new.items)) }
+    ensures letters { OnOk result ((letters : List Side) → Plays world.old.script letters world.old.history →
+        Plays world.old.script (letters ++ replicate count side) world.new.history) }
 {
     for made in 0..count {
         let event = step_told(world, at, side, items)?;
@@ -290,7 +307,8 @@ pub fn play_calls<A: Allocator + Copy, B: Allocator>(
     alloc: A,
     script: &Script<B>,
 ) -> Result<Vec<PlayedCall, A>, PlayFault>
-    ensures { IfOk result (λ told. (h : List AnEvent) × IsPlayOf script.now script.now.letters h × RecordsPlay script.now h told.items) }
+    ensures { IfOk result (λ told. (h : List Event) × IsPlayOf script.now script.now.letters h ×
+        RecordsPlay script.now h told.items) }
 {
     recorded_is_linearizable();
     let mut world = World::new(alloc, script);

@@ -3,7 +3,7 @@ ghost use Rattle.std.specs.Prelude.{◌≡◌, ◌↔◌, ◌⊎◌, ◌<◌, �
 ghost use Rattle.bits_core.specs.declared.events.Side.{Side};
 ghost use Rattle.bits_core.specs.declared.events.Side.TheVariants as side_is;
 ghost use Rattle.bits_core.specs.Memory.{flicker_count};
-ghost use Rattle.bits_core.specs.Made.{IsBeginning};
+ghost use Rattle.bits_core.specs.Made.{IsPrefix};
 ghost use Rattle.bits_core.specs.Shape.{take_batch_of};
 ghost use Rattle.ring_core.specs.Items.{ToldIn, all_taken, items_put_in, items_taken_in};
 ghost use Rattle.ring_core.specs.Linear.{EachReadingIsLinearizable};
@@ -21,7 +21,7 @@ use crate::faults::PlayFault;
 use crate::laws::{every_play_fills, every_play_holds};
 use crate::putting::PutActor;
 use crate::taking::TakeActor;
-use bits_core::laws::{flicker_is_by_interval, open_changes, own_changes};
+use bits_core::laws::{flicker_is_by_interval, open_changes, subhistory_changes};
 use bits_core::{Event, Memory, Side, Store, Tape};
 use ring_core::laws::{
     calls_over_are_read, items_put_are_read, items_taken_are_read, ring_is_linearizable,
@@ -54,11 +54,21 @@ impl<'a, E: Store<Event>, T: Store<u64>> Model for World<'a, E, T> {
 
     ghost Value = { Played };
 
-    ghost view = { λ w. record { script = content_of w.script; history = w.memory.events; taken = length (T.items w.consumer.taken); event_room = w.memory.room; item_room = T.room w.consumer.taken } };
+    ghost view = { λ w. record {
+      script = content_of w.script;
+      history = w.memory.events;
+      taken = length (T.items w.consumer.taken);
+      event_room = w.memory.room;
+      item_room = T.room w.consumer.taken;
+    } };
 
-    ghost invariant = { λ w. IsWorld (content_of w.script) w.memory (content_of w.producer.script) (content_of w.consumer.script) (due_put w.producer.producer) (due_take w.consumer.consumer)
-        (λ list opened. PutActorStands (content_of w.producer.script) w.producer.producer (record { stored = w.producer.stored; full = w.producer.full }) list opened × HasWritten (content_of w.producer.script) w.producer.digits w.producer.put list opened)
-        (TakeActorStands (content_of w.consumer.script) w.consumer.consumer (T.items w.consumer.taken) w.consumer.told w.consumer.empty)
+    ghost invariant = { λ w. IsWorld (content_of w.script) w.memory (content_of w.producer.script)
+        (content_of w.consumer.script) (due_put w.producer.producer) (due_take w.consumer.consumer)
+        (λ list opened. PutActorStands (content_of w.producer.script) w.producer.producer
+        (record { stored = w.producer.stored; full = w.producer.full }) list opened ×
+        HasWritten (content_of w.producer.script) w.producer.digits w.producer.put list opened)
+        (TakeActorStands (content_of w.consumer.script) w.consumer.consumer (T.items w.consumer.taken) w.consumer.told
+        w.consumer.empty)
         (tape_answer w.oracle) };
 }
 
@@ -106,7 +116,8 @@ impl<'a, E: Store<Event>, T: Store<u64>> World<'a, E, T> {
 
     /// The items put so far: those of the puts whose count write has begun.
     pub fn put_items(&self) -> &'a [u64]
-        ensures { (puts : Puts) → FollowsPuts self.now.script.shape self.now.history puts → result.now ≡ items_put_in self.now.script.shape self.now.history puts }
+        ensures { (puts : Puts) → FollowsPuts self.now.script.shape self.now.history puts →
+            result.now ≡ items_put_in self.now.script.shape self.now.history puts }
     {
         items_put_are_read();
         self.producer.look();
@@ -115,7 +126,8 @@ impl<'a, E: Store<Event>, T: Store<u64>> World<'a, E, T> {
 
     /// The items taken so far: those of the takes that have ended.
     pub fn taken_items(&self) -> &[u64]
-        ensures { (takes : Takes) → FollowsTakes self.now.script.shape self.now.history takes → result.now ≡ items_taken_in self.now.script.shape self.now.history takes }
+        ensures { (takes : Takes) → FollowsTakes self.now.script.shape self.now.history takes →
+            result.now ≡ items_taken_in self.now.script.shape self.now.history takes }
     {
         items_taken_are_read();
         self.consumer.look();
@@ -124,7 +136,8 @@ impl<'a, E: Store<Event>, T: Store<u64>> World<'a, E, T> {
 
     /// Whether a take was told that the ring is closed.
     pub fn told(&self) -> bool
-        ensures { (takes : Takes) → FollowsTakes self.now.script.shape self.now.history takes → (result ≡ true) ↔ ToldIn self.now.script.shape self.now.history takes }
+        ensures { (takes : Takes) → FollowsTakes self.now.script.shape self.now.history takes → (result ≡ true) ↔
+            ToldIn self.now.script.shape self.now.history takes }
     {
         items_taken_are_read();
         self.consumer.look();
@@ -140,7 +153,8 @@ impl<'a, E: Store<Event>, T: Store<u64>> World<'a, E, T> {
 
     /// How many items the puts that have ended stored.
     pub fn stored(&self) -> usize
-        ensures { (puts : Puts) → FollowsPuts self.now.script.shape self.now.history puts → result ≡ stored_in 0 (puts_over_in self.now.script.shape self.now.history puts) }
+        ensures { (puts : Puts) → FollowsPuts self.now.script.shape self.now.history puts →
+            result ≡ stored_in 0 (puts_over_in self.now.script.shape self.now.history puts) }
     {
         calls_over_are_read();
         self.producer.look();
@@ -149,8 +163,9 @@ impl<'a, E: Store<Event>, T: Store<u64>> World<'a, E, T> {
 
     /// The items that the takes which have ended took: the first ones of the script.
     pub fn ended_items(&self) -> &[u64]
-        ensures items { (takes : Takes) → FollowsTakes self.now.script.shape self.now.history takes → result.now ≡ all_taken (takes_over_in self.now.script.shape self.now.history takes) }
-        ensures first { IsBeginning result.now self.now.script.items }
+        ensures items { (takes : Takes) → FollowsTakes self.now.script.shape self.now.history takes →
+            result.now ≡ all_taken (takes_over_in self.now.script.shape self.now.history takes) }
+        ensures first { IsPrefix result.now self.now.script.items }
     {
         calls_over_are_read();
         self.history();
@@ -161,7 +176,8 @@ impl<'a, E: Store<Event>, T: Store<u64>> World<'a, E, T> {
 
     /// How many puts have ended that found the ring full.
     pub fn full(&self) -> u64
-        ensures { (puts : Puts) → FollowsPuts self.now.script.shape self.now.history puts → result ≡ fulls (puts_over_in self.now.script.shape self.now.history puts) }
+        ensures { (puts : Puts) → FollowsPuts self.now.script.shape self.now.history puts →
+            result ≡ fulls (puts_over_in self.now.script.shape self.now.history puts) }
     {
         calls_over_are_read();
         self.producer.look();
@@ -170,7 +186,8 @@ impl<'a, E: Store<Event>, T: Store<u64>> World<'a, E, T> {
 
     /// How many takes have ended that found the ring empty.
     pub fn empty(&self) -> u64
-        ensures { (takes : Takes) → FollowsTakes self.now.script.shape self.now.history takes → result ≡ empties (takes_over_in self.now.script.shape self.now.history takes) }
+        ensures { (takes : Takes) → FollowsTakes self.now.script.shape self.now.history takes →
+            result ≡ empties (takes_over_in self.now.script.shape self.now.history takes) }
     {
         calls_over_are_read();
         self.consumer.look();
@@ -179,7 +196,9 @@ impl<'a, E: Store<Event>, T: Store<u64>> World<'a, E, T> {
 
     /// How many items the next take wants: as many as one count write may count, or as are left to take.
     pub fn wanted(&self) -> u64
-        ensures wanted { (takes : Takes) → FollowsTakes self.now.script.shape self.now.history takes → result ≡ wanted_at self.now.script (length (all_taken (takes_over_in self.now.script.shape self.now.history takes))) }
+        ensures wanted { (takes : Takes) → FollowsTakes self.now.script.shape self.now.history takes →
+            result ≡ wanted_at self.now.script (length (all_taken
+            (takes_over_in self.now.script.shape self.now.history takes))) }
         ensures small { result ≤ 64 }
     {
         calls_over_are_read();
@@ -203,11 +222,16 @@ impl<'a, E: Store<Event>, T: Store<u64>> World<'a, E, T> {
     pub fn report(self) -> Report<'a, E, T>
         ensures history { E.items result.history ≡ self.entry.history }
         ensures plays { IsPlayOf self.entry.script (event_sides self.entry.history) (E.items result.history) }
-        ensures put { (puts : Puts) → FollowsPuts self.entry.script.shape self.entry.history puts → result.put.now ≡ items_put_in self.entry.script.shape self.entry.history puts }
-        ensures taken { (takes : Takes) → FollowsTakes self.entry.script.shape self.entry.history takes → T.items result.taken ≡ items_taken_in self.entry.script.shape self.entry.history takes }
-        ensures told { (takes : Takes) → FollowsTakes self.entry.script.shape self.entry.history takes → (result.told ≡ true) ↔ ToldIn self.entry.script.shape self.entry.history takes }
-        ensures full { (puts : Puts) → FollowsPuts self.entry.script.shape self.entry.history puts → result.full ≡ fulls (puts_over_in self.entry.script.shape self.entry.history puts) }
-        ensures empty { (takes : Takes) → FollowsTakes self.entry.script.shape self.entry.history takes → result.empty ≡ empties (takes_over_in self.entry.script.shape self.entry.history takes) }
+        ensures put { (puts : Puts) → FollowsPuts self.entry.script.shape self.entry.history puts →
+            result.put.now ≡ items_put_in self.entry.script.shape self.entry.history puts }
+        ensures taken { (takes : Takes) → FollowsTakes self.entry.script.shape self.entry.history takes →
+            T.items result.taken ≡ items_taken_in self.entry.script.shape self.entry.history takes }
+        ensures told { (takes : Takes) → FollowsTakes self.entry.script.shape self.entry.history takes →
+            (result.told ≡ true) ↔ ToldIn self.entry.script.shape self.entry.history takes }
+        ensures full { (puts : Puts) → FollowsPuts self.entry.script.shape self.entry.history puts →
+            result.full ≡ fulls (puts_over_in self.entry.script.shape self.entry.history puts) }
+        ensures empty { (takes : Takes) → FollowsTakes self.entry.script.shape self.entry.history takes →
+            result.empty ≡ empties (takes_over_in self.entry.script.shape self.entry.history takes) }
         ensures flicker { result.flicker ≡ flicker_count self.entry.history }
     {
         items_taken_are_read();
@@ -245,9 +269,11 @@ impl<'a, E: Store<Event>, T: Store<u64>> World<'a, E, T> {
         ensures ok { IfOk result (λ moved. IsMove self.old.script side moved self.old.history self.new.history) }
         ensures err { OnErr result (self.new ≡ self.old) }
         ensures rooms { (self.new.event_room ≡ self.old.event_room) × (self.new.item_room ≡ self.old.item_room) }
-        ensures full { OnErr result ((self.old.event_room ≤ length self.old.history) ⊎ (self.old.item_room < self.old.taken + wanted_at self.old.script self.old.taken)) }
+        ensures full { OnErr result ((self.old.event_room ≤ length self.old.history) ⊎
+            (self.old.item_room < self.old.taken + wanted_at self.old.script self.old.taken)) }
         ensures few { length self.new.history ≤ length self.old.history + 1 }
-        ensures letters { OnOk result ((letters : List Side) → Plays self.old.script letters self.old.history → Plays self.new.script (letters ++ side ∷ []) self.new.history) }
+        ensures letters { OnOk result ((letters : List Side) → Plays self.old.script letters self.old.history →
+            Plays self.new.script (letters ++ side ∷ []) self.new.history) }
         ensures plays { IsPlayOf self.new.script (event_sides self.new.history) self.new.history }
     {
         let moved = self.step_side(side);
@@ -260,7 +286,8 @@ impl<'a, E: Store<Event>, T: Store<u64>> World<'a, E, T> {
         ensures ok { IfOk result (λ moved. IsMove self.old.script side moved self.old.history self.new.history) }
         ensures err { OnErr result (self.new ≡ self.old) }
         ensures rooms { (self.new.event_room ≡ self.old.event_room) × (self.new.item_room ≡ self.old.item_room) }
-        ensures full { OnErr result ((self.old.event_room ≤ length self.old.history) ⊎ (self.old.item_room < self.old.taken + wanted_at self.old.script self.old.taken)) }
+        ensures full { OnErr result ((self.old.event_room ≤ length self.old.history) ⊎
+            (self.old.item_room < self.old.taken + wanted_at self.old.script self.old.taken)) }
     {
         match side {
             Side::P => self.step_producer(),
@@ -273,10 +300,11 @@ impl<'a, E: Store<Event>, T: Store<u64>> World<'a, E, T> {
         ensures ok { IfOk result (λ moved. IsMove self.old.script side_is.P moved self.old.history self.new.history) }
         ensures err { OnErr result (self.new ≡ self.old) }
         ensures rooms { (self.new.event_room ≡ self.old.event_room) × (self.new.item_room ≡ self.old.item_room) }
-        ensures full { OnErr result ((self.old.event_room ≤ length self.old.history) ⊎ (self.old.item_room < self.old.taken + wanted_at self.old.script self.old.taken)) }
+        ensures full { OnErr result ((self.old.event_room ≤ length self.old.history) ⊎
+            (self.old.item_room < self.old.taken + wanted_at self.old.script self.old.taken)) }
     {
         open_changes();
-        own_changes();
+        subhistory_changes();
         advance(
             &mut self.memory,
             &mut self.producer,
@@ -290,10 +318,11 @@ impl<'a, E: Store<Event>, T: Store<u64>> World<'a, E, T> {
         ensures ok { IfOk result (λ moved. IsMove self.old.script side_is.C moved self.old.history self.new.history) }
         ensures err { OnErr result (self.new ≡ self.old) }
         ensures rooms { (self.new.event_room ≡ self.old.event_room) × (self.new.item_room ≡ self.old.item_room) }
-        ensures full { OnErr result ((self.old.event_room ≤ length self.old.history) ⊎ (self.old.item_room < self.old.taken + wanted_at self.old.script self.old.taken)) }
+        ensures full { OnErr result ((self.old.event_room ≤ length self.old.history) ⊎
+            (self.old.item_room < self.old.taken + wanted_at self.old.script self.old.taken)) }
     {
         open_changes();
-        own_changes();
+        subhistory_changes();
         advance(
             &mut self.memory,
             &mut self.consumer,
@@ -310,10 +339,13 @@ fn repeat<E: Store<Event>, T: Store<u64>>(
     count: u64,
 ) -> Result<(), PlayFault>
     ensures script { world.new.script ≡ world.old.script }
-    ensures plays { OnOk result ((letters : List Side) → Plays world.old.script letters world.old.history → Plays world.old.script (letters ++ replicate count side) world.new.history) }
+    ensures plays { OnOk result ((letters : List Side) → Plays world.old.script letters world.old.history →
+        Plays world.old.script (letters ++ replicate count side) world.new.history) }
     ensures rooms { (world.new.event_room ≡ world.old.event_room) × (world.new.item_room ≡ world.old.item_room) }
     ensures few { OnOk result (length world.new.history ≤ length world.old.history + count) }
-    ensures full { OnErr result (((world.new.event_room ≤ length world.new.history) ⊎ (world.new.item_room < world.new.taken + wanted_at world.new.script world.new.taken)) × (length world.new.history < length world.old.history + count)) }
+    ensures full { OnErr result (((world.new.event_room ≤ length world.new.history) ⊎
+        (world.new.item_room < world.new.taken + wanted_at world.new.script world.new.taken)) ×
+        (length world.new.history < length world.old.history + count)) }
 {
     for made in 0..count {
         world.step(side)?;
@@ -330,10 +362,13 @@ fn run_first<E: Store<Event>, T: Store<u64>>(
     requires of_script { world.old.script ≡ content_of script }
     requires new { world.old.history ≡ [] }
     ensures script { world.new.script ≡ content_of script.entry }
-    ensures plays { OnOk result (Plays (content_of script.entry) (take letters (content_of script.entry).letters) world.new.history) }
+    ensures plays { OnOk result (Plays (content_of script.entry) (take letters (content_of script.entry).letters)
+        world.new.history) }
     ensures rooms { (world.new.event_room ≡ world.old.event_room) × (world.new.item_room ≡ world.old.item_room) }
     ensures few { OnOk result (length world.new.history ≤ min letters (length (content_of script.entry).letters)) }
-    ensures full { OnErr result (((world.new.event_room ≤ length world.new.history) ⊎ (world.new.item_room < world.new.taken + wanted_at world.new.script world.new.taken)) × (length world.new.history < min letters (length (content_of script.entry).letters))) }
+    ensures full { OnErr result (((world.new.event_room ≤ length world.new.history) ⊎
+        (world.new.item_room < world.new.taken + wanted_at world.new.script world.new.taken)) ×
+        (length world.new.history < min letters (length (content_of script.entry).letters))) }
 {
     world.history();
     let mut left = letters;
@@ -371,11 +406,16 @@ pub fn play<'a, A: Allocator + Copy, B: Allocator>(
 ) -> Result<Report<'a, Vec<Event, A>, Vec<u64, A>>, PlayFault>
     ensures plays { IfOk result (λ r. IsPlayOf script.now script.now.letters r.history.items) }
     ensures linearizable { IfOk result (λ r. EachReadingIsLinearizable script.now.shape r.history.items) }
-    ensures put { IfOk result (λ r. (puts : Puts) → FollowsPuts script.now.shape r.history.items puts → r.put.now ≡ items_put_in script.now.shape r.history.items puts) }
-    ensures taken { IfOk result (λ r. (takes : Takes) → FollowsTakes script.now.shape r.history.items takes → r.taken.items ≡ items_taken_in script.now.shape r.history.items takes) }
-    ensures told { IfOk result (λ r. (takes : Takes) → FollowsTakes script.now.shape r.history.items takes → (r.told ≡ true) ↔ ToldIn script.now.shape r.history.items takes) }
-    ensures full { IfOk result (λ r. (puts : Puts) → FollowsPuts script.now.shape r.history.items puts → r.full ≡ fulls (puts_over_in script.now.shape r.history.items puts)) }
-    ensures empty { IfOk result (λ r. (takes : Takes) → FollowsTakes script.now.shape r.history.items takes → r.empty ≡ empties (takes_over_in script.now.shape r.history.items takes)) }
+    ensures put { IfOk result (λ r. (puts : Puts) → FollowsPuts script.now.shape r.history.items puts →
+        r.put.now ≡ items_put_in script.now.shape r.history.items puts) }
+    ensures taken { IfOk result (λ r. (takes : Takes) → FollowsTakes script.now.shape r.history.items takes →
+        r.taken.items ≡ items_taken_in script.now.shape r.history.items takes) }
+    ensures told { IfOk result (λ r. (takes : Takes) → FollowsTakes script.now.shape r.history.items takes →
+        (r.told ≡ true) ↔ ToldIn script.now.shape r.history.items takes) }
+    ensures full { IfOk result (λ r. (puts : Puts) → FollowsPuts script.now.shape r.history.items puts →
+        r.full ≡ fulls (puts_over_in script.now.shape r.history.items puts)) }
+    ensures empty { IfOk result (λ r. (takes : Takes) → FollowsTakes script.now.shape r.history.items takes →
+        r.empty ≡ empties (takes_over_in script.now.shape r.history.items takes)) }
     ensures flicker { IfOk result (λ r. HasFlickers r.history.items r.flicker) }
 {
     let letters = script.len();
@@ -397,19 +437,34 @@ pub fn play_first<'a, E: Store<Event>, T: Store<u64>>(
 ) -> Result<Report<'a, E, T>, PlayFault>
     requires no_events { E.items events ≡ [] }
     requires none_taken { T.items taken ≡ [] }
-    ensures plays { IfOk result (λ r. IsPlayOf (content_of script.entry) (take letters (content_of script.entry).letters) (E.items r.history)) }
-    ensures linearizable { IfOk result (λ r. EachReadingIsLinearizable (content_of script.entry).shape (E.items r.history)) }
-    ensures put { IfOk result (λ r. (puts : Puts) → FollowsPuts (content_of script.entry).shape (E.items r.history) puts → r.put.now ≡ items_put_in (content_of script.entry).shape (E.items r.history) puts) }
-    ensures taken { IfOk result (λ r. (takes : Takes) → FollowsTakes (content_of script.entry).shape (E.items r.history) takes → T.items r.taken ≡ items_taken_in (content_of script.entry).shape (E.items r.history) takes) }
-    ensures told { IfOk result (λ r. (takes : Takes) → FollowsTakes (content_of script.entry).shape (E.items r.history) takes → (r.told ≡ true) ↔ ToldIn (content_of script.entry).shape (E.items r.history) takes) }
-    ensures full { IfOk result (λ r. (puts : Puts) → FollowsPuts (content_of script.entry).shape (E.items r.history) puts → r.full ≡ fulls (puts_over_in (content_of script.entry).shape (E.items r.history) puts)) }
-    ensures empty { IfOk result (λ r. (takes : Takes) → FollowsTakes (content_of script.entry).shape (E.items r.history) takes → r.empty ≡ empties (takes_over_in (content_of script.entry).shape (E.items r.history) takes)) }
+    ensures plays { IfOk result (λ r. IsPlayOf (content_of script.entry)
+        (take letters (content_of script.entry).letters) (E.items r.history)) }
+    ensures linearizable { IfOk result (λ r. EachReadingIsLinearizable (content_of script.entry).shape
+        (E.items r.history)) }
+    ensures put { IfOk result (λ r. (puts : Puts) →
+        FollowsPuts (content_of script.entry).shape (E.items r.history) puts →
+        r.put.now ≡ items_put_in (content_of script.entry).shape (E.items r.history) puts) }
+    ensures taken { IfOk result (λ r. (takes : Takes) →
+        FollowsTakes (content_of script.entry).shape (E.items r.history) takes →
+        T.items r.taken ≡ items_taken_in (content_of script.entry).shape (E.items r.history) takes) }
+    ensures told { IfOk result (λ r. (takes : Takes) →
+        FollowsTakes (content_of script.entry).shape (E.items r.history) takes → (r.told ≡ true) ↔
+        ToldIn (content_of script.entry).shape (E.items r.history) takes) }
+    ensures full { IfOk result (λ r. (puts : Puts) →
+        FollowsPuts (content_of script.entry).shape (E.items r.history) puts →
+        r.full ≡ fulls (puts_over_in (content_of script.entry).shape (E.items r.history) puts)) }
+    ensures empty { IfOk result (λ r. (takes : Takes) →
+        FollowsTakes (content_of script.entry).shape (E.items r.history) takes →
+        r.empty ≡ empties (takes_over_in (content_of script.entry).shape (E.items r.history) takes)) }
     ensures flicker { IfOk result (λ r. HasFlickers (E.items r.history) r.flicker) }
     // A letter gives one event at most.
-    ensures few { IfOk result (λ r. length (E.items r.history) ≤ min letters (length (content_of script.entry).letters)) }
+    ensures few { IfOk result (λ r. length (E.items r.history) ≤ min letters
+        (length (content_of script.entry).letters)) }
     // A refusal comes only where the history has no room for as many events as letters are played, or the items taken have none for as
     // many as the script takes, nor for as many more than it has, less one, as a take may take.
-    ensures refused { OnErr result ((E.room events < min letters (length (content_of script.entry).letters)) ⊎ ((T.room taken < (content_of script.entry).takes) × (T.room taken < length (content_of script.entry).items + take_batch_of (content_of script.entry).shape))) }
+    ensures refused { OnErr result ((E.room events < min letters (length (content_of script.entry).letters)) ⊎
+        ((T.room taken < (content_of script.entry).takes) ×
+        (T.room taken < length (content_of script.entry).items + take_batch_of (content_of script.entry).shape))) }
 {
     every_play_holds();
     every_play_fills();

@@ -12,7 +12,7 @@ use Rattle.bits_core.specs.declared.events.Event.{Event}
 use Rattle.bits_core.specs.declared.shapes.Shape.{Shape}
 use Rattle.bits_core.specs.declared.shapes.ShapeFault.{ShapeFault}
 use Rattle.bits_core.specs.Shape.{HasBatches, IsRefusedBatches, capacity_of}
-use Rattle.bits_core.specs.Made.{IsBeginning}
+use Rattle.bits_core.specs.Made.{IsPrefix}
 use Rattle.bits_core.specs.declared.traces.TraceFault.{TraceFault}
 use Rattle.bits_core.specs.declared.traces.TraceFault.TheVariants as trace
 use Rattle.near_misses.specs.NearPlays.{IsNearPlay}
@@ -257,7 +257,7 @@ pub record AnswersRun (run : Run) (text : List ℕ) (ending : Ending) : Type 0 w
   pub time : Option ℕ
   pub of_numbers : HasBatches run.capacity run.modulus run.width run.batch run.take_batch shape
   pub relayed : IsRelayed shape (run_items run) run.limits.puts run.limits.takes put calls full taken takes empty closed
-  pub prefix : IsBeginning taken (take put (run_items run))
+  pub prefix : IsPrefix taken (take put (run_items run))
   pub all : closed ≡ true → taken ≡ run_items run
   pub within : put ≤ length taken + run.capacity
   pub words : TellsRun run.text shape (run_items run) put calls full taken takes empty closed time text

@@ -16,7 +16,7 @@ use Rattle.call_lines.specs.declared.lines.Word.TheVariants as word
 use Rattle.queue_calls.specs.declared.hearings.Begun.TheVariants as begun
 use Rattle.queue_calls.specs.declared.recordings.CallsFinding.{CallsFinding}
 use Rattle.queue_calls.specs.declared.recordings.CallsFinding.TheVariants as calls
-use Rattle.queue_calls.specs.declared.reports.Report as calls_report
+use Rattle.queue_calls.specs.declared.reports.CallsReport as calls_report
 use Rattle.ring_audit.specs.Audit.{Statement, Lawful, Fault}
 use Rattle.ring_player.specs.Plays.{offered}
 use Rattle.queue_calls.specs.declared.events.CallEvent.{CallEvent}

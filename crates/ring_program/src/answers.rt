@@ -59,7 +59,8 @@ pub struct Answer<A: Allocator> {
 /// Writes all of the text. Any fault of the writer ends it.
 pub fn write_whole<W: Write>(out: &mut W, text: &[u8]) -> Result<(), AppFault>
     ensures whole { OnOk result (Appends (W.contents out.old) (W.contents out.new) text.now) }
-    ensures front { OnErr result ((count : ℕ) × Appends (W.contents out.old) (W.contents out.new) (take count text.now)) }
+    ensures front { OnErr result ((count : ℕ) ×
+        Appends (W.contents out.old) (W.contents out.new) (take count text.now)) }
     ensures fault { IfErr result (λ e. e ≡ AppFault.WriteFailed) }
 {
     let mut count = 0;
@@ -167,9 +168,11 @@ pub fn finish<E: Write>(ending: Ending, err: &mut E) -> Exit
 /// How the program ends on what came of a command, with what the standard error is told.
 pub fn conclude<E: Write>(ended: Result<Ending, Refusal>, err: &mut E) -> Exit
     ensures ok { IfOk ended (λ ending. result.status ≡ status_of ending) }
-    ensures told { IfOk ended (λ ending. Gains (E.contents err.old) (E.contents err.new) result.is_told (ending_words ending)) }
+    ensures told { IfOk ended (λ ending. Gains (E.contents err.old) (E.contents err.new) result.is_told
+        (ending_words ending)) }
     ensures err { OnErr ended (result.status ≡ 1) }
-    ensures refused { IfErr ended (λ e. Gains (E.contents err.old) (E.contents err.new) result.is_told (refusal_line e)) }
+    ensures refused { IfErr ended (λ e. Gains (E.contents err.old) (E.contents err.new) result.is_told
+        (refusal_line e)) }
     ensures quiet { (result.status ≡ 1) ⊎ ((err.new ≡ err.old) × (result.is_told ≡ true)) }
 {
     match ended {

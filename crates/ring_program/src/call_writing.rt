@@ -47,7 +47,8 @@ pub fn push_event<A: Allocator>(
     begun: Begun,
     event: Event<'_>,
 ) -> Result<(), AppFault>
-    ensures line { OnOk result (string_bytes text.new ≡ string_bytes text.old ++ text_of (line_of begun (told event.entry))) }
+    ensures line { OnOk result (string_bytes text.new ≡ string_bytes text.old ++ text_of
+        (line_of begun (told event.entry))) }
     ensures small { AreSmall (numbers_in (told event.entry)) }
     ensures err { IfErr result (λ e. e ≡ AppFault.OutOfMemory) }
 {

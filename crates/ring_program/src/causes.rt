@@ -4,7 +4,7 @@ ghost use Rattle.ring_program.specs.Faults.{IsInText};
 
 use crate::faults::Refusal;
 use crate::trace_lines::{
-    Line, LineFault, Shown, fault_of_call, fault_of_line, line_at, looks_like_script,
+    LineFault, Shown, TextLine, fault_of_call, fault_of_line, line_at, looks_like_script,
     looks_like_trace,
 };
 use bits_core::TraceFault;
@@ -15,7 +15,7 @@ use std::fmt;
 
 /// What is wrong in the text of a trace, of recorded calls or of a script. It is printed in one line, with no line feed.
 #[derive(Drop)]
-pub enum Cause<'a> {
+pub enum TextCause<'a> {
     /// The text of the trace is empty.
     NoTrace,
     /// The text of the recorded calls is empty.
@@ -38,29 +38,29 @@ pub enum Cause<'a> {
     StrayByte(Field, u64, u8),
 }
 
-impl fmt::Display for Cause<'_> {
+impl fmt::Display for TextCause<'_> {
     fn fmt<W: fmt::Write>(&self, f: &mut fmt::Formatter<W>) -> fmt::Result {
         match self {
-            Cause::NoTrace => {
+            TextCause::NoTrace => {
                 f.write_str("there is no text: line 1 is to be: shape CAPACITY MODULUS WIDTH")
             }
-            Cause::NoCalls => f.write_str("there is no text: line 1 is to be: queue CAPACITY"),
-            Cause::LooksLikeScript => {
+            TextCause::NoCalls => f.write_str("there is no text: line 1 is to be: queue CAPACITY"),
+            TextCause::LooksLikeScript => {
                 f.write_str("it looks like a script: lamport_ring play reads it")
             }
-            Cause::LooksLikeTrace => {
+            TextCause::LooksLikeTrace => {
                 f.write_str("it looks like a trace: lamport_ring audit reads it")
             }
-            Cause::Line(number, fault, shown) => write!(f, "line {number} {fault}: {shown}"),
-            Cause::NoScript => f.write_str(
+            TextCause::Line(number, fault, shown) => write!(f, "line {number} {fault}: {shown}"),
+            TextCause::NoScript => f.write_str(
                 "there is no text: a script is a JSON object, lamport_ring play --help shows one",
             ),
-            Cause::NotJson(fault) => write!(f, "{fault}"),
-            Cause::UnknownField => f.write_str(
+            TextCause::NotJson(fault) => write!(f, "{fault}"),
+            TextCause::UnknownField => f.write_str(
                 "the fields are capacity, modulus, width, items, takes, close, schedule, oracle, batch and take_batch",
             ),
-            Cause::WrongKind(field) => write!(f, "{field} is {}", kind_words(*field)),
-            Cause::StrayByte(field, place, byte) => {
+            TextCause::WrongKind(field) => write!(f, "{field} is {}", kind_words(*field)),
+            TextCause::StrayByte(field, place, byte) => {
                 write!(f, "byte {place} of {field} is \"{}\"", byte.escape_ascii())
             }
         }
@@ -86,58 +86,63 @@ fn kind_words(field: Field) -> &'static str {
 }
 
 // What is wrong in a trace whose line of this number is bad.
-fn cause_in_trace(bytes: &[u8], number: u64) -> Cause<'_> {
+fn cause_in_trace(bytes: &[u8], number: u64) -> TextCause<'_> {
     if bytes.is_empty() {
-        return Cause::NoTrace;
+        return TextCause::NoTrace;
     }
     if number == 1 && looks_like_script(bytes) {
-        return Cause::LooksLikeScript;
+        return TextCause::LooksLikeScript;
     }
     let line = line_at(bytes, number);
     let fault = fault_of_line(&line, number == 1);
-    Cause::Line(number, fault, Shown { line: line.text })
+    TextCause::Line(number, fault, Shown { line: line.text })
 }
 
 // What is wrong in recorded calls whose line of this number is bad.
-fn cause_in_calls(line: Line<'_>, number: u64) -> Cause<'_> {
+fn cause_in_calls(line: TextLine<'_>, number: u64) -> TextCause<'_> {
     if number == 1 {
         if line.text.is_empty() && !line.has_feed {
-            return Cause::NoCalls;
+            return TextCause::NoCalls;
         }
         if looks_like_script(line.text) {
-            return Cause::LooksLikeScript;
+            return TextCause::LooksLikeScript;
         }
         if looks_like_trace(line.text) {
-            return Cause::LooksLikeTrace;
+            return TextCause::LooksLikeTrace;
         }
     }
     let fault = fault_of_call(&line, number == 1);
-    Cause::Line(number, fault, Shown { line: line.text })
+    TextCause::Line(number, fault, Shown { line: line.text })
 }
 
 // What is wrong in bytes that are no JSON.
-fn cause_in_json<'a>(json: Global, bytes: &'a [u8]) -> Option<Cause<'a>> {
+fn cause_in_json<'a>(json: Global, bytes: &'a [u8]) -> Option<TextCause<'a>> {
     if bytes.is_empty() {
-        return Some(Cause::NoScript);
+        return Some(TextCause::NoScript);
     }
     if looks_like_trace(bytes) {
-        return Some(Cause::LooksLikeTrace);
+        return Some(TextCause::LooksLikeTrace);
     }
-    Some(Cause::NotJson(json_fault(json, bytes)?))
+    Some(TextCause::NotJson(json_fault(json, bytes)?))
 }
 
 // What is wrong in the text of a field at a place.
-fn cause_in_text<'a>(json: Global, bytes: &'a [u8], field: Field, place: u64) -> Option<Cause<'a>> {
+fn cause_in_text<'a>(
+    json: Global,
+    bytes: &'a [u8],
+    field: Field,
+    place: u64,
+) -> Option<TextCause<'a>> {
     let byte = byte_of_text(json, bytes, field, place)?;
-    Some(Cause::StrayByte(field, place, byte))
+    Some(TextCause::StrayByte(field, place, byte))
 }
 
 // What is wrong in a script that has this fault.
-fn cause_in_script<'a>(json: Global, bytes: &'a [u8], fault: ScriptFault) -> Option<Cause<'a>> {
+fn cause_in_script<'a>(json: Global, bytes: &'a [u8], fault: ScriptFault) -> Option<TextCause<'a>> {
     match fault {
         ScriptFault::NotJson => cause_in_json(json, bytes),
-        ScriptFault::UnknownField => Some(Cause::UnknownField),
-        ScriptFault::WrongKind(field) => Some(Cause::WrongKind(field)),
+        ScriptFault::UnknownField => Some(TextCause::UnknownField),
+        ScriptFault::WrongKind(field) => Some(TextCause::WrongKind(field)),
         ScriptFault::BadSchedule(place) => cause_in_text(json, bytes, Field::Schedule, place),
         ScriptFault::BadOracle(place) => cause_in_text(json, bytes, Field::Oracle, place),
         _ => None,
@@ -150,12 +155,12 @@ pub enum Source<'a> {
     /// All of it.
     Input(&'a [u8]),
     /// The bad line of recorded calls, which are not kept.
-    Line(Line<'a>),
+    Line(TextLine<'a>),
 }
 
 /// What is wrong in the text that was refused so. `None` where the refusal says it all, where it is not the text
 /// that was refused, and where memory ran out.
-pub fn cause_of<'a>(json: Global, source: Source<'a>, refusal: Refusal) -> Option<Cause<'a>>
+pub fn cause_of<'a>(json: Global, source: Source<'a>, refusal: Refusal) -> Option<TextCause<'a>>
     // It is the text that was refused.
     ensures { IfSome result (λ _. IsInText refusal) }
 {

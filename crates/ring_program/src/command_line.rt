@@ -235,7 +235,8 @@ fn program<'a>(alloc: Global) -> Result<Command<'a>, AllocError>
 // The matches of the words, where the program takes them.
 fn parse<'a>(alloc: Global, words: &'a [&'a str]) -> Result<ArgMatches<'a>, Error>
     ensures taken { OnOk result (fault_of application (map (λ w. w.now) words.entry.now) ≡ []) }
-    ensures found { IfOk result (λ matches. subcommand_rows_of matches ≡ subcommand_of application (map (λ w. w.now) words.entry.now)) }
+    ensures found { IfOk result (λ matches. subcommand_rows_of matches ≡ subcommand_of application
+        (map (λ w. w.now) words.entry.now)) }
     ensures kinds { IfErr result (HasKind (fault_of application (map (λ w. w.now) words.entry.now))) }
 {
     let command = program(alloc)?;
@@ -244,7 +245,8 @@ fn parse<'a>(alloc: Global, words: &'a [&'a str]) -> Result<ArgMatches<'a>, Erro
 
 // The command that was named, with its own matches.
 fn named<'m, 'a>(matches: &'m ArgMatches<'a>) -> Option<(&'a str, &'m ArgMatches<'a>)>
-    ensures { option_map (λ found. (found.0.now, rows_of (found_of found.1.now))) result ≡ subcommand_rows_of matches.now }
+    ensures { option_map (λ found. (found.0.now, rows_of (found_of found.1.now))) result ≡ subcommand_rows_of
+        matches.now }
 {
     matches.subcommand()
 }
@@ -322,7 +324,8 @@ fn request_found(matches: &ArgMatches<'_>) -> Option<Request>
 pub fn read_words<'a>(alloc: Global, words: &'a [&'a str]) -> Result<Option<Request>, Error>
     ensures asked { IfOk result (λ request. request ≡ request_of (map (λ w. w.now) words.entry.now)) }
     ensures taken { OnOk result (fault_of application (map (λ w. w.now) words.entry.now) ≡ []) }
-    ensures refused { IfErr result (λ e. (kind_of e ≡ ErrorKind.OutOfMemory) ⊎ (request_of (map (λ w. w.now) words.entry.now) ≡ None)) }
+    ensures refused { IfErr result (λ e. (kind_of e ≡ ErrorKind.OutOfMemory) ⊎
+        (request_of (map (λ w. w.now) words.entry.now) ≡ None)) }
     ensures kinds { IfErr result (HasKind (fault_of application (map (λ w. w.now) words.entry.now))) }
 {
     match parse(alloc, words) {
@@ -334,33 +337,63 @@ pub fn read_words<'a>(alloc: Global, words: &'a [&'a str]) -> Result<Option<Requ
 /// The command lines of the program, by its name and their words.
 pub fn command_lines()
     ensures audit { (name : List ℕ) → request_of (name ∷ codes "audit" ∷ []) ≡ Some (Request.OnInput Question.Audit) }
-    ensures audit_bits { (name : List ℕ) → request_of (name ∷ codes "audit" ∷ codes "--bits" ∷ []) ≡ Some (Request.OnInput Question.AuditBits) }
-    ensures audit_calls { (name : List ℕ) → request_of (name ∷ codes "audit" ∷ codes "--calls" ∷ []) ≡ Some (Request.Calls false) }
-    ensures calls_stop { (name : List ℕ) → request_of (name ∷ codes "audit" ∷ codes "--calls" ∷ codes "--stop" ∷ []) ≡ Some (Request.Calls true) }
+    ensures audit_bits { (name : List ℕ) →
+        request_of (name ∷ codes "audit" ∷ codes "--bits" ∷ []) ≡ Some (Request.OnInput Question.AuditBits) }
+    ensures audit_calls { (name : List ℕ) →
+        request_of (name ∷ codes "audit" ∷ codes "--calls" ∷ []) ≡ Some (Request.Calls false) }
+    ensures calls_stop { (name : List ℕ) →
+        request_of (name ∷ codes "audit" ∷ codes "--calls" ∷ codes "--stop" ∷ []) ≡ Some (Request.Calls true) }
     ensures stop_alone { (name : List ℕ) → request_of (name ∷ codes "audit" ∷ codes "--stop" ∷ []) ≡ None }
-    ensures bits_stop { (name : List ℕ) → request_of (name ∷ codes "audit" ∷ codes "--bits" ∷ codes "--stop" ∷ []) ≡ None }
-    ensures stop_why { (name : List ℕ) → request_of (name ∷ codes "audit" ∷ codes "--calls" ∷ codes "--stop" ∷ codes "--why" ∷ []) ≡ None }
-    ensures audit_both { (name : List ℕ) → request_of (name ∷ codes "audit" ∷ codes "--bits" ∷ codes "--calls" ∷ []) ≡ None }
-    ensures audit_long { (name : List ℕ) → request_of (name ∷ codes "audit" ∷ codes "--bits" ∷ codes "--long" ∷ []) ≡ Some Request.LongBits }
+    ensures bits_stop { (name : List ℕ) →
+        request_of (name ∷ codes "audit" ∷ codes "--bits" ∷ codes "--stop" ∷ []) ≡ None }
+    ensures stop_why { (name : List ℕ) →
+        request_of (name ∷ codes "audit" ∷ codes "--calls" ∷ codes "--stop" ∷ codes "--why" ∷ []) ≡ None }
+    ensures audit_both { (name : List ℕ) →
+        request_of (name ∷ codes "audit" ∷ codes "--bits" ∷ codes "--calls" ∷ []) ≡ None }
+    ensures audit_long { (name : List ℕ) →
+        request_of (name ∷ codes "audit" ∷ codes "--bits" ∷ codes "--long" ∷ []) ≡ Some Request.LongBits }
     ensures long_alone { (name : List ℕ) → request_of (name ∷ codes "audit" ∷ codes "--long" ∷ []) ≡ None }
-    ensures long_calls { (name : List ℕ) → request_of (name ∷ codes "audit" ∷ codes "--calls" ∷ codes "--long" ∷ []) ≡ None }
-    ensures audit_why { (name : List ℕ) → request_of (name ∷ codes "audit" ∷ codes "--why" ∷ []) ≡ Some (Request.OnInput Question.AuditWhy) }
-    ensures audit_bits_why { (name : List ℕ) → request_of (name ∷ codes "audit" ∷ codes "--bits" ∷ codes "--why" ∷ []) ≡ Some (Request.OnInput Question.AuditBitsWhy) }
-    ensures long_why { (name : List ℕ) → request_of (name ∷ codes "audit" ∷ codes "--bits" ∷ codes "--long" ∷ codes "--why" ∷ []) ≡ None }
-    ensures calls_why { (name : List ℕ) → request_of (name ∷ codes "audit" ∷ codes "--calls" ∷ codes "--why" ∷ []) ≡ None }
+    ensures long_calls { (name : List ℕ) →
+        request_of (name ∷ codes "audit" ∷ codes "--calls" ∷ codes "--long" ∷ []) ≡ None }
+    ensures audit_why { (name : List ℕ) →
+        request_of (name ∷ codes "audit" ∷ codes "--why" ∷ []) ≡ Some (Request.OnInput Question.AuditWhy) }
+    ensures audit_bits_why { (name : List ℕ) →
+        request_of (name ∷ codes "audit" ∷ codes "--bits" ∷ codes "--why" ∷ []) ≡ Some
+        (Request.OnInput Question.AuditBitsWhy) }
+    ensures long_why { (name : List ℕ) →
+        request_of (name ∷ codes "audit" ∷ codes "--bits" ∷ codes "--long" ∷ codes "--why" ∷ []) ≡ None }
+    ensures calls_why { (name : List ℕ) →
+        request_of (name ∷ codes "audit" ∷ codes "--calls" ∷ codes "--why" ∷ []) ≡ None }
     ensures twice { (name : List ℕ) → request_of (name ∷ codes "audit" ∷ codes "--bits" ∷ codes "--bits" ∷ []) ≡ None }
     ensures play { (name : List ℕ) → request_of (name ∷ codes "play" ∷ []) ≡ Some (Request.OnInput Question.Play) }
-    ensures play_trace { (name : List ℕ) → request_of (name ∷ codes "play" ∷ codes "--trace" ∷ []) ≡ Some (Request.OnInput Question.PlayTrace) }
-    ensures play_calls { (name : List ℕ) → request_of (name ∷ codes "play" ∷ codes "--calls" ∷ []) ≡ Some (Request.OnInput Question.PlayCalls) }
-    ensures play_both { (name : List ℕ) → request_of (name ∷ codes "play" ∷ codes "--trace" ∷ codes "--calls" ∷ []) ≡ None }
-    ensures wrong_trace { (name : List ℕ) → request_of (name ∷ codes "play" ∷ codes "--wrong" ∷ codes "small-modulus" ∷ codes "--trace" ∷ []) ≡ Some (Request.OnInput (Question.WrongTrace miss.SmallModulus)) }
-    ensures wrong_calls { (name : List ℕ) → request_of (name ∷ codes "play" ∷ codes "--wrong=count-before-cell" ∷ codes "--calls" ∷ []) ≡ Some (Request.OnInput (Question.WrongCalls miss.CountBeforeCell)) }
-    ensures wrong_report { (name : List ℕ) → request_of (name ∷ codes "play" ∷ codes "--wrong" ∷ codes "clears-first" ∷ []) ≡ None }
-    ensures wrong_name { (name : List ℕ) → request_of (name ∷ codes "play" ∷ codes "--wrong" ∷ codes "right" ∷ codes "--calls" ∷ []) ≡ None }
-    ensures run { (name : List ℕ) → request_of (name ∷ short_run) ≡ Some (Request.Run (run_of_numbers kind.Flicker 1 3 6 1 1 64 9 9 RunText.Totals)) }
-    ensures run_with_all { (name : List ℕ) → request_of (name ∷ long_run) ≡ Some (Request.Run (run_of_numbers kind.Counter 3 7 6 3 2 64 9 8 RunText.Totals)) }
-    ensures run_with_report { (name : List ℕ) → request_of (name ∷ report_run) ≡ Some (Request.Run (run_of_numbers kind.Flicker 1 3 6 1 1 64 9 9 RunText.Report)) }
-    ensures run_with_record { (name : List ℕ) → request_of (name ∷ record_run) ≡ Some (Request.Run (run_of_numbers kind.Flicker 1 3 6 1 1 64 9 9 RunText.Recording)) }
+    ensures play_trace { (name : List ℕ) →
+        request_of (name ∷ codes "play" ∷ codes "--trace" ∷ []) ≡ Some (Request.OnInput Question.PlayTrace) }
+    ensures play_calls { (name : List ℕ) →
+        request_of (name ∷ codes "play" ∷ codes "--calls" ∷ []) ≡ Some (Request.OnInput Question.PlayCalls) }
+    ensures play_both { (name : List ℕ) →
+        request_of (name ∷ codes "play" ∷ codes "--trace" ∷ codes "--calls" ∷ []) ≡ None }
+    ensures wrong_trace { (name : List ℕ) →
+        request_of (name ∷ codes "play" ∷ codes "--wrong" ∷ codes "small-modulus" ∷ codes "--trace" ∷ []) ≡ Some
+        (Request.OnInput (Question.WrongTrace miss.SmallModulus)) }
+    ensures wrong_calls { (name : List ℕ) →
+        request_of (name ∷ codes "play" ∷ codes "--wrong=count-before-cell" ∷ codes "--calls" ∷ []) ≡ Some
+        (Request.OnInput (Question.WrongCalls miss.CountBeforeCell)) }
+    ensures wrong_report { (name : List ℕ) →
+        request_of (name ∷ codes "play" ∷ codes "--wrong" ∷ codes "clears-first" ∷ []) ≡ None }
+    ensures wrong_name { (name : List ℕ) →
+        request_of (name ∷ codes "play" ∷ codes "--wrong" ∷ codes "right" ∷ codes "--calls" ∷ []) ≡ None }
+    ensures run { (name : List ℕ) →
+        request_of (name ∷ short_run) ≡ Some (Request.Run (run_of_numbers kind.Flicker 1 3 6 1 1 64 9 9
+        RunText.Totals)) }
+    ensures run_with_all { (name : List ℕ) →
+        request_of (name ∷ long_run) ≡ Some (Request.Run (run_of_numbers kind.Counter 3 7 6 3 2 64 9 8
+        RunText.Totals)) }
+    ensures run_with_report { (name : List ℕ) →
+        request_of (name ∷ report_run) ≡ Some (Request.Run (run_of_numbers kind.Flicker 1 3 6 1 1 64 9 9
+        RunText.Report)) }
+    ensures run_with_record { (name : List ℕ) →
+        request_of (name ∷ record_run) ≡ Some (Request.Run (run_of_numbers kind.Flicker 1 3 6 1 1 64 9 9
+        RunText.Recording)) }
     ensures run_with_both { (name : List ℕ) → request_of (name ∷ report_and_record) ≡ None }
     ensures lacking { (name : List ℕ) → request_of (name ∷ codes "run" ∷ []) ≡ None }
     ensures too_many { (name : List ℕ) → request_of (name ∷ big_run) ≡ None }

@@ -26,7 +26,8 @@ pub fn load<A: Allocator, R: Read>(alloc: A, input: &mut R) -> Result<Vec<u8, A>
 
     // More bytes came than an input may have.
     ensures too_large { IsErrOf result AppFault.TooLarge
-        → (came : List ℕ) × (INPUT_LIMIT < length came) × Consumes (R.remaining input.old) (R.remaining input.new) came }
+        → (came : List ℕ) × (INPUT_LIMIT < length came) ×
+        Consumes (R.remaining input.old) (R.remaining input.new) came }
     ensures no_write { IfErr result (λ e. e ≢ AppFault.WriteFailed) }
     ensures no_run { IfErr result (λ e. e ≢ AppFault.NotOfRun) }
 {

@@ -3,8 +3,8 @@ ghost use Rattle.std.specs.Prelude.{◌≡◌, ◌≢◌, ◌⊎◌, List, ℕ, 
 ghost use Rattle.std.specs.Io.KnownBytes.{Appends};
 ghost use Rattle.bits_core.specs.Audit.{IsVerdict};
 ghost use Rattle.bits_core.specs.Trace.{IsTraceText};
-ghost use Rattle.bits_core.specs.declared.events.Event.{Event as AnEvent};
-ghost use Rattle.bits_core.specs.declared.shapes.Shape.{Shape as AShape};
+ghost use Rattle.bits_core.specs.declared.events.Event.{Event};
+ghost use Rattle.bits_core.specs.declared.shapes.Shape.{Shape};
 ghost use Rattle.ring_program.specs.Answers.{AnswersLongBits, EndsLongBits, IsLongBitsCause, RefusedLongBits};
 ghost use Rattle.ring_program.specs.Faults.{Gains};
 
@@ -22,7 +22,9 @@ const PIECE: usize = 65_536;
 // Reads the input to its end, in pieces, and tells the verdict on its bits.
 #[tactic(auto, unfolding(crate::specs::Answers::IsLongBitsCause))]
 fn read_long_bits<I: Read>(input: &mut I) -> Result<Verdict, Refusal>
-    ensures told { IfSome (I.remaining input.old) (λ bytes. IfOk result (λ verdict. (shape : AShape) × (events : List AnEvent) × IsTraceText bytes shape events × IsVerdict shape events verdict)) }
+    ensures told { IfSome (I.remaining input.old) (λ bytes.
+        IfOk result (λ verdict. (shape : Shape) × (events : List Event) × IsTraceText bytes shape events ×
+        IsVerdict shape events verdict)) }
     ensures refused { IfSome (I.remaining input.old) (λ bytes. IfErr result (IsLongBitsCause bytes)) }
     ensures unwritten { IfErr result (λ e. e ≢ Refusal.App AppFault.WriteFailed) }
 {
@@ -47,7 +49,8 @@ fn long_bits_answer<A: Allocator + Copy, I: Read>(
     alloc: A,
     input: &mut I,
 ) -> Result<Answer<A>, Refusal>
-    ensures answered { IfSome (I.remaining input.old) (λ bytes. IfOk result (λ answer. AnswersLongBits bytes (string_bytes answer.text) answer.ending)) }
+    ensures answered { IfSome (I.remaining input.old) (λ bytes.
+        IfOk result (λ answer. AnswersLongBits bytes (string_bytes answer.text) answer.ending)) }
     ensures refused { IfSome (I.remaining input.old) (λ bytes. IfErr result (IsLongBitsCause bytes)) }
     ensures unwritten { IfErr result (λ e. e ≢ Refusal.App AppFault.WriteFailed) }
     ensures ends { IfOk result (λ answer. (answer.ending ≡ Ending.Done) ⊎ (answer.ending ≡ Ending.FaultFound)) }
@@ -64,8 +67,11 @@ fn long_bits_out<A: Allocator + Copy, I: Read, O: Write>(
     input: &mut I,
     out: &mut O,
 ) -> Result<Ending, Refusal>
-    ensures answered { IfSome (I.remaining input.old) (λ bytes. IfOk result (λ ending. (text : List ℕ) × AnswersLongBits bytes text ending × Appends (O.contents out.old) (O.contents out.new) text)) }
-    ensures refused { IfSome (I.remaining input.old) (λ bytes. IfErr result (RefusedLongBits bytes (O.contents out.old) (O.contents out.new))) }
+    ensures answered { IfSome (I.remaining input.old) (λ bytes.
+        IfOk result (λ ending. (text : List ℕ) × AnswersLongBits bytes text ending ×
+        Appends (O.contents out.old) (O.contents out.new) text)) }
+    ensures refused { IfSome (I.remaining input.old) (λ bytes.
+        IfErr result (RefusedLongBits bytes (O.contents out.old) (O.contents out.new))) }
     ensures ends { IfOk result (λ ending. (ending ≡ Ending.Done) ⊎ (ending ≡ Ending.FaultFound)) }
 {
     let answer = long_bits_answer(alloc, input)?;
@@ -80,7 +86,8 @@ pub fn answer_long_bits<A: Allocator + Copy, I: Read, O: Write, E: Write>(
     out: &mut O,
     err: &mut E,
 ) -> Exit
-    ensures asked { IfSome (I.remaining input.old) (λ bytes. EndsLongBits bytes (O.contents out.old) (O.contents out.new)
+    ensures asked { IfSome (I.remaining input.old) (λ bytes.
+        EndsLongBits bytes (O.contents out.old) (O.contents out.new)
         (Gains (E.contents err.old) (E.contents err.new) result.is_told) result.status) }
     ensures quiet { (result.status ≡ 1) ⊎ ((result.status ≡ 2) ⊎ ((err.new ≡ err.old) × (result.is_told ≡ true))) }
     ensures statuses { (result.status ≡ 0) ⊎ ((result.status ≡ 1) ⊎ (result.status ≡ 3)) }

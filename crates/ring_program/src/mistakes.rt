@@ -25,15 +25,15 @@ const NUMBERS: [(&str, &str); 8] = [
 // A word that was given, as it is told: as it is, where it is short and has only printable ASCII; else with escapes, and `..`
 // in place of what goes beyond the most characters.
 #[derive(Clone, Copy, Drop)]
-struct Told<'a>(&'a str);
+struct Quoted<'a>(&'a str);
 
-impl Told<'_> {
+impl Quoted<'_> {
     fn is_plain(&self) -> bool {
         self.0.len() <= TOLD && self.0.bytes().all(|byte| (b' '..=b'~').contains(&byte))
     }
 }
 
-impl Display for Told<'_> {
+impl Display for Quoted<'_> {
     fn fmt<W: fmt::Write>(&self, f: &mut Formatter<W>) -> fmt::Result {
         if self.is_plain() {
             return f.write_str(self.0);
@@ -164,7 +164,7 @@ fn clash(words: &[&str]) -> Option<&'static str> {
 
 // The words name no such near miss.
 fn tell_miss<E: Write>(name: &str, err: &mut E) -> bool {
-    let name = Told(name);
+    let name = Quoted(name);
     complain(
         err,
         format_args!(
@@ -175,7 +175,7 @@ fn tell_miss<E: Write>(name: &str, err: &mut E) -> bool {
 
 // The words name no such ring.
 fn tell_ring<E: Write>(name: &str, err: &mut E) -> bool {
-    let name = Told(name);
+    let name = Quoted(name);
     complain(
         err,
         format_args!(
@@ -250,7 +250,7 @@ fn signed_number<'a>(words: &[&'a str]) -> Option<(&'static str, &'a str)> {
 pub fn tell_mistake<E: Write>(words: &[&str], error: &Error, err: &mut E) -> bool {
     match signed_number(words) {
         Some((option, number)) => {
-            let number = Told(number);
+            let number = Quoted(number);
             complain(
                 err,
                 format_args!(

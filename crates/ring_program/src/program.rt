@@ -20,7 +20,7 @@ use crate::reports::report_text;
 use crate::runs::answer_run;
 use crate::tellings::{calls_text, told_text};
 use crate::texts::{audit_text, verdict_text};
-use crate::trace_lines::Line;
+use crate::trace_lines::TextLine;
 use crate::why::{push_why, verdict_of};
 use bits_core::{Verdict, audit_bits, read_trace, write_trace};
 use clap::Error;
@@ -257,11 +257,13 @@ pub fn respond<A: Allocator + Copy, O: Write>(
     out: &mut O,
 ) -> Result<Ending, Refusal>
     requires within { length input.now ≤ INPUT_LIMIT }
-    ensures answered { IfOk result (λ ending. (text : List ℕ) × AnswersWithin question input.now text ending × Appends (O.contents out.old) (O.contents out.new) text) }
+    ensures answered { IfOk result (λ ending. (text : List ℕ) × AnswersWithin question input.now text ending ×
+        Appends (O.contents out.old) (O.contents out.new) text) }
     ensures ends { IfOk result (MayEnd question) }
     // The cause is true, and a refusal leaves the output as it was, unless a write failed.
     ensures refused { IfErr result (RefusedOn question input.now (O.contents out.old) (O.contents out.new)) }
-    ensures silent { IfErr result (λ e. e ≢ Refusal.App AppFault.WriteFailed → Keeps (O.contents out.old) (O.contents out.new)) }
+    ensures silent { IfErr result (λ e. e ≢ Refusal.App AppFault.WriteFailed →
+        Keeps (O.contents out.old) (O.contents out.new)) }
 {
     let answer = answer_to(alloc, json, question, input)?;
     write_whole(out, answer.text.as_bytes())?;
@@ -270,7 +272,8 @@ pub fn respond<A: Allocator + Copy, O: Write>(
 
 // Says what is wrong in a text that was refused, where there is something to say, and tells whether that was told.
 fn tell_cause<E: Write>(json: Global, source: Source<'_>, refusal: Refusal, err: &mut E) -> bool
-    ensures { (more : List ℕ) × ((more ≡ []) ⊎ IsInText refusal) × Gains (E.contents err.old) (E.contents err.new) result more }
+    ensures { (more : List ℕ) × ((more ≡ []) ⊎ IsInText refusal) ×
+        Gains (E.contents err.old) (E.contents err.new) result more }
 {
     match cause_of(json, source, refusal) {
         Some(cause) => {
@@ -304,7 +307,8 @@ fn conclude_on<E: Write>(
     err: &mut E,
 ) -> Exit
     ensures ok { IfOk ended (λ ending. result.status ≡ status_of ending) }
-    ensures told { IfOk ended (λ ending. Gains (E.contents err.old) (E.contents err.new) result.is_told (ending_words ending)) }
+    ensures told { IfOk ended (λ ending. Gains (E.contents err.old) (E.contents err.new) result.is_told
+        (ending_words ending)) }
     ensures err { OnErr ended (result.status ≡ 1) }
     ensures refused { IfErr ended (SaysRefusal (Gains (E.contents err.old) (E.contents err.new) result.is_told)) }
     ensures quiet { (result.status ≡ 1) ⊎ ((err.new ≡ err.old) × (result.is_told ≡ true)) }
@@ -325,7 +329,8 @@ fn answer_input<A: Allocator + Copy, O: Write, E: Write>(
     err: &mut E,
 ) -> Exit
     requires within { length input.now ≤ INPUT_LIMIT }
-    ensures asked { EndsOn question input.now (O.contents out.old) (O.contents out.new) (Gains (E.contents err.old) (E.contents err.new) result.is_told) result.status }
+    ensures asked { EndsOn question input.now (O.contents out.old) (O.contents out.new)
+        (Gains (E.contents err.old) (E.contents err.new) result.is_told) result.status }
     ensures quiet { (result.status ≡ 1) ⊎ ((result.status ≡ 2) ⊎ ((err.new ≡ err.old) × (result.is_told ≡ true))) }
     ensures statuses { IsStatusOn question result.status }
 {
@@ -342,7 +347,8 @@ fn answer_question<A: Allocator + Copy, I: Read, O: Write, E: Write>(
     out: &mut O,
     err: &mut E,
 ) -> Exit
-    ensures asked { IfSome (I.remaining input.old) (λ bytes. EndsOn question bytes (O.contents out.old) (O.contents out.new)
+    ensures asked { IfSome (I.remaining input.old) (λ bytes.
+        EndsOn question bytes (O.contents out.old) (O.contents out.new)
         (Gains (E.contents err.old) (E.contents err.new) result.is_told) result.status) }
     ensures quiet { (result.status ≡ 1) ⊎ ((result.status ≡ 2) ⊎ ((err.new ≡ err.old) × (result.is_told ≡ true))) }
     ensures statuses { IsStatusOn question result.status }
@@ -362,7 +368,8 @@ fn answer_calls<A: Allocator + Copy, I: Read, O: Write, E: Write>(
     out: &mut O,
     err: &mut E,
 ) -> Exit
-    ensures asked { IfSome (I.remaining input.old) (λ bytes. EndsCalls stop bytes (O.contents out.old) (O.contents out.new)
+    ensures asked { IfSome (I.remaining input.old) (λ bytes.
+        EndsCalls stop bytes (O.contents out.old) (O.contents out.new)
         (Gains (E.contents err.old) (E.contents err.new) result.is_told) result.status) }
     ensures quiet { (result.status ≡ 1) ⊎ ((result.status ≡ 2) ⊎ ((err.new ≡ err.old) × (result.is_told ≡ true))) }
     ensures statuses { (result.status ≡ 0) ⊎ ((result.status ≡ 1) ⊎ (result.status ≡ 3)) }
@@ -370,7 +377,7 @@ fn answer_calls<A: Allocator + Copy, I: Read, O: Write, E: Write>(
     let mut recording = Recording::new(alloc);
     let mut at_end = false;
     let ended = calls_out(alloc, &mut recording, &mut at_end, stop, input, out);
-    let line = Line {
+    let line = TextLine {
         text: recording.line(),
         has_feed: !at_end,
     };
@@ -379,7 +386,8 @@ fn answer_calls<A: Allocator + Copy, I: Read, O: Write, E: Write>(
 
 // Writes help that was asked for.
 fn give_help<O: Write, E: Write>(text: &[u8], out: &mut O, err: &mut E) -> Exit
-    ensures given { WasWritten (O.contents out.old) (O.contents out.new) (Gains (E.contents err.old) (E.contents err.new) result.is_told) result.status }
+    ensures given { WasWritten (O.contents out.old) (O.contents out.new)
+        (Gains (E.contents err.old) (E.contents err.new) result.is_told) result.status }
     ensures quiet { (result.status ≡ 1) ⊎ ((err.new ≡ err.old) × (result.is_told ≡ true)) }
 {
     match write_whole(out, text) {
@@ -396,7 +404,8 @@ fn explain<A: Allocator, O: Write, E: Write>(
     out: &mut O,
     err: &mut E,
 ) -> Exit
-    ensures explained { Explains (kind_of error.now) (O.contents out.old) (O.contents out.new) (Gains (E.contents err.old) (E.contents err.new) result.is_told) result.status }
+    ensures explained { Explains (kind_of error.now) (O.contents out.old) (O.contents out.new)
+        (Gains (E.contents err.old) (E.contents err.new) result.is_told) result.status }
     ensures quiet { (result.status ≡ 1) ⊎ ((result.status ≡ 2) ⊎ ((err.new ≡ err.old) × (result.is_told ≡ true))) }
 {
     if error.kind() == ErrorKind::OutOfMemory {
@@ -435,7 +444,8 @@ pub fn execute<
 >(rt: &R, alloc: A, words: &'a [&'a str], input: &mut I, out: &mut O, err: &mut E) -> Exit
     // By `Gains`: the standard error gained the words of the very cause, or, where it did not take them all, a front of them.
     ensures asked { IfSome (request_of (map (λ w. w.now) words.entry.now)) (λ request.
-        Ends request (I.remaining input.old) (O.contents out.old) (O.contents out.new) (Gains (E.contents err.old) (E.contents err.new) result.is_told) result.status) }
+        Ends request (I.remaining input.old) (O.contents out.old) (O.contents out.new)
+        (Gains (E.contents err.old) (E.contents err.new) result.is_told) result.status) }
     ensures unasked { IfNone (request_of (map (λ w. w.now) words.entry.now))
         (EndsUnasked (fault_of application (map (λ w. w.now) words.entry.now)) (O.contents out.old) (O.contents out.new)
         (Gains (E.contents err.old) (E.contents err.new) result.is_told) result.status) }

@@ -12,7 +12,7 @@ use crate::answers::{Answer, Ending, write_whole};
 use crate::faults::{AppFault, Refusal};
 use crate::lines::{push_count, push_list, told_words};
 use memchr::memchr;
-use queue_calls::{CallsFinding, Recording, RecordingFault, Report};
+use queue_calls::{CallsFinding, CallsReport, Recording, RecordingFault};
 use std::alloc::Allocator;
 use std::io::{Read, Write};
 
@@ -21,14 +21,15 @@ const PIECE: usize = 65_536;
 
 // What is found of a recording, and whether it says that the later calls are missing; of one with a fault that is not told.
 #[derive(Clone, Copy)]
-struct Found {
+struct CallsFound {
     finding: CallsFinding,
     is_cut: bool,
 }
 
 // The bytes before the first line feed, and those behind it.
 fn at_feed(bytes: &[u8]) -> Option<(&[u8], &[u8])>
-    ensures { MatchOption result (HasNoFeed bytes.now) (λ x. HasNoFeed x.0.now × (bytes.now ≡ x.0.now ++ 10 ∷ x.1.now)) }
+    ensures { MatchOption result (HasNoFeed bytes.now) (λ x. HasNoFeed x.0.now ×
+        (bytes.now ≡ x.0.now ++ 10 ∷ x.1.now)) }
 {
     let end = memchr(b'\n', bytes)?;
     Some((&bytes[..end], &bytes[end + 1..]))
@@ -52,10 +53,15 @@ fn read_lines<A: Allocator + Copy>(
     piece: &[u8],
 ) -> Result<Option<CallsFinding>, RecordingFault>
     ensures read { IfOk result (λ fault. MatchOption fault
-        (((bytes : List ℕ) → HasRead (λ q. q.items) (λ q. q.items) (λ v. v.items) recording.old bytes → HasRead (λ q. q.items) (λ q. q.items) (λ v. v.items) recording.new (bytes ++ piece.now))
-        × ((bytes : List ℕ) → HasRead (λ q. q.items) (λ q. q.items) (λ v. v.items) recording.old bytes → IsFaultless bytes → IsFaultless (bytes ++ piece.now)))
-        (λ found. (bytes more : List ℕ) → HasRead (λ q. q.items) (λ q. q.items) (λ v. v.items) recording.old bytes → IsFaultless bytes → IsFaultAhead (bytes ++ (piece.now ++ more)) found)) }
-    ensures refused { IfErr result (λ e. (bytes more : List ℕ) → HasRead (λ q. q.items) (λ q. q.items) (λ v. v.items) recording.old bytes → RefusesText e (bytes ++ (piece.now ++ more))) }
+        (((bytes : List ℕ) → HasRead (λ q. q.items) (λ q. q.items) (λ v. v.items) recording.old bytes →
+        HasRead (λ q. q.items) (λ q. q.items) (λ v. v.items) recording.new (bytes ++ piece.now))
+        × ((bytes : List ℕ) → HasRead (λ q. q.items) (λ q. q.items) (λ v. v.items) recording.old bytes →
+        IsFaultless bytes → IsFaultless (bytes ++ piece.now)))
+        (λ found. (bytes more : List ℕ) → HasRead (λ q. q.items) (λ q. q.items) (λ v. v.items) recording.old bytes →
+        IsFaultless bytes → IsFaultAhead (bytes ++ (piece.now ++ more)) found)) }
+    ensures refused { IfErr result (λ e. (bytes more : List ℕ) →
+        HasRead (λ q. q.items) (λ q. q.items) (λ v. v.items) recording.old bytes →
+        RefusesText e (bytes ++ (piece.now ++ more))) }
 {
     let mut rest = piece;
     while !rest.is_empty() {
@@ -76,10 +82,16 @@ fn read_piece<A: Allocator + Copy>(
     piece: &[u8],
 ) -> Result<Option<CallsFinding>, RecordingFault>
     ensures read { IfOk result (λ fault. MatchOption fault
-        (((bytes : List ℕ) → HasRead (λ q. q.items) (λ q. q.items) (λ v. v.items) recording.old bytes → HasRead (λ q. q.items) (λ q. q.items) (λ v. v.items) recording.new (bytes ++ piece.now))
-        × (stop ≡ true → (bytes : List ℕ) → HasRead (λ q. q.items) (λ q. q.items) (λ v. v.items) recording.old bytes → IsFaultless bytes → IsFaultless (bytes ++ piece.now)))
-        (λ found. (stop ≡ true) × ((bytes more : List ℕ) → HasRead (λ q. q.items) (λ q. q.items) (λ v. v.items) recording.old bytes → IsFaultless bytes → IsFaultAhead (bytes ++ (piece.now ++ more)) found))) }
-    ensures refused { IfErr result (λ e. (bytes more : List ℕ) → HasRead (λ q. q.items) (λ q. q.items) (λ v. v.items) recording.old bytes → RefusesText e (bytes ++ (piece.now ++ more))) }
+        (((bytes : List ℕ) → HasRead (λ q. q.items) (λ q. q.items) (λ v. v.items) recording.old bytes →
+        HasRead (λ q. q.items) (λ q. q.items) (λ v. v.items) recording.new (bytes ++ piece.now))
+        × (stop ≡ true → (bytes : List ℕ) → HasRead (λ q. q.items) (λ q. q.items) (λ v. v.items) recording.old bytes →
+        IsFaultless bytes → IsFaultless (bytes ++ piece.now)))
+        (λ found. (stop ≡ true) ×
+        ((bytes more : List ℕ) → HasRead (λ q. q.items) (λ q. q.items) (λ v. v.items) recording.old bytes →
+        IsFaultless bytes → IsFaultAhead (bytes ++ (piece.now ++ more)) found))) }
+    ensures refused { IfErr result (λ e. (bytes more : List ℕ) →
+        HasRead (λ q. q.items) (λ q. q.items) (λ v. v.items) recording.old bytes →
+        RefusesText e (bytes ++ (piece.now ++ more))) }
 {
     if stop {
         return read_lines(recording, piece);
@@ -89,12 +101,15 @@ fn read_piece<A: Allocator + Copy>(
 }
 
 // What is found of a recording whose text ends here.
-fn found_at_end<A: Allocator + Copy>(recording: &Recording<A>) -> Result<Found, RecordingFault>
-    ensures found { IfOk result (λ found. (bytes : List ℕ) → HasRead (λ q. q.items) (λ q. q.items) (λ v. v.items) recording.now bytes → IsFoundIn bytes found.is_cut found.finding) }
-    ensures refused { IfErr result (λ e. (bytes : List ℕ) → HasRead (λ q. q.items) (λ q. q.items) (λ v. v.items) recording.now bytes → RefusesText e bytes) }
+fn found_at_end<A: Allocator + Copy>(recording: &Recording<A>) -> Result<CallsFound, RecordingFault>
+    ensures found { IfOk result (λ found. (bytes : List ℕ) →
+        HasRead (λ q. q.items) (λ q. q.items) (λ v. v.items) recording.now bytes →
+        IsFoundIn bytes found.is_cut found.finding) }
+    ensures refused { IfErr result (λ e. (bytes : List ℕ) →
+        HasRead (λ q. q.items) (λ q. q.items) (λ v. v.items) recording.now bytes → RefusesText e bytes) }
 {
     let finding = recording.finding()?;
-    Ok(Found {
+    Ok(CallsFound {
         finding,
         is_cut: recording.is_cut(),
     })
@@ -108,9 +123,10 @@ fn read_calls<A: Allocator + Copy, I: Read>(
     at_end: &mut bool,
     stop: bool,
     input: &mut I,
-) -> Result<Found, Refusal>
+) -> Result<CallsFound, Refusal>
     requires begins { HasRead (λ q. q.items) (λ q. q.items) (λ v. v.items) recording.old [] }
-    ensures found { IfSome (I.remaining input.old) (λ bytes. IfOk result (λ found. IsFoundBy stop bytes found.is_cut found.finding)) }
+    ensures found { IfSome (I.remaining input.old) (λ bytes.
+        IfOk result (λ found. IsFoundBy stop bytes found.is_cut found.finding)) }
     ensures refused { IfSome (I.remaining input.old) (λ bytes. IfErr result (IsCallsCause bytes)) }
     ensures unwritten { IfErr result (λ e. e ≢ Refusal.App AppFault.WriteFailed) }
 {
@@ -125,7 +141,7 @@ fn read_calls<A: Allocator + Copy, I: Read>(
             return Ok(found_at_end(recording)?);
         }
         if let Some(finding) = read_piece(recording, stop, &piece[..count])? {
-            return Ok(Found {
+            return Ok(CallsFound {
                 finding,
                 is_cut: false,
             });
@@ -135,7 +151,7 @@ fn read_calls<A: Allocator + Copy, I: Read>(
 }
 
 // The text of a report.
-fn report_text<A: Allocator>(alloc: A, report: &Report) -> Result<String<A>, AppFault>
+fn report_text<A: Allocator>(alloc: A, report: &CallsReport) -> Result<String<A>, AppFault>
     ensures text { IfOk result (λ text. string_bytes text ≡ calls_report_text_of report.now) }
     ensures memory { IfErr result (λ e. e ≡ AppFault.OutOfMemory) }
 {
@@ -162,7 +178,11 @@ fn cut_words(is_cut: bool) -> &'static str
 }
 
 // The text of a report, and whether the later calls are missing.
-fn lawful_text<A: Allocator>(alloc: A, is_cut: bool, report: &Report) -> Result<String<A>, AppFault>
+fn lawful_text<A: Allocator>(
+    alloc: A,
+    is_cut: bool,
+    report: &CallsReport,
+) -> Result<String<A>, AppFault>
     ensures text { IfOk result (λ text. string_bytes text ≡ calls_report_text_of report.now ++ cut_line is_cut) }
     ensures memory { IfErr result (λ e. e ≡ AppFault.OutOfMemory) }
 {
@@ -212,7 +232,8 @@ fn calls_answer<A: Allocator + Copy, I: Read>(
     input: &mut I,
 ) -> Result<Answer<A>, Refusal>
     requires begins { HasRead (λ q. q.items) (λ q. q.items) (λ v. v.items) recording.old [] }
-    ensures answered { IfSome (I.remaining input.old) (λ bytes. IfOk result (λ answer. AnswersCallsBy stop bytes (string_bytes answer.text) answer.ending)) }
+    ensures answered { IfSome (I.remaining input.old) (λ bytes.
+        IfOk result (λ answer. AnswersCallsBy stop bytes (string_bytes answer.text) answer.ending)) }
     ensures refused { IfSome (I.remaining input.old) (λ bytes. IfErr result (IsCallsCause bytes)) }
     ensures unwritten { IfErr result (λ e. e ≢ Refusal.App AppFault.WriteFailed) }
     ensures ends { IfOk result (λ answer. (answer.ending ≡ Ending.Done) ⊎ (answer.ending ≡ Ending.FaultFound)) }
@@ -234,8 +255,11 @@ pub fn calls_out<A: Allocator + Copy, I: Read, O: Write>(
     out: &mut O,
 ) -> Result<Ending, Refusal>
     requires begins { HasRead (λ q. q.items) (λ q. q.items) (λ v. v.items) recording.old [] }
-    ensures answered { IfSome (I.remaining input.old) (λ bytes. IfOk result (λ ending. (text : List ℕ) × AnswersCallsBy stop bytes text ending × Appends (O.contents out.old) (O.contents out.new) text)) }
-    ensures refused { IfSome (I.remaining input.old) (λ bytes. IfErr result (RefusedCalls stop bytes (O.contents out.old) (O.contents out.new))) }
+    ensures answered { IfSome (I.remaining input.old) (λ bytes.
+        IfOk result (λ ending. (text : List ℕ) × AnswersCallsBy stop bytes text ending ×
+        Appends (O.contents out.old) (O.contents out.new) text)) }
+    ensures refused { IfSome (I.remaining input.old) (λ bytes.
+        IfErr result (RefusedCalls stop bytes (O.contents out.old) (O.contents out.new))) }
     ensures ends { IfOk result (λ ending. (ending ≡ Ending.Done) ⊎ (ending ≡ Ending.FaultFound)) }
 {
     let answer = calls_answer(alloc, recording, at_end, stop, input)?;

@@ -2,7 +2,8 @@
 ghost use Rattle.std.specs.Prelude.{◌≡◌, ◌⊎◌, false, ◌+◌, ◌-◌, ◌<◌, ◌≤◌, ◌^◌, ◌∷◌, ◌++◌, IfErr, IfOk, IfSome, IsTrue, List, OnOk, [], if◌then◌else◌, length, string_bytes, take};
 ghost use Rattle.bits_core.specs.Shape.{batch_of, capacity_of, take_batch_of};
 ghost use Rattle.queue_calls.specs.Audits.{Audits};
-ghost use Rattle.queue_calls.specs.Calls.{Event as ACall, IsLinearizable, PutBegin};
+ghost use Rattle.queue_calls.specs.Calls as calls;
+ghost use Rattle.queue_calls.specs.Calls.{IsLinearizable, PutBegin};
 ghost use Rattle.queue_calls.specs.Order.{C, P};
 ghost use Rattle.queue_calls.specs.Recordings.{first_word};
 ghost use Rattle.queue_calls.specs.Told.{meant, told};
@@ -43,7 +44,8 @@ impl<'r> Untold<'r> {
     // All of it.
     fn all<A: Allocator>(items: &'r [u64], outcome: &'r Outcome<A>) -> Untold<'r>
         ensures items { result.items.now ≡ items.now }
-        ensures left { left_of result ≡ run_counts items.now outcome.now.put outcome.now.calls outcome.now.full outcome.now.taken.items outcome.now.takes outcome.now.empty outcome.now.closed }
+        ensures left { left_of result ≡ run_counts items.now outcome.now.put outcome.now.calls outcome.now.full
+            outcome.now.taken.items outcome.now.takes outcome.now.empty outcome.now.closed }
     {
         let told = if outcome.closed { 1 } else { 0 };
         let closes = if outcome.put == items.len() as u64 {
@@ -66,7 +68,8 @@ impl<'r> Untold<'r> {
 
     // What is left behind a put of these items that begins, where they are the next ones.
     fn behind_offer(self, shape: &Shape, offered: &[u64]) -> Option<Untold<'r>>
-        ensures { IfSome result (λ after. (offered.now ≡ take (batch_of shape.now) self.entry.items.now) × TakesOff self.entry (PutBegin offered.now) after) }
+        ensures { IfSome result (λ after. (offered.now ≡ take (batch_of shape.now) self.entry.items.now) ×
+            TakesOff self.entry (PutBegin offered.now) after) }
     {
         let batch = shape.batch() as usize;
         let next = &self.items[..batch.min(self.items.len())];
@@ -79,7 +82,8 @@ impl<'r> Untold<'r> {
 
     // What is left behind an event, where it is one of the run.
     fn behind(self, shape: &Shape, event: Event<'_>) -> Option<Untold<'r>>
-        ensures { IfSome result (λ after. IsOfRun shape.now self.entry.items.now (told event.entry) × TakesOff self.entry (told event.entry) after) }
+        ensures { IfSome result (λ after. IsOfRun shape.now self.entry.items.now (told event.entry) ×
+            TakesOff self.entry (told event.entry) after) }
     {
         match event {
             Event::PutBegins(offered) => self.behind_offer(shape, offered),
@@ -148,7 +152,8 @@ impl<'r> Untold<'r> {
     // Whether something is left, though no log was full, or the logs had room for one more line.
     fn lacks_lines(&self, is_cut: bool, shape: &Shape, room: Room) -> bool
         ensures cut { result ≡ false → is_cut ≡ false → left_of self.now ≡ nothing_left }
-        ensures whole { result ≡ false → batch_of shape.now ≤ room.puts → take_batch_of shape.now ≤ room.takes → left_of self.now ≡ nothing_left }
+        ensures whole { result ≡ false → batch_of shape.now ≤ room.puts → take_batch_of shape.now ≤ room.takes →
+            left_of self.now ≡ nothing_left }
     {
         let had_room = shape.batch() <= room.puts as u64 && shape.take_batch() <= room.takes as u64;
         (!is_cut || had_room) && !self.is_nothing()
@@ -175,7 +180,8 @@ impl Room {
 
     // What is left behind the line of an event.
     fn behind(self, event: Event<'_>) -> Room
-        ensures { (result.puts ≡ self.puts - room_with P (told event.entry)) × (result.takes ≡ self.takes - room_with C (told event.entry)) }
+        ensures { (result.puts ≡ self.puts - room_with P (told event.entry)) ×
+            (result.takes ≡ self.takes - room_with C (told event.entry)) }
     {
         match event {
             Event::PutBegins(items) => self.less(items.len(), 0),
@@ -195,7 +201,8 @@ fn audit<A: Allocator>(
     event: Event<'_>,
 ) -> Result<(), AppFault>
     ensures capacity { auditor.new.capacity ≡ auditor.old.capacity }
-    ensures read { OnOk result ((h : List ACall) → Audits (λ q. q.items) auditor.old h → Audits (λ q. q.items) auditor.new (h ++ told event.entry ∷ [])
+    ensures read { OnOk result ((h : List calls.Event) → Audits (λ q. q.items) auditor.old h →
+        Audits (λ q. q.items) auditor.new (h ++ told event.entry ∷ [])
         × IsLinearizable (meant auditor.old.capacity) (h ++ told event.entry ∷ [])) }
     ensures refused { IfErr result (λ e. (e ≡ AppFault.OutOfMemory) ⊎ (e ≡ AppFault.NotOfRun)) }
 {
@@ -224,7 +231,8 @@ pub fn recording_text<A: Allocator + Copy, B: Allocator>(
     recorder: &Recorder<'_>,
     outcome: &Outcome<B>,
 ) -> Result<String<A>, AppFault>
-    ensures text { IfOk result (λ text. RecordsRun shape.now items.now (run_counts items.now outcome.now.put outcome.now.calls outcome.now.full outcome.now.taken.items
+    ensures text { IfOk result (λ text. RecordsRun shape.now items.now
+        (run_counts items.now outcome.now.put outcome.now.calls outcome.now.full outcome.now.taken.items
         outcome.now.takes outcome.now.empty outcome.now.closed) (string_bytes text)) }
     ensures refused { IfErr result (λ e. (e ≡ AppFault.OutOfMemory) ⊎ (e ≡ AppFault.NotOfRun)) }
 {

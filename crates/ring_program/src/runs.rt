@@ -2,7 +2,7 @@
 ghost use Rattle.std.specs.Prelude.{◌≡◌, ◌≢◌, ◌⊎◌, ◌+◌, ◌++◌, ◌≤◌, ◌<◌, ◌^◌, IfErr, IfOk, OnOk, List, ℕ, if◌then◌else◌, length, option_and_then, option_map, string_bytes, take, true};
 ghost use Rattle.std.specs.Duration.{as_nanos};
 ghost use Rattle.std.specs.Io.KnownBytes.{Appends};
-ghost use Rattle.bits_core.specs.Made.{IsBeginning};
+ghost use Rattle.bits_core.specs.Made.{IsPrefix};
 ghost use Rattle.bits_core.specs.Shape.{AllFit, capacity_of};
 ghost use Rattle.ring_run.specs.Relays.{IsRelayed};
 ghost use Rattle.ring_program.specs.Answers.{AnswersRun, EndsRun, IsOutOfMemory, IsRunCause, RefusedRun, TellsRun, relay_ending_of};
@@ -70,7 +70,8 @@ pub fn relay_text<A: Allocator, B: Allocator>(
     alloc: A,
     outcome: &Outcome<B>,
 ) -> Result<String<A>, AppFault>
-    ensures text { IfOk result (λ text. string_bytes text ≡ relay_text_of outcome.now.put (length outcome.now.taken.items) outcome.now.closed) }
+    ensures text { IfOk result (λ text. string_bytes text ≡ relay_text_of outcome.now.put
+        (length outcome.now.taken.items) outcome.now.closed) }
     ensures memory { IfErr result (λ e. e ≡ AppFault.OutOfMemory) }
 {
     let mut text = String::new(alloc);
@@ -113,7 +114,8 @@ pub fn relay_report<A: Allocator, B: Allocator>(
     outcome: &Outcome<B>,
     time: Option<Duration>,
 ) -> Result<String<A>, AppFault>
-    ensures text { IfOk result (λ text. string_bytes text ≡ relay_report_of outcome.now.put outcome.now.calls outcome.now.full
+    ensures text { IfOk result (λ text. string_bytes text ≡ relay_report_of outcome.now.put outcome.now.calls
+        outcome.now.full
         (length outcome.now.taken.items) outcome.now.empty outcome.now.closed (option_map as_nanos time)) }
     ensures memory { IfErr result (λ e. e ≡ AppFault.OutOfMemory) }
 {
@@ -137,9 +139,12 @@ fn run_text<A: Allocator + Copy, B: Allocator>(
     outcome: &Outcome<B>,
     time: Option<Duration>,
 ) -> Result<String<A>, AppFault>
-    ensures text { IfOk result (λ told. TellsRun text shape.now items.now outcome.now.put outcome.now.calls outcome.now.full
-        outcome.now.taken.items outcome.now.takes outcome.now.empty outcome.now.closed (option_map as_nanos time) (string_bytes told)) }
-    ensures refused { IfErr result (λ e. (e ≡ AppFault.OutOfMemory) ⊎ ((e ≡ AppFault.NotOfRun) × (text ≡ RunText.Recording))) }
+    ensures text { IfOk result (λ told. TellsRun text shape.now items.now outcome.now.put outcome.now.calls
+        outcome.now.full
+        outcome.now.taken.items outcome.now.takes outcome.now.empty outcome.now.closed (option_map as_nanos time)
+        (string_bytes told)) }
+    ensures refused { IfErr result (λ e. (e ≡ AppFault.OutOfMemory) ⊎
+        ((e ≡ AppFault.NotOfRun) × (text ≡ RunText.Recording))) }
 {
     match text {
         RunText::Totals => relay_text(alloc, outcome),
@@ -204,8 +209,9 @@ fn relay_through<R: Threads, A: Allocator + Copy, G: Gate + Sync>(
     gate: &G,
 ) -> Result<Outcome<A>, RunFault>
     requires fit { AllFit shape items.now }
-    ensures counted { IfOk result (λ r. IsRelayed shape items.now limits.puts limits.takes r.put r.calls r.full r.taken.items r.takes r.empty r.closed) }
-    ensures prefix { IfOk result (λ r. IsBeginning r.taken.items (take r.put items.now)) }
+    ensures counted { IfOk result (λ r. IsRelayed shape items.now limits.puts limits.takes r.put r.calls r.full
+        r.taken.items r.takes r.empty r.closed) }
+    ensures prefix { IfOk result (λ r. IsPrefix r.taken.items (take r.put items.now)) }
     ensures all { IfOk result (λ r. r.closed ≡ true → (r.put ≡ length items.now) × (r.taken.items ≡ items.now)) }
     ensures within { IfOk result (λ r. r.put ≤ length r.taken.items + capacity_of shape) }
 {
@@ -234,8 +240,9 @@ fn relay_run<R: Threads, A: Allocator + Copy>(
     recorder: &Recorder<'_>,
 ) -> Result<Outcome<A>, RunFault>
     requires fit { AllFit shape items.now }
-    ensures counted { IfOk result (λ r. IsRelayed shape items.now run.now.limits.puts run.now.limits.takes r.put r.calls r.full r.taken.items r.takes r.empty r.closed) }
-    ensures prefix { IfOk result (λ r. IsBeginning r.taken.items (take r.put items.now)) }
+    ensures counted { IfOk result (λ r. IsRelayed shape items.now run.now.limits.puts run.now.limits.takes r.put r.calls
+        r.full r.taken.items r.takes r.empty r.closed) }
+    ensures prefix { IfOk result (λ r. IsPrefix r.taken.items (take r.put items.now)) }
     ensures all { IfOk result (λ r. r.closed ≡ true → (r.put ≡ length items.now) × (r.taken.items ≡ items.now)) }
     ensures within { IfOk result (λ r. r.put ≤ length r.taken.items + capacity_of shape) }
 {
@@ -288,7 +295,8 @@ fn run_out<R: Threads + Clock, A: Allocator + Copy, O: Write>(
     run: Run,
     out: &mut O,
 ) -> Result<Ending, Refusal>
-    ensures answered { IfOk result (λ ending. (text : List ℕ) × AnswersRun run text ending × Appends (O.contents out.old) (O.contents out.new) text) }
+    ensures answered { IfOk result (λ ending. (text : List ℕ) × AnswersRun run text ending ×
+        Appends (O.contents out.old) (O.contents out.new) text) }
     ensures refused { IfErr result (RefusedRun run (O.contents out.old) (O.contents out.new)) }
 {
     let answer = run_answer(rt, alloc, run)?;

@@ -123,7 +123,8 @@ pub fn calls_text<A: Allocator, B: Allocator>(
     told: &[PlayedCall],
 ) -> Result<String<A>, AppFault>
     requires linearizable { IsLinearizable (exactly (capacity_of script.now.shape)) (call_events script.now told.now) }
-    ensures recording { IfOk result (λ text. IsRecording (string_bytes text) (exactly (capacity_of script.now.shape)) (call_events script.now told.now)) }
+    ensures recording { IfOk result (λ text. IsRecording (string_bytes text) (exactly (capacity_of script.now.shape))
+        (call_events script.now told.now)) }
     ensures memory { IfErr result (λ e. e ≡ AppFault.OutOfMemory) }
 {
     linearizable_is_in_turn();

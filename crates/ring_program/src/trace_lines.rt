@@ -8,7 +8,7 @@ const SHOWN_LIMIT: usize = 80;
 
 /// A line of a text without its line feed, and whether it has one.
 #[derive(Clone, Copy)]
-pub struct Line<'a> {
+pub struct TextLine<'a> {
     pub text: &'a [u8],
     pub has_feed: bool,
 }
@@ -93,14 +93,14 @@ fn from_line(bytes: &[u8], number: u64) -> &[u8] {
 }
 
 /// The line of this number, counted from 1. It is empty and has no line feed where there are fewer lines.
-pub fn line_at(bytes: &[u8], number: u64) -> Line<'_> {
+pub fn line_at(bytes: &[u8], number: u64) -> TextLine<'_> {
     let rest = from_line(bytes, number);
     match rest.iter().position(|byte| *byte == b'\n') {
-        Some(end) => Line {
+        Some(end) => TextLine {
             text: &rest[..end],
             has_feed: true,
         },
-        None => Line {
+        None => TextLine {
             text: rest,
             has_feed: false,
         },
@@ -118,7 +118,7 @@ pub fn looks_like_trace(bytes: &[u8]) -> bool {
 }
 
 // What is wrong with the ends of a line, the first line or a further one.
-fn fault_of_ends(line: &Line<'_>, is_first: bool) -> Option<LineFault> {
+fn fault_of_ends(line: &TextLine<'_>, is_first: bool) -> Option<LineFault> {
     let text = line.text;
     if is_first && text.starts_with(b"\xef\xbb\xbf") {
         Some(LineFault::ByteOrderMark)
@@ -140,7 +140,7 @@ fn fault_of_ends(line: &Line<'_>, is_first: bool) -> Option<LineFault> {
 }
 
 /// What is wrong with a line that is none of a trace's, the first line or a further one.
-pub fn fault_of_line(line: &Line<'_>, is_first: bool) -> LineFault {
+pub fn fault_of_line(line: &TextLine<'_>, is_first: bool) -> LineFault {
     if let Some(fault) = fault_of_ends(line, is_first) {
         return fault;
     }
@@ -154,7 +154,7 @@ pub fn fault_of_line(line: &Line<'_>, is_first: bool) -> LineFault {
 }
 
 /// What is wrong with a line that is none of recorded calls, the first line or a further one.
-pub fn fault_of_call(line: &Line<'_>, is_first: bool) -> LineFault {
+pub fn fault_of_call(line: &TextLine<'_>, is_first: bool) -> LineFault {
     if let Some(fault) = fault_of_ends(line, is_first) {
         return fault;
     }

@@ -1,6 +1,5 @@
 //! The lines that say why the event at fault is.
 ghost use Rattle.std.specs.Prelude.{◌≡◌, ◌++◌, ℕ, List, IfErr, OnOk, string_bytes};
-ghost use Rattle.ring_audit.specs.declared.choices.Dues.{Dues as ADues};
 ghost use Rattle.bits_core.specs.Lawful.{IsLawful};
 ghost use Rattle.bits_core.specs.Steps.{MayFollow};
 ghost use Rattle.bits_core.specs.TraceText.{digit_text, event_line};
@@ -165,7 +164,8 @@ fn push_fault<A: Allocator>(
 ) -> Result<(), AppFault>
     requires lawful { IsLawful shape.now past.now }
     requires faulty { ¬ MayFollow shape.now past.now event }
-    ensures told { OnOk result ((more : List ℕ) × (string_bytes text.new ≡ string_bytes text.old ++ more) × TellsReason shape.now past.now event more) }
+    ensures told { OnOk result ((more : List ℕ) × (string_bytes text.new ≡ string_bytes text.old ++ more) ×
+        TellsReason shape.now past.now event more) }
     ensures err { IfErr result (λ e. e ≡ AppFault.OutOfMemory) }
 {
     match reason_behind(shape, past, event) {
@@ -182,7 +182,8 @@ fn push_instead<A: Allocator>(
     past: &[Event],
     side: Side,
 ) -> Result<(), AppFault>
-    ensures told { OnOk result ((more : List ℕ) × (string_bytes text.new ≡ string_bytes text.old ++ more) × (dues : ADues) × AreDues shape.now past.now side dues × (more ≡ due_lines dues)) }
+    ensures told { OnOk result ((more : List ℕ) × (string_bytes text.new ≡ string_bytes text.old ++ more) ×
+        (dues : Dues) × AreDues shape.now past.now side dues × (more ≡ due_lines dues)) }
     ensures err { IfErr result (λ e. e ≡ AppFault.OutOfMemory) }
 {
     let dues = due_behind(shape, past, side);
@@ -197,7 +198,8 @@ pub fn push_why<A: Allocator>(
     verdict: Verdict,
 ) -> Result<(), AppFault>
     requires there { IsFaultThere shape.now events.now verdict }
-    ensures told { OnOk result ((more : List ℕ) × (string_bytes text.new ≡ string_bytes text.old ++ more) × TellsWhy shape.now events.now verdict more) }
+    ensures told { OnOk result ((more : List ℕ) × (string_bytes text.new ≡ string_bytes text.old ++ more) ×
+        TellsWhy shape.now events.now verdict more) }
     ensures err { IfErr result (λ e. e ≡ AppFault.OutOfMemory) }
 {
     fault_breaks();

@@ -11,11 +11,11 @@ use Rattle.bits_core.specs.declared.shapes.Shape.{Shape}
 use Rattle.bits_core.specs.Bits.{is_by}
 use Rattle.bits_core.specs.Intervals.{IsWrite}
 use Rattle.bits_core.specs.Laws.{MadeIsAccess}
-use Rattle.bits_core.specs.Made.{Made, Write, events_of, own, clock, place_of, IsPlaceOf, IsBeginning}
-use Rattle.ring_core.specs.declared.consumers.TakeReply.{TakeReply}
-use Rattle.ring_core.specs.declared.consumers.TakeReply.TheVariants as reply
-use Rattle.ring_core.specs.declared.consumers.TakeBatchReply.{TakeBatchReply}
-use Rattle.ring_core.specs.declared.consumers.TakeBatchReply.TheVariants as batch_reply
+use Rattle.bits_core.specs.Made.{Made, Write, events_of, subhistory, clock, place_of, IsPlaceOf, IsPrefix}
+use Rattle.ring_core.specs.declared.replies.TakeReply.{TakeReply}
+use Rattle.ring_core.specs.declared.replies.TakeReply.TheVariants as reply
+use Rattle.ring_core.specs.declared.replies.TakeBatchReply.{TakeBatchReply}
+use Rattle.ring_core.specs.declared.replies.TakeBatchReply.TheVariants as batch_reply
 use Rattle.ring_core.specs.Counts.{Count, first_count, number_past}
 use Rattle.ring_core.specs.Puts.{Put, Stored, Full, Puts, stored_after, put_phrase, put_phrases, close_phrase, put_program}
 use Rattle.ring_core.specs.Takes.{Take, Item, ItemAfterClose, Empty, End, Open, Takes, taken_count, count_after, take_phrase, take_phrases, end_phrase, take_program, taken_in}
@@ -82,44 +82,44 @@ none_more (x ∷ xs) seen = ap (λ l. taken_of x ++ l) (none_more xs seen)
 
 -- ---- own events
 
-own_mine : (s : Side) (e : Event) (h : List Event) → is_by s e ≡ true → own s (e ∷ h) ≡ e ∷ own s h
+own_mine : (s : Side) (e : Event) (h : List Event) → is_by s e ≡ true → subhistory s (e ∷ h) ≡ e ∷ subhistory s h
 own_mine s e h by = rw by refl
 
-own_theirs : (s : Side) (e : Event) (h : List Event) → is_by s e ≡ false → own s (e ∷ h) ≡ own s h
+own_theirs : (s : Side) (e : Event) (h : List Event) → is_by s e ≡ false → subhistory s (e ∷ h) ≡ subhistory s h
 own_theirs s e h by = rw by refl
 
-pub own_append : (s : Side) (h more : List Event) → own s (h ++ more) ≡ own s h ++ own s more
+pub own_append : (s : Side) (h more : List Event) → subhistory s (h ++ more) ≡ subhistory s h ++ subhistory s more
 own_append s [] more = refl
 own_append s (e ∷ h) more = by_case (is_by s e)
-    (λ by. own_mine s e (h ++ more) by ∙ ap (λ l. e ∷ l) (own_append s h more) ∙ sym (ap (λ l. l ++ own s more) (own_mine s e h by)))
-    (λ by. own_theirs s e (h ++ more) by ∙ own_append s h more ∙ sym (ap (λ l. l ++ own s more) (own_theirs s e h by)))
+    (λ by. own_mine s e (h ++ more) by ∙ ap (λ l. e ∷ l) (own_append s h more) ∙ sym (ap (λ l. l ++ subhistory s more) (own_mine s e h by)))
+    (λ by. own_theirs s e (h ++ more) by ∙ own_append s h more ∙ sym (ap (λ l. l ++ subhistory s more) (own_theirs s e h by)))
 
 -- before a place of a beginning of the history a side has no more events than in that, and behind it no fewer
-pub inside : (s : Side) (known more : List Event) (place : ℕ) → place ≤ length known → clock s (known ++ more) place ≤ length (own s known)
+pub inside : (s : Side) (known more : List Event) (place : ℕ) → place ≤ length known → clock s (known ++ more) place ≤ length (subhistory s known)
 inside s known more zero l = omega arith
 inside s [] more (suc n) l = absurd (omega (arith, l))
 inside s (e ∷ known) more (suc n) l =
-    let rest : length (own s (take n (known ++ more))) ≤ length (own s known) = inside s known more n (omega (arith, l)) in
+    let rest : length (subhistory s (take n (known ++ more))) ≤ length (subhistory s known) = inside s known more n (omega (arith, l)) in
     by_case (is_by s e)
     (λ by. omega (arith, rest, ap length (own_mine s e (take n (known ++ more)) by), ap length (own_mine s e known by)))
     (λ by. omega (arith, rest, ap length (own_theirs s e (take n (known ++ more)) by), ap length (own_theirs s e known by)))
 
-pub behind : (s : Side) (known more : List Event) (place : ℕ) → length known ≤ place → length (own s known) ≤ clock s (known ++ more) place
+pub behind : (s : Side) (known more : List Event) (place : ℕ) → length known ≤ place → length (subhistory s known) ≤ clock s (known ++ more) place
 behind s [] more place l = omega arith
 behind s (e ∷ known) more zero l = absurd (omega (arith, l))
 behind s (e ∷ known) more (suc n) l =
-    let rest : length (own s known) ≤ length (own s (take n (known ++ more))) = behind s known more n (omega (arith, l)) in
+    let rest : length (subhistory s known) ≤ length (subhistory s (take n (known ++ more))) = behind s known more n (omega (arith, l)) in
     by_case (is_by s e)
     (λ by. omega (arith, rest, ap length (own_mine s e (take n (known ++ more)) by), ap length (own_mine s e known by)))
     (λ by. omega (arith, rest, ap length (own_theirs s e (take n (known ++ more)) by), ap length (own_theirs s e known by)))
 
 -- an own event of a side that is not among those of the known history stands behind it
-pub later_than : (s : Side) (known more h : List Event) (start place : ℕ) → known ++ more ≡ h → clock s h (suc place) ≡ suc start → length (own s known) ≤ start → length known ≤ place
+pub later_than : (s : Side) (known more h : List Event) (start place : ℕ) → known ++ more ≡ h → clock s h (suc place) ≡ suc start → length (subhistory s known) ≤ start → length known ≤ place
 later_than s known more h start place is number_past long = go (dec_lt place (length known))
   where
     go : Dec (place < length known) → length known ≤ place
     go (yes l) =
-        let few : clock s (known ++ more) (suc place) ≤ length (own s known) = inside s known more (suc place) (omega (arith, l)) in
+        let few : clock s (known ++ more) (suc place) ≤ length (subhistory s known) = inside s known more (suc place) (omega (arith, l)) in
         absurd (omega (arith, few, ap (λ l. clock s l (suc place)) is, number_past, long))
     go (no l) = omega (arith, l)
 
@@ -131,7 +131,7 @@ there (y ∷ xs) x ys = there xs x ys
 
 module _ (law : InEveryRun EmptyIsFresh) (first : PutsAreFirst) (made : MadeIsAccess)
     (shape : Shape) (known before after : List Event) (puts : Puts) (calls : Takes) (seen : ℕ) (is_open : calls.end ≡ Open)
-    (whole : HasPuts shape (own P known) puts) (was : HasTakes shape before calls) (begins : IsBeginning (own C known) before)
+    (whole : HasPuts shape (subhistory P known) puts) (was : HasTakes shape before calls) (begins : IsPrefix (subhistory C known) before)
     (st : Stands shape C after known) (has : HasTakes shape after (and_take calls (Empty seen))) where
   abbrev h : List Event
   h = st.history
@@ -149,7 +149,7 @@ module _ (law : InEveryRun EmptyIsFresh) (first : PutsAreFirst) (made : MadeIsAc
   run = record {
     lawful = st.ring.run.lawful;
     puts_follow = st.ring.run.puts_follow;
-    takes_follow = record { are = has.are; events = ([], append-nil (own C h) ∙ st.list_is ∙ has.list_is) };
+    takes_follow = record { are = has.are; events = ([], append-nil (subhistory C h) ∙ st.list_is ∙ has.list_is) };
   }
 
   start : ℕ
@@ -159,7 +159,7 @@ module _ (law : InEveryRun EmptyIsFresh) (first : PutsAreFirst) (made : MadeIsAc
   unfolding start
   is_take = record { before = calls.takes; after = []; among = refl; number = refl; starts = refl; stops = refl }
 
-  over : events_in (take_phrases shape first_count (calls.takes ++ Empty seen ∷ [])) ≤ length (own C h)
+  over : events_in (take_phrases shape first_count (calls.takes ++ Empty seen ∷ [])) ≤ length (subhistory C h)
   over =
       omega (arith, ap length (st.list_is ∙ has.list_is), length-events_of C (take_program shape more), length-append (take_phrases shape first_count (calls.takes ++ Empty seen ∷ [])) [])
 
@@ -178,24 +178,24 @@ module _ (law : InEveryRun EmptyIsFresh) (first : PutsAreFirst) (made : MadeIsAc
 
   -- it began behind what is known
   later : length known ≤ place
-  later = later_than C known rest h start place h_is fresh.1.past (omega (arith, before_long, ap length begins.1, length-append (own C known) begins.0))
+  later = later_than C known rest h start place h_is fresh.1.past (omega (arith, before_long, ap length begins.1, length-append (subhistory C known) begins.0))
 
-  own_known : IsBeginning (own P known) (own P h)
-  own_known = (own P rest, sym (own_append P known rest) ∙ ap (own P) h_is)
+  own_known : IsPrefix (subhistory P known) (subhistory P h)
+  own_known = (subhistory P rest, sym (own_append P known rest) ∙ ap (subhistory P) h_is)
 
   are_first : ((more : List Put) × (st.ring.puts.puts ≡ puts.puts ++ more)) × (puts.closes ≡ true → puts ≡ st.ring.puts)
   are_first =
       let follows = st.ring.run.puts_follow in
       let both : List Event = own_known.0 ++ follows.events.0 in
       first shape puts st.ring.puts whole.are follows.are
-      (both, ap (λ l. l ++ both) (sym whole.list_is) ∙ sym (append_assoc (own P known) own_known.0 follows.events.0) ∙ ap (λ l. l ++ follows.events.0) own_known.1 ∙ follows.events.1)
+      (both, ap (λ l. l ++ both) (sym whole.list_is) ∙ sym (append_assoc (subhistory P known) own_known.0 follows.events.0) ∙ ap (λ l. l ++ follows.events.0) own_known.1 ∙ follows.events.1)
 
-  known_long : length (own P known) ≡ 2 * (length (put_phrases shape first_count puts.puts) + length (close_phrase puts.closes))
+  known_long : length (subhistory P known) ≡ 2 * (length (put_phrases shape first_count puts.puts) + length (close_phrase puts.closes))
   known_long =
       omega (arith, ap length whole.list_is, length-events_of P (put_program shape puts), length-append (put_phrases shape first_count puts.puts) (close_phrase puts.closes))
 
-  behind_known : (place' : ℕ) → length known ≤ place' → length (own P known) ≤ clock P h place'
-  behind_known place' l = subst (λ l. length (own P known) ≤ clock P l place') h_is (behind P known rest place' l)
+  behind_known : (place' : ℕ) → length known ≤ place' → length (subhistory P known) ≤ clock P h place'
+  behind_known place' l = subst (λ l. length (subhistory P known) ≤ clock P l place') h_is (behind P known rest place' l)
 
   -- the items of the known puts were taken before it
   pub items : length (all_put puts.puts) ≤ length (all_taken calls.takes)
@@ -212,8 +212,8 @@ module _ (law : InEveryRun EmptyIsFresh) (first : PutsAreFirst) (made : MadeIsAc
       (λ closes.
       let phrases : List Made = put_phrases shape first_count puts.puts in
       let program : put_program shape st.ring.puts ≡ phrases ++ Write X true ∷ [] = ap (put_program shape) (sym (are_first.1 closes)) ∙ ap (λ b. phrases ++ close_phrase b) closes in
-      let long : length (own P known) ≡ 2 * (length phrases + 1) = known_long ∙ ap (λ b. 2 * (length phrases + length (close_phrase b))) closes in
-      let more_own : length (own P known) ≤ length (own P h) = omega (arith, ap length own_known.1, length-append (own P known) own_known.0) in
+      let long : length (subhistory P known) ≡ 2 * (length phrases + 1) = known_long ∙ ap (λ b. 2 * (length phrases + length (close_phrase b))) closes in
+      let more_own : length (subhistory P known) ≤ length (subhistory P h) = omega (arith, ap length own_known.1, length-append (subhistory P known) own_known.0) in
       let (stop, at) = made P h (put_program shape st.ring.puts) st.ring.run.puts_follow.events (length phrases) (Write X true)
       (ap (λ l. slice_get l (length phrases)) program ∙ there phrases (Write X true) []) (omega (arith, long, more_own)) in
       let ended = (at.ended (omega (arith, long, more_own))).0 in
@@ -277,8 +277,8 @@ first_empty reply.Closed items is = absurd (cc)
 
 module _ (law : InEveryRun EmptyIsFresh) (first : PutsAreFirst) (read : TakesAreRead) (made : MadeIsAccess) where
   empty_of_any :
-      (shape : Shape) (wanted : ℕ) (known before after : List Event) (puts : Puts) (calls : Takes) → HasPuts shape (own P known) puts → HasTakes shape before calls →
-      IsBeginning (own C known) before → Stands shape C after known → HasTakenOf shape wanted before after reply.Empty →
+      (shape : Shape) (wanted : ℕ) (known before after : List Event) (puts : Puts) (calls : Takes) → HasPuts shape (subhistory P known) puts → HasTakes shape before calls →
+      IsPrefix (subhistory C known) before → Stands shape C after known → HasTakenOf shape wanted before after reply.Empty →
       (length (all_put puts.puts) ≤ length (all_taken calls.takes)) × (puts.closes ≡ false)
   empty_of_any shape wanted known before after puts calls whole was begins st taken =
       let same : taken.calls ≡ calls = read shape taken.calls calls taken.before_is.are was.are (sym taken.before_is.list_is ∙ was.list_is) in
@@ -317,10 +317,10 @@ one_more shape wanted calls next is_more =
     (λ told. (end_phrase (takes.and_end calls told.0 told.1).end, ap (take_program shape) told.2 ∙ ap (λ l. l ++ end_phrase (takes.and_end calls told.0 told.1).end) (sym program)))
     is_more.is_one_more
 
-adds_any : (shape : Shape) (wanted : ℕ) (before after : List Event) (answer : TakeReply) → HasTakenOf shape wanted before after answer → IsBeginning before after
+adds_any : (shape : Shape) (wanted : ℕ) (before after : List Event) (answer : TakeReply) → HasTakenOf shape wanted before after answer → IsPrefix before after
 adds_any shape wanted before after answer taken = go (ends_closed taken.calls.end) taken.adds
   where
-    go : (told : Bool) → TakeAdds told shape wanted taken.calls answer before after → IsBeginning before after
+    go : (told : Bool) → TakeAdds told shape wanted taken.calls answer before after → IsPrefix before after
     go true a = ([], append-nil before ∙ sym a.1)
     go false (more, is_more, replied, has) =
         let (rest, is) = one_more shape wanted taken.calls more is_more in

@@ -6,10 +6,10 @@ use Rattle.bits_core.specs.declared.events.Side.TheVariants.{P, C}
 use Rattle.bits_core.specs.declared.events.Event.{Event}
 use Rattle.bits_core.specs.declared.shapes.Shape.{Shape}
 use Rattle.bits_core.specs.Shape.{capacity_of}
-use Rattle.bits_core.specs.Made.{Made, events_of, own, clock, IsPlaceOf, IsBeginning}
-use Rattle.ring_core.specs.declared.producers.PutReply.TheVariants as one
-use Rattle.ring_core.specs.declared.producers.BatchReply.{BatchReply}
-use Rattle.ring_core.specs.declared.producers.BatchReply.TheVariants as reply
+use Rattle.bits_core.specs.Made.{Made, events_of, subhistory, clock, IsPlaceOf, IsPrefix}
+use Rattle.ring_core.specs.declared.replies.PutReply.TheVariants as one
+use Rattle.ring_core.specs.declared.replies.BatchReply.{BatchReply}
+use Rattle.ring_core.specs.declared.replies.BatchReply.TheVariants as reply
 use Rattle.ring_core.specs.Counts.{Count, first_count, number_past}
 use Rattle.ring_core.specs.Puts.{Put, Stored, Full, Puts, stored_in, stored_after, stored_count, put_phrase, put_phrases, close_phrase, put_program}
 use Rattle.ring_core.specs.Takes.{Take, Item, ItemAfterClose, Empty, Takes, count_after, take_phrase, take_phrases, end_phrase, take_program}
@@ -69,7 +69,7 @@ all_ended shape c (Empty seen ∷ xs) more t le =
 
 module _ (law : InEveryRun FullIsFresh) (first : TakesAreFirst)
     (shape : Shape) (known before after : List Event) (takes : Takes) (calls : Puts) (seen : ℕ) (is_open : calls.closes ≡ false)
-    (whole : HasTakes shape (own C known) takes) (was : HasPuts shape before calls) (begins : IsBeginning (own P known) before)
+    (whole : HasTakes shape (subhistory C known) takes) (was : HasPuts shape before calls) (begins : IsPrefix (subhistory P known) before)
     (st : Stands shape P after known) (has : HasPuts shape after (and_put calls (Full seen))) where
   abbrev h : List Event
   h = st.history
@@ -86,7 +86,7 @@ module _ (law : InEveryRun FullIsFresh) (first : TakesAreFirst)
   run : IsRun shape h more st.ring.takes
   run = record {
     lawful = st.ring.run.lawful;
-    puts_follow = record { are = has.are; events = ([], append-nil (own P h) ∙ st.list_is ∙ has.list_is) };
+    puts_follow = record { are = has.are; events = ([], append-nil (subhistory P h) ∙ st.list_is ∙ has.list_is) };
     takes_follow = st.ring.run.takes_follow;
   }
 
@@ -97,7 +97,7 @@ module _ (law : InEveryRun FullIsFresh) (first : TakesAreFirst)
   unfolding start
   is_put = record { before = calls.puts; after = []; among = refl; number = refl; starts = refl; stops = refl }
 
-  over : events_in (put_phrases shape first_count (calls.puts ++ Full seen ∷ [])) ≤ length (own P h)
+  over : events_in (put_phrases shape first_count (calls.puts ++ Full seen ∷ [])) ≤ length (subhistory P h)
   over =
       omega (arith, ap length (st.list_is ∙ has.list_is), length-events_of P (put_program shape more), length-append (put_phrases shape first_count (calls.puts ++ Full seen ∷ [])) [])
 
@@ -115,26 +115,26 @@ module _ (law : InEveryRun FullIsFresh) (first : TakesAreFirst)
 
   -- it began behind what is known
   later : length known ≤ place
-  later = later_than P known rest h start place h_is fresh.1.past (omega (arith, before_long, ap length begins.1, length-append (own P known) begins.0))
+  later = later_than P known rest h start place h_is fresh.1.past (omega (arith, before_long, ap length begins.1, length-append (subhistory P known) begins.0))
 
-  own_known : IsBeginning (own C known) (own C h)
-  own_known = (own C rest, sym (own_append C known rest) ∙ ap (own C) h_is)
+  own_known : IsPrefix (subhistory C known) (subhistory C h)
+  own_known = (subhistory C rest, sym (own_append C known rest) ∙ ap (subhistory C) h_is)
 
   are_first : (others : List Take) × (st.ring.takes.takes ≡ takes.takes ++ others)
   are_first =
       let follows = st.ring.run.takes_follow in
       let both : List Event = own_known.0 ++ follows.events.0 in
       (first shape takes st.ring.takes whole.are follows.are
-      (both, ap (λ l. l ++ both) (sym whole.list_is) ∙ sym (append_assoc (own C known) own_known.0 follows.events.0) ∙ ap (λ l. l ++ follows.events.0) own_known.1 ∙ follows.events.1)).0
+      (both, ap (λ l. l ++ both) (sym whole.list_is) ∙ sym (append_assoc (subhistory C known) own_known.0 follows.events.0) ∙ ap (λ l. l ++ follows.events.0) own_known.1 ∙ follows.events.1)).0
 
-  known_long : length (own C known) ≡ 2 * (length (take_phrases shape first_count takes.takes) + length (end_phrase takes.end))
+  known_long : length (subhistory C known) ≡ 2 * (length (take_phrases shape first_count takes.takes) + length (end_phrase takes.end))
   known_long = omega (arith, ap length whole.list_is, length-events_of C (take_program shape takes), length-append (take_phrases shape first_count takes.takes) (end_phrase takes.end))
 
   -- the known takes had ended where it began
   pub filled : length (all_taken takes.takes) + capacity_of shape ≤ length (all_put calls.puts)
   filled =
       let t : ℕ = clock C h place in
-      let late : length (own C known) ≤ t = subst (λ l. length (own C known) ≤ clock C l place) h_is (behind C known rest place later) in
+      let late : length (subhistory C known) ≤ t = subst (λ l. length (subhistory C known) ≤ clock C l place) h_is (behind C known rest place later) in
       let ended : length (all_taken takes.takes) ≤ length (items_taken shape first_count (takes.takes ++ are_first.0) t) = all_ended shape first_count takes.takes are_first.0 t (omega (arith, late, known_long)) in
       omega (arith, ended, ap (λ l. length (items_taken shape first_count l t)) are_first.1, fresh.2, stored_is 0 calls.puts)
 
@@ -188,7 +188,7 @@ one_more shape calls x is_open =
 pub puts-add : PutsAdd
 puts-add shape items before after answer put = go put.calls.closes refl put.adds
   where
-    go : (closed : Bool) → put.calls.closes ≡ closed → PutAdds closed shape put.calls items answer before after → IsBeginning before after
+    go : (closed : Bool) → put.calls.closes ≡ closed → PutAdds closed shape put.calls items answer before after → IsPrefix before after
     go true e a = ([], append-nil before ∙ sym a.1)
     go false e (x, is, replied, has) =
         let (rest, same) = one_more shape put.calls x e in

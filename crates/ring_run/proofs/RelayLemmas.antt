@@ -7,8 +7,8 @@ use Rattle.std.proofs.Math.ListN.{drop}
 use Rattle.bits_core.specs.declared.shapes.Shape.{Shape}
 use Rattle.bits_core.specs.Shape.{AllFit, batch_of, modulus_of}
 use Rattle.bits_core.specs.declared.events.Event.{Event}
-use Rattle.ring_core.specs.declared.producers.BatchReply as batch_replies
-use Rattle.ring_core.specs.declared.producers.BatchReply.TheVariants as batch_reply
+use Rattle.ring_core.specs.declared.replies.BatchReply as batch_replies
+use Rattle.ring_core.specs.declared.replies.BatchReply.TheVariants as batch_reply
 use Rattle.ring_core.specs.Counts.{Count, first_count}
 use Rattle.ring_core.specs.Puts as puts
 use Rattle.ring_core.specs.Puts.{Put, Puts, IsBatch}

@@ -4,9 +4,9 @@ use Rattle.std.specs.Prelude.{min}
 use Rattle.std.proofs.lemmas.List.{length-append}
 use Rattle.bits_core.specs.declared.shapes.Shape.{Shape}
 use Rattle.bits_core.specs.declared.events.Event.{Event}
-use Rattle.ring_core.specs.declared.consumers.TakeBatchReply as replies
-use Rattle.ring_core.specs.declared.consumers.TakeBatchReply.TheVariants as reply
-use Rattle.ring_core.specs.declared.consumers.TakeReply.TheVariants as first_reply
+use Rattle.ring_core.specs.declared.replies.TakeBatchReply as replies
+use Rattle.ring_core.specs.declared.replies.TakeBatchReply.TheVariants as reply
+use Rattle.ring_core.specs.declared.replies.TakeReply.TheVariants as first_reply
 use Rattle.bits_core.specs.Shape.{take_batch_of}
 use Rattle.ring_core.specs.Counts.{Count, first_count, number_past}
 use Rattle.ring_core.specs.Takes as takes

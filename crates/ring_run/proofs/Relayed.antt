@@ -7,7 +7,7 @@ use Rattle.bits_core.specs.declared.events.Side.{Side}
 use Rattle.bits_core.specs.declared.events.Side.TheVariants.{P, C}
 use Rattle.bits_core.specs.declared.events.Event.{Event}
 use Rattle.bits_core.specs.Shape.{capacity_of}
-use Rattle.bits_core.specs.Made.{own, clock, IsBeginning}
+use Rattle.bits_core.specs.Made.{subhistory, clock, IsPrefix}
 use Rattle.ring_core.specs.Counts.{first_count}
 use Rattle.ring_core.specs.Puts.{Puts}
 use Rattle.ring_core.specs.Takes.{Takes, End, Open, Closed, take_program}
@@ -24,8 +24,8 @@ use Rattle.ring_run.specs.Relays.{HasMadePuts, HasRelayedPuts, HasRelayedTakes, 
 use Rattle.ring_run.proofs.Lists.{length-events_of}
 use Rattle.ring_run.proofs.RelayLemmas.{length_first}
 
-clock_at_end : (s : Side) (h : List Event) → clock s h (length h) ≡ length (own s h)
-clock_at_end s h = ap (λ (l : List Event). length (own s l)) (take-length h)
+clock_at_end : (s : Side) (h : List Event) → clock s h (length h) ≡ length (subhistory s h)
+clock_at_end s h = ap (λ (l : List Event). length (subhistory s l)) (take-length h)
 
 tells_true : (end : End) → ends_closed end ≡ true → Tells end
 tells_true Open e = absurd (true≢false (sym e))
@@ -33,12 +33,12 @@ tells_true (Closed seen again) e = tt
 
 -- one history of these puts and takes
 module _ (shape : Shape) (items : List ℕ) (put made full : ℕ) (closes : Bool) (limit : ℕ) (taken : List ℕ) (made_takes empty : ℕ) (told : Bool) (h : List Event) (ring : IsRing shape h)
-    (ps : PutsAre shape (own P h) items put made full closes) (ts : TakesAre shape (own C h) limit taken made_takes empty told) where
+    (ps : PutsAre shape (subhistory P h) items put made full closes) (ts : TakesAre shape (subhistory C h) limit taken made_takes empty told) where
   run_of : IsRun shape h ps.calls ts.calls
   run_of = record {
     lawful = ring.run.lawful;
-    puts_follow = record { are = ps.list_is.are; events = ([], append-nil (own P h) ∙ ps.list_is.list_is) };
-    takes_follow = record { are = ts.list_is.are; events = ([], append-nil (own C h) ∙ ts.list_is.list_is) };
+    puts_follow = record { are = ps.list_is.are; events = ([], append-nil (subhistory P h) ∙ ps.list_is.list_is) };
+    takes_follow = record { are = ts.list_is.are; events = ([], append-nil (subhistory C h) ∙ ts.list_is.list_is) };
   }
 
   put_of : WholePutsCount → items_put shape first_count ps.calls.puts (clock P h (length h)) ≡ take put items
@@ -47,8 +47,8 @@ module _ (shape : Shape) (items : List ℕ) (put made full : ℕ) (closes : Bool
   taken_of : WholeTakesCount → items_taken shape first_count ts.calls.takes (clock C h (length h)) ≡ taken
   taken_of count = ap (items_taken shape first_count ts.calls.takes) (clock_at_end C h) ∙ (count shape h ts.calls ts.list_is.are ts.list_is.list_is).0 ∙ ts.taken_is
 
-  prefix_of : InEveryRun TakenArePrefix → WholePutsCount → WholeTakesCount → IsBeginning taken (take put items)
-  prefix_of prefix puts_count takes_count = subst (λ (z : List ℕ × List ℕ). IsBeginning z.0 z.1) (λ i. (taken_of takes_count i, put_of puts_count i)) (prefix shape h ps.calls ts.calls run_of (length h))
+  prefix_of : InEveryRun TakenArePrefix → WholePutsCount → WholeTakesCount → IsPrefix taken (take put items)
+  prefix_of prefix puts_count takes_count = subst (λ (z : List ℕ × List ℕ). IsPrefix z.0 z.1) (λ i. (taken_of takes_count i, put_of puts_count i)) (prefix shape h ps.calls ts.calls run_of (length h))
 
   -- no more are taken than there are items
   few_of : InEveryRun TakenArePrefix → WholePutsCount → WholeTakesCount → length taken ≤ length items
@@ -76,7 +76,7 @@ module _ (within : InEveryRun IsWithin) (prefix : InEveryRun TakenArePrefix) (cl
   taken_is : items_taken shape first_count takes.takes (clock C h (length h)) ≡ taken
   taken_is = taken_of shape items put made full (put == length items) most_takes taken made_takes empty closed h r.ring r.puts.puts r.takes.takes takes_count
 
-  pub relayed_prefix : IsBeginning taken (take put items)
+  pub relayed_prefix : IsPrefix taken (take put items)
   relayed_prefix = prefix_of shape items put made full (put == length items) most_takes taken made_takes empty closed h r.ring r.puts.puts r.takes.takes prefix puts_count takes_count
 
   pub relayed_all : closed ≡ true → (put ≡ length items) × (taken ≡ items)
@@ -115,6 +115,6 @@ pub none_past :
     HasMadePuts p.ring.shape p.list items most_puts → HasTakenMore c.ring.shape c.list most_takes (length items) → ⊥
 none_past prefix puts_count takes_count items most_puts most_takes p c same h m made more =
     let shape : Shape = p.ring.shape in
-    let ps : PutsAre shape (own P h) items made.put made.made made.full (made.put == length items) = subst (λ l. PutsAre shape l items made.put made.made made.full (made.put == length items)) (sym m.put) made.puts.puts in
-    let ts : TakesAre shape (own C h) most_takes more.taken more.made more.empty false = subst (λ (z : Ring × List Event). TakesAre z.0.shape z.1 most_takes more.taken more.made more.empty false) (λ i. (same i, sym m.taken i)) more.takes in
+    let ps : PutsAre shape (subhistory P h) items made.put made.made made.full (made.put == length items) = subst (λ l. PutsAre shape l items made.put made.made made.full (made.put == length items)) (sym m.put) made.puts.puts in
+    let ts : TakesAre shape (subhistory C h) most_takes more.taken more.made more.empty false = subst (λ (z : Ring × List Event). TakesAre z.0.shape z.1 most_takes more.taken more.made more.empty false) (λ i. (same i, sym m.taken i)) more.takes in
     absurd (omega (arith, more.more, few_of shape items made.put made.made made.full (made.put == length items) most_takes more.taken more.made more.empty false h m.ring ps ts prefix puts_count takes_count))

@@ -4,14 +4,14 @@ use Rattle.bits_core.specs.declared.shapes.Shape.{Shape}
 use Rattle.bits_core.specs.declared.events.Side.TheVariants.{P, C}
 use Rattle.bits_core.specs.declared.events.Event.{Event}
 use Rattle.bits_core.specs.Shape.{capacity_of}
-use Rattle.bits_core.specs.Made.{own, IsBeginning}
-use Rattle.ring_core.specs.declared.producers.PutReply.TheVariants as single
-use Rattle.ring_core.specs.declared.producers.BatchReply.{BatchReply}
-use Rattle.ring_core.specs.declared.producers.BatchReply.TheVariants as several
-use Rattle.ring_core.specs.declared.consumers.TakeReply.{TakeReply}
-use Rattle.ring_core.specs.declared.consumers.TakeReply.TheVariants as single_take
-use Rattle.ring_core.specs.declared.consumers.TakeBatchReply.{TakeBatchReply}
-use Rattle.ring_core.specs.declared.consumers.TakeBatchReply.TheVariants as several_take
+use Rattle.bits_core.specs.Made.{subhistory, IsPrefix}
+use Rattle.ring_core.specs.declared.replies.PutReply.TheVariants as single
+use Rattle.ring_core.specs.declared.replies.BatchReply.{BatchReply}
+use Rattle.ring_core.specs.declared.replies.BatchReply.TheVariants as several
+use Rattle.ring_core.specs.declared.replies.TakeReply.{TakeReply}
+use Rattle.ring_core.specs.declared.replies.TakeReply.TheVariants as single_take
+use Rattle.ring_core.specs.declared.replies.TakeBatchReply.{TakeBatchReply}
+use Rattle.ring_core.specs.declared.replies.TakeBatchReply.TheVariants as several_take
 use Rattle.ring_core.specs.Puts.{Puts}
 use Rattle.ring_core.specs.Takes.{Takes}
 use Rattle.ring_core.specs.Items.{all_put, all_taken}
@@ -24,7 +24,7 @@ pub use Rattle.ring_seats.specs.Laws.{PutsAreShown, TakesAreShown, WordsAreTold}
 abbrev pub EmptyAfterMeeting : Type 0
 EmptyAfterMeeting =
     (shape : Shape) (known before after : List Event) (puts : Puts) (takes : Takes) (wanted : ℕ) (into : List ℕ) →
-    HasPuts shape (own P known) puts → HasTakes shape before takes → IsBeginning (own C known) before →
+    HasPuts shape (subhistory P known) puts → HasTakes shape before takes → IsPrefix (subhistory C known) before →
     Stands shape C after known → HasTakenAll shape wanted before after several_take.Empty into →
     (length (all_put puts.puts) ≤ length (all_taken takes.takes)) × (puts.closes ≡ false)
 
@@ -32,7 +32,7 @@ EmptyAfterMeeting =
 abbrev pub ItemEmptyAfterMeeting : Type 0
 ItemEmptyAfterMeeting =
     (shape : Shape) (known before after : List Event) (puts : Puts) (takes : Takes) →
-    HasPuts shape (own P known) puts → HasTakes shape before takes → IsBeginning (own C known) before →
+    HasPuts shape (subhistory P known) puts → HasTakes shape before takes → IsPrefix (subhistory C known) before →
     Stands shape C after known → HasTaken shape before after single_take.Empty →
     (length (all_put puts.puts) ≤ length (all_taken takes.takes)) × (puts.closes ≡ false)
 
@@ -41,7 +41,7 @@ ItemEmptyAfterMeeting =
 abbrev pub FullAfterMeeting : Type 0
 FullAfterMeeting =
     (shape : Shape) (known before after : List Event) (takes : Takes) (puts : Puts) (items : List ℕ) →
-    HasTakes shape (own C known) takes → HasPuts shape before puts → IsBeginning (own P known) before →
+    HasTakes shape (subhistory C known) takes → HasPuts shape before puts → IsPrefix (subhistory P known) before →
     Stands shape P after known → HasPutAll shape items before after several.Full →
     length (all_taken takes.takes) + capacity_of shape ≤ length (all_put puts.puts)
 
@@ -49,20 +49,20 @@ FullAfterMeeting =
 abbrev pub ItemFullAfterMeeting : Type 0
 ItemFullAfterMeeting =
     (shape : Shape) (known before after : List Event) (takes : Takes) (puts : Puts) (item : ℕ) →
-    HasTakes shape (own C known) takes → HasPuts shape before puts → IsBeginning (own P known) before →
+    HasTakes shape (subhistory C known) takes → HasPuts shape before puts → IsPrefix (subhistory P known) before →
     Stands shape P after known → HasPut shape item before after single.Full →
     length (all_taken takes.takes) + capacity_of shape ≤ length (all_put puts.puts)
 
 -- a put leaves the list that was there, and adds to it
 abbrev pub PutsAdd : Type 0
-PutsAdd = (shape : Shape) (items : List ℕ) (before after : List Event) (reply : BatchReply) → HasPutAll shape items before after reply → IsBeginning before after
+PutsAdd = (shape : Shape) (items : List ℕ) (before after : List Event) (reply : BatchReply) → HasPutAll shape items before after reply → IsPrefix before after
 
 -- a take leaves the list that was there, and adds to it
 abbrev pub TakesAdd : Type 0
 TakesAdd =
     (shape : Shape) (wanted : ℕ) (before after : List Event) (reply : TakeBatchReply) (into : List ℕ) →
-    HasTakenAll shape wanted before after reply into → IsBeginning before after
+    HasTakenAll shape wanted before after reply into → IsPrefix before after
 
 -- and so does one of a single item
 abbrev pub ItemTakesAdd : Type 0
-ItemTakesAdd = (shape : Shape) (before after : List Event) (reply : TakeReply) → HasTaken shape before after reply → IsBeginning before after
+ItemTakesAdd = (shape : Shape) (before after : List Event) (reply : TakeReply) → HasTaken shape before after reply → IsPrefix before after

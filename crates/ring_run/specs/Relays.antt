@@ -3,7 +3,7 @@ use Rattle.std.specs.Prelude.{◌≡◌, ◌⊎◌, ℕ, ◌+◌, ◌-◌, ◌<�
 use Rattle.bits_core.specs.declared.shapes.Shape.{Shape}
 use Rattle.bits_core.specs.declared.events.Event.{Event}
 use Rattle.bits_core.specs.declared.events.Side.TheVariants.{P, C}
-use Rattle.bits_core.specs.Made.{own}
+use Rattle.bits_core.specs.Made.{subhistory}
 use Rattle.ring_seats.specs.Programs.{IsRing}
 use Rattle.ring_core.specs.Linear.{EachReadingIsLinearizable}
 use Rattle.ring_core.specs.Puts.{Put, Puts, number_after}
@@ -92,6 +92,6 @@ pub record HasMadePuts (shape : Shape) (list : List Event) (items : List ℕ) (l
 pub record IsRelayed (shape : Shape) (items : List ℕ) (most_puts most_takes put made full : ℕ) (taken : List ℕ) (made_takes empty : ℕ) (closed : Bool) : Type 0 where
   pub history : List Event
   pub ring : IsRing shape history
-  pub puts : HasRelayedPuts shape (own P history) items most_puts put made full
-  pub takes : HasRelayedTakes shape (own C history) most_takes taken made_takes empty closed
+  pub puts : HasRelayedPuts shape (subhistory P history) items most_puts put made full
+  pub takes : HasRelayedTakes shape (subhistory C history) most_takes taken made_takes empty closed
   pub linearizable : EachReadingIsLinearizable shape history

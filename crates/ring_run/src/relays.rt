@@ -1,7 +1,7 @@
 //! The two ends of a ring at work in two threads.
 ghost use Rattle.std.specs.Prelude.{◌≡◌, ◌⊎◌, ℕ, ◌+◌, ◌<◌, ◌≤◌, ◌==◌, true, false, [], ◌∷◌, ◌++◌, IfOk, IfErr, OnOk, OnErr, length, min, take, vec_capacity};
 ghost use Rattle.ring_seats.specs.Steppers.{IsSameEnd};
-ghost use Rattle.bits_core.specs.Made.{IsBeginning};
+ghost use Rattle.bits_core.specs.Made.{IsPrefix};
 ghost use Rattle.bits_core.specs.Shape.{AllFit, batch_of, capacity_of, take_batch_of};
 ghost use Rattle.ring_ends.specs.Ends.{HasTakenAll, number_brought};
 ghost use Rattle.ring_run.specs.Relays.{HasMadePuts, HasRelayedPuts, HasRelayedTakes, HasTakenMore, IsRelayed};
@@ -63,7 +63,8 @@ fn put_in_order<E: PutEnd, G: Gate>(
     requires fit { AllFit (E.end putter.old).ring.shape items.now }
     ensures idle { E.idle putter.new }
     ensures same { IsSameEnd (E.end putter.old) (E.end putter.new) }
-    ensures puts { HasRelayedPuts (E.end putter.new).ring.shape (E.end putter.new).list items.now limit result.0 result.1 result.2 }
+    ensures puts { HasRelayedPuts (E.end putter.new).ring.shape (E.end putter.new).list items.now limit result.0
+        result.1 result.2 }
 {
     puts_are_read();
     let shape = putter.shape();
@@ -181,8 +182,10 @@ fn take_all<A: Allocator, E: TakeEnd, G: Gate>(
     requires fresh { (E.end taker.old).list ≡ [] }
     ensures idle { E.idle taker.new }
     ensures same { IsSameEnd (E.end taker.old) (E.end taker.new) }
-    ensures takes { IfOk result (λ t. HasRelayedTakes (E.end taker.new).ring.shape (E.end taker.new).list limit items.new.items t.0 t.1 t.2) }
-    ensures fault { IfErr result (λ _. HasTakenMore (E.end taker.new).ring.shape (E.end taker.new).list limit (vec_capacity items.old)) }
+    ensures takes { IfOk result (λ t. HasRelayedTakes (E.end taker.new).ring.shape (E.end taker.new).list limit
+        items.new.items t.0 t.1 t.2) }
+    ensures fault { IfErr result (λ _. HasTakenMore (E.end taker.new).ring.shape (E.end taker.new).list limit
+        (vec_capacity items.old)) }
 {
     takes_are_read();
     let shape = taker.shape();
@@ -260,24 +263,36 @@ fn relay_into<R: Threads, A: Allocator, E: PutEnd + Send, F: TakeEnd + Send, G: 
     gate: &G,
 ) -> Result<Outcome<A>, RunFault>
     requires room { (taken.items ≡ []) × (min (length items.now) limits.takes ≤ vec_capacity taken) }
-    requires puts { E.idle putter.old × ((E.end putter.old).list ≡ []) × AllFit (E.end putter.old).ring.shape items.now }
+    requires puts { E.idle putter.old × ((E.end putter.old).list ≡ []) ×
+        AllFit (E.end putter.old).ring.shape items.now }
     requires takes { F.idle taker.old × ((F.end taker.old).list ≡ []) }
     ensures idle { E.idle putter.new × F.idle taker.new }
     ensures same { IsSameEnd (E.end putter.old) (E.end putter.new) × IsSameEnd (F.end taker.old) (F.end taker.new) }
-    ensures puts { IfOk result (λ r. HasRelayedPuts (E.end putter.new).ring.shape (E.end putter.new).list items.now limits.puts r.put r.calls r.full) }
-    ensures takes { IfOk result (λ r. HasRelayedTakes (F.end taker.new).ring.shape (F.end taker.new).list limits.takes r.taken.items r.takes r.empty r.closed) }
-    ensures fault { IfErr result (λ _. HasMadePuts (E.end putter.new).ring.shape (E.end putter.new).list items.now limits.puts × HasTakenMore (F.end taker.new).ring.shape (F.end taker.new).list limits.takes (length items.now)) }
+    ensures puts { IfOk result (λ r. HasRelayedPuts (E.end putter.new).ring.shape (E.end putter.new).list items.now
+        limits.puts r.put r.calls r.full) }
+    ensures takes { IfOk result (λ r. HasRelayedTakes (F.end taker.new).ring.shape (F.end taker.new).list limits.takes
+        r.taken.items r.takes r.empty r.closed) }
+    ensures fault { IfErr result (λ _. HasMadePuts (E.end putter.new).ring.shape (E.end putter.new).list items.now
+        limits.puts × HasTakenMore (F.end taker.new).ring.shape (F.end taker.new).list limits.takes
+        (length items.now)) }
 {
     let into = &mut taken;
     let ((put, calls, full), takes) = join_mut(
         rt,
         &mut || -> (u64, u64, u64)
-            requires { E.idle putter.now × ((E.end putter.now).list ≡ []) × AllFit (E.end putter.now).ring.shape items.now }
-            ensures { E.idle putter.exit.now × IsSameEnd (E.end putter.entry.now) (E.end putter.exit.now) × HasRelayedPuts (E.end putter.exit.now).ring.shape (E.end putter.exit.now).list items.entry.now limits.puts result.0 result.1 result.2 }
+            requires { E.idle putter.now × ((E.end putter.now).list ≡ []) ×
+                AllFit (E.end putter.now).ring.shape items.now }
+            ensures { E.idle putter.exit.now × IsSameEnd (E.end putter.entry.now) (E.end putter.exit.now) ×
+                HasRelayedPuts (E.end putter.exit.now).ring.shape (E.end putter.exit.now).list items.entry.now
+                limits.puts result.0 result.1 result.2 }
         { put_in_order(putter, items, limits.puts, gate) },
         &mut || -> Result<(u64, u64, bool), RunFault>
             requires { (into.now.items ≡ []) × F.idle taker.now × ((F.end taker.now).list ≡ []) }
-            ensures { F.idle taker.exit.now × IsSameEnd (F.end taker.entry.now) (F.end taker.exit.now) × IfOk result (λ t. HasRelayedTakes (F.end taker.exit.now).ring.shape (F.end taker.exit.now).list limits.takes into.exit.now.items t.0 t.1 t.2) × IfErr result (λ _. HasTakenMore (F.end taker.exit.now).ring.shape (F.end taker.exit.now).list limits.takes (vec_capacity into.entry.now)) }
+            ensures { F.idle taker.exit.now × IsSameEnd (F.end taker.entry.now) (F.end taker.exit.now) ×
+                IfOk result (λ t. HasRelayedTakes (F.end taker.exit.now).ring.shape (F.end taker.exit.now).list
+                limits.takes into.exit.now.items t.0 t.1 t.2) ×
+                IfErr result (λ _. HasTakenMore (F.end taker.exit.now).ring.shape (F.end taker.exit.now).list
+                limits.takes (vec_capacity into.entry.now)) }
         { take_all(into, taker, limits.takes, gate) },
     );
     let (takes, empty, closed) = takes?;
@@ -322,9 +337,13 @@ pub fn relay<R: Threads, A: Allocator + Copy, E: PutEnd + Send, F: TakeEnd + Sen
     requires fit { AllFit (E.end putter.old).ring.shape items.now }
     ensures idle { E.idle putter.new × F.idle taker.new }
     ensures same { IsSameEnd (E.end putter.old) (E.end putter.new) × IsSameEnd (F.end taker.old) (F.end taker.new) }
-    ensures puts { IfOk result (λ r. HasRelayedPuts (E.end putter.new).ring.shape (E.end putter.new).list items.now limits.puts r.put r.calls r.full) }
-    ensures takes { IfOk result (λ r. HasRelayedTakes (F.end taker.new).ring.shape (F.end taker.new).list limits.takes r.taken.items r.takes r.empty r.closed) }
-    ensures fault { IfErr result (λ _. ((putter.new ≡ putter.old) × (taker.new ≡ taker.old)) ⊎ (HasMadePuts (E.end putter.new).ring.shape (E.end putter.new).list items.now limits.puts × HasTakenMore (F.end taker.new).ring.shape (F.end taker.new).list limits.takes (length items.now))) }
+    ensures puts { IfOk result (λ r. HasRelayedPuts (E.end putter.new).ring.shape (E.end putter.new).list items.now
+        limits.puts r.put r.calls r.full) }
+    ensures takes { IfOk result (λ r. HasRelayedTakes (F.end taker.new).ring.shape (F.end taker.new).list limits.takes
+        r.taken.items r.takes r.empty r.closed) }
+    ensures fault { IfErr result (λ _. ((putter.new ≡ putter.old) × (taker.new ≡ taker.old)) ⊎
+        (HasMadePuts (E.end putter.new).ring.shape (E.end putter.new).list items.now limits.puts ×
+        HasTakenMore (F.end taker.new).ring.shape (F.end taker.new).list limits.takes (length items.now))) }
 {
     let taken = room_for(alloc, items, limits)?;
     relay_into(rt, taken, putter, taker, items, limits, gate)
@@ -354,7 +373,8 @@ fn relay_through<
     requires idle { E.idle putter × F.idle taker }
     requires fresh { ((E.end putter).list ≡ []) × ((F.end taker).list ≡ []) }
     requires fit { AllFit (E.end putter).ring.shape items.now }
-    ensures { IsRelayed (E.end putter).ring.shape items.now limits.puts limits.takes result.put result.calls result.full result.taken.items result.takes result.empty result.closed }
+    ensures { IsRelayed (E.end putter).ring.shape items.now limits.puts limits.takes result.put result.calls result.full
+        result.taken.items result.takes result.empty result.closed }
 {
     ring_law();
     whole_calls_count();
@@ -393,8 +413,9 @@ pub fn relay_flicker<
     gate: &G,
 ) -> Result<Outcome<A>, RunFault>
     requires fit { AllFit shape items.now }
-    ensures counted { IfOk result (λ r. IsRelayed shape items.now limits.puts limits.takes r.put r.calls r.full r.taken.items r.takes r.empty r.closed) }
-    ensures prefix { IfOk result (λ r. IsBeginning r.taken.items (take r.put items.now)) }
+    ensures counted { IfOk result (λ r. IsRelayed shape items.now limits.puts limits.takes r.put r.calls r.full
+        r.taken.items r.takes r.empty r.closed) }
+    ensures prefix { IfOk result (λ r. IsPrefix r.taken.items (take r.put items.now)) }
     ensures all { IfOk result (λ r. r.closed ≡ true → (r.put ≡ length items.now) × (r.taken.items ≡ items.now)) }
     ensures within { IfOk result (λ r. r.put ≤ length r.taken.items + capacity_of shape) }
 {
@@ -425,8 +446,9 @@ pub fn relay_counter<R: Threads, A: Allocator + Copy, G: Gate + Sync>(
     gate: &G,
 ) -> Result<Outcome<A>, RunFault>
     requires fit { AllFit shape items.now }
-    ensures counted { IfOk result (λ r. IsRelayed shape items.now limits.puts limits.takes r.put r.calls r.full r.taken.items r.takes r.empty r.closed) }
-    ensures prefix { IfOk result (λ r. IsBeginning r.taken.items (take r.put items.now)) }
+    ensures counted { IfOk result (λ r. IsRelayed shape items.now limits.puts limits.takes r.put r.calls r.full
+        r.taken.items r.takes r.empty r.closed) }
+    ensures prefix { IfOk result (λ r. IsPrefix r.taken.items (take r.put items.now)) }
     ensures all { IfOk result (λ r. r.closed ≡ true → (r.put ≡ length items.now) × (r.taken.items ≡ items.now)) }
     ensures within { IfOk result (λ r. r.put ≤ length r.taken.items + capacity_of shape) }
 {

@@ -3,7 +3,7 @@ use Rattle.std.proofs.Common.{◌≡◌, ◌∙◌, ◌≤◌, ◌<◌, ◌+◌,
 use Rattle.std.specs.Prelude.{slice_get, if◌then◌else◌}
 use Rattle.std.proofs.lemmas.List.{at_drop_more, at_drop_all, length-append, length-replicate, append-nil, nil_from_length}
 use Rattle.bits_core.specs.declared.events.Side.{Side}
-use Rattle.ring_script.specs.declared.schedules.Run.{Run}
+use Rattle.ring_script.specs.declared.schedules.LetterRun.{LetterRun}
 use Rattle.ring_script.specs.ScheduleReading.{is_digit, may_stand, stray_from, letter_side, times, letters_after, letters_of}
 use Rattle.ring_script.specs.Schedule.{runs_in, spelled}
 
@@ -38,27 +38,27 @@ letter_past zero i j s ys e = let same : i ≡ j = omega arith in rw same
 letter_past (suc n) zero j s ys e = absurd (omega arith)
 letter_past (suc n) (suc i) j s ys e = letter_past n i j s ys (omega arith)
 
-pub run_here : (runs : List Run) (k i : ℕ) (d : Run) → k < length runs → i < (get_or runs k d).count → slice_get (spelled (drop k runs)) i ≡ Some (get_or runs k d).side
+pub run_here : (runs : List LetterRun) (k i : ℕ) (d : LetterRun) → k < length runs → i < (get_or runs k d).count → slice_get (spelled (drop k runs)) i ≡ Some (get_or runs k d).side
 unfolding spelled
 run_here runs k i d h less = at_drop_more (λ rs. slice_get (spelled rs) i) runs k d h ∙ letter_here _ i _ _ less
 
-pub run_past : (runs : List Run) (k i : ℕ) (d : Run) → k < length runs → (get_or runs k d).count ≤ i
+pub run_past : (runs : List LetterRun) (k i : ℕ) (d : LetterRun) → k < length runs → (get_or runs k d).count ≤ i
     → slice_get (spelled (drop k runs)) i ≡ slice_get (spelled (drop (k + 1) runs)) (i - (get_or runs k d).count)
 unfolding spelled
 run_past runs k i d h most = at_drop_more (λ rs. slice_get (spelled rs) i) runs k d h ∙ letter_past (get_or runs k d).count i _ _ _ (omega arith)
 
-pub no_run : (runs : List Run) (k i : ℕ) → length runs ≤ k → slice_get (spelled (drop k runs)) i ≡ None
+pub no_run : (runs : List LetterRun) (k i : ℕ) → length runs ≤ k → slice_get (spelled (drop k runs)) i ≡ None
 unfolding spelled
 no_run runs k i h = at_drop_all (λ rs. slice_get (spelled rs) i) runs k h
 
 -- ---- runs
 
-pub spelled-push : (rs : List Run) (r : Run) → spelled (rs ++ r ∷ []) ≡ spelled rs ++ replicate r.count r.side
+pub spelled-push : (rs : List LetterRun) (r : LetterRun) → spelled (rs ++ r ∷ []) ≡ spelled rs ++ replicate r.count r.side
 unfolding spelled
 spelled-push [] r = append-nil (replicate r.count r.side)
 spelled-push (x ∷ rs) r = rw (spelled-push rs r) (sym (append_assoc (replicate x.count x.side) (spelled rs) (replicate r.count r.side)))
 
-pub length-spelled-push : (rs : List Run) (r : Run) → length (spelled (rs ++ r ∷ [])) ≡ length (spelled rs) + r.count
+pub length-spelled-push : (rs : List LetterRun) (r : LetterRun) → length (spelled (rs ++ r ∷ [])) ≡ length (spelled rs) + r.count
 length-spelled-push rs r = ap length (spelled-push rs r) ∙ length-append (spelled rs) (replicate r.count r.side) ∙ ap (λ n. length (spelled rs) + n) (length-replicate r.count r.side)
 
 pub length-times : (n : ℕ) (s : Side) → length (times n s) ≡ max 1 n
@@ -94,7 +94,7 @@ letters_end rest i s n h = at_drop_all (letters_after s n) rest i h
 
 -- ---- the loop over the bytes after the first
 
-pub no_letters : (text : List ℕ) (rs : List Run) → length text ≡ 0 → rs ≡ [] → spelled rs ≡ letters_of text
+pub no_letters : (text : List ℕ) (rs : List LetterRun) → length text ≡ 0 → rs ≡ [] → spelled rs ≡ letters_of text
 unfolding spelled letters_of
 no_letters text rs e none = ap spelled none ∙ sym (ap letters_of (nil_from_length text e))
 
@@ -102,11 +102,11 @@ pub no_length : (text : List ℕ) (most : ℕ) → length text ≡ 0 → length 
 unfolding letters_of
 no_length text most e = let h : length (letters_of text) ≡ 0 = ap (λ t. length (letters_of t)) (nil_from_length text e) in omega (arith, h)
 
-pub letters_begin : (text rest : List ℕ) (b : ℕ) (s : Side) (rs : List Run) → text ≡ b ∷ rest → s ≡ letter_side b → rs ≡ [] → spelled rs ++ letters_after s 0 rest ≡ letters_of text
+pub letters_begin : (text rest : List ℕ) (b : ℕ) (s : Side) (rs : List LetterRun) → text ≡ b ∷ rest → s ≡ letter_side b → rs ≡ [] → spelled rs ++ letters_after s 0 rest ≡ letters_of text
 unfolding spelled letters_of
 letters_begin text rest b s rs e is none = ap (λ l. spelled l ++ letters_after s 0 rest) none ∙ ap (λ k. letters_after k 0 rest) is ∙ sym (ap letters_of e)
 
-pub no_total : (rs : List Run) → rs ≡ [] → 0 ≡ length (spelled rs)
+pub no_total : (rs : List LetterRun) → rs ≡ [] → 0 ≡ length (spelled rs)
 unfolding spelled
 no_total rs none = sym (ap (λ l. length (spelled l)) none)
 
@@ -114,7 +114,7 @@ pub too_long : (most total : ℕ) (done all : List Side) (rest : List ℕ) (s : 
 too_long most total done all rest s n e same h =
     omega (arith, ap length e, length-append done (letters_after s n rest), least rest s n, same)
 
-pub letters_pushed : (rs rs' : List Run) (r : Run) (all : List Side) (rest : List ℕ) (i : ℕ) (s s' : Side) (n : ℕ) (d : Bool) → i < length rest → d ≡ is_digit (get_or rest i 0) → d ≡ false
+pub letters_pushed : (rs rs' : List LetterRun) (r : LetterRun) (all : List Side) (rest : List ℕ) (i : ℕ) (s s' : Side) (n : ℕ) (d : Bool) → i < length rest → d ≡ is_digit (get_or rest i 0) → d ≡ false
     → spelled rs ++ letters_after s n (drop i rest) ≡ all → rs' ≡ rs ++ r ∷ [] → r.count ≡ max 1 n → r.side ≡ s → s' ≡ letter_side (get_or rest i 0)
     → spelled rs' ++ letters_after s' 0 (drop (i + 1) rest) ≡ all
 letters_pushed rs rs' r all rest i s s' n d h is failed e pushed count same side =
@@ -124,10 +124,10 @@ letters_pushed rs rs' r all rest i s s' n d h is failed e pushed count same side
     ∙ ap (λ l. spelled rs ++ l) (ap₂ (λ l k. l ++ letters_after k 0 (drop (i + 1) rest)) (ap₂ replicate count same) side ∙ sym (letter_next rest i s n d h is failed))
     ∙ e
 
-pub total_pushed : (rs rs' : List Run) (r : Run) (total k : ℕ) → total ≡ length (spelled rs) → rs' ≡ rs ++ r ∷ [] → r.count ≡ k → total + k ≡ length (spelled rs')
+pub total_pushed : (rs rs' : List LetterRun) (r : LetterRun) (total k : ℕ) → total ≡ length (spelled rs) → rs' ≡ rs ++ r ∷ [] → r.count ≡ k → total + k ≡ length (spelled rs')
 total_pushed rs rs' r total k e pushed count = omega (arith, e, count, ap (λ l. length (spelled l)) pushed, length-spelled-push rs r)
 
-pub letters_done : (rs rs' : List Run) (r : Run) (all : List Side) (rest : List ℕ) (i : ℕ) (s : Side) (n : ℕ) → length rest ≤ i
+pub letters_done : (rs rs' : List LetterRun) (r : LetterRun) (all : List Side) (rest : List ℕ) (i : ℕ) (s : Side) (n : ℕ) → length rest ≤ i
     → spelled rs ++ letters_after s n (drop i rest) ≡ all → rs' ≡ rs ++ r ∷ [] → r.count ≡ max 1 n → r.side ≡ s → spelled rs' ≡ all
 letters_done rs rs' r all rest i s n h e pushed count same =
     ap spelled pushed ∙ spelled-push rs r ∙ ap (λ l. spelled rs ++ l) (ap₂ replicate count same ∙ sym (letters_end rest i s n h)) ∙ e
@@ -139,14 +139,14 @@ within_done most total done all rest i s n h e same within =
 
 -- ---- how many letters runs have
 
-pub count_next : (runs : List Run) (k : ℕ) (d : Run) → k < length runs → length (spelled (drop k runs)) ≡ (get_or runs k d).count + length (spelled (drop (k + 1) runs))
+pub count_next : (runs : List LetterRun) (k : ℕ) (d : LetterRun) → k < length runs → length (spelled (drop k runs)) ≡ (get_or runs k d).count + length (spelled (drop (k + 1) runs))
 unfolding spelled
 count_next runs k d h =
     at_drop_more (λ rs. length (spelled rs)) runs k d h
     ∙ length-append (replicate (get_or runs k d).count (get_or runs k d).side) (spelled (drop (k + 1) runs))
     ∙ ap (λ n. n + length (spelled (drop (k + 1) runs))) (length-replicate (get_or runs k d).count (get_or runs k d).side)
 
-pub count_end : (runs : List Run) (k : ℕ) → length runs ≤ k → length (spelled (drop k runs)) ≡ 0
+pub count_end : (runs : List LetterRun) (k : ℕ) → length runs ≤ k → length (spelled (drop k runs)) ≡ 0
 unfolding spelled
 count_end runs k h = at_drop_all (λ rs. length (spelled rs)) runs k h
 
@@ -164,9 +164,9 @@ run_begins rest i d h is failed =
     let e : is_digit (get_or rest i 0) ≡ false = sym is ∙ failed in
     at_drop_more runs_in rest i 0 h ∙ rw e
 
-pub runs_begin : (rs : List Run) (rest : List ℕ) → rs ≡ [] → length rs + runs_in rest ≡ runs_in rest
+pub runs_begin : (rs : List LetterRun) (rest : List ℕ) → rs ≡ [] → length rs + runs_in rest ≡ runs_in rest
 runs_begin rs rest none = omega (arith, ap length none)
 
-pub run_made : (rs rs' : List Run) (r : Run) (rest : List ℕ) (i : ℕ) (d : Bool) → i < length rest → d ≡ is_digit (get_or rest i 0) → d ≡ false → rs' ≡ rs ++ r ∷ []
+pub run_made : (rs rs' : List LetterRun) (r : LetterRun) (rest : List ℕ) (i : ℕ) (d : Bool) → i < length rest → d ≡ is_digit (get_or rest i 0) → d ≡ false → rs' ≡ rs ++ r ∷ []
     → length rs + runs_in (drop i rest) ≡ runs_in rest → length rs' + runs_in (drop (i + 1) rest) ≡ runs_in rest
 run_made rs rs' r rest i d h is failed pushed made = omega (arith, ap length pushed, length-append rs (r ∷ []), run_begins rest i d h is failed, made)

@@ -5,7 +5,7 @@ use Rattle.std.specs.Str.Parse.{AllDigits, digits_value}
 use Rattle.bits_core.specs.declared.events.Side.{Side}
 use Rattle.bits_core.specs.declared.events.Side.TheVariants.{P, C}
 use Rattle.ring_script.specs.ScheduleReading.{is_digit}
-use Rattle.ring_script.specs.declared.schedules.Run.{Run}
+use Rattle.ring_script.specs.declared.schedules.LetterRun.{LetterRun}
 
 -- the letter of each side: P and C
 abbrev pub letter_of : Side → ℕ
@@ -47,7 +47,7 @@ abbrev pub IsScheduleText : List ℕ → Type 0
 IsScheduleText text = (letters : List Side) × IsSchedule text letters
 
 -- the letters that runs stand for
-unfoldable pub spelled : List Run → List Side
+unfoldable pub spelled : List LetterRun → List Side
 spelled [] = []
 spelled (run ∷ runs) = replicate run.count run.side ++ spelled runs
 

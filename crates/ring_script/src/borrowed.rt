@@ -7,7 +7,7 @@ ghost use Rattle.ring_script.specs.Script.{Fit, HoldsFields, IsContentOf, IsScri
 ghost use Rattle.ring_script.specs.Views.{IsKept};
 
 use crate::faults::ScriptFault;
-use crate::schedules::{LETTER_LIMIT, Run};
+use crate::schedules::{LETTER_LIMIT, LetterRun};
 use crate::scripts::{ITEM_LIMIT, read_parts};
 use bits_core::Shape;
 
@@ -37,7 +37,7 @@ pub struct ScriptRef<'a> {
     pub(crate) items: &'a [u64],
     pub(crate) takes: u64,
     pub(crate) closes: bool,
-    pub(crate) runs: &'a [Run],
+    pub(crate) runs: &'a [LetterRun],
     pub(crate) letters: u64,
     pub(crate) oracle: &'a [bool],
     ghost kept: { IsKept shape items.now letters (spelled runs.now) },
@@ -51,15 +51,19 @@ impl<'a> ScriptRef<'a> {
     /// that a slice has too few slots.
     pub fn of_fields(
         fields: &Fields<'a>,
-        runs: &'a mut [Run],
+        runs: &'a mut [LetterRun],
         answers: &'a mut [bool],
     ) -> Result<ScriptRef<'a>, ScriptFault>
         // The script is what the values stand for.
         ensures content { IfOk result (λ script. IsContentOf (held_of fields.now) (content_of script)) }
         // It is that of any bytes whose fields hold these values.
-        ensures read { IfOk result (λ script. (bytes : List ℕ) → HoldsFields bytes (held_of fields.now) → IsScript bytes (content_of script)) }
+        ensures read { IfOk result (λ script. (bytes : List ℕ) → HoldsFields bytes (held_of fields.now) →
+            IsScript bytes (content_of script)) }
         // The fault is that of any such bytes, or a slice is too short for the runs of the schedule, or for the answers.
-        ensures refused { IfErr result (λ e. ((e ≡ ScriptFault.OutOfMemory) × ((length runs.old < run_count fields.now.schedule.now) ⊎ (length answers.old < length fields.now.oracle.now))) ⊎ ((bytes : List ℕ) → HoldsFields bytes (held_of fields.now) → IsScriptFault bytes e)) }
+        ensures refused { IfErr result (λ e. ((e ≡ ScriptFault.OutOfMemory) ×
+            ((length runs.old < run_count fields.now.schedule.now) ⊎
+            (length answers.old < length fields.now.oracle.now))) ⊎
+            ((bytes : List ℕ) → HoldsFields bytes (held_of fields.now) → IsScriptFault bytes e)) }
     {
         read_parts(fields, runs, answers)
     }
@@ -103,7 +107,7 @@ impl<'a> ScriptRef<'a> {
     }
 
     /// The schedule as runs of one letter each, in order.
-    pub fn runs(&self) -> &'a [Run]
+    pub fn runs(&self) -> &'a [LetterRun]
         ensures { spelled result.now ≡ (content_of self.now).letters }
     {
         self.runs

@@ -189,7 +189,8 @@ fn wholes<A: Allocator + Copy>(alloc: A, list: &[Value]) -> Result<Vec<u64, A>, 
 
 // The items.
 fn items<A: Allocator + Copy>(alloc: A, value: &Value) -> Result<Vec<u64, A>, ScriptFault>
-    ensures read { IfOk result (λ v. of_kind Field.Items (option_and_then wholes_of (as_array (view value.now))) ≡ Ok v.items) }
+    ensures read { IfOk result (λ v. of_kind Field.Items (option_and_then wholes_of (as_array (view value.now))) ≡ Ok
+        v.items) }
     ensures refused { IfErr result (λ e. (e ≡ ScriptFault.OutOfMemory)
         ⊎ (of_kind Field.Items (option_and_then wholes_of (as_array (view value.now))) ≡ Err e)) }
 {

@@ -12,6 +12,6 @@ mod stores;
 
 pub use borrowed::{Fields, ScriptRef};
 pub use faults::{Field, ScriptFault};
-pub use schedules::{LETTER_LIMIT, Run};
+pub use schedules::{LETTER_LIMIT, LetterRun};
 pub use scripts::{ITEM_LIMIT, Script};
 pub use stops::{JsonFault, byte_of_text, json_fault};

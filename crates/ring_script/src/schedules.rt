@@ -16,7 +16,7 @@ pub const LETTER_LIMIT: u64 = 1_000_000;
 ///
 /// For example, `P8C10` is two runs: `P` eight times, and `C` ten times.
 #[derive(Clone, Copy, PartialEq, Eq, Debug)]
-pub struct Run {
+pub struct LetterRun {
     pub side: Side,
     pub count: u64,
 }
@@ -71,7 +71,7 @@ fn at_least_one(count: u64) -> u64
 }
 
 /// The runs of the letters that a text with no stray byte stands for, in an empty store.
-pub fn runs<S: Store<Run>>(store: S, text: &[u8]) -> Result<S, ScriptFault>
+pub fn runs<S: Store<LetterRun>>(store: S, text: &[u8]) -> Result<S, ScriptFault>
     requires empty { S.items store ≡ [] }
     ensures spelled { IfOk result (λ runs. spelled (S.items runs) ≡ letters_of text.now) }
     ensures within { IfOk result (λ _. length (letters_of text.now) ≤ LETTER_LIMIT) }
@@ -97,7 +97,7 @@ pub fn runs<S: Store<Run>>(store: S, text: &[u8]) -> Result<S, ScriptFault>
             if LETTER_LIMIT < total + times {
                 return Err(ScriptFault::ScheduleTooLong);
             }
-            push(&mut runs, Run { side, count: times })?;
+            push(&mut runs, LetterRun { side, count: times })?;
             total += times;
             side = letter_side(*b);
             count = 0;
@@ -107,12 +107,12 @@ pub fn runs<S: Store<Run>>(store: S, text: &[u8]) -> Result<S, ScriptFault>
     if LETTER_LIMIT < total + times {
         return Err(ScriptFault::ScheduleTooLong);
     }
-    push(&mut runs, Run { side, count: times })?;
+    push(&mut runs, LetterRun { side, count: times })?;
     Ok(runs)
 }
 
 /// How many letters runs stand for.
-pub fn letter_count(runs: &[Run]) -> u64
+pub fn letter_count(runs: &[LetterRun]) -> u64
     requires { length (spelled runs.now) < 2 ^ 64 }
     ensures { result ≡ length (spelled runs.now) }
 {
@@ -124,7 +124,7 @@ pub fn letter_count(runs: &[Run]) -> u64
 }
 
 /// The letter at a place, counted from 0, of those that runs stand for.
-pub fn letter_at(runs: &[Run], place: u64) -> Option<Side>
+pub fn letter_at(runs: &[LetterRun], place: u64) -> Option<Side>
     ensures { result ≡ slice_get (spelled runs.now) place }
 {
     let mut left = place;

@@ -13,7 +13,7 @@ ghost use Rattle.ring_script.specs.Views.{IsKept, typed_view};
 use crate::borrowed::{Fields, ScriptRef};
 use crate::faults::ScriptFault;
 use crate::fields::{Typed, check_kinds, check_names, find_values};
-use crate::schedules::{LETTER_LIMIT, Run, first_stray, letter_at, letter_count, runs};
+use crate::schedules::{LETTER_LIMIT, LetterRun, first_stray, letter_at, letter_count, runs};
 use crate::stores::push;
 use bits_core::{Filled, Shape, Side, Store};
 use serde_json::Value;
@@ -34,7 +34,7 @@ pub struct Script<A: Allocator> {
     items: Vec<u64, A>,
     takes: u64,
     closes: bool,
-    runs: Vec<Run, A>,
+    runs: Vec<LetterRun, A>,
     letters: u64,
     oracle: Vec<bool, A>,
 }
@@ -42,7 +42,14 @@ pub struct Script<A: Allocator> {
 impl<A: Allocator> Model for Script<A> {
     ghost Value = { Content };
 
-    ghost view = { λ s. record { shape = s.shape; items = s.items.items; takes = s.takes; closes = s.closes; letters = spelled s.runs.items; oracle = s.oracle.items } };
+    ghost view = { λ s. record {
+      shape = s.shape;
+      items = s.items.items;
+      takes = s.takes;
+      closes = s.closes;
+      letters = spelled s.runs.items;
+      oracle = s.oracle.items;
+    } };
 
     ghost invariant = { λ s. IsKept s.shape s.items.items s.letters (spelled s.runs.items) };
 }
@@ -110,7 +117,7 @@ impl<A: Allocator> Script<A> {
     }
 
     /// The schedule as runs of one letter each, in order: the letters that [`letter`](Self::letter) gives one by one.
-    pub fn runs(&self) -> &[Run]
+    pub fn runs(&self) -> &[LetterRun]
         ensures { spelled result.now ≡ self.now.letters }
     {
         &self.runs
@@ -232,8 +239,9 @@ fn read_typed<A: Allocator + Copy>(alloc: A, typed: Typed<'_, A>) -> Result<Scri
 fn read_texts<A: Allocator + Copy>(
     alloc: A,
     typed: &Typed<'_, A>,
-) -> Result<(Shape, Vec<Run, A>, Vec<bool, A>), ScriptFault>
-    ensures read { IfOk result (λ x. given_of (typed_view typed.now) ≡ Ok (given_by (content_read (typed_view typed.now) x.0 (spelled x.1.items) x.2.items))) }
+) -> Result<(Shape, Vec<LetterRun, A>, Vec<bool, A>), ScriptFault>
+    ensures read { IfOk result (λ x. given_of (typed_view typed.now) ≡ Ok
+        (given_by (content_read (typed_view typed.now) x.0 (spelled x.1.items) x.2.items))) }
     ensures items { IfOk result (λ x. items_within (width_of x.0) typed.now.items.items ≡ Ok tt) }
     ensures within { IfOk result (λ x. length (spelled x.1.items) ≤ LETTER_LIMIT) }
     ensures refused { IfErr result (λ e. (e ≡ ScriptFault.OutOfMemory) ⊎ (given_of (typed_view typed.now) ≡ Err e)) }
@@ -255,11 +263,13 @@ fn read_texts<A: Allocator + Copy>(
 #[tactic(auto, unfolding(crate::specs::ScriptReading::given_of))]
 pub(crate) fn read_parts<'a>(
     fields: &Fields<'a>,
-    runs: &'a mut [Run],
+    runs: &'a mut [LetterRun],
     answers: &'a mut [bool],
 ) -> Result<ScriptRef<'a>, ScriptFault>
     ensures read { IfOk result (λ script. given_of (held_of fields.now) ≡ Ok (given_by (content_of script))) }
-    ensures refused { IfErr result (λ e. ((e ≡ ScriptFault.OutOfMemory) × ((length runs.old < run_count fields.now.schedule.now) ⊎ (length answers.old < length fields.now.oracle.now))) ⊎ (given_of (held_of fields.now) ≡ Err e)) }
+    ensures refused { IfErr result (λ e. ((e ≡ ScriptFault.OutOfMemory) ×
+        ((length runs.old < run_count fields.now.schedule.now) ⊎ (length answers.old < length fields.now.oracle.now))) ⊎
+        (given_of (held_of fields.now) ≡ Err e)) }
 {
     let shape = read_shape(
         fields.capacity,
@@ -331,11 +341,12 @@ fn check_items(shape: &Shape, items: &[u64]) -> Result<(), ScriptFault>
 
 // The runs of the schedule's letters, in an empty store.
 #[tactic(auto, unfolding(crate::specs::ScriptReading::schedule_of))]
-fn read_schedule<S: Store<Run>>(store: S, text: &[u8]) -> Result<S, ScriptFault>
+fn read_schedule<S: Store<LetterRun>>(store: S, text: &[u8]) -> Result<S, ScriptFault>
     requires empty { S.items store ≡ [] }
     ensures read { IfOk result (λ runs. schedule_of text.now ≡ Ok (spelled (S.items runs))) }
     ensures within { IfOk result (λ runs. length (spelled (S.items runs)) ≤ LETTER_LIMIT) }
-    ensures refused { IfErr result (λ e. ((e ≡ ScriptFault.OutOfMemory) × (S.room store < run_count text.now)) ⊎ (schedule_of text.now ≡ Err e)) }
+    ensures refused { IfErr result (λ e. ((e ≡ ScriptFault.OutOfMemory) × (S.room store < run_count text.now)) ⊎
+        (schedule_of text.now ≡ Err e)) }
 {
     match first_stray(text) {
         Some(place) => Err(ScriptFault::BadSchedule(place as u64)),
@@ -368,7 +379,8 @@ fn answers<S: Store<bool>>(store: S, text: &[u8]) -> Result<S, ScriptFault>
 fn read_oracle<S: Store<bool>>(store: S, text: &[u8]) -> Result<S, ScriptFault>
     requires empty { S.items store ≡ [] }
     ensures read { IfOk result (λ v. oracle_of text.now ≡ Ok (S.items v)) }
-    ensures refused { IfErr result (λ e. ((e ≡ ScriptFault.OutOfMemory) × (S.room store < length text.now)) ⊎ (oracle_of text.now ≡ Err e)) }
+    ensures refused { IfErr result (λ e. ((e ≡ ScriptFault.OutOfMemory) × (S.room store < length text.now)) ⊎
+        (oracle_of text.now ≡ Err e)) }
 {
     match first_no_answer(text) {
         Some(place) => Err(ScriptFault::BadOracle(place as u64)),

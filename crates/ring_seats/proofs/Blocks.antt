@@ -15,7 +15,7 @@ use Rattle.bits_core.specs.History.{open_access, open_write, held, writes_begun,
 use Rattle.bits_core.specs.Lawful.{IsLawful}
 use Rattle.bits_core.specs.Steps.{MayFollow}
 use Rattle.bits_core.specs.Open.{IsOpenRight}
-use Rattle.bits_core.specs.Made.{Made, Read, Write, access_of, begin_event, end_event, events_of, own}
+use Rattle.bits_core.specs.Made.{Made, Read, Write, access_of, begin_event, end_event, events_of, subhistory}
 use Rattle.ring_seats.specs.Programs.{Follows, IsRing}
 use Rattle.ring_seats.specs.Below.{LawsBelow}
 use Rattle.ring_seats.specs.Counters.{value_left}
@@ -211,13 +211,13 @@ module _ (laws : LawsBelow) (shape : Shape) (x : Side) where
   pub record Blocked (h : List Event) (made : List Made) : Type 0 where
     pub quiet : QuietRing shape (h ++ events_of x made)
     pub bits : (b : Bit) → held b (h ++ events_of x made) ≡ after (λ c. held c h) made b
-    pub mine : own x (h ++ events_of x made) ≡ own x h ++ events_of x made
-    pub theirs : own (other x) (h ++ events_of x made) ≡ own (other x) h
+    pub mine : subhistory x (h ++ events_of x made) ≡ subhistory x h ++ events_of x made
+    pub theirs : subhistory (other x) (h ++ events_of x made) ≡ subhistory (other x) h
 
-  theirs_one : (h : List Event) (m : Made) → own (other x) ((h ++ begin_event x m ∷ []) ++ end_event x m ∷ []) ≡ own (other x) h
+  theirs_one : (h : List Event) (m : Made) → subhistory (other x) ((h ++ begin_event x m ∷ []) ++ end_event x m ∷ []) ≡ subhistory (other x) h
   theirs_one h m = own-theirs laws (other x) (h ++ begin_event x m ∷ []) (end_event x m) (not_end x m) ∙ own-theirs laws (other x) h (begin_event x m) (not_begin x m)
 
-  mine_one : (h : List Event) (m : Made) → own x ((h ++ begin_event x m ∷ []) ++ end_event x m ∷ []) ≡ (own x h ++ begin_event x m ∷ []) ++ end_event x m ∷ []
+  mine_one : (h : List Event) (m : Made) → subhistory x ((h ++ begin_event x m ∷ []) ++ end_event x m ∷ []) ≡ (subhistory x h ++ begin_event x m ∷ []) ++ end_event x m ∷ []
   mine_one h m = own-mine laws x (h ++ begin_event x m ∷ []) (end_event x m) (by_end x m) ∙ ap (λ (l : List Event). l ++ end_event x m ∷ []) (own-mine laws x h (begin_event x m) (by_begin x m))
 
   idle_one : (h : List Event) (m : Made) → ((y : Side) → open_access y h ≡ None) → (y : Side) → open_access y ((h ++ begin_event x m ∷ []) ++ end_event x m ∷ []) ≡ None
@@ -227,19 +227,19 @@ module _ (laws : LawsBelow) (shape : Shape) (x : Side) where
       ∙ (open-theirs laws (other x) h (begin_event x m) (not_begin x m) ∙ idle (other x))))
       (either_side x y)
 
-  pub block : (made : List Made) (h : List Event) → QuietRing shape h → AllRight shape x made → Answers (λ b. held b h) made → Follows shape x (own x h ++ events_of x made) → Blocked h made
+  pub block : (made : List Made) (h : List Event) → QuietRing shape h → AllRight shape x made → Answers (λ b. held b h) made → Follows shape x (subhistory x h ++ events_of x made) → Blocked h made
   block [] h q r a f = record {
     quiet = subst (QuietRing shape) (sym (append-nil h)) q;
     bits = λ b. ap (held b) (append-nil h);
-    mine = ap (own x) (append-nil h) ∙ sym (append-nil (own x h));
-    theirs = ap (own (other x)) (append-nil h);
+    mine = ap (subhistory x) (append-nil h) ∙ sym (append-nil (subhistory x h));
+    theirs = ap (subhistory (other x)) (append-nil h);
   }
   block (m ∷ made) h q r a f =
       let e1 : Event = begin_event x m in
       let e2 : Event = end_event x m in
       let h1 : List Event = h ++ e1 ∷ [] in
       let h2 : List Event = h1 ++ e2 ∷ [] in
-      let list : List Event = own x h in
+      let list : List Event = subhistory x h in
       let whole : list ++ (e1 ∷ e2 ∷ events_of x made) ≡ ((list ++ e1 ∷ []) ++ e2 ∷ []) ++ events_of x made =
       sym (append_assoc list (e1 ∷ []) (e2 ∷ events_of x made)) ∙ sym (append_assoc (list ++ e1 ∷ []) (e2 ∷ []) (events_of x made)) in
       let f2 : Follows shape x (((list ++ e1 ∷ []) ++ e2 ∷ []) ++ events_of x made) = subst (Follows shape x) whole f in
@@ -257,6 +257,6 @@ module _ (laws : LawsBelow) (shape : Shape) (x : Side) where
       record {
         quiet = subst (QuietRing shape) is rest.quiet;
         bits = λ b. ap (held b) (sym is) ∙ (rest.bits b ∙ after_at made (λ c. held c h2) (wrote (λ c. held c h) m) b bits);
-        mine = ap (own x) (sym is) ∙ (rest.mine ∙ (ap (λ (l : List Event). l ++ events_of x made) (mine_one h m) ∙ sym whole));
-        theirs = ap (own (other x)) (sym is) ∙ (rest.theirs ∙ theirs_one h m);
+        mine = ap (subhistory x) (sym is) ∙ (rest.mine ∙ (ap (λ (l : List Event). l ++ events_of x made) (mine_one h m) ∙ sym whole));
+        theirs = ap (subhistory (other x)) (sym is) ∙ (rest.theirs ∙ theirs_one h m);
       }

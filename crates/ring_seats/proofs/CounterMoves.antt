@@ -16,7 +16,7 @@ use Rattle.bits_core.specs.declared.events.Event.{Event}
 use Rattle.bits_core.specs.Shape.{capacity_of, modulus_of, width_of}
 use Rattle.bits_core.specs.Bits.{other, writer, same_bit}
 use Rattle.bits_core.specs.History.{open_access, held}
-use Rattle.bits_core.specs.Made.{Made, Read, Write, events_of, own, IsBeginning}
+use Rattle.bits_core.specs.Made.{Made, Read, Write, events_of, subhistory, IsPrefix}
 use Rattle.register_core.specs.Row.{RowWrite, row_bit, writes_in}
 use Rattle.register_core.specs.Unary.{unary_phrase}
 use Rattle.register_core.specs.Word.{digit, digit_writes, digit_reads, word_write, word_read}
@@ -73,7 +73,7 @@ module _ (laws : LawsBelow) (shape : Shape) where
       (either_side x y))
       (at_set views id seat w u at)
 
-  begins_more : (h known es : List Event) → IsBeginning known h → IsBeginning known (h ++ es)
+  begins_more : (h known es : List Event) → IsPrefix known h → IsPrefix known (h ++ es)
   begins_more h known es s = (s.0 ++ es, sym (append_assoc known s.0 es) ∙ ap (λ (l : List Event). l ++ es) s.1)
 
   -- what a step of the side x needs, where the word at the place becomes `new`
@@ -87,7 +87,7 @@ module _ (laws : LawsBelow) (shape : Shape) where
   -- a step of one end, at one word
   moves : (x : Side) (place : ℕ) (made : ℕ → List Made) (tells : ℕ → Type 0) (f got : ℕ → ℕ) (slots id : ℕ) (me : Me (Unit {0}) View)
       → may_step x me.0 ≡ true → may_step (other x) me.0 ≡ false
-      → ((h : List Event) (words : List ℕ) → IsRing shape h → list_of x me.0 ≡ own x h → ShowsWords shape words h → length words ≡ words_of shape
+      → ((h : List Event) (words : List ℕ) → IsRing shape h → list_of x me.0 ≡ subhistory x h → ShowsWords shape words h → length words ≡ words_of shape
       → IsGoodBlock x (list_of x me.0) h words place (f (slice_index words place)) (made (got (slice_index words place))) (tells (got (slice_index words place))))
       → Allows (KeptWords shape) slots id me place f (λ n m'. AddedAll shape x made tells me (got n) m')
   moves x place made tells f got slots id me mine not_theirs good s k homes at small =
@@ -99,7 +99,7 @@ module _ (laws : LawsBelow) (shape : Shape) where
       let fits : SeatKnows h k.known k.owner id me.0 x = k.seats id me.0 at x mine in
       let g : IsGoodBlock x (list_of x me.0) h s.words place (f n) acts (tells (got n)) = good h s.words k.ring fits.list k.shows k.wide in
       let blocked : Blocked laws shape x h acts = block laws shape x acts h (record { ring = k.ring; idle = k.shows.idle }) g.right g.answers (subst (λ (l : List Event). Follows shape x (l ++ es)) fits.list g.follow) in
-      let begins : IsBeginning k.known (h ++ es) = begins_more h k.known es k.begins in (
+      let begins : IsPrefix k.known (h ++ es) = begins_more h k.known es k.begins in (
         w,
         keeps,
         tt,
@@ -122,7 +122,7 @@ module _ (laws : LawsBelow) (shape : Shape) where
             history = h ++ es;
             ring = blocked.quiet.ring;
             list_is = blocked.mine ∙ (ap (λ (l : List Event). l ++ es) (sym fits.list) ∙ sym (list_of-more x es me.0));
-            begins = subst (λ (l : List Event). IsBeginning l (h ++ es)) (sym fits.known_is) begins;
+            begins = subst (λ (l : List Event). IsPrefix l (h ++ es)) (sym fits.known_is) begins;
           };
         },
       )
@@ -131,11 +131,11 @@ module _ (laws : LawsBelow) (shape : Shape) where
 
   module _ (x : Side) (made : List Made) (h : List Event) (blocked : Blocked laws shape x h made) where
     -- the last writes of a row that the step spares stay
-    stays : (y : Side) (row : ℕ → Bit) (by : List Event → List Made) (v : ℕ) → Spares row made → IsLast y row by (own y h) v → IsLast y row by (own y (h ++ events_of x made)) v
+    stays : (y : Side) (row : ℕ → Bit) (by : List Event → List Made) (v : ℕ) → Spares row made → IsLast y row by (subhistory y h) v → IsLast y row by (subhistory y (h ++ events_of x made)) v
     stays y row by v s is = ⊎_elim
-        (λ (same : y ≡ x). subst (λ (l : List Event). IsLast y row by l v) (sym (ap (λ (z : Side). own z (h ++ events_of x made)) same ∙ (blocked.mine ∙ ap (λ (z : Side). own z h ++ events_of x made) (sym same))))
-        (stays_last y row by (own y h) (events_of x made) v (spared x row made s) is))
-        (λ (far : y ≡ other x). subst (λ (l : List Event). IsLast y row by l v) (sym (ap (λ (z : Side). own z (h ++ events_of x made)) far ∙ (blocked.theirs ∙ ap (λ (z : Side). own z h) (sym far)))) is)
+        (λ (same : y ≡ x). subst (λ (l : List Event). IsLast y row by l v) (sym (ap (λ (z : Side). subhistory z (h ++ events_of x made)) same ∙ (blocked.mine ∙ ap (λ (z : Side). subhistory z h ++ events_of x made) (sym same))))
+        (stays_last y row by (subhistory y h) (events_of x made) v (spared x row made s) is))
+        (λ (far : y ≡ other x). subst (λ (l : List Event). IsLast y row by l v) (sym (ap (λ (z : Side). subhistory z (h ++ events_of x made)) far ∙ (blocked.theirs ∙ ap (λ (z : Side). subhistory z h) (sym far)))) is)
         (either_side x y)
 
     close_stays : Spares (λ _. X) made → held X (h ++ events_of x made) ≡ held X h
@@ -161,15 +161,15 @@ module _ (laws : LawsBelow) (shape : Shape) where
     left_word : (other : ℕ) → other ≢ place → slice_index (set words place new) other ≡ slice_index words other
     left_word other ne = get_or-set_other words place other new 0 ne
 
-    other_count : (y : Side) → count_place y ≢ place → Spares (row_bit y) made → IsLastCount y (own y (h ++ events_of x made)) (slice_index (set words place new) (count_place y))
-    other_count y ne s = subst (IsLastCount y (own y (h ++ events_of x made))) (sym (left_word (count_place y) ne))
+    other_count : (y : Side) → count_place y ≢ place → Spares (row_bit y) made → IsLastCount y (subhistory y (h ++ events_of x made)) (slice_index (set words place new) (count_place y))
+    other_count y ne s = subst (IsLastCount y (subhistory y (h ++ events_of x made))) (sym (left_word (count_place y) ne))
         (stays x made h blocked y (row_bit y) (λ before. unary_over y before (slice_index words (count_place y))) (slice_index words (count_place y)) s (shows.count y))
 
     other_small : (y : Side) → count_place y ≢ place → slice_index (set words place new) (count_place y) < modulus_of shape
     other_small y ne = subst (λ (n : ℕ). n < modulus_of shape) (sym (left_word (count_place y) ne)) (shows.small y)
 
-    other_cell : (j : ℕ) → j < capacity_of shape → cell_place j ≢ place → Spares (Cell j) made → IsLastItem (width_of shape) j (own P (h ++ events_of x made)) (slice_index (set words place new) (cell_place j))
-    other_cell j lt ne s = subst (IsLastItem (width_of shape) j (own P (h ++ events_of x made))) (sym (left_word (cell_place j) ne))
+    other_cell : (j : ℕ) → j < capacity_of shape → cell_place j ≢ place → Spares (Cell j) made → IsLastItem (width_of shape) j (subhistory P (h ++ events_of x made)) (slice_index (set words place new) (cell_place j))
+    other_cell j lt ne s = subst (IsLastItem (width_of shape) j (subhistory P (h ++ events_of x made))) (sym (left_word (cell_place j) ne))
         (stays x made h blocked P (Cell j) (λ before. word_write (width_of shape) j (slice_index words (cell_place j))) (slice_index words (cell_place j)) s (shows.cell j lt))
 
     other_fits : (j : ℕ) → j < capacity_of shape → cell_place j ≢ place → slice_index (set words place new) (cell_place j) < 2 ^ width_of shape
@@ -222,13 +222,13 @@ module _ (laws : LawsBelow) (shape : Shape) where
 
   -- ---- after a store of a count, of a cell, and of the close word
 
-  counted : (x : Side) (v : ℕ) (old : ℕ → Bool) (h : List Event) (words : List ℕ) → v < modulus_of shape → ((i : ℕ) → value_left (own x h) (row_bit x i) ≡ old i) → length words ≡ words_of shape → ShowsWords shape words h
+  counted : (x : Side) (v : ℕ) (old : ℕ → Bool) (h : List Event) (words : List ℕ) → v < modulus_of shape → ((i : ℕ) → value_left (subhistory x h) (row_bit x i) ≡ old i) → length words ≡ words_of shape → ShowsWords shape words h
       → Blocked laws shape x h (writes_in (row_bit x) (unary_phrase old v)) → ShowsWords shape (set words (count_place x) v) (h ++ events_of x (writes_in (row_bit x) (unary_phrase old v)))
   counted x v old h words lt left wide shows blocked = record {
     idle = blocked.quiet.idle;
     count = λ y. ⊎_elim
-        (λ (same : y ≡ x). subst (λ (z : Side). IsLastCount z (own z h') (slice_index words' (count_place z))) (sym same) mine)
-        (λ (far : y ≡ other x). subst (λ (z : Side). IsLastCount z (own z h') (slice_index words' (count_place z))) (sym far)
+        (λ (same : y ≡ x). subst (λ (z : Side). IsLastCount z (subhistory z h') (slice_index words' (count_place z))) (sym same) mine)
+        (λ (far : y ≡ other x). subst (λ (z : Side). IsLastCount z (subhistory z h') (slice_index words' (count_place z))) (sym far)
         (other_count x acts h words (count_place x) v shows blocked (other x) (far_places x) (spares_writes (row_bit (other x)) (row_bit x) (far_rows x) ws)))
         (either_side x y);
     small = λ y. ⊎_elim
@@ -255,13 +255,13 @@ module _ (laws : LawsBelow) (shape : Shape) where
       now : slice_index (set words (count_place x) v) (count_place x) ≡ v
       now = new_is words (count_place x) v wide (omega (arith, (small_place x).1))
 
-      over : unary_over x (own x h) v ≡ writes_in (row_bit x) (unary_phrase old v)
+      over : unary_over x (subhistory x h) v ≡ writes_in (row_bit x) (unary_phrase old v)
       over i = writes_in (row_bit x) (unary_phrase (λ (k : ℕ). left k i) v)
 
-      mine : IsLastCount x (own x (h ++ events_of x (writes_in (row_bit x) (unary_phrase old v)))) (slice_index (set words (count_place x) v) (count_place x))
+      mine : IsLastCount x (subhistory x (h ++ events_of x (writes_in (row_bit x) (unary_phrase old v)))) (slice_index (set words (count_place x) v) (count_place x))
       mine = subst (λ (z : List Event × ℕ). IsLastCount x z.0 z.1)
-          (λ i. ((ap (λ (l : List Made). own x h ++ events_of x l) over ∙ sym blocked.mine) i, sym now i))
-          (inl (is_last_now x (row_bit x) (λ before. unary_over x before v) (own x h)))
+          (λ i. ((ap (λ (l : List Made). subhistory x h ++ events_of x l) over ∙ sym blocked.mine) i, sym now i))
+          (inl (is_last_now x (row_bit x) (λ before. unary_over x before v) (subhistory x h)))
 
   stored : (j item : ℕ) (h : List Event) (words : List ℕ) → j < capacity_of shape → item < 2 ^ width_of shape → length words ≡ words_of shape → ShowsWords shape words h
       → Blocked laws shape P h (word_write (width_of shape) j item) → ShowsWords shape (set words (cell_place j) item) (h ++ events_of P (word_write (width_of shape) j item))
@@ -270,7 +270,7 @@ module _ (laws : LawsBelow) (shape : Shape) where
     count = λ y. other_count P acts h words (cell_place j) item shows blocked y (λ (e : count_place y ≡ cell_place j). omega (arith, e, (small_place y).1)) (spares_writes (row_bit y) (Cell j) (row_cell y j) ws);
     small = λ y. other_small P acts h words (cell_place j) item shows blocked y (λ (e : count_place y ≡ cell_place j). omega (arith, e, (small_place y).1));
     cell = λ k below. ⊎_elim
-        (λ (same : k ≡ j). subst (λ (l : ℕ). IsLastItem (width_of shape) l (own P h') (slice_index words' (cell_place l))) (sym same) mine)
+        (λ (same : k ≡ j). subst (λ (l : ℕ). IsLastItem (width_of shape) l (subhistory P h') (slice_index words' (cell_place l))) (sym same) mine)
         (λ (ne : k ≢ j). other_cell P acts h words (cell_place j) item shows blocked k below (λ (e : cell_place k ≡ cell_place j). ne (omega (arith, e))) (spares_writes (Cell k) (Cell j) (λ i l. far_cells j k i l ne) ws))
         (same_or_not k j);
     fits = λ k below. ⊎_elim
@@ -295,9 +295,9 @@ module _ (laws : LawsBelow) (shape : Shape) where
       now : slice_index (set words (cell_place j) item) (cell_place j) ≡ item
       now = new_is words (cell_place j) item wide (omega (arith, lt))
 
-      mine : IsLastItem (width_of shape) j (own P (h ++ events_of P (word_write (width_of shape) j item))) (slice_index (set words (cell_place j) item) (cell_place j))
+      mine : IsLastItem (width_of shape) j (subhistory P (h ++ events_of P (word_write (width_of shape) j item))) (slice_index (set words (cell_place j) item) (cell_place j))
       mine = subst (λ (z : List Event × ℕ). IsLastItem (width_of shape) j z.0 z.1) (λ i. (sym blocked.mine i, sym now i))
-          (inl (is_last_now P (Cell j) (λ before. word_write (width_of shape) j item) (own P h)))
+          (inl (is_last_now P (Cell j) (λ before. word_write (width_of shape) j item) (subhistory P h)))
 
   closed : (h : List Event) (words : List ℕ) → length words ≡ words_of shape → ShowsWords shape words h → Blocked laws shape P h (Write X true ∷ []) → ShowsWords shape (set words 0 1) (h ++ events_of P (Write X true ∷ []))
   closed h words wide shows blocked = record {
@@ -378,8 +378,8 @@ module _ (laws : LawsBelow) (shape : Shape) (x : Side) (slots id : ℕ) (me : Me
       let y : Side = other x in
       let c : ℕ = slice_index words (count_place y) in
       let lt : c < modulus_of shape = shows.small y in
-      let low : Lowest (λ i. value_left (own y h) (row_bit y i)) c = count_shows laws.numbers shape y (own y h) c lt (shows.count y) in
-      let held_is : ((i : ℕ) → held (row_bit y i) h ≡ value_left (own y h) (row_bit y i)) = (λ i. held_left laws shape (row_bit y i) h ring.run.lawful (shows.idle (writer (row_bit y i))) ∙ ap (λ (z : Side). value_left (own z h) (row_bit y i)) (row_writer y i)) in
+      let low : Lowest (λ i. value_left (subhistory y h) (row_bit y i)) c = count_shows laws.numbers shape y (subhistory y h) c lt (shows.count y) in
+      let held_is : ((i : ℕ) → held (row_bit y i) h ≡ value_left (subhistory y h) (row_bit y i)) = (λ i. held_left laws shape (row_bit y i) h ring.run.lawful (shows.idle (writer (row_bit y i))) ∙ ap (λ (z : Side). value_left (subhistory z h) (row_bit y i)) (row_writer y i)) in
       (scan_holds (λ b. held b h) (row_bit y) c (record { set = held_is c ∙ low.set; clear = λ i below. held_is i ∙ low.clear i below }), scan_right shape x c lt, follow c lt, lt))
 
   -- a store of the side's own count
@@ -429,7 +429,7 @@ module _ (laws : LawsBelow) (shape : Shape) (slots id : ℕ) (me : Me (Unit {0})
       let item : ℕ = slice_index words (cell_place j) in
       let fits : item < 2 ^ width_of shape = shows.fits j lt in (
         digits_hold (λ b. held b h) (width_of shape) j item (width_of shape) (omega arith)
-            (λ i below. held_left laws shape (Cell j i) h ring.run.lawful (shows.idle P) ∙ item_shows (width_of shape) j (own P h) item (shows.cell j lt) i below),
+            (λ i below. held_left laws shape (Cell j i) h ring.run.lawful (shows.idle P) ∙ item_shows (width_of shape) j (subhistory P h) item (shows.cell j lt) i below),
         reads_right shape j item (width_of shape) lt (omega arith),
         follow item fits,
         fits,
@@ -468,7 +468,7 @@ shows_first shape = record {
     first_idle P = refl
     first_idle C = refl
 
-    first_none : (x : Side) → Rattle.ring_seats.specs.Counters.NoWriteOf (row_bit x) (own x [])
+    first_none : (x : Side) → Rattle.ring_seats.specs.Counters.NoWriteOf (row_bit x) (subhistory x [])
     first_none P i = refl
     first_none C i = refl
 

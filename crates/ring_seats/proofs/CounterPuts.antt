@@ -10,7 +10,7 @@ use Rattle.bits_core.specs.declared.events.Bit.TheVariants.{S, R, X, Cell}
 use Rattle.bits_core.specs.declared.events.Event.{Event}
 use Rattle.bits_core.specs.Shape.{AllFit, capacity_of, modulus_of, width_of}
 use Rattle.bits_core.specs.Bits.{first_value}
-use Rattle.bits_core.specs.Made.{Made, Read, Write, events_of, IsBeginning}
+use Rattle.bits_core.specs.Made.{Made, Read, Write, events_of, IsPrefix}
 use Rattle.register_core.specs.Row.{row_bit, first_bits, writes_in}
 use Rattle.register_core.specs.Unary.{unary_phrase}
 use Rattle.register_core.specs.Word.{digit_writes, word_write}
@@ -79,7 +79,7 @@ module _ (shape : Shape) where
       same = omega arith
 
   -- the first of them begin them all
-  pub words_begin : (items : List ℕ) (n k : ℕ) → IsBeginning (words_phrase shape n (take k items)) (words_phrase shape n items)
+  pub words_begin : (items : List ℕ) (n k : ℕ) → IsPrefix (words_phrase shape n (take k items)) (words_phrase shape n items)
   words_begin items n zero = (words_phrase shape n items, refl)
   words_begin [] n (suc k) = ([], refl)
   words_begin (x ∷ items) n (suc k) =

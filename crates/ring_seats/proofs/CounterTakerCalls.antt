@@ -11,8 +11,8 @@ use Rattle.bits_core.specs.Shape.{AllFit, capacity_of, modulus_of, width_of}
 use Rattle.bits_core.specs.Made.{Made, Read, events_of}
 use Rattle.register_core.specs.Word.{word_read}
 use Rattle.register_core.specs.ScanState.{scan_phrase, row_read_by}
-use Rattle.ring_core.specs.declared.consumers.TakeReply.{TakeReply}
-use Rattle.ring_core.specs.declared.consumers.TakeReply.TheVariants as reply
+use Rattle.ring_core.specs.declared.replies.TakeReply.{TakeReply}
+use Rattle.ring_core.specs.declared.replies.TakeReply.TheVariants as reply
 use Rattle.ring_core.specs.Counts.{distance, ShowsItem, Count, number_past}
 use Rattle.ring_core.specs.Takes.{Take, Takes, Empty, Open, taken_after, words_read, SeesItems, SeesNone, IsTakeBatch, IsTake}
 use Rattle.ring_core.specs.Items.{taken_of}

@@ -6,7 +6,7 @@ use Rattle.bits_core.specs.declared.events.Side.{Side}
 use Rattle.bits_core.specs.declared.events.Side.TheVariants.{P, C}
 use Rattle.bits_core.specs.declared.events.Event.{Event}
 use Rattle.bits_core.specs.Shape.{capacity_of, modulus_of, width_of}
-use Rattle.bits_core.specs.Made.{own}
+use Rattle.bits_core.specs.Made.{subhistory}
 use Rattle.register_core.specs.Row.{row_bit}
 use Rattle.register_core.specs.Word.{DigitsTellItems}
 use Rattle.ring_core.specs.Counts.{Count, IsCount, first_count}
@@ -34,13 +34,13 @@ one_lowest bits c d a b = go (dec_lt c d) (dec_lt d c)
 module _ (numbers : CountsShowNumbers) (tell : DigitsTellItems) (shape : Shape) (words others : List ℕ) (h : List Event) (a : ShowsWords shape words h) (b : ShowsWords shape others h) where
   count_told : (x : Side) → slice_index words (count_place x) ≡ slice_index others (count_place x)
   count_told x = one_lowest _ (slice_index words (count_place x)) (slice_index others (count_place x))
-      (count_shows numbers shape x (own x h) (slice_index words (count_place x)) (a.small x) (a.count x))
-      (count_shows numbers shape x (own x h) (slice_index others (count_place x)) (b.small x) (b.count x))
+      (count_shows numbers shape x (subhistory x h) (slice_index words (count_place x)) (a.small x) (a.count x))
+      (count_shows numbers shape x (subhistory x h) (slice_index others (count_place x)) (b.small x) (b.count x))
 
   cell_told : (j : ℕ) → j < capacity_of shape → slice_index words (cell_place j) ≡ slice_index others (cell_place j)
   cell_told j lt = tell (width_of shape) (slice_index words (cell_place j)) (slice_index others (cell_place j)) (a.fits j lt) (b.fits j lt)
-      (λ i small. sym (item_shows (width_of shape) j (own P h) (slice_index words (cell_place j)) (a.cell j lt) i small) ∙
-      item_shows (width_of shape) j (own P h) (slice_index others (cell_place j)) (b.cell j lt) i small)
+      (λ i small. sym (item_shows (width_of shape) j (subhistory P h) (slice_index words (cell_place j)) (a.cell j lt) i small) ∙
+      item_shows (width_of shape) j (subhistory P h) (slice_index others (cell_place j)) (b.cell j lt) i small)
 
 pub words-told : CountsShowNumbers → DigitsTellItems → WordsAreTold
 words-told numbers tell shape words others h a b zero lt = a.close ∙ sym b.close
@@ -85,18 +85,18 @@ from_none : (n m : ℕ) → n ≡ 0 + m → n ≡ m
 from_none n m e = omega (arith, e)
 
 -- a count whose bits the list left is the word that shows them
-shown_count : CountsShowNumbers → (shape : Shape) (words : List ℕ) (h : List Event) → ShowsWords shape words h → (x : Side) (c : Count) → IsCount shape c → RowIs x (value_left (own x h)) c.bits → slice_index words (count_place x) ≡ c.number % modulus_of shape
+shown_count : CountsShowNumbers → (shape : Shape) (words : List ℕ) (h : List Event) → ShowsWords shape words h → (x : Side) (c : Count) → IsCount shape c → RowIs x (value_left (subhistory x h)) c.bits → slice_index words (count_place x) ≡ c.number % modulus_of shape
 shown_count numbers shape words h shows x c is row =
-    one_lowest (λ i. value_left (own x h) (row_bit x i)) (slice_index words (count_place x)) (c.number % modulus_of shape)
-    (count_shows numbers shape x (own x h) (slice_index words (count_place x)) (shows.small x) (shows.count x))
+    one_lowest (λ i. value_left (subhistory x h) (row_bit x i)) (slice_index words (count_place x)) (c.number % modulus_of shape)
+    (count_shows numbers shape x (subhistory x h) (slice_index words (count_place x)) (shows.small x) (shows.count x))
     (record { set = row (c.number % modulus_of shape) ∙ is.set; clear = λ i lt. row i ∙ is.clear i lt })
 
 pub puts-shown : CountsShowNumbers → PutsAreShown
 puts-shown numbers shape words h calls shows has =
-    shown_count numbers shape words h shows P (count_of shape calls) (after_puts numbers shape calls.puts first_count (numbers shape).0) (putter_row shape (own P h) calls has) ∙
+    shown_count numbers shape words h shows P (count_of shape calls) (after_puts numbers shape calls.puts first_count (numbers shape).0) (putter_row shape (subhistory P h) calls has) ∙
     ap (λ (n : ℕ). n % modulus_of shape) (from_none (count_of shape calls).number (length (all_put calls.puts)) (stored_number shape calls.puts first_count))
 
 pub takes-shown : CountsShowNumbers → TakesAreShown
 takes-shown numbers shape words h calls shows has =
-    shown_count numbers shape words h shows C (takes.count_taken shape calls) (after_takes numbers shape calls.takes first_count (numbers shape).0) (taker_row shape (own C h) calls has) ∙
+    shown_count numbers shape words h shows C (takes.count_taken shape calls) (after_takes numbers shape calls.takes first_count (numbers shape).0) (taker_row shape (subhistory C h) calls has) ∙
     ap (λ (n : ℕ). n % modulus_of shape) (from_none (takes.count_taken shape calls).number (length (all_taken calls.takes)) (taken_number shape calls.takes first_count))

@@ -17,7 +17,7 @@ use Rattle.bits_core.specs.Bits.{other, writer, reader, same_side, same_bit, is_
 use Rattle.bits_core.specs.History.{before_last, open_access, open_write, held, is_overlapped}
 use Rattle.bits_core.specs.Lawful.{IsLawful}
 use Rattle.bits_core.specs.Steps.{MayFollow, IsAnswer}
-use Rattle.bits_core.specs.Made.{own}
+use Rattle.bits_core.specs.Made.{subhistory}
 use Rattle.ring_seats.specs.Words.{value_word, word_shown, shown, answer_of}
 use Rattle.ring_seats.specs.Rule.{event}
 use Rattle.ring_seats.specs.Below.{LawsBelow}
@@ -57,11 +57,11 @@ same_bit-same (Cell j i) = grind (arith, nat_tests)
 -- ---- what one event changes
 
 module _ (laws : LawsBelow) where
-  pub own-mine : (x : Side) (h : List Event) (e : Event) → is_by x e ≡ true → own x (h ++ e ∷ []) ≡ own x h ++ e ∷ []
-  own-mine x h e by = laws.own_changes x h e ∙ ap (λ t. if t then own x h ++ e ∷ [] else own x h) by
+  pub own-mine : (x : Side) (h : List Event) (e : Event) → is_by x e ≡ true → subhistory x (h ++ e ∷ []) ≡ subhistory x h ++ e ∷ []
+  own-mine x h e by = laws.subhistory_changes x h e ∙ ap (λ t. if t then subhistory x h ++ e ∷ [] else subhistory x h) by
 
-  pub own-theirs : (x : Side) (h : List Event) (e : Event) → is_by x e ≡ false → own x (h ++ e ∷ []) ≡ own x h
-  own-theirs x h e by = laws.own_changes x h e ∙ ap (λ t. if t then own x h ++ e ∷ [] else own x h) by
+  pub own-theirs : (x : Side) (h : List Event) (e : Event) → is_by x e ≡ false → subhistory x (h ++ e ∷ []) ≡ subhistory x h
+  own-theirs x h e by = laws.subhistory_changes x h e ∙ ap (λ t. if t then subhistory x h ++ e ∷ [] else subhistory x h) by
 
   pub open-mine : (x : Side) (h : List Event) (e : Event) → is_by x e ≡ true → open_access x (h ++ e ∷ []) ≡ begun_by e
   open-mine x h e by = laws.open_changes x h e ∙ ap (λ t. if t then begun_by e else open_access x h) by

@@ -12,7 +12,7 @@ use Rattle.bits_core.specs.declared.events.Bit.{Bit}
 use Rattle.bits_core.specs.declared.events.Act.{Act}
 use Rattle.bits_core.specs.declared.events.Event.{Event}
 use Rattle.bits_core.specs.Bits.{is_by}
-use Rattle.bits_core.specs.Made.{own, IsBeginning}
+use Rattle.bits_core.specs.Made.{subhistory, IsPrefix}
 use Rattle.ring_seats.specs.declared.views.View.{View}
 use Rattle.ring_seats.specs.Rule.{event, KeptBy, SeatKnows}
 use Rattle.ring_seats.specs.Meetings.{KnowsAll}
@@ -28,18 +28,18 @@ adds_none : (xs ys : List Event) → xs ++ ys ≡ xs → length ys ≡ 0
 adds_none xs ys e = ap length (append_cancel_left xs ys [] (e ∙ sym (append-nil xs)))
 
 -- events of neither side are none
-no_events : (l : List Event) → length (own P l) ≡ 0 → length (own C l) ≡ 0 → l ≡ []
+no_events : (l : List Event) → length (subhistory P l) ≡ 0 → length (subhistory C l) ≡ 0 → l ≡ []
 no_events [] p c = refl
 no_events (e ∷ l) p c = absurd (by e.side e.bit e.act p c)
   where
-    by : (x : Side) (b : Bit) (a : Act) → length (own P (event x b a ∷ l)) ≡ 0 → length (own C (event x b a ∷ l)) ≡ 0 → ⊥
+    by : (x : Side) (b : Bit) (a : Act) → length (subhistory P (event x b a ∷ l)) ≡ 0 → length (subhistory C (event x b a ∷ l)) ≡ 0 → ⊥
     by P b a p c = omega (arith, p)
     by C b a p c = omega (arith, c)
 
 -- a history that begins with another, and has the same two sides, is that one
-same_sides : (known h : List Event) → IsBeginning known h → own P h ≡ own P known → own C h ≡ own C known → h ≡ known
+same_sides : (known h : List Event) → IsPrefix known h → subhistory P h ≡ subhistory P known → subhistory C h ≡ subhistory C known → h ≡ known
 same_sides known h (rest, is) p c =
-    let adds : (x : Side) → own x h ≡ own x known → length (own x rest) ≡ 0 = λ x same. adds_none (own x known) (own x rest) (sym (filter-append (is_by x) known rest) ∙ (ap (own x) is ∙ same)) in
+    let adds : (x : Side) → subhistory x h ≡ subhistory x known → length (subhistory x rest) ≡ 0 = λ x same. adds_none (subhistory x known) (subhistory x rest) (sym (filter-append (is_by x) known rest) ∙ (ap (subhistory x) is ∙ same)) in
     sym is ∙ (ap (λ (l : List Event). known ++ l) (no_events rest (adds P p) (adds C c)) ∙ append-nil known)
 
 -- the words of the last state show what the seat knows
@@ -48,6 +48,6 @@ pub last_shows : (count : Shape → ℕ) (IsShown : Shape → List ℕ → List 
 last_shows count IsShown shape id v words slots knows (s, (k, at), words_are, _, _) =
     let p : SeatKnows k.history k.known k.owner id v P = k.seats id v at P knows.puts in
     let c : SeatKnows k.history k.known k.owner id v C = k.seats id v at C knows.takes in
-    let begins : IsBeginning v.known k.history = subst (λ (l : List Event). IsBeginning l k.history) (sym p.known_is) k.begins in
+    let begins : IsPrefix v.known k.history = subst (λ (l : List Event). IsPrefix l k.history) (sym p.known_is) k.begins in
     let same : k.history ≡ v.known = same_sides v.known k.history begins (sym p.list ∙ sym knows.put) (sym c.list ∙ sym knows.taken) in
     subst (λ (h : List Event). IsShown shape words h) same (subst (λ (l : List ℕ). IsShown shape l k.history) words_are k.shows)

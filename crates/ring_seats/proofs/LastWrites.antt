@@ -17,7 +17,7 @@ use Rattle.bits_core.specs.Shape.{modulus_of}
 use Rattle.bits_core.specs.Bits.{writer, same_bit, is_by, first_value, write_of, value_written}
 use Rattle.bits_core.specs.History.{open_access, open_write, held, writes_begun, last_value}
 use Rattle.bits_core.specs.Lawful.{IsLawful}
-use Rattle.bits_core.specs.Made.{Made, Read, Write, events_of, own}
+use Rattle.bits_core.specs.Made.{Made, Read, Write, events_of, subhistory}
 use Rattle.register_core.specs.Row.{RowWrite, row_bit, writes_in, bits_with, bits_after}
 use Rattle.register_core.specs.Unary.{unary_phrase}
 use Rattle.register_core.specs.Word.{digit, digit_writes, word_write}
@@ -94,7 +94,7 @@ left_first row list none i = ap (last_value (first_value (row i))) (none i)
 -- ---- what a bit holds while its writer has no access open
 
 abbrev Left : Bit → List Event → Type 0
-Left b h = unwrap_or (open_write b h) (held b h) ≡ value_left (own (writer b) h) b
+Left b h = unwrap_or (open_write b h) (held b h) ≡ value_left (subhistory (writer b) h) b
 
 after_one : (o : Option Bool) (u v : Bool) → u ≡ v → unwrap_or o u ≡ last_value v (cons_option o [])
 after_one None u v e = e
@@ -103,7 +103,7 @@ after_one (Some w) u v e = refl
 module _ (laws : LawsBelow) (shape : Shape) (b : Bit) where
   one_left : (h : List Event) (e : Event) → IsLawful shape h → Left b h → Left b (h ++ e ∷ [])
   one_left h e lawful is =
-      let list : List Event = own (writer b) h in
+      let list : List Event = subhistory (writer b) h in
       let so_far : Bool = unwrap_or (open_write b h) (held b h) in
       let mine : unwrap_or (write_of b e) so_far ≡ value_left (list ++ e ∷ []) b =
       after_one (write_of b e) so_far (value_left list b) is ∙
@@ -111,7 +111,7 @@ module _ (laws : LawsBelow) (shape : Shape) (b : Bit) where
       (λ i. unwrap_or (laws.write_changes b h e i) (laws.held_changes shape b h e lawful i)) ∙
       (elim (is_by (writer b) e) as (λ t.
       unwrap_or (if t then write_of b e else open_write b h) (if t then so_far else held b h) ≡ value_left (if t then list ++ e ∷ [] else list) b) [ true ↦ mine | false ↦ is ] ∙
-      ap (λ (l : List Event). value_left l b) (sym (laws.own_changes (writer b) h e)))
+      ap (λ (l : List Event). value_left l b) (sym (laws.subhistory_changes (writer b) h e)))
 
   all_left : (ys xs : List Event) → IsLawful shape (xs ++ ys) → Left b xs → Left b (xs ++ ys)
   all_left [] xs lawful is = subst (Left b) (sym (append-nil xs)) is
@@ -119,7 +119,7 @@ module _ (laws : LawsBelow) (shape : Shape) (b : Bit) where
       let same : (xs ++ e ∷ []) ++ ys ≡ xs ++ e ∷ ys = append_assoc xs (e ∷ []) ys in
       subst (Left b) same (all_left ys (xs ++ e ∷ []) (subst (IsLawful shape) (sym same) lawful) (one_left xs e (laws.beginning shape xs (e ∷ ys) lawful) is))
 
-  pub held_left : (h : List Event) → IsLawful shape h → open_access (writer b) h ≡ None → held b h ≡ value_left (own (writer b) h) b
+  pub held_left : (h : List Event) → IsLawful shape h → open_access (writer b) h ≡ None → held b h ≡ value_left (subhistory (writer b) h) b
   held_left h lawful idle = sym (ap (λ o. unwrap_or (value_written b o) (held b h)) idle) ∙ all_left h [] lawful refl
 
 -- ---- the bits of a row after writes to it

@@ -20,7 +20,7 @@ use Rattle.bits_core.specs.Bits.{other, writer, reader, same_side, same_bit, is_
 use Rattle.bits_core.specs.History.{open_access}
 use Rattle.bits_core.specs.Lawful.{IsLawful}
 use Rattle.bits_core.specs.Steps.{MayFollow}
-use Rattle.bits_core.specs.Made.{own, IsBeginning}
+use Rattle.bits_core.specs.Made.{subhistory, IsPrefix}
 use Rattle.ring_core.specs.Takes.{Takes, FollowsTakes}
 use Rattle.ring_seats.specs.declared.views.View.{View}
 use Rattle.ring_seats.specs.declared.layout.TheConstants.{FIRST_S}
@@ -43,12 +43,12 @@ not_by P = refl
 not_by C = refl
 
 -- a history whose sides follow their programs, and one event more of a side's program
-pub ring_more : LawsBelow → (shape : Shape) (x : Side) (h : List Event) (e : Event) → e.side ≡ x → IsRing shape h → MayFollow shape h e → Follows shape x (own x h ++ e ∷ []) → IsRing shape (h ++ e ∷ [])
+pub ring_more : LawsBelow → (shape : Shape) (x : Side) (h : List Event) (e : Event) → e.side ≡ x → IsRing shape h → MayFollow shape h e → Follows shape x (subhistory x h ++ e ∷ []) → IsRing shape (h ++ e ∷ [])
 ring_more laws shape P h e by r may f = record { puts = f.0; takes = r.takes; run = laws.put_more shape h e r.puts f.0 r.takes r.run by may f.1 f.2 }
 ring_more laws shape C h e by r may f = record { puts = r.puts; takes = f.0; run = laws.take_more shape h e r.puts r.takes f.0 r.run by may f.1 f.2 }
 
 -- each side of such a history follows its program
-pub ring_follows : (shape : Shape) (h : List Event) → IsRing shape h → (x : Side) → Follows shape x (own x h)
+pub ring_follows : (shape : Shape) (h : List Event) → IsRing shape h → (x : Side) → Follows shape x (subhistory x h)
 ring_follows shape h r P = (r.puts, r.run.puts_follow.are, r.run.puts_follow.events)
 ring_follows shape h r C = (r.takes, r.run.takes_follow.are, r.run.takes_follow.events)
 
@@ -160,13 +160,13 @@ module _ (laws : LawsBelow) (shape : Shape) where
       (either_side x y))
       (at_set views id seat w u at)
 
-  begins_more : (h known : List Event) (e : Event) → IsBeginning known h → IsBeginning known (h ++ e ∷ [])
+  begins_more : (h known : List Event) (e : Event) → IsPrefix known h → IsPrefix known (h ++ e ∷ [])
   begins_more h known e s = (s.0 ++ e ∷ [], sym (append_assoc known s.0 (e ∷ [])) ∙ ap (λ (l : List Event). l ++ e ∷ []) s.1)
 
   -- a step of one end, at one bit
   pub moves : (x : Side) (b : Bit) (act : ℕ → Act) (f got : ℕ → ℕ) (slots id : ℕ) (me : Me (Unit {0}) View)
       → may_step x me.0 ≡ true → may_step (other x) me.0 ≡ false → belongs shape b ≡ true
-      → ((h : List Event) (n : ℕ) → IsRing shape h → list_of x me.0 ≡ own x h → FirstLoad x h me.0.first → n ≡ shown b h → IsGood shape x b (list_of x me.0) h (f n) (got n) (act (got n)))
+      → ((h : List Event) (n : ℕ) → IsRing shape h → list_of x me.0 ≡ subhistory x h → FirstLoad x h me.0.first → n ≡ shown b h → IsGood shape x b (list_of x me.0) h (f n) (got n) (act (got n)))
       → Allows (KeepsFlickerRule shape) slots id me (word_place shape b) f (λ n m'. Added shape (λ k. event x b (act k)) me (got n) m')
   moves x b act f got slots id me mine not_theirs has good s k homes at small =
       let h : List Event = k.history in
@@ -178,7 +178,7 @@ module _ (laws : LawsBelow) (shape : Shape) where
       let g : IsGood shape x b (list_of x me.0) h (f n) (got n) a = good h n k.ring fits.list fits.load (k.shows b has) in
       let lawful : IsLawful shape h = k.ring.run.lawful in
       let ring : IsRing shape (h ++ e ∷ []) = ring_more laws shape x h e refl k.ring g.may (subst (λ (l : List Event). Follows shape x (l ++ e ∷ [])) fits.list g.follow) in
-      let begins : IsBeginning k.known (h ++ e ∷ []) = begins_more h k.known e k.begins in (
+      let begins : IsPrefix k.known (h ++ e ∷ []) = begins_more h k.known e k.begins in (
         w,
         keeps,
         tt,
@@ -200,14 +200,14 @@ module _ (laws : LawsBelow) (shape : Shape) where
             history = h ++ e ∷ [];
             ring = ring;
             list_is = own-mine laws x h e (same_side-same x) ∙ (ap (λ (l : List Event). l ++ e ∷ []) (sym fits.list) ∙ sym (list_of-mine x e (got n) me.0));
-            begins = subst (λ (l : List Event). IsBeginning l (h ++ e ∷ [])) (sym fits.known_is) begins;
+            begins = subst (λ (l : List Event). IsPrefix l (h ++ e ∷ [])) (sym fits.known_is) begins;
           };
         },
       )
 
   -- the four kinds of step of an end
 
-  open_there : (x : Side) (o : Rattle.std.specs.Prelude.Option Access) (list h : List Event) → list ≡ own x h → open_access x list ≡ o → open_access x h ≡ o
+  open_there : (x : Side) (o : Rattle.std.specs.Prelude.Option Access) (list h : List Event) → list ≡ subhistory x h → open_access x list ≡ o → open_access x h ≡ o
   open_there x o list h is at = laws.from_own x h ∙ (ap (open_access x) (sym is) ∙ at)
 
   module _ (x : Side) (b : Bit) (slots id : ℕ) (me : Me (Unit {0}) View) (mine : may_step x me.0 ≡ true) (not_theirs : may_step (other x) me.0 ≡ false) (has : belongs shape b ≡ true) where
@@ -454,8 +454,8 @@ module _ (laws : LawsBelow) (shape : Shape) where
             ring = k.ring;
             put = sym putter.list;
             taken = sym taker.list;
-            known = subst (λ (l : List Event). IsBeginning l h) (sym putter.known_is) k.begins;
-            known_by_taker = subst (λ (l : List Event). IsBeginning l h) (sym taker.known_by_taker_is) k.begins;
+            known = subst (λ (l : List Event). IsPrefix l h) (sym putter.known_is) k.begins;
+            known_by_taker = subst (λ (l : List Event). IsPrefix l h) (sym taker.known_by_taker_is) k.begins;
           };
         },
       )

@@ -1,5 +1,5 @@
 -- The laws on which the steps of a ring, each of which keeps the rule, and the calls of its ends rest.
-use Rattle.bits_core.specs.Laws.{BeforeLastChanges, BeginningIsLawful, EmptyIsLawful, HeldChanges, LawfulByOneMore, MadeLeaveNoneOpen, OpenChanges, OpenFromOwn, OpenWriteChanges, OwnChanges, QuietIsHeld}
+use Rattle.bits_core.specs.Laws.{BeforeLastChanges, BeginningIsLawful, EmptyIsLawful, HeldChanges, LawfulByOneMore, MadeLeaveNoneOpen, OpenChanges, OpenFromOwn, OpenWriteChanges, SubhistoryChanges, QuietIsHeld}
 use Rattle.ring_core.specs.CountWrites.{CountsShowNumbers}
 use Rattle.ring_core.specs.OneCallMore.{ClosesByOneMore, EndsByOneMore, PutsByOneMore, TakesByOneMore}
 use Rattle.ring_core.specs.OneWordMore.{ItemsFitByOneMore, WordsByOneMore, WordsGoOn}
@@ -13,7 +13,7 @@ pub record LawsBelow : Type 0 where
   pub open_changes : OpenChanges
   pub write_changes : OpenWriteChanges
   pub held_changes : HeldChanges
-  pub own_changes : OwnChanges
+  pub subhistory_changes : SubhistoryChanges
   pub before_changes : BeforeLastChanges
   pub from_own : OpenFromOwn
   pub made_idle : MadeLeaveNoneOpen

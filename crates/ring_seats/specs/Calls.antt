@@ -4,8 +4,8 @@ use Rattle.bits_core.specs.declared.shapes.Shape.{Shape}
 use Rattle.bits_core.specs.declared.events.Side.TheVariants.{P, C}
 use Rattle.bits_core.specs.declared.events.Event.{Event}
 use Rattle.bits_core.specs.Made.{events_of}
-use Rattle.ring_core.specs.declared.consumers.TakeReply.{TakeReply}
-use Rattle.ring_core.specs.declared.consumers.TakeReply.TheVariants.{Item, Empty, Closed}
+use Rattle.ring_core.specs.declared.replies.TakeReply.{TakeReply}
+use Rattle.ring_core.specs.declared.replies.TakeReply.TheVariants.{Item, Empty, Closed}
 use Rattle.ring_core.specs.Puts.{Puts, put_program, ArePuts}
 use Rattle.ring_core.specs.Takes.{Takes, take_program, AreTakes}
 use Rattle.ring_core.specs.ConsumerCalls.{reply_at_end}

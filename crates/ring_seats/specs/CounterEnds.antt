@@ -6,9 +6,9 @@ use Rattle.bits_core.specs.Made.{events_of}
 use Rattle.ring_core.specs.Puts as puts
 use Rattle.ring_core.specs.Puts.{Put, Puts}
 use Rattle.ring_core.specs.ProducerCalls.{count_of, and_put, IsPutOf}
-use Rattle.ring_core.specs.declared.consumers.TakeReply as take_replies
-use Rattle.ring_core.specs.declared.consumers.TakeBatchReply as batch_replies
-use Rattle.ring_core.specs.declared.consumers.TakeBatchReply.TheVariants as batch_replied
+use Rattle.ring_core.specs.declared.replies.TakeReply as take_replies
+use Rattle.ring_core.specs.declared.replies.TakeBatchReply as batch_replies
+use Rattle.ring_core.specs.declared.replies.TakeBatchReply.TheVariants as batch_replied
 use Rattle.ring_core.specs.Takes.{Takes, Open}
 use Rattle.ring_core.specs.ConsumerCalls as takes
 use Rattle.ring_core.specs.ConsumerCalls.{Finding, finding_phrase, Finds, HasTakeMore, take_batch_reply, ends_closed, items_at_end, reply_items}

@@ -10,7 +10,7 @@ use Rattle.bits_core.specs.declared.events.Event.{Event}
 use Rattle.bits_core.specs.Shape.{capacity_of, modulus_of, width_of}
 use Rattle.bits_core.specs.Bits.{other, first_value, same_side}
 use Rattle.bits_core.specs.History.{open_access, held, writes_begun, last_value}
-use Rattle.bits_core.specs.Made.{Made, events_of, own}
+use Rattle.bits_core.specs.Made.{Made, events_of, subhistory}
 use Rattle.register_core.specs.Row.{row_bit, writes_in}
 use Rattle.register_core.specs.Unary.{unary_phrase}
 use Rattle.register_core.specs.Word.{word_write}
@@ -75,9 +75,9 @@ IsLastItem width j list item = AreLast P (Cell j) (λ before. word_write width j
 -- bit holds.
 pub record ShowsWords (shape : Shape) (words : List ℕ) (h : List Event) : Type 0 where
   pub idle : (x : Side) → open_access x h ≡ None
-  pub count : (x : Side) → IsLastCount x (own x h) (slice_index words (count_place x))
+  pub count : (x : Side) → IsLastCount x (subhistory x h) (slice_index words (count_place x))
   pub small : (x : Side) → slice_index words (count_place x) < modulus_of shape
-  pub cell : (j : ℕ) → j < capacity_of shape → IsLastItem (width_of shape) j (own P h) (slice_index words (cell_place j))
+  pub cell : (j : ℕ) → j < capacity_of shape → IsLastItem (width_of shape) j (subhistory P h) (slice_index words (cell_place j))
   pub fits : (j : ℕ) → j < capacity_of shape → slice_index words (cell_place j) < 2 ^ width_of shape
   pub close : slice_index words 0 ≡ bits.value_word (held X h)
 

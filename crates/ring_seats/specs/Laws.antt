@@ -4,7 +4,7 @@ use Rattle.bits_core.specs.declared.shapes.Shape.{Shape}
 use Rattle.bits_core.specs.declared.events.Side.TheVariants.{P, C}
 use Rattle.bits_core.specs.declared.events.Event.{Event}
 use Rattle.bits_core.specs.Shape.{modulus_of}
-use Rattle.bits_core.specs.Made.{own}
+use Rattle.bits_core.specs.Made.{subhistory}
 use Rattle.ring_core.specs.Puts.{Puts}
 use Rattle.ring_core.specs.Takes.{Takes}
 use Rattle.ring_core.specs.Items.{all_put, all_taken}
@@ -26,10 +26,10 @@ WordsAreTold =
 -- where a side's events are those of whole calls, the word of its count is how many items these put, or took, modulo the modulus
 abbrev pub PutsAreShown : Type 0
 PutsAreShown =
-    (shape : Shape) (words : List ℕ) (h : List Event) (calls : Puts) → ShowsWords shape words h → HasPuts shape (own P h) calls →
+    (shape : Shape) (words : List ℕ) (h : List Event) (calls : Puts) → ShowsWords shape words h → HasPuts shape (subhistory P h) calls →
     slice_index words (count_place P) ≡ length (all_put calls.puts) % modulus_of shape
 
 abbrev pub TakesAreShown : Type 0
 TakesAreShown =
-    (shape : Shape) (words : List ℕ) (h : List Event) (calls : Takes) → ShowsWords shape words h → HasTakes shape (own C h) calls →
+    (shape : Shape) (words : List ℕ) (h : List Event) (calls : Takes) → ShowsWords shape words h → HasTakes shape (subhistory C h) calls →
     slice_index words (count_place C) ≡ length (all_taken calls.takes) % modulus_of shape

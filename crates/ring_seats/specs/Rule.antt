@@ -13,7 +13,7 @@ use Rattle.bits_core.specs.declared.events.Event.{Event}
 use Rattle.bits_core.specs.declared.events.Access.TheVariants.{Read}
 use Rattle.bits_core.specs.Bits.{same_side}
 use Rattle.bits_core.specs.History.{open_access, before_last}
-use Rattle.bits_core.specs.Made.{own, IsBeginning}
+use Rattle.bits_core.specs.Made.{subhistory, IsPrefix}
 use Rattle.ring_seats.specs.declared.views.Loads.{Loads}
 use Rattle.ring_seats.specs.declared.views.View.{View}
 use Rattle.ring_seats.specs.Words.{shown, word_count, Shows}
@@ -79,7 +79,7 @@ FirstLoad x h load = (b : Bit) → open_access x h ≡ Some (Read b) → load �
 -- the one seat that may step for the side has its list, what is known, and the first load of its open read
 pub record SeatKnows (h known : List Event) (owner : Side → ℕ) (seat : ℕ) (v : View) (x : Side) : Type 0 where
   pub at : seat ≡ owner x
-  pub list : list_of x v ≡ own x h
+  pub list : list_of x v ≡ subhistory x h
   pub known_is : v.known ≡ known
   pub known_by_taker_is : v.known_by_taker ≡ known
   pub load : FirstLoad x h v.first
@@ -102,7 +102,7 @@ pub record KeptBy (count : Shape → ℕ) (IsShown : Shape → List ℕ → List
   pub ring : IsRing shape history
   pub wide : length s.words ≡ count shape
   pub shows : IsShown shape s.words history
-  pub begins : IsBeginning known history
+  pub begins : IsPrefix known history
   pub each : HasSeats owner s.views
   pub seats : SeatsKnow history known owner s.views
 
@@ -124,8 +124,8 @@ IsIdle x list = open_access x list ≡ None
 pub record Stands (shape : Shape) (x : Side) (list known : List Event) : Type 0 where
   pub history : List Event
   pub ring : IsRing shape history
-  pub list_is : own x history ≡ list
-  pub begins : IsBeginning known history
+  pub list_is : subhistory x history ≡ list
+  pub begins : IsPrefix known history
 
 pub record Added (shape : Shape) (e : ℕ → Event) (m : Me (Unit {0}) View) (found : ℕ) (m' : Me (Unit {0}) View) : Type 0 where
   pub view : m'.0 ≡ and_event ((e found).side) (e found) found m.0
@@ -135,10 +135,10 @@ pub record Added (shape : Shape) (e : ℕ → Event) (m : Me (Unit {0}) View) (f
 -- the history is lawful, its sides are the lists and follow their programs, and it begins with what both sides knew
 pub record Holds (shape : Shape) (h : List Event) (v : View) : Type 0 where
   pub ring : IsRing shape h
-  pub put : own P h ≡ v.put
-  pub taken : own C h ≡ v.taken
-  pub known : IsBeginning v.known h
-  pub known_by_taker : IsBeginning v.known_by_taker h
+  pub put : subhistory P h ≡ v.put
+  pub taken : subhistory C h ≡ v.taken
+  pub known : IsPrefix v.known h
+  pub known_by_taker : IsPrefix v.known_by_taker h
 
 pub record Learned (shape : Shape) (m m' : Me (Unit {0}) View) : Type 0 where
   pub view : m'.0 ≡ joint m.0.put m.0.taken m'.0.known m'.0.known

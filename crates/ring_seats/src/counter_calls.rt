@@ -2,7 +2,7 @@
 ghost use Rattle.std.specs.Prelude.{◌≡◌, ◌⊎◌, ℕ, ◌<◌, ◌≤◌, true, false, Some, [], ◌∷◌, length, drop};
 ghost use Rattle.bits_core.specs.Shape.{modulus_of, take_batch_of};
 ghost use Rattle.bits_core.specs.declared.events.Side.TheVariants.{P};
-ghost use Rattle.ring_core.specs.declared.consumers.TakeReply.TheVariants.{Item};
+ghost use Rattle.ring_core.specs.declared.replies.TakeReply.TheVariants.{Item};
 ghost use Rattle.ring_core.specs.Puts.{Puts, IsBatch};
 ghost use Rattle.ring_core.specs.Takes.{Takes, Open};
 ghost use Rattle.ring_core.specs.ProducerCalls.{and_close, room_in};
@@ -47,7 +47,8 @@ pub fn put_open<'a>(
 ) -> usize
     requires at { (calls : Puts) × PutterList stepper.old count.old cell.old calls × (calls.closes ≡ false) }
     requires batch { IsBatch stepper.old.ring.shape items.now }
-    ensures { (calls : Puts) → PutterList stepper.old count.old cell.old calls → calls.closes ≡ false → PutKept stepper.old stepper.new count.new cell.new calls items.now result }
+    ensures { (calls : Puts) → PutterList stepper.old count.old cell.old calls → calls.closes ≡ false →
+        PutKept stepper.old stepper.new count.new cell.new calls items.now result }
 {
     laws_below();
     let shape = stepper.ring.shape();
@@ -65,10 +66,12 @@ pub fn put_open<'a>(
 
 /// A close of a ring that is not closed: one store. For example, a putter of a counter ring closes so.
 pub fn close_open<'a>(stepper: &mut Stepper<'a, Counting>)
-    requires at { (calls : Puts) × (stepper.old.side ≡ P) × HasPuts stepper.old.ring.shape stepper.old.list calls × (calls.closes ≡ false) }
+    requires at { (calls : Puts) × (stepper.old.side ≡ P) × HasPuts stepper.old.ring.shape stepper.old.list calls ×
+        (calls.closes ≡ false) }
     ensures same { IsSameEnd stepper.old stepper.new }
     ensures stands { StandsAs P stepper.new }
-    ensures has { (calls : Puts) → HasPuts stepper.old.ring.shape stepper.old.list calls → calls.closes ≡ false → HasPuts stepper.new.ring.shape stepper.new.list (and_close calls) }
+    ensures has { (calls : Puts) → HasPuts stepper.old.ring.shape stepper.old.list calls → calls.closes ≡ false →
+        HasPuts stepper.new.ring.shape stepper.new.list (and_close calls) }
 {
     laws_below();
     stepper.write_close();
@@ -88,7 +91,8 @@ enum Scanned {
 fn look<'a>(stepper: &mut Stepper<'a, Counting>, count: u64, cell: u64, wanted: usize) -> Scanned
     requires at { (calls : Takes) × TakerList stepper.old count cell calls × (calls.end ≡ Open) }
     requires some { 1 ≤ wanted }
-    ensures { (calls : Takes) → TakerList stepper.old count cell calls → calls.end ≡ Open → LookMade stepper.old stepper.new calls wanted result }
+    ensures { (calls : Takes) → TakerList stepper.old count cell calls → calls.end ≡ Open →
+        LookMade stepper.old stepper.new calls wanted result }
 {
     laws_below();
     let shape = stepper.ring.shape();
@@ -109,7 +113,8 @@ fn look<'a>(stepper: &mut Stepper<'a, Counting>, count: u64, cell: u64, wanted: 
 // Behind the scans of a take of one that found an item: one load of its cell, and one store of the count.
 fn fetch<'a>(stepper: &mut Stepper<'a, Counting>, count: &mut u64, cell: &mut u64) -> u64
     requires at { (before : RingEnd) × (calls : Takes) × HasLooked before stepper.old count.old cell.old calls 1 1 }
-    ensures { (before : RingEnd) (calls : Takes) → HasLooked before stepper.old count.old cell.old calls 1 1 → TakeKept before stepper.new count.new cell.new calls 1 (Item result) (result ∷ []) }
+    ensures { (before : RingEnd) (calls : Takes) → HasLooked before stepper.old count.old cell.old calls 1 1 →
+        TakeKept before stepper.new count.new cell.new calls 1 (Item result) (result ∷ []) }
 {
     laws_below();
     let shape = stepper.ring.shape();
@@ -130,7 +135,8 @@ pub fn take_open<'a>(
     cell: &mut u64,
 ) -> TakeReply
     requires at { (calls : Takes) × TakerList stepper.old count.old cell.old calls × (calls.end ≡ Open) }
-    ensures { (calls : Takes) → TakerList stepper.old count.old cell.old calls → calls.end ≡ Open → TakeKept stepper.old stepper.new count.new cell.new calls 1 result (reply_items result) }
+    ensures { (calls : Takes) → TakerList stepper.old count.old cell.old calls → calls.end ≡ Open →
+        TakeKept stepper.old stepper.new count.new cell.new calls 1 result (reply_items result) }
 {
     match look(stepper, *count, *cell, 1) {
         Scanned::Over(reply) => reply,
@@ -146,9 +152,12 @@ fn fetch_all<'a>(
     cell: &mut u64,
     into: &mut [u64],
 )
-    requires at { (before : RingEnd) × (calls : Takes) × (wanted : ℕ) × HasLooked before stepper.old count.old cell.old calls wanted (length into.old) }
+    requires at { (before : RingEnd) × (calls : Takes) × (wanted : ℕ) ×
+        HasLooked before stepper.old count.old cell.old calls wanted (length into.old) }
     ensures long { length into.new ≡ length into.old }
-    ensures kept { (before : RingEnd) (calls : Takes) (wanted : ℕ) → HasLooked before stepper.old count.old cell.old calls wanted (length into.old) → TakeKept before stepper.new count.new cell.new calls wanted (items_reply into.new) into.new }
+    ensures kept { (before : RingEnd) (calls : Takes) (wanted : ℕ) →
+        HasLooked before stepper.old count.old cell.old calls wanted (length into.old) →
+        TakeKept before stepper.new count.new cell.new calls wanted (items_reply into.new) into.new }
 {
     laws_below();
     let shape = stepper.ring.shape();
@@ -187,7 +196,8 @@ pub fn take_all_open<'a>(
     requires few { length into.old ≤ take_batch_of stepper.old.ring.shape }
     ensures long { length into.new ≡ length into.old }
     ensures others { drop (number_brought result) into.new ≡ drop (number_brought result) into.old }
-    ensures taken { (calls : Takes) → TakerList stepper.old count.old cell.old calls → calls.end ≡ Open → TakeAllKept stepper.old stepper.new count.new cell.new calls (length into.old) result into.new }
+    ensures taken { (calls : Takes) → TakerList stepper.old count.old cell.old calls → calls.end ≡ Open →
+        TakeAllKept stepper.old stepper.new count.new cell.new calls (length into.old) result into.new }
 {
     match look(stepper, *count, *cell, into.len()) {
         Scanned::Over(reply) => of_none(reply),

@@ -21,7 +21,9 @@ use std::marker::Brand;
 impl<'a> Stepper<'a, Counting> {
     // One load: a whole scan of the other side's count.
     pub(crate) fn scan(&mut self) -> u64
-        requires program { (c : ℕ) → c < modulus_of self.old.ring.shape → Follows self.old.ring.shape self.old.side (self.old.list ++ events_of self.old.side (scan_phrase (row_read_by self.old.side) c)) }
+        requires program { (c : ℕ) → c < modulus_of self.old.ring.shape →
+            Follows self.old.ring.shape self.old.side (self.old.list ++ events_of self.old.side
+            (scan_phrase (row_read_by self.old.side) c)) }
         ensures grows { GrowsBy self.old self.new (scan_phrase (row_read_by self.old.side) result) }
         ensures below { result < modulus_of self.old.ring.shape }
     {
@@ -34,7 +36,8 @@ impl<'a> Stepper<'a, Counting> {
     // One store: a whole unary write of the side's own count.
     pub(crate) fn write_count(&mut self, new: u64)
         requires below { new < modulus_of self.old.ring.shape }
-        requires program { Follows self.old.ring.shape self.old.side (self.old.list ++ events_of self.old.side (unary_over self.old.side self.old.list new)) }
+        requires program { Follows self.old.ring.shape self.old.side
+            (self.old.list ++ events_of self.old.side (unary_over self.old.side self.old.list new)) }
         ensures { GrowsBy self.old self.new (unary_over self.old.side self.old.list new) }
     {
         laws_below();
@@ -47,7 +50,8 @@ impl<'a> Stepper<'a, Counting> {
     pub(crate) fn write_cell(&mut self, cell: u64, item: u64)
         requires side { self.old.side ≡ P }
         requires below { (cell < capacity_of self.old.ring.shape) × (item < 2 ^ width_of self.old.ring.shape) }
-        requires program { Follows self.old.ring.shape P (self.old.list ++ events_of P (word_write (width_of self.old.ring.shape) cell item)) }
+        requires program { Follows self.old.ring.shape P (self.old.list ++ events_of P
+            (word_write (width_of self.old.ring.shape) cell item)) }
         ensures { GrowsBy self.old self.new (word_write (width_of self.old.ring.shape) cell item) }
     {
         laws_below();
@@ -61,7 +65,8 @@ impl<'a> Stepper<'a, Counting> {
         requires stands { StandsAs P self.old × (self.old.side ≡ P) }
         requires below { cell < capacity_of self.old.ring.shape }
         requires fit { AllFit self.old.ring.shape items.now }
-        requires program { Follows self.old.ring.shape P (self.old.list ++ events_of P (words_phrase self.old.ring.shape cell items.now)) }
+        requires program { Follows self.old.ring.shape P (self.old.list ++ events_of P
+            (words_phrase self.old.ring.shape cell items.now)) }
         ensures { GrowsBy self.old self.new (words_phrase self.old.ring.shape cell items.now) }
     {
         let capacity = self.ring.shape().capacity();
@@ -88,7 +93,9 @@ impl<'a> Stepper<'a, Counting> {
     pub(crate) fn read_cell(&mut self, cell: u64) -> u64
         requires side { self.old.side ≡ C }
         requires below { cell < capacity_of self.old.ring.shape }
-        requires program { (item : ℕ) → item < 2 ^ width_of self.old.ring.shape → Follows self.old.ring.shape C (self.old.list ++ events_of C (word_read (width_of self.old.ring.shape) cell item)) }
+        requires program { (item : ℕ) → item < 2 ^ width_of self.old.ring.shape →
+            Follows self.old.ring.shape C (self.old.list ++ events_of C
+            (word_read (width_of self.old.ring.shape) cell item)) }
         ensures grows { GrowsBy self.old self.new (word_read (width_of self.old.ring.shape) cell result) }
         ensures fits { result < 2 ^ width_of self.old.ring.shape }
     {
@@ -101,7 +108,8 @@ impl<'a> Stepper<'a, Counting> {
     pub(crate) fn read_items(&mut self, cell: u64, into: &mut [u64])
         requires stands { StandsAs C self.old × (self.old.side ≡ C) }
         requires below { cell < capacity_of self.old.ring.shape }
-        requires program { (items : List ℕ) → length items ≡ length into.old → AllFit self.old.ring.shape items → Follows self.old.ring.shape C (self.old.list ++ events_of C (words_read self.old.ring.shape cell items)) }
+        requires program { (items : List ℕ) → length items ≡ length into.old → AllFit self.old.ring.shape items →
+            Follows self.old.ring.shape C (self.old.list ++ events_of C (words_read self.old.ring.shape cell items)) }
         ensures long { length into.new ≡ length into.old }
         ensures fit { AllFit self.old.ring.shape into.new }
         ensures grows { GrowsBy self.old self.new (words_read self.old.ring.shape cell into.new) }

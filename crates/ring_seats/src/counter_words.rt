@@ -3,7 +3,7 @@ ghost use Rattle.std.specs.Prelude.{◌<◌};
 ghost use Rattle.ring_seats.specs.Counters.{KeptWords, words_of};
 ghost use Rattle.ring_seats.specs.Rule.{IsWordFound};
 
-use crate::views::{Keeping, Kind, RuleOf};
+use crate::views::{Keeping, RuleOf, WordKind};
 use crate::words::Words;
 
 /// The kind of a counter ring: no access is open between two steps; the word of a counter is the value of its side's last
@@ -18,7 +18,7 @@ pub struct Counting;
 /// For example, the tests of `test_run` load words between two calls, and find of them what this says.
 pub type CounterRule = RuleOf<Counting>;
 
-impl Kind for Counting {
+impl WordKind for Counting {
     ghost use Rattle.ring_seats.specs.Counters.{words_of, ShowsWords};
 
     ghost count = { words_of };

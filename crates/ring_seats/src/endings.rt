@@ -2,7 +2,7 @@
 ghost use Rattle.std.specs.Prelude.{◌≡◌, ◌<◌, length, slice_index};
 ghost use Rattle.ring_seats.specs.Meetings.{KnowsAll};
 
-use crate::views::{Kind, RuleOf, View};
+use crate::views::{RuleOf, View, WordKind};
 use atomic_table::{Closed, Seat, Table};
 use bits_core::Shape;
 use std::alloc::Allocator;
@@ -34,7 +34,7 @@ impl<A: Allocator> LastWords<A> {
         self.closed.words.len()
     }
 
-    /// The word at a place, which is below their number. What lies where, the kind of ring says ([`Kind`]).
+    /// The word at a place, which is below their number. What lies where, the kind of ring says ([`WordKind`]).
     pub fn word(&self, place: usize) -> u64
         requires { place < length self.now }
         ensures { result ≡ slice_index self.now place }
@@ -53,7 +53,7 @@ impl<A: Allocator> Drop for LastWords<A> {
 /// The words of a table as they stand, where the seat may step for both sides and knows the whole history: they show that
 /// history. The table is gone, and the seat with it. It makes no access and takes no memory.
 /// For example, a ring whose run is over is closed so.
-pub fn close_table<K: Kind, A: Allocator>(
+pub fn close_table<K: WordKind, A: Allocator>(
     table: Table<(), View, Shape, RuleOf<K>, A>,
     seat: Seat<(), View>,
 ) -> LastWords<A>

@@ -4,8 +4,8 @@ ghost use Rattle.ring_seats.specs.Laws.{AnswersAdd, PutsAreShown, TakesAreShown,
 
 use bits_core::laws::{
     before_last_changes, beginning_is_lawful, empty_is_lawful, held_changes, lawful_by_one_more,
-    made_leave_none_open, open_changes, open_from_own, open_write_changes, own_changes,
-    quiet_is_held,
+    made_leave_none_open, open_changes, open_from_own, open_write_changes, quiet_is_held,
+    subhistory_changes,
 };
 use register_core::laws::digits_tell_items;
 use ring_core::laws::{
@@ -44,7 +44,7 @@ pub fn laws_below()
     open_changes();
     open_write_changes();
     held_changes();
-    own_changes();
+    subhistory_changes();
     before_last_changes();
     open_from_own();
     made_leave_none_open();

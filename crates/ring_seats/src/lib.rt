@@ -21,5 +21,5 @@ pub use endings::{LastWords, close_table};
 pub use meetings::{first_steppers, join_steppers, meet_steppers};
 pub use steppers::Stepper;
 pub use tables::{NewTable, counter_table, flicker_table};
-pub use views::{FlickerRule, Flickering, Keeping, Kind, Loads, RuleOf, View};
+pub use views::{FlickerRule, Flickering, Keeping, Loads, RuleOf, View, WordKind};
 pub use words::Words;

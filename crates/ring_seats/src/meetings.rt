@@ -36,7 +36,13 @@ fn stepper<'a, K: Keeping>(ring: Words<'a, K>, seat: Seat<(), View>, side: Side)
     requires own { (seat.table_id ≡ ring.id) × (seat.me.1 ≡ []) }
     requires side { (may_step side seat.me.0 ≡ true) × (may_step (other side) seat.me.0 ≡ false) }
     requires idle { IsIdle side (list_of side seat.me.0) × (seat.me.0.first ≡ 0) }
-    ensures { result ≡ record { ring = ring.entry; side = side; list = list_of side seat.me.0; known = seat.me.0.known; loads = seat.me.0.loads } }
+    ensures { result ≡ record {
+      ring = ring.entry;
+      side = side;
+      list = list_of side seat.me.0;
+      known = seat.me.0.known;
+      loads = seat.me.0.loads;
+    } }
 {
     Stepper {
         ring,

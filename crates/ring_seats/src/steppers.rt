@@ -36,9 +36,16 @@ impl<'a, K: Keeping> Model for Stepper<'a, K> {
 
     ghost Value = { RingEnd };
 
-    ghost view = { λ h. record { ring = h.ring; side = h.side; list = list_of h.side h.seat.me.0; known = h.seat.me.0.known; loads = h.seat.me.0.loads } };
+    ghost view = { λ h. record {
+      ring = h.ring;
+      side = h.side;
+      list = list_of h.side h.seat.me.0;
+      known = h.seat.me.0.known;
+      loads = h.seat.me.0.loads;
+    } };
 
-    ghost invariant = { λ h. (h.seat.table_id ≡ h.ring.id) × (h.seat.me.1 ≡ []) × (may_step h.side h.seat.me.0 ≡ true) × (may_step (other h.side) h.seat.me.0 ≡ false) × K.keeps h.kept h.side h.seat.me.0 };
+    ghost invariant = { λ h. (h.seat.table_id ≡ h.ring.id) × (h.seat.me.1 ≡ []) × (may_step h.side h.seat.me.0 ≡ true) ×
+        (may_step (other h.side) h.seat.me.0 ≡ false) × K.keeps h.kept h.side h.seat.me.0 };
 }
 
 impl<'a, K: Keeping> Stepper<'a, K> {
@@ -63,7 +70,8 @@ impl<'a> Stepper<'a, Flickering> {
     fn begin(&mut self, access: Access)
         requires right { IsOpenRight self.old.ring.shape self.old.side access }
         requires idle { IsIdle self.old.side self.old.list }
-        requires program { Follows self.old.ring.shape self.old.side (self.old.list ++ begin_of self.old.side access ∷ []) }
+        requires program { Follows self.old.ring.shape self.old.side
+            (self.old.list ++ begin_of self.old.side access ∷ []) }
         ensures grows { Grows self.old self.new (begin_of self.old.side access) }
         ensures quiet { (said : ℕ → Bool) → AreAnswered self.old self.new said said }
     {

@@ -22,7 +22,9 @@ pub type NewTable<K, A> = Result<
 /// for 16 words behind the close bit, each count and each cell, which keep these apart. An error is answered only where the
 /// allocator refused that. For example, a new `FlickerRing` is this table.
 pub fn flicker_table<A: Allocator + Copy>(alloc: A, shape: Shape) -> NewTable<Flickering, A>
-    ensures { IfOk result (λ t. (t.0.shared.key ≡ shape) × (t.0.shared.table_id.words ≡ count_of_words shape) × (t.0.shared.table_id.slots ≡ 0) × (0 < count_of_words shape) × (t.1.table_id ≡ t.0.shared.table_id) × (t.1.me ≡ (joint [] [] [] [], []))) }
+    ensures { IfOk result (λ t. (t.0.shared.key ≡ shape) × (t.0.shared.table_id.words ≡ count_of_words shape) ×
+        (t.0.shared.table_id.slots ≡ 0) × (0 < count_of_words shape) × (t.1.table_id ≡ t.0.shared.table_id) ×
+        (t.1.me ≡ (joint [] [] [] [], []))) }
 {
     laws_below();
     let words = starting_words(alloc, shape)?;
@@ -32,7 +34,9 @@ pub fn flicker_table<A: Allocator + Copy>(alloc: A, shape: Shape) -> NewTable<Fl
 /// The table of a counter ring's words, and its one seat, with nothing put. It takes memory for one word for each cell and three
 /// more. An error is answered only where the allocator refused that. For example, a new `CounterRing` is this table.
 pub fn counter_table<A: Allocator + Copy>(alloc: A, shape: Shape) -> NewTable<Counting, A>
-    ensures { IfOk result (λ t. (t.0.shared.key ≡ shape) × (t.0.shared.table_id.words ≡ words_of shape) × (t.0.shared.table_id.slots ≡ 0) × (0 < words_of shape) × (t.1.table_id ≡ t.0.shared.table_id) × (t.1.me ≡ (joint [] [] [] [], []))) }
+    ensures { IfOk result (λ t. (t.0.shared.key ≡ shape) × (t.0.shared.table_id.words ≡ words_of shape) ×
+        (t.0.shared.table_id.slots ≡ 0) × (0 < words_of shape) × (t.1.table_id ≡ t.0.shared.table_id) ×
+        (t.1.me ≡ (joint [] [] [] [], []))) }
 {
     laws_below();
     let words = starting_counts(alloc, shape)?;

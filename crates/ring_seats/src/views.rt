@@ -45,7 +45,7 @@ pub struct View {
 /// alone: no value of it is made.
 ///
 /// For example, [`Counting`](crate::Counting) and [`Flickering`](crate::Flickering).
-pub trait Kind {
+pub trait WordKind {
     ghost use Rattle.std.specs.Prelude.{ℕ, List};
     ghost use Rattle.bits_core.specs.declared.shapes.Shape.{Shape};
     ghost use Rattle.bits_core.specs.declared.events.Event.{Event};
@@ -59,7 +59,7 @@ pub trait Kind {
 ///
 /// For example, an end of a flickering ring keeps the first load of the read that it has open; one of a counter
 /// ring keeps nothing.
-pub trait Keeping: Kind {
+pub trait Keeping: WordKind {
     ghost use Rattle.std.specs.Prelude.{◌≡◌, None};
     ghost use Rattle.bits_core.specs.declared.events.Side.{Side};
     ghost use Rattle.bits_core.specs.History.{open_access};
@@ -91,7 +91,7 @@ pub struct RuleOf<K> {
     kind: PhantomData<K>,
 }
 
-impl<K: Kind> TableRule<(), View, Shape> for RuleOf<K> {
+impl<K: WordKind> TableRule<(), View, Shape> for RuleOf<K> {
     ghost use Rattle.std.specs.Prelude.{[]};
     ghost use Rattle.ring_seats.specs.Rule.{KeptBy, joint};
 
@@ -117,7 +117,7 @@ pub struct Opened {
     pub(crate) first: u64,
 }
 
-impl Kind for Flickering {
+impl WordKind for Flickering {
     ghost use Rattle.ring_seats.specs.Words.{word_count, Shows};
 
     ghost count = { word_count };
@@ -148,9 +148,9 @@ impl Play<(), View> for Brand {
 }
 
 // The joint view is cut in two.
-pub struct Cut;
+pub struct Halves;
 
-impl Split<View> for Cut {
+impl Split<View> for Halves {
     ghost use Rattle.ring_seats.specs.Rule.{putter_of, taker_of};
 
     ghost left = { putter_of };

@@ -9,7 +9,7 @@ ghost use Rattle.ring_seats.specs.Words.{word_place};
 
 use crate::laws::laws_below;
 use crate::layout::place_of;
-use crate::views::{Both, Cut, Flickering, Kind, RuleOf, View};
+use crate::views::{Both, Flickering, Halves, RuleOf, View, WordKind};
 use atomic_table::{Play, Seat, Shared};
 use bits_core::{Bit, Shape};
 use std::marker::{Brand, Model};
@@ -17,12 +17,12 @@ use std::marker::{Brand, Model};
 /// The words of a ring, by which a seat steps. To a contract they are that ring.
 /// For example, each end of a ring has them in its [`Stepper`](crate::Stepper).
 #[derive(Drop)]
-pub struct Words<'a, K: Kind> {
+pub struct Words<'a, K: WordKind> {
     pub(crate) shared: &'a Shared<(), View, Shape, RuleOf<K>>,
     shape: Shape,
 }
 
-impl<'a, K: Kind> Model for Words<'a, K> {
+impl<'a, K: WordKind> Model for Words<'a, K> {
     ghost use Rattle.std.specs.Prelude.{◌≡◌, ◌<◌};
     ghost use Rattle.ring_seats.specs.Ring.{Ring};
 
@@ -30,10 +30,11 @@ impl<'a, K: Kind> Model for Words<'a, K> {
 
     ghost view = { λ w. record { shape = w.shape; id = w.shared.now.table_id } };
 
-    ghost invariant = { λ w. (w.shared.now.key ≡ w.shape) × (w.shared.now.table_id.words ≡ K.count w.shape) × (0 < K.count w.shape) };
+    ghost invariant = { λ w. (w.shared.now.key ≡ w.shape) × (w.shared.now.table_id.words ≡ K.count w.shape) ×
+        (0 < K.count w.shape) };
 }
 
-impl<'a, K: Kind> Words<'a, K> {
+impl<'a, K: WordKind> Words<'a, K> {
     /// The words of a table whose key is the shape, and which has as many words as a ring of this kind and shape.
     pub fn of(shared: &'a Shared<(), View, Shape, RuleOf<K>>, shape: Shape) -> Words<'a, K>
         requires { (shared.now.key ≡ shape) × (shared.now.table_id.words ≡ K.count shape) × (0 < K.count shape) }
@@ -78,7 +79,8 @@ impl<'a, K: Kind> Words<'a, K> {
         about: &T,
     ) -> u64
         requires own { (seat.old.table_id ≡ self.now.id) × (word < K.count self.now.shape) }
-        requires rule { Allows (KeptBy K.count K.shows self.now.shape) self.now.id.slots seat.old.id seat.old.me word (λ n. n) (N.then (step self.now.id.slots word 0 0 none) seat.old.me) }
+        requires rule { Allows (KeptBy K.count K.shows self.now.shape) self.now.id.slots seat.old.id seat.old.me word
+            (λ n. n) (N.then (step self.now.id.slots word 0 0 none) seat.old.me) }
         ensures same { (seat.new.table_id ≡ seat.old.table_id) × (seat.new.id ≡ seat.old.id) }
         ensures told { N.then (step self.now.id.slots word 0 0 none) seat.old.me result seat.new.me }
     {
@@ -95,7 +97,8 @@ impl<'a, K: Kind> Words<'a, K> {
         new: u64,
     )
         requires own { (seat.old.table_id ≡ self.now.id) × (word < K.count self.now.shape) }
-        requires rule { Allows (KeptBy K.count K.shows self.now.shape) self.now.id.slots seat.old.id seat.old.me word (λ _. new) (λ _. N.then (step self.now.id.slots word new 0 none) seat.old.me new) }
+        requires rule { Allows (KeptBy K.count K.shows self.now.shape) self.now.id.slots seat.old.id seat.old.me word
+            (λ _. new) (λ _. N.then (step self.now.id.slots word new 0 none) seat.old.me new) }
         ensures same { (seat.new.table_id ≡ seat.old.table_id) × (seat.new.id ≡ seat.old.id) }
         ensures told { N.then (step self.now.id.slots word new 0 none) seat.old.me new seat.new.me }
     {
@@ -105,10 +108,11 @@ impl<'a, K: Kind> Words<'a, K> {
     // Cuts the joint seat in two.
     pub(crate) fn part(&self, seat: &mut Seat<(), View>) -> Seat<(), View>
         requires own { (seat.old.table_id ≡ self.now.id) × (seat.old.me.0.puts ≡ true) × (seat.old.me.0.takes ≡ true) }
-        ensures putter { (seat.new.table_id ≡ seat.old.table_id) × (seat.new.me ≡ (putter_of seat.old.me.0, seat.old.me.1)) }
+        ensures putter { (seat.new.table_id ≡ seat.old.table_id) ×
+            (seat.new.me ≡ (putter_of seat.old.me.0, seat.old.me.1)) }
         ensures taker { (result.table_id ≡ seat.old.table_id) × (result.me ≡ (taker_of seat.old.me.0, [])) }
     {
-        self.shared.split_seat::<Cut>(seat)
+        self.shared.split_seat::<Halves>(seat)
     }
 
     // The joint seat learns the history.
@@ -127,7 +131,8 @@ impl<'a, K: Kind> Words<'a, K> {
         requires sides { (seat.old.me.0.puts ≡ true) × (other.me.0.takes ≡ true) }
         requires idle { IsIdle P seat.old.me.0.put × IsIdle C other.me.0.taken }
         ensures same { (seat.new.table_id ≡ seat.old.table_id) × (seat.new.me.1 ≡ seat.old.me.1) }
-        ensures view { seat.new.me.0 ≡ joint seat.old.me.0.put other.me.0.taken seat.new.me.0.known seat.new.me.0.known }
+        ensures view { seat.new.me.0 ≡ joint seat.old.me.0.put other.me.0.taken seat.new.me.0.known
+            seat.new.me.0.known }
         ensures holds { Holds self.now.shape seat.new.me.0.known (joined seat.old.me.0 other.me.0) }
     {
         laws_below();

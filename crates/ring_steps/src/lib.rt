@@ -34,9 +34,11 @@ pub fn next_event<S: Store<Event>, O: Oracle>(
 ) -> Result<Step, MemoryFault>
     ensures shape { memory.new.shape ≡ memory.old.shape }
     ensures step { IfOk result (HasMadeStep side due (O.answers oracle.old 0) memory.old memory.new) }
-    ensures asked { OnOk result (asks_oracle side memory.old.events ≡ true → (i : ℕ) → O.answers oracle.new i ≡ O.answers oracle.old (i + 1)) }
+    ensures asked { OnOk result (asks_oracle side memory.old.events ≡ true → (i : ℕ) →
+        O.answers oracle.new i ≡ O.answers oracle.old (i + 1)) }
     ensures not_asked { asks_oracle side memory.old.events ≡ false → oracle.new ≡ oracle.old }
-    ensures flickers { OnOk result (memory.new.flickers ≡ memory.old.flickers + (if asks_oracle side memory.old.events then 1 else 0)) }
+    ensures flickers { OnOk result (memory.new.flickers ≡ memory.old.flickers + (if asks_oracle side memory.old.events
+        then 1 else 0)) }
     ensures room { memory.new.room ≡ memory.old.room }
     ensures fault { OnErr result ((memory.new ≡ memory.old) × (oracle.new ≡ oracle.old)) }
     ensures full { OnErr result (memory.old.room ≤ length memory.old.events) }

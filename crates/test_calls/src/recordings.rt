@@ -1,4 +1,4 @@
-use queue_calls::{CallsFinding, Cause, Recording, RecordingFault, Report};
+use queue_calls::{CallsFinding, CallsReport, Cause, Recording, RecordingFault};
 use refusing::Refusing;
 use std::alloc::{AllocGlobal, Allocator};
 use std::process::Abort;
@@ -25,7 +25,7 @@ C take
 C closed
 ";
 
-pub const REPORT: Report = Report {
+pub const REPORT: CallsReport = CallsReport {
     calls: 8,
     stored: 3,
     taken: 3,

@@ -2,7 +2,7 @@ use crate::play_scripts::{Asked, ONE, Wanted, expect_report, script_of};
 use bits_core::{Event, Side, Store};
 use refusing::Refusing;
 use ring_player::{PlayFault, World, play};
-use ring_script::Run;
+use ring_script::LetterRun;
 use std::alloc::{AllocGlobal, Global};
 use std::process::Abort;
 use std::test::Fail;
@@ -63,7 +63,7 @@ fn steps_again<E: Store<Event>, T: Store<u64>>(
     rt: &impl Abort,
     alloc: &Refusing<Global>,
     world: &mut World<E, T>,
-    runs: &[Run],
+    runs: &[LetterRun],
 ) -> u64 {
     let mut refused: u64 = 0;
     for run in runs {

@@ -51,7 +51,13 @@ impl<'a> Model for Producing<'a> {
 
     ghost view = { λ _. tt };
 
-    ghost invariant = { λ p. (p.putter.end.ring.shape ≡ p.shape) × (p.duty ≡ Put → (p.item < 2 ^ width_of p.shape) × ((p.putter.call ≡ None) ⊎ (p.putter.call ≡ Some (producer.Put (p.item ∷ []))) × (p.putter.batched ≡ false))) × (p.duty ≡ PutAll → IsBatch p.shape p.batch.now × ((p.putter.call ≡ None) ⊎ (p.putter.call ≡ Some (producer.Put p.batch.now)) × (p.putter.batched ≡ true))) × (p.duty ≡ Close → (p.putter.call ≡ None) ⊎ (p.putter.call ≡ Some producer.Close)) × (p.duty ≡ Rest → p.putter.call ≡ None) };
+    ghost invariant = { λ p. (p.putter.end.ring.shape ≡ p.shape) ×
+        (p.duty ≡ Put → (p.item < 2 ^ width_of p.shape) ×
+        ((p.putter.call ≡ None) ⊎ (p.putter.call ≡ Some (producer.Put (p.item ∷ []))) × (p.putter.batched ≡ false))) ×
+        (p.duty ≡ PutAll → IsBatch p.shape p.batch.now ×
+        ((p.putter.call ≡ None) ⊎ (p.putter.call ≡ Some (producer.Put p.batch.now)) × (p.putter.batched ≡ true))) ×
+        (p.duty ≡ Close → (p.putter.call ≡ None) ⊎ (p.putter.call ≡ Some producer.Close)) ×
+        (p.duty ≡ Rest → p.putter.call ≡ None) };
 }
 
 // What comes next, with its item or its items: a put, or behind the last item the close.

@@ -11,8 +11,8 @@ use Rattle.bits_core.specs.declared.events.Event.{Event}
 use Rattle.bits_core.specs.Bits.{begun_by, is_by}
 use Rattle.bits_core.specs.Lawful.{IsLawful}
 use Rattle.bits_core.specs.History.{open_access}
-use Rattle.bits_core.specs.Laws.{MadeLeaveNoneOpen, OpenChanges, OpenFromOwn, OwnChanges}
-use Rattle.bits_core.specs.Made.{Made, Read, answered, begin_event, end_event, events_of, opening_event, own, IsBeginning}
+use Rattle.bits_core.specs.Laws.{MadeLeaveNoneOpen, OpenChanges, OpenFromOwn, SubhistoryChanges}
+use Rattle.bits_core.specs.Made.{Made, Read, answered, begin_event, end_event, events_of, opening_event, subhistory, IsPrefix}
 use Rattle.bits_core.specs.Memory.{MemoryState}
 use Rattle.bits_core.specs.Shape.{modulus_of}
 use Rattle.register_core.specs.Phrases.{row_read_by, zero_reads}
@@ -66,7 +66,7 @@ length_zeros row zero = refl
 length_zeros row (suc n) = omega (arith, length-append (zero_reads row n) (Read (row n) false ∷ []), length_zeros row n)
 
 no_zero : TakesAreSeen → (shape : Shape) (h : List Event) (takes : Takes) → IsLawful shape h → FollowsTakes shape h takes → (made : List Made) (i : ℕ) → suc i ≡ modulus_of shape → EndsInZeros shape P made →
-    own P h ≡ events_of P (made ++ Read (row_read_by P i) false ∷ []) → ⊥
+    subhistory P h ≡ events_of P (made ++ Read (row_read_by P i) false ∷ []) → ⊥
 no_zero seen shape h takes lawful follows made i size zeros is =
     let before : List Made = zeros.0 in
     let same : i ≡ zeros.1 = omega (arith, size, zeros.2) in
@@ -75,30 +75,30 @@ no_zero seen shape h takes lawful follows made i size zeros is =
     (λ j. zeros.3 j ++ Read (row_read_by P (same j)) false ∷ []) ∙
     append_assoc before (zero_reads (row_read_by P) zeros.1) (Read (row_read_by P zeros.1) false ∷ []) ∙
     ap (λ n. before ++ zero_reads (row_read_by P) n) zeros.2 in
-    let now : own P h ≡ events_of P (before ++ reads) = is ∙ ap (events_of P) whole in
-    let lt = (seen shape h takes lawful follows).1 (before ++ reads) before [] ([], append-nil (own P h) ∙ now) (ap (λ (l : List Made). before ++ l) (sym (append-nil reads))) in
+    let now : subhistory P h ≡ events_of P (before ++ reads) = is ∙ ap (events_of P) whole in
+    let lt = (seen shape h takes lawful follows).1 (before ++ reads) before [] ([], append-nil (subhistory P h) ∙ now) (ap (λ (l : List Made). before ++ l) (sym (append-nil reads))) in
     absurd (omega (arith, lt, ap length now, length_events P (before ++ reads), length-append before reads, length_zeros (row_read_by P) (modulus_of shape)))
 
 -- ---- one event more
 
-module _ (own_changes : OwnChanges) where
-  own_more : (s : Side) (h : List Event) (e : Event) → is_by s e ≡ true → own s (h ++ e ∷ []) ≡ own s h ++ e ∷ []
-  own_more s h e by = own_changes s h e ∙ ap (λ (b : Bool). if b then own s h ++ e ∷ [] else own s h) by
+module _ (subhistory_changes : SubhistoryChanges) where
+  own_more : (s : Side) (h : List Event) (e : Event) → is_by s e ≡ true → subhistory s (h ++ e ∷ []) ≡ subhistory s h ++ e ∷ []
+  own_more s h e by = subhistory_changes s h e ∙ ap (λ (b : Bool). if b then subhistory s h ++ e ∷ [] else subhistory s h) by
 
-  own_same : (s : Side) (h : List Event) (e : Event) → is_by s e ≡ false → own s (h ++ e ∷ []) ≡ own s h
-  own_same s h e by = own_changes s h e ∙ ap (λ (b : Bool). if b then own s h ++ e ∷ [] else own s h) by
+  own_same : (s : Side) (h : List Event) (e : Event) → is_by s e ≡ false → subhistory s (h ++ e ∷ []) ≡ subhistory s h
+  own_same s h e by = subhistory_changes s h e ∙ ap (λ (b : Bool). if b then subhistory s h ++ e ∷ [] else subhistory s h) by
 
   -- the consumer's events are those that they were
   follows_on : (shape : Shape) (h h' : List Event) (e : Event) (takes : Takes) → h' ≡ h ++ e ∷ [] → is_by C e ≡ false → FollowsTakes shape h takes → FollowsTakes shape h' takes
-  follows_on shape h h' e takes is by f = record { are = f.are; events = subst (λ (l : List Event). IsBeginning l (events_of C (take_program shape takes))) (sym (ap (own C) is ∙ own_same C h e by)) f.events }
+  follows_on shape h h' e takes is by f = record { are = f.are; events = subst (λ (l : List Event). IsPrefix l (events_of C (take_program shape takes))) (sym (ap (subhistory C) is ∙ own_same C h e by)) f.events }
 
   module _ (from_own : OpenFromOwn) (opens : OpenChanges) (none_open : MadeLeaveNoneOpen) (m : MemoryState) (p : ProducerState) (d : IsDriven m p) where
     -- no access is open, or the due one is
     IsAtRest : Type 0
-    IsAtRest = (own P m.events ≡ events_of P d.made) × (open_access P m.events ≡ None)
+    IsAtRest = (subhistory P m.events ≡ events_of P d.made) × (open_access P m.events ≡ None)
 
     IsAt : Access → Type 0
-    IsAt a = (due_put p ≡ Some a) × (own P m.events ≡ events_of P d.made ++ opening_event P a ∷ []) × (open_access P m.events ≡ Some a)
+    IsAt a = (due_put p ≡ Some a) × (subhistory P m.events ≡ events_of P d.made ++ opening_event P a ∷ []) × (open_access P m.events ≡ Some a)
 
     stages : IsAtRest ⊎ ((a : Access) × IsAt a)
     unfolding IsAtRest IsAt
@@ -116,11 +116,11 @@ module _ (own_changes : OwnChanges) where
         ))
         d.own_is
 
-    at_rest : open_access P m.events ≡ None → own P m.events ≡ events_of P d.made
+    at_rest : open_access P m.events ≡ None → subhistory P m.events ≡ events_of P d.made
     unfolding IsAtRest IsAt
     at_rest none = ⊎_elim (λ rest. rest.0) (λ there. absurd (let e : None ≡ Some there.0 = sym none ∙ there.1.2 in cc)) stages
 
-    at_open : (a : Access) → open_access P m.events ≡ Some a → (due_put p ≡ Some a) × (own P m.events ≡ events_of P d.made ++ opening_event P a ∷ [])
+    at_open : (a : Access) → open_access P m.events ≡ Some a → (due_put p ≡ Some a) × (subhistory P m.events ≡ events_of P d.made ++ opening_event P a ∷ [])
     unfolding IsAtRest IsAt
     at_open a is_open = ⊎_elim
         (λ rest. absurd (let e : Some a ≡ None = sym is_open ∙ rest.1 in cc))
@@ -140,7 +140,7 @@ module _ (own_changes : OwnChanges) where
         calls = d.calls;
         made = d.made;
         stands = d.stands;
-        own_is = inr (a, due, ap (own P) is ∙ own_more P m.events (opening_event P a) (by_opening a) ∙ ap (λ (l : List Event). l ++ opening_event P a ∷ []) (at_rest none));
+        own_is = inr (a, due, ap (subhistory P) is ∙ own_more P m.events (opening_event P a) (by_opening a) ∙ ap (λ (l : List Event). l ++ opening_event P a ∷ []) (at_rest none));
         takes = d.takes;
         others = others_on (opening_event P a) is (not_opening a);
       }
@@ -149,9 +149,9 @@ module _ (own_changes : OwnChanges) where
         made_more : List Made
         made_more = d.made ++ answered a v ∷ []
 
-        own_now : own P m'.events ≡ events_of P (d.made ++ answered a v ∷ [])
+        own_now : subhistory P m'.events ≡ events_of P (d.made ++ answered a v ∷ [])
         own_now =
-            ap (own P) is ∙ own_more P m.events (end_event P (answered a v)) (by_ending a v) ∙
+            ap (subhistory P) is ∙ own_more P m.events (end_event P (answered a v)) (by_ending a v) ∙
             ap (λ (l : List Event). l ++ end_event P (answered a v) ∷ []) (at_open a is_open).1 ∙
             append_assoc (events_of P d.made) (opening_event P a ∷ []) (end_event P (answered a v) ∷ []) ∙
             ap (λ (e : Event). events_of P d.made ++ (e ∷ end_event P (answered a v) ∷ [])) (sym (begin_is a v)) ∙
@@ -195,7 +195,7 @@ module _ (own_changes : OwnChanges) where
 -- ---- calls
 
 module _ (m : MemoryState) (p : ProducerState) (d : IsDriven m p) where
-  whole_own : due_put p ≡ None → own P m.events ≡ events_of P d.made
+  whole_own : due_put p ≡ None → subhistory P m.events ≡ events_of P d.made
   whole_own none = ⊎_elim (λ rest. rest) (λ there. absurd (let e : Some there.0 ≡ None = sym there.1 ∙ none in cc)) d.own_is
 
   -- a call was begun
@@ -217,7 +217,7 @@ fresh m p shape m_is none p_is stands = record {
   calls = no_puts;
   made = [];
   stands = stands;
-  own_is = inl (ap (own P) none);
+  own_is = inl (ap (subhistory P) none);
   takes = no_takes;
-  others = record { are = tt; events = subst (λ (h : List Event). IsBeginning (own C h) (events_of C (take_program m.shape no_takes))) (sym none) ([], refl) };
+  others = record { are = tt; events = subst (λ (h : List Event). IsPrefix (subhistory C h) (events_of C (take_program m.shape no_takes))) (sym none) ([], refl) };
 }

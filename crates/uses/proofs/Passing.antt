@@ -8,12 +8,12 @@ use Rattle.bits_core.specs.declared.events.Side.{Side}
 use Rattle.bits_core.specs.declared.events.Side.TheVariants.{P, C}
 use Rattle.bits_core.specs.declared.events.Event.{Event}
 use Rattle.bits_core.specs.Shape.{AllFit, batch_of, modulus_of, width_of}
-use Rattle.bits_core.specs.Made.{Made, own, clock, events_of, IsBeginning}
-use Rattle.ring_core.specs.declared.producers.BatchReply.TheVariants as several
-use Rattle.ring_core.specs.declared.producers.PutReply.{PutReply}
-use Rattle.ring_core.specs.declared.producers.PutReply.TheVariants as single
-use Rattle.ring_core.specs.declared.consumers.TakeReply.{TakeReply}
-use Rattle.ring_core.specs.declared.consumers.TakeReply.TheVariants as replies
+use Rattle.bits_core.specs.Made.{Made, subhistory, clock, events_of, IsPrefix}
+use Rattle.ring_core.specs.declared.replies.BatchReply.TheVariants as several
+use Rattle.ring_core.specs.declared.replies.PutReply.{PutReply}
+use Rattle.ring_core.specs.declared.replies.PutReply.TheVariants as single
+use Rattle.ring_core.specs.declared.replies.TakeReply.{TakeReply}
+use Rattle.ring_core.specs.declared.replies.TakeReply.TheVariants as replies
 use Rattle.ring_core.specs.Counts.{first_count}
 use Rattle.ring_core.specs.Puts as puts
 use Rattle.ring_core.specs.Puts.{Put, Puts, IsBatch, IsPut, ArePuts, room_in}
@@ -95,7 +95,7 @@ fit_snoc shape [] x fit below = (below, tt)
 fit_snoc shape (y ∷ xs) x fit below = (fit.0, fit_snoc shape xs x fit.1 below)
 
 -- a beginning of the first items is one of all
-pub of_first : (n : ℕ) (taken items : List ℕ) → IsBeginning taken (take n items) → IsBeginning taken items
+pub of_first : (n : ℕ) (taken items : List ℕ) → IsPrefix taken (take n items) → IsPrefix taken items
 of_first n taken items (rest, e) = (rest ++ drop n items, sym (append_assoc taken rest (drop n items)) ∙ ap (λ (l : List ℕ). l ++ drop n items) e ∙ take-append-drop n items)
 
 -- ---- results and ends
@@ -270,8 +270,8 @@ module _ (read : TakesAreRead) (single : TakesOfOne) (a b : RingEnd) (same : b.r
 
 -- ---- both ends are done
 
-clock_at_end : (s : Side) (h : List Event) → clock s h (length h) ≡ length (own s h)
-clock_at_end s h = ap (λ (l : List Event). length (own s l)) (take-length h)
+clock_at_end : (s : Side) (h : List Event) → clock s h (length h) ≡ length (subhistory s h)
+clock_at_end s h = ap (λ (l : List Event). length (subhistory s l)) (take-length h)
 
 tells_true : (end : End) → ends_closed end ≡ true → Tells end
 tells_true Open e = absurd (true≢false (sym e))
@@ -291,8 +291,8 @@ module _ (p c : RingEnd) (same : p.ring ≡ c.ring) (h : List Event) (meets : Me
   run : IsRun shape h ps.calls ts.calls
   run = record {
     lawful = meets.ring.run.lawful;
-    puts_follow = record { are = ps.list_is.are; events = ([], append-nil (own P h) ∙ meets.put ∙ ps.list_is.list_is) };
-    takes_follow = record { are = takes_here.are; events = ([], append-nil (own C h) ∙ meets.taken ∙ takes_here.list_is) };
+    puts_follow = record { are = ps.list_is.are; events = ([], append-nil (subhistory P h) ∙ meets.put ∙ ps.list_is.list_is) };
+    takes_follow = record { are = takes_here.are; events = ([], append-nil (subhistory C h) ∙ meets.taken ∙ takes_here.list_is) };
   }
 
   module _ (puts_count : WholePutsCount) (takes_count : WholeTakesCount) where
@@ -303,8 +303,8 @@ module _ (p c : RingEnd) (same : p.ring ≡ c.ring) (h : List Event) (meets : Me
     taken_is = ap (items_taken shape first_count ts.calls.takes) (clock_at_end C h) ∙ (takes_count shape h ts.calls takes_here.are (meets.taken ∙ takes_here.list_is)).0 ∙ ts.items_are
 
     -- by the law of the ring
-    pub passed : InEveryRun TakenArePrefix → IsBeginning taken put
-    passed prefix = subst (λ (z : List ℕ × List ℕ). IsBeginning z.0 z.1) (λ i. (taken_is i, put_is i)) (prefix shape h ps.calls ts.calls run (length h))
+    pub passed : InEveryRun TakenArePrefix → IsPrefix taken put
+    passed prefix = subst (λ (z : List ℕ × List ℕ). IsPrefix z.0 z.1) (λ i. (taken_is i, put_is i)) (prefix shape h ps.calls ts.calls run (length h))
 
     -- and once the taker was told that the ring is closed, all came through
     pub passed_all : InEveryRun ClosedIsTrue → TakesAreRead → TellsAre c.ring.shape c.list true → taken ≡ put
@@ -337,7 +337,7 @@ emptied : RingEnd → RingEnd
 emptied e = record { ring = e.ring; side = e.side; list = []; known = e.known; loads = e.loads }
 
 -- the first put of an item stored it, or nothing
-pub first_put : PutsAreRead → (e : RingEnd) (item : ℕ) (reply : PutReply) → HasPut e.ring.shape item [] e.list reply → (put : List ℕ) × HasStored e put × IsBeginning put (item ∷ [])
+pub first_put : PutsAreRead → (e : RingEnd) (item : ℕ) (reply : PutReply) → HasPut e.ring.shape item [] e.list reply → (put : List ℕ) × HasStored e put × IsPrefix put (item ∷ [])
 unfolding emptied
 first_put read e item single.Stored h = (item ∷ [], one_stored read (emptied e) e refl [] (none_stored (emptied e) refl) item h, ([], refl))
 first_put read e item single.Full h = ([], one_full read (emptied e) e refl [] (none_stored (emptied e) refl) item h, (item ∷ [], refl))
@@ -347,5 +347,5 @@ pub first_take : TakesAreRead → TakesOfOne → (e : RingEnd) (reply : TakeRepl
 unfolding emptied
 first_take read single e reply h = took_more read single (emptied e) e refl [] (none_took (emptied e) refl) reply h
 
-pub then_begins : (xs ys zs : List ℕ) → IsBeginning xs ys → IsBeginning ys zs → IsBeginning xs zs
+pub then_begins : (xs ys zs : List ℕ) → IsPrefix xs ys → IsPrefix ys zs → IsPrefix xs zs
 then_begins xs ys zs (a, e) (b, f) = (a ++ b, sym (append_assoc xs a b) ∙ ap (λ (l : List ℕ). l ++ b) e ∙ f)

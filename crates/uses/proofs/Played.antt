@@ -5,7 +5,7 @@ use Rattle.std.proofs.Math.Seq.{take-length}
 use Rattle.bits_core.specs.declared.events.Side.{Side}
 use Rattle.bits_core.specs.declared.events.Side.TheVariants.{P, C}
 use Rattle.bits_core.specs.declared.events.Event.{Event}
-use Rattle.bits_core.specs.Made.{IsBeginning, clock, own}
+use Rattle.bits_core.specs.Made.{IsPrefix, clock, subhistory}
 use Rattle.ring_core.specs.Counts.{first_count}
 use Rattle.ring_core.specs.Puts.{Puts, FollowsPuts}
 use Rattle.ring_core.specs.Takes.{Takes, FollowsTakes}
@@ -16,11 +16,11 @@ use Rattle.ring_script.specs.Content.{Content}
 use Rattle.ring_script.specs.Script.{IsScript}
 use Rattle.uses.specs.Plays.{LeavesInside, TakesSoMany}
 
-pub no_longer : {A : Type 0} (xs ys : List A) → IsBeginning xs ys → length xs ≤ length ys
+pub no_longer : {A : Type 0} (xs ys : List A) → IsPrefix xs ys → length xs ≤ length ys
 no_longer xs ys (rest, e) = omega (arith, ap length e, length-append xs rest)
 
-clock_at_end : (s : Side) (h : List Event) → clock s h (length h) ≡ length (own s h)
-clock_at_end s h = ap (λ (l : List Event). length (own s l)) (take-length h)
+clock_at_end : (s : Side) (h : List Event) → clock s h (length h) ≡ length (subhistory s h)
+clock_at_end s h = ap (λ (l : List Event). length (subhistory s l)) (take-length h)
 
 -- no more items were taken than put
 pub play_within :
@@ -35,7 +35,7 @@ play_within script letters h is put taken put_is taken_is =
     let prefix = (is.headline p.0 t.0 puts takes).prefix (length h) in
     let of_put = ap (items_put script.shape first_count p.0.puts) (clock_at_end P h) ∙ sym (put_is p.0 puts) in
     let of_taken = ap (items_taken script.shape first_count t.0.takes) (clock_at_end C h) ∙ sym (taken_is t.0 takes) in
-    no_longer taken put (subst (λ (z : List ℕ × List ℕ). IsBeginning z.0 z.1) (λ i. (of_taken i, of_put i)) prefix)
+    no_longer taken put (subst (λ (z : List ℕ × List ℕ). IsPrefix z.0 z.1) (λ i. (of_taken i, of_put i)) prefix)
 
 -- as many are left as were put and not taken
 pub play_leaves :

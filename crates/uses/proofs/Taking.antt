@@ -1,7 +1,7 @@
 -- What a take of several items took.
 use Rattle.std.proofs.Common.{◌≡◌, ⊎_elim, ℕ, Bool, true, false, List, [], ◌∷◌, ◌++◌, take, refl, ap, sym, subst, ◌∙◌, append-nil, append_assoc}
 use Rattle.bits_core.specs.declared.events.Event.{Event}
-use Rattle.ring_core.specs.declared.consumers.TakeBatchReply.{TakeBatchReply}
+use Rattle.ring_core.specs.declared.replies.TakeBatchReply.{TakeBatchReply}
 use Rattle.ring_core.specs.Takes.{Take, Takes}
 use Rattle.ring_core.specs.Items.{all_taken, taken_of}
 use Rattle.ring_core.specs.Readings.{TakesAreRead}

@@ -3,10 +3,10 @@ use Rattle.std.specs.Prelude.{◌≡◌, ◌⊎◌, Option, Some, None, List, []
 use Rattle.bits_core.specs.declared.events.Side.TheVariants.{P}
 use Rattle.bits_core.specs.declared.events.Access.{Access}
 use Rattle.bits_core.specs.declared.events.Event.{Event}
-use Rattle.bits_core.specs.Made.{Made, events_of, opening_event, own}
+use Rattle.bits_core.specs.Made.{Made, events_of, opening_event, subhistory}
 use Rattle.bits_core.specs.Memory.{MemoryState}
-use Rattle.ring_core.specs.declared.producers.PutReply.{PutReply}
-use Rattle.ring_core.specs.declared.producers.BatchReply.{BatchReply}
+use Rattle.ring_core.specs.declared.replies.PutReply.{PutReply}
+use Rattle.ring_core.specs.declared.replies.BatchReply.{BatchReply}
 use Rattle.ring_core.specs.Puts.{Puts, put_program, ArePuts}
 use Rattle.ring_core.specs.Takes.{Takes, FollowsTakes}
 use Rattle.ring_core.specs.ProducerState.{ProducerState, due_put, item_reply}
@@ -23,7 +23,7 @@ pub record IsDriven (m : MemoryState) (p : ProducerState) : Type 0 where
   pub calls : Puts
   pub made : List Made
   pub stands : ProducerStands p calls made
-  pub own_is : AreOf (own P m.events) made (due_put p)
+  pub own_is : AreOf (subhistory P m.events) made (due_put p)
   pub takes : Takes
   pub others : FollowsTakes m.shape m.events takes
 
@@ -31,7 +31,7 @@ pub record IsDriven (m : MemoryState) (p : ProducerState) : Type 0 where
 pub record HasReplied (m : MemoryState) (reply : PutReply) : Type 0 where
   pub calls : Puts
   pub are : ArePuts m.shape 0 calls.puts
-  pub own_is : own P m.events ≡ events_of P (put_program m.shape calls)
+  pub own_is : subhistory P m.events ≡ events_of P (put_program m.shape calls)
   pub answer : BatchReply
   pub reply_is : Some reply ≡ item_reply (Some answer)
   pub answered : IsReplyToCall calls None (Some answer)

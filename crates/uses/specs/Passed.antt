@@ -1,7 +1,7 @@
 -- What the lists of a ring's two ends came to.
 use Rattle.std.specs.Prelude.{◌≡◌, ℕ, List}
-use Rattle.ring_core.specs.declared.producers.BatchReply.{BatchReply}
-use Rattle.ring_core.specs.declared.producers.BatchReply.TheVariants as several
+use Rattle.ring_core.specs.declared.replies.BatchReply.{BatchReply}
+use Rattle.ring_core.specs.declared.replies.BatchReply.TheVariants as several
 use Rattle.ring_core.specs.Puts.{Puts}
 use Rattle.ring_core.specs.Takes.{Takes}
 use Rattle.ring_core.specs.Items.{all_put, all_taken}

@@ -1,7 +1,7 @@
 -- The first call of an end of a flickering ring, by single steps.
 use Rattle.std.specs.Prelude.{◌≡◌, ◌⊎◌, ℕ, false, Option, Some, None, [], ◌∷◌}
-use Rattle.ring_core.specs.declared.producers.PutReply.{PutReply}
-use Rattle.ring_core.specs.declared.consumers.TakeReply.{TakeReply}
+use Rattle.ring_core.specs.declared.replies.PutReply.{PutReply}
+use Rattle.ring_core.specs.declared.replies.TakeReply.{TakeReply}
 use Rattle.ring_core.specs.ProducerState as producer
 use Rattle.ring_run.specs.Ends.{PutterState, TakerState, HasPut, HasTaken, wants_next, puts_whole, takes_whole}
 

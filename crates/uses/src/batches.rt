@@ -1,7 +1,5 @@
 //! A batch: several items under one count write.
 ghost use Rattle.std.specs.Prelude.{◌≡◌, ℕ, List, ◌≤◌, ◌++◌, length, take, drop};
-ghost use Rattle.ring_core.specs.declared.producers.BatchReply.{BatchReply as AReply};
-ghost use Rattle.ring_core.specs.declared.consumers.TakeBatchReply.{TakeBatchReply as ATakeReply};
 ghost use Rattle.bits_core.specs.Shape.{take_batch_of};
 ghost use Rattle.ring_core.specs.Puts.{IsBatch};
 ghost use Rattle.ring_run.specs.Steppers.{IsSameEnd};
@@ -19,9 +17,12 @@ pub fn put_batch<E: PutEnd>(putter: &mut E, items: &[u64]) -> usize
     requires batch { IsBatch (E.end putter.old).ring.shape items.now }
     ensures idle { E.idle putter.new }
     ensures same { IsSameEnd (E.end putter.old) (E.end putter.new) }
-    ensures made { (reply : AReply) × HasPutAll (E.end putter.new).ring.shape items.now (E.end putter.old).list (E.end putter.new).list reply × (result ≡ number_stored reply) }
+    ensures made { (reply : BatchReply) ×
+        HasPutAll (E.end putter.new).ring.shape items.now (E.end putter.old).list (E.end putter.new).list reply ×
+        (result ≡ number_stored reply) }
     ensures few { result ≤ length items.now }
-    ensures stored { (before : List ℕ) → HasStored (E.end putter.old) before → HasStored (E.end putter.new) (before ++ take result items.now) }
+    ensures stored { (before : List ℕ) → HasStored (E.end putter.old) before →
+        HasStored (E.end putter.new) (before ++ take result items.now) }
 {
     puts_are_read();
     match putter.put_all(items) {
@@ -39,10 +40,13 @@ pub fn take_batch<E: TakeEnd>(taker: &mut E, into: &mut [u64]) -> usize
     requires few { length into.old ≤ take_batch_of (E.end taker.old).ring.shape }
     ensures idle { E.idle taker.new }
     ensures same { IsSameEnd (E.end taker.old) (E.end taker.new) }
-    ensures made { (reply : ATakeReply) × HasTakenAll (E.end taker.new).ring.shape (length into.old) (E.end taker.old).list (E.end taker.new).list reply into.new × (result ≡ number_brought reply) }
+    ensures made { (reply : TakeBatchReply) ×
+        HasTakenAll (E.end taker.new).ring.shape (length into.old) (E.end taker.old).list (E.end taker.new).list reply
+        into.new × (result ≡ number_brought reply) }
     ensures few { result ≤ length into.old }
     ensures others { (length into.new ≡ length into.old) × (drop result into.new ≡ drop result into.old) }
-    ensures took { (before : List ℕ) → HasTook (E.end taker.old) before → HasTook (E.end taker.new) (before ++ take result into.new) }
+    ensures took { (before : List ℕ) → HasTook (E.end taker.old) before →
+        HasTook (E.end taker.new) (before ++ take result into.new) }
 {
     takes_are_read();
     match taker.take_all(into) {

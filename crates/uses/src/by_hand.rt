@@ -6,7 +6,7 @@ ghost use Rattle.bits_core.specs.Shape.{width_of};
 ghost use Rattle.ring_core.specs.ProducerState.{due_put};
 ghost use Rattle.uses.specs.ByHand.{IsDriven, HasReplied};
 
-use bits_core::laws::{made_leave_none_open, open_changes, open_from_own, own_changes};
+use bits_core::laws::{made_leave_none_open, open_changes, open_from_own, subhistory_changes};
 use bits_core::{Event, Memory, MemoryFault, Oracle, Shape, Side, Store};
 use ring_core::laws::last_bit_is_one;
 use ring_core::{Producer, PutReply};
@@ -36,7 +36,7 @@ pub fn step_producer<S: Store<Event>, O: Oracle>(
     ensures shape { memory.new.shape ≡ memory.old.shape }
     ensures kind { producer.new.batched ≡ producer.old.batched }
 {
-    own_changes();
+    subhistory_changes();
     open_changes();
     open_from_own();
     made_leave_none_open();

@@ -14,9 +14,11 @@ fn first_of<Q: Fifo<u64>>(
     auditor: &mut CallAuditor<Q>,
     events: &[Event<'_>],
 ) -> Result<Option<usize>, Fault>
-    ensures judged { Audits Q.items auditor.old [] → IfOk result (JudgesCalls (meant auditor.old.capacity) (map told events.now)) }
+    ensures judged { Audits Q.items auditor.old [] →
+        IfOk result (JudgesCalls (meant auditor.old.capacity) (map told events.now)) }
     ensures refused { IfErr result (λ fault. fault ≡ OutOfMemory) }
-    ensures full { Audits Q.items auditor.old [] → OnErr result (OutgrowsSlots (Q.room auditor.old.inside) (meant auditor.old.capacity) (map told events.now)) }
+    ensures full { Audits Q.items auditor.old [] →
+        OnErr result (OutgrowsSlots (Q.room auditor.old.inside) (meant auditor.old.capacity) (map told events.now)) }
 {
     auditor.has_read();
     for (number, event) in events.iter().enumerate() {

@@ -1,6 +1,6 @@
 //! An oracle of one's own: a flickering ring whose overlapped reads are answered by a linear congruential generator.
 ghost use Rattle.std.specs.Prelude.{◌≡◌, ◌<◌, ◌%◌, IfOk};
-ghost use Rattle.bits_core.specs.Made.{IsBeginning};
+ghost use Rattle.bits_core.specs.Made.{IsPrefix};
 ghost use Rattle.bits_core.specs.Shape.{AllFit};
 
 use bits_core::{Oracle, Shape};
@@ -51,7 +51,7 @@ pub fn pass_flickering<R: Threads, A: Allocator + Copy>(
     seed: u64,
 ) -> Result<Vec<u64, A>, RunFault>
     requires { AllFit shape items.now }
-    ensures { IfOk result (λ taken. IsBeginning taken.items items.now) }
+    ensures { IfOk result (λ taken. IsPrefix taken.items items.now) }
 {
     let limits = Limits::both(calls);
     let ours = Minstd::new(seed);

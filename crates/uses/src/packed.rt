@@ -1,6 +1,6 @@
 //! Items that are no numbers: packed into one each, or the places at which the caller keeps them.
 ghost use Rattle.std.specs.Prelude.{◌≡◌, ℕ, ◌^◌, ◌<◌, ◌≤◌, IfOk, length, slice_index, map};
-ghost use Rattle.bits_core.specs.Made.{IsBeginning};
+ghost use Rattle.bits_core.specs.Made.{IsPrefix};
 ghost use Rattle.bits_core.specs.Shape.{AllFit, width_of};
 ghost use Rattle.uses.specs.Reading.{unpacked};
 
@@ -75,7 +75,7 @@ pub fn pass_readings<R: Threads, A: Allocator + Copy>(
     calls: u64,
 ) -> Result<Vec<Reading, A>, RunFault>
     requires { 33 ≤ width_of shape }
-    ensures { IfOk result (λ taken. IsBeginning taken.items readings.now) }
+    ensures { IfOk result (λ taken. IsPrefix taken.items readings.now) }
 {
     let items = pack_all(alloc, &shape, readings)?;
     let taken = pass_on(rt, alloc, shape, items.as_slice(), calls)?;
@@ -85,7 +85,8 @@ pub fn pass_readings<R: Threads, A: Allocator + Copy>(
 
 fn places<A: Allocator>(alloc: A, shape: &Shape, count: usize) -> Result<Vec<u64, A>, AllocError>
     requires { count ≤ 2 ^ width_of shape.now }
-    ensures places { IfOk result (λ all. (length all.items ≡ count) × ((k : ℕ) → k < count → slice_index all.items k ≡ k)) }
+    ensures places { IfOk result (λ all. (length all.items ≡ count) ×
+        ((k : ℕ) → k < count → slice_index all.items k ≡ k)) }
     ensures fit { IfOk result (λ all. AllFit shape.now all.items) }
 {
     let mut all = Vec::new(alloc);
@@ -105,7 +106,8 @@ pub fn pass_places<T, R: Threads, A: Allocator + Copy>(
     calls: u64,
 ) -> Result<Vec<u64, A>, RunFault>
     requires { length things.now ≤ 2 ^ width_of shape }
-    ensures { IfOk result (λ taken. (k : ℕ) → k < length taken.items → (slice_index taken.items k ≡ k) × (k < length things.now)) }
+    ensures { IfOk result (λ taken. (k : ℕ) → k < length taken.items → (slice_index taken.items k ≡ k) ×
+        (k < length things.now)) }
 {
     let all = places(alloc, &shape, things.len())?;
     let taken = pass_on(rt, alloc, shape, all.as_slice(), calls)?;

@@ -1,6 +1,6 @@
 //! Items through a ring between two threads.
 ghost use Rattle.std.specs.Prelude.{IfOk};
-ghost use Rattle.bits_core.specs.Made.{IsBeginning};
+ghost use Rattle.bits_core.specs.Made.{IsPrefix};
 ghost use Rattle.bits_core.specs.Shape.{AllFit};
 
 use bits_core::Shape;
@@ -18,7 +18,7 @@ pub fn pass_on<R: Threads, A: Allocator + Copy>(
     calls: u64,
 ) -> Result<Vec<u64, A>, RunFault>
     requires { AllFit shape items.now }
-    ensures { IfOk result (λ taken. IsBeginning taken.items items.now) }
+    ensures { IfOk result (λ taken. IsPrefix taken.items items.now) }
 {
     let limits = Limits::both(calls);
     let outcome = relay_counter(rt, alloc, shape, items, limits, &FreeGate)?;

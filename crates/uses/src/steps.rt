@@ -1,7 +1,7 @@
 //! The flickering ring step by step, in one thread: a take begins while a put is under way, and an oracle says what a read finds
 //! that a write overlaps.
 ghost use Rattle.std.specs.Prelude.{◌≡◌, ◌^◌, ◌<◌, [], ◌∷◌, IfOk, IfSome};
-ghost use Rattle.bits_core.specs.Made.{IsBeginning};
+ghost use Rattle.bits_core.specs.Made.{IsPrefix};
 ghost use Rattle.bits_core.specs.Shape.{width_of};
 ghost use Rattle.ring_core.specs.ConsumerCalls.{reply_items};
 ghost use Rattle.uses.specs.Stepping.{IsFirstPut, IsFirstTake};
@@ -57,7 +57,7 @@ pub fn take_amid_put<A: Allocator + Copy, O: Oracle + Drop>(
     oracle: O,
 ) -> Result<Option<TakeReply>, RunFault>
     requires { item < 2 ^ width_of shape }
-    ensures { IfOk result (λ r. IfSome r (λ reply. IsBeginning (reply_items reply) (item ∷ []))) }
+    ensures { IfOk result (λ r. IfSome r (λ reply. IsPrefix (reply_items reply) (item ∷ []))) }
 {
     ring_law();
     whole_calls_count();

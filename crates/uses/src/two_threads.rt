@@ -1,7 +1,7 @@
 //! Two threads of one's own over the ends of a ring: what the one took is a beginning of what the other stored, and the ring's words
 //! tell how many these were.
 ghost use Rattle.std.specs.Prelude.{◌≡◌, ◌≤◌, ◌%◌, true, [], IfOk, length, take};
-ghost use Rattle.bits_core.specs.Made.{IsBeginning};
+ghost use Rattle.bits_core.specs.Made.{IsPrefix};
 ghost use Rattle.bits_core.specs.Shape.{AllFit, modulus_of};
 ghost use Rattle.ring_run.specs.Steppers.{IsSameEnd};
 ghost use Rattle.uses.specs.Passed.{HasStored, HasTook};
@@ -108,12 +108,15 @@ fn work_both<R: Threads, A: Allocator, E: PutEnd + Send, F: TakeEnd + Send>(
     join_mut(
         rt,
         &mut || -> usize
-            requires { E.idle putter.now × ((E.end putter.now).list ≡ []) × AllFit (E.end putter.now).ring.shape items.now }
-            ensures { E.idle putter.exit.now × IsSameEnd (E.end putter.entry.now) (E.end putter.exit.now) × (result ≤ length items.entry.now) × HasStored (E.end putter.exit.now) (take result items.entry.now) }
+            requires { E.idle putter.now × ((E.end putter.now).list ≡ []) ×
+                AllFit (E.end putter.now).ring.shape items.now }
+            ensures { E.idle putter.exit.now × IsSameEnd (E.end putter.entry.now) (E.end putter.exit.now) ×
+                (result ≤ length items.entry.now) × HasStored (E.end putter.exit.now) (take result items.entry.now) }
         { put_each(putter, items, calls) },
         &mut || -> Result<(), RunFault>
             requires { (taken.now.items ≡ []) × F.idle taker.now × ((F.end taker.now).list ≡ []) }
-            ensures { F.idle taker.exit.now × IsSameEnd (F.end taker.entry.now) (F.end taker.exit.now) × IfOk result (λ _. HasTook (F.end taker.exit.now) taken.exit.now.items) }
+            ensures { F.idle taker.exit.now × IsSameEnd (F.end taker.entry.now) (F.end taker.exit.now) ×
+                IfOk result (λ _. HasTook (F.end taker.exit.now) taken.exit.now.items) }
         { take_each(taken, taker, calls) },
     )
 }
@@ -142,9 +145,10 @@ pub fn pass_through<R: Threads, A: Allocator + Copy>(
     calls: u64,
 ) -> Result<Passed<A>, RunFault>
     requires { AllFit shape items.now }
-    ensures prefix { IfOk result (λ r. IsBeginning r.taken.items (take r.stored items.now)) }
+    ensures prefix { IfOk result (λ r. IsPrefix r.taken.items (take r.stored items.now)) }
     ensures all { IfOk result (λ r. r.told ≡ true → r.taken.items ≡ take r.stored items.now) }
-    ensures counts { IfOk result (λ r. (r.counts.0 ≡ r.stored % modulus_of shape) × (r.counts.1 ≡ length r.taken.items % modulus_of shape)) }
+    ensures counts { IfOk result (λ r. (r.counts.0 ≡ r.stored % modulus_of shape) ×
+        (r.counts.1 ≡ length r.taken.items % modulus_of shape)) }
 {
     ring_law();
     whole_calls_count();

@@ -14,8 +14,8 @@ use Rattle.bits_core.specs.declared.shapes.Shape.{Shape}
 use Rattle.bits_core.specs.Shape.{capacity_of, width_of}
 use Rattle.bits_core.specs.Bits.{is_by}
 use Rattle.bits_core.specs.Intervals.{IsAccess, Overlap, first_place}
-use Rattle.bits_core.specs.Laws.{OwnHasPlace}
-use Rattle.bits_core.specs.Made.{Made, Read, Write, access_of, own, place_of, IsPlaceOf, IsMadeAt}
+use Rattle.bits_core.specs.Laws.{SubhistoryHasPlace}
+use Rattle.bits_core.specs.Made.{Made, Read, Write, access_of, subhistory, place_of, IsPlaceOf, IsMadeAt}
 use Rattle.register_core.specs.Row.{RowWrite, row_bit, writes_in}
 use Rattle.register_core.specs.Word.{digit, digit_reads, digit_writes, word_read, word_write}
 use Rattle.register_core.specs.ScanState.{zero_reads, scan_phrase, row_read_by}
@@ -368,14 +368,14 @@ ends_within h s a start stop r =
 
 -- the word that an access is one of has an interval, which the access lies in
 around :
-    OwnHasPlace → (s : Side) (h : List Event) (m : ℕ) (x : Made) (start stop word long : ℕ) → IsMadeAt s h m x start stop →
+    SubhistoryHasPlace → (s : Side) (h : List Event) (m : ℕ) (x : Made) (start stop word long : ℕ) → IsMadeAt s h m x start stop →
     word ≤ 2 * m → 2 * m + 2 ≤ word + long → (a : ℕ) × (b : ℕ) × IsInterval s h word (word + long - 1) a b × (a ≤ start) × (stop ≤ b)
 around has_place s h m x start stop word long r low high =
-    let begun : 2 * m < length (own s h) = omega (arith, r.start_is.past, clock_within s h (suc start)) in
+    let begun : 2 * m < length (subhistory s h) = omega (arith, r.start_is.past, clock_within s h (suc start)) in
     let a : ℕ = place_of s h word in
     let at_a : IsPlaceOf s h word a = has_place s h word (omega (arith, low, begun)) in
     let before : a ≤ start = in_order s h word (2 * m) a start low at_a r.start_is in
-    elim (at_most_or_above (length (own s h)) (word + long - 1)) [
+    elim (at_most_or_above (length (subhistory s h)) (word + long - 1)) [
       | inl l ↦ (a, length h, record { begins = at_a; ends = inr (l, refl) }, before, ends_within h s _ start stop r.access)
       | inr l ↦ (
           let b : ℕ = place_of s h (word + long - 1) in

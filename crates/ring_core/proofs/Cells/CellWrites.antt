@@ -17,7 +17,7 @@ use Rattle.bits_core.specs.Shape.{IsByRightSide}
 use Rattle.bits_core.specs.Bits.{same_side, doer, begun_access, is_by}
 use Rattle.bits_core.specs.Intervals.{IsWrite}
 use Rattle.bits_core.specs.Lawful.{IsLawful}
-use Rattle.bits_core.specs.Made.{Made, Read, Write, begin_event, end_event, events_of, own, clock, IsBeginning}
+use Rattle.bits_core.specs.Made.{Made, Read, Write, begin_event, end_event, events_of, subhistory, clock, IsPrefix}
 use Rattle.register_core.specs.Row.{RowWrite, row_write}
 use Rattle.register_core.specs.WordLaw.{number_in_cell, cell_write, cell_writes}
 use Rattle.ring_core.proofs.Machines.Following.{events_of-append, length-events}
@@ -55,12 +55,12 @@ AllRight shape h = (place : ℕ) (e : Event) → slice_get h place ≡ Some e �
 
 by_owner :
     (j : ℕ) (e : Event) (h : List Event) (b : Bool) → is_by P e ≡ b → (b ≡ false → cell_write j e ≡ None) →
-    cell_writes j h ≡ cell_writes j (own P h) → cell_writes j (e ∷ h) ≡ cell_writes j (own P (e ∷ h))
+    cell_writes j h ≡ cell_writes j (subhistory P h) → cell_writes j (e ∷ h) ≡ cell_writes j (subhistory P (e ∷ h))
 by_owner j e h true by none rest = rw by (ap (cons_option (cell_write j e)) rest)
 by_owner j e h false by none rest = rw by (ap (λ o. cons_option o (cell_writes j h)) (none refl) ∙ rest)
 
 -- so the writes to a cell are among the producer's own events
-own_writes : (shape : Shape) (j : ℕ) (h : List Event) → AllRight shape h → cell_writes j h ≡ cell_writes j (own P h)
+own_writes : (shape : Shape) (j : ℕ) (h : List Event) → AllRight shape h → cell_writes j h ≡ cell_writes j (subhistory P h)
 own_writes shape j [] right = refl
 own_writes shape j (e ∷ h) right =
     let first : IsByRightSide shape e = right 0 e refl in
@@ -87,24 +87,24 @@ events_write j (Write b v ∷ made) = made_writes_cons j (Write b v) made (no_ro
 
 -- a side's events before a place are those of its first accesses
 own_before :
-    (s : Side) (h : List Event) (before behind : List Made) (t : ℕ) → IsBeginning (own s h) (events_of s (before ++ behind)) →
-    clock s h t ≡ 2 * length before → own s (take t h) ≡ events_of s before
+    (s : Side) (h : List Event) (before behind : List Made) (t : ℕ) → IsPrefix (subhistory s h) (events_of s (before ++ behind)) →
+    clock s h t ≡ 2 * length before → subhistory s (take t h) ≡ events_of s before
 own_before s h before behind t (rest, e) count =
-    let parts : own s (take t h) ++ own s (drop t h) ≡ own s h = sym (filter-append (is_by s) (take t h) (drop t h)) ∙ ap (own s) (take-append-drop t h) in
-    let more : List Event = own s (drop t h) ++ rest in
-    let all : own s (take t h) ++ more ≡ events_of s before ++ events_of s behind =
-    sym (append_assoc (own s (take t h)) (own s (drop t h)) rest) ∙ ap (λ l. l ++ rest) parts ∙ e ∙ events_of-append s before behind in
-    let (none, is, other) = cut (events_of s before) (events_of s behind) (own s (take t h)) more (omega (arith, count, length-events s before)) all in
+    let parts : subhistory s (take t h) ++ subhistory s (drop t h) ≡ subhistory s h = sym (filter-append (is_by s) (take t h) (drop t h)) ∙ ap (subhistory s) (take-append-drop t h) in
+    let more : List Event = subhistory s (drop t h) ++ rest in
+    let all : subhistory s (take t h) ++ more ≡ events_of s before ++ events_of s behind =
+    sym (append_assoc (subhistory s (take t h)) (subhistory s (drop t h)) rest) ∙ ap (λ l. l ++ rest) parts ∙ e ∙ events_of-append s before behind in
+    let (none, is, other) = cut (events_of s before) (events_of s behind) (subhistory s (take t h)) more (omega (arith, count, length-events s before)) all in
     by_length none is (omega (arith, count, length-events s before, ap length is, length-append (events_of s before) none))
   where
-    by_length : (none : List Event) → own s (take t h) ≡ events_of s before ++ none → length none ≡ 0 → own s (take t h) ≡ events_of s before
+    by_length : (none : List Event) → subhistory s (take t h) ≡ events_of s before ++ none → length none ≡ 0 → subhistory s (take t h) ≡ events_of s before
     by_length [] is n = is ∙ append-nil (events_of s before)
     by_length (x ∷ none) is n = absurd (omega (arith, n))
 
 -- as many writes to a cell began before a place as its first accesses have
 pub writes_before :
     (shape : Shape) (h : List Event) → IsLawful shape h → (j : ℕ) (before behind : List Made) (t : ℕ) →
-    IsBeginning (own P h) (events_of P (before ++ behind)) → clock P h t ≡ 2 * length before → cell_writes j (take t h) ≡ to_cell j before
+    IsPrefix (subhistory P h) (events_of P (before ++ behind)) → clock P h t ≡ 2 * length before → cell_writes j (take t h) ≡ to_cell j before
 writes_before shape h lawful j before behind t follows count =
     own_writes shape j (take t h) (λ place e there. (lawful.each place e (taken_from h t place e there)).right_side) ∙
     ap (cell_writes j) (own_before P h before behind t follows count) ∙ events_write j before

@@ -13,7 +13,7 @@ use Rattle.bits_core.specs.Shape.{capacity_of, width_of}
 use Rattle.bits_core.specs.Intervals as intervals
 use Rattle.bits_core.specs.Intervals.{IsWrite, end_of}
 use Rattle.bits_core.specs.Lawful.{IsLawful}
-use Rattle.bits_core.specs.Made.{Made, Write, events_of, own, clock, place_of, IsBeginning}
+use Rattle.bits_core.specs.Made.{Made, Write, events_of, subhistory, clock, place_of, IsPrefix}
 use Rattle.register_core.specs.Word.{digit}
 use Rattle.register_core.specs.WordLaw.{cell_writes, IsDigitWrite, IsWordWrite, IsWordRead, IsLastWord, NoWordEnded, WordIsSafe, WritesWords}
 use Rattle.register_core.specs.MadeReads.{begin_place, end_place, WordReadsAreMade}
@@ -82,8 +82,8 @@ larger_multiple a b w l =
 module _ (facts : OwnFacts) (word_is_safe : WordIsSafe) (writes_made : CellWritesAreMade) (reads_made : WordReadsAreMade)
     (shape : Shape) (h : List Event) (lawful : IsLawful shape h) (looks looks' : List Look) (behind : List Made)
     (none : (j : ℕ) → to_cell j behind ≡ [])
-    (follows : IsBeginning (own P h) (events_of P (look_accesses P shape first_count looks behind)))
-    (follows' : IsBeginning (own C h) (events_of C (look_accesses C shape first_count looks' [])))
+    (follows : IsPrefix (subhistory P h) (events_of P (look_accesses P shape first_count looks behind)))
+    (follows' : IsPrefix (subhistory C h) (events_of C (look_accesses C shape first_count looks' [])))
     (fits : ItemsFit shape (spans P shape first_count looks)) (fits' : ItemsFit shape (spans C shape first_count looks')) where
   abbrev all : List Made
   all = look_accesses P shape first_count looks behind
@@ -127,7 +127,7 @@ module _ (facts : OwnFacts) (word_is_safe : WordIsSafe) (writes_made : CellWrite
   digits_before j item place r d t l at =
       let g : DigitTime all j d item place (r.nth * width) = digit_time width all r.front r.back j item place (r.nth * width) d r.is r.place_is r.written l in
       let x : Made = Write (Cell j d) (digit d item) in
-      let follows_parts : IsBeginning (own P h) (events_of P (g.before ++ x ∷ g.after)) = subst (λ m. IsBeginning (own P h) (events_of P m)) g.is follows in
+      let follows_parts : IsPrefix (subhistory P h) (events_of P (g.before ++ x ∷ g.after)) = subst (λ m. IsPrefix (subhistory P h) (events_of P m)) g.is follows in
       ap length (writes_before shape h lawful j g.before (x ∷ g.after) t follows_parts (omega (arith, at, g.place_is))) ∙ g.written
 
   -- the digit write of a put's word that has begun
@@ -136,10 +136,10 @@ module _ (facts : OwnFacts) (word_is_safe : WordIsSafe) (writes_made : CellWrite
     stop : ℕ
     write : IsDigitWrite j h (nth * width + d) start stop
     starts : IsPlace (clock P h) (place + 2 * d) start
-    ended : suc (place + 2 * d) < length (own P h) → clock P h stop ≡ suc (place + 2 * d)
+    ended : suc (place + 2 * d) < length (subhistory P h) → clock P h stop ≡ suc (place + 2 * d)
 
   digit_begun :
-      (j item place : ℕ) (r : WordTime shape looks behind first_count j item place) (d : ℕ) → d < width → place + 2 * d < length (own P h) → Digit j d place r.nth
+      (j item place : ℕ) (r : WordTime shape looks behind first_count j item place) (d : ℕ) → d < width → place + 2 * d < length (subhistory P h) → Digit j d place r.nth
   digit_begun j item place r d l begun =
       let g : DigitTime all j d item place (r.nth * width) = digit_time width all r.front r.back j item place (r.nth * width) d r.is r.place_is r.written l in
       let x : Made = Write (Cell j d) (digit d item) in
@@ -244,7 +244,7 @@ module _ (facts : OwnFacts) (word_is_safe : WordIsSafe) (writes_made : CellWrite
       (j t item place : ℕ) (r : WordTime shape looks behind first_count j item place) → place + 2 * width ≤ clock P h t → EndedWord j t place r.nth
   ended_word j t item place r ended =
       let some : 0 < width = shape.has_digits in
-      let all_come : place + 2 * width ≤ length (own P h) = omega (arith, ended, clock_within P h t) in
+      let all_come : place + 2 * width ≤ length (subhistory P h) = omega (arith, ended, clock_within P h t) in
       let first : Digit j 0 place r.nth = digit_begun j item place r 0 some (omega (arith, all_come, some)) in
       let last : Digit j (width - 1) place r.nth = digit_begun j item place r (width - 1) (omega (arith, some)) (omega (arith, all_come, some)) in
       let no_more : r.nth * width + 0 ≡ r.nth * width = omega arith in
@@ -375,12 +375,12 @@ module _ (facts : OwnFacts) (word_is_safe : WordIsSafe) (writes_made : CellWrite
     abbrev ends_at : ℕ → ℕ
     ends_at = end_place C h (length read_accesses.front)
 
-    all_come : suc e ≤ length (own C h)
+    all_come : suc e ≤ length (subhistory C h)
     all_come = omega (arith, clock_within C h (suc last), last_is)
 
     first_place : begins_at 0 ≡ first
     first_place =
-        let below : from < length (own C h) = omega (arith, all_come, end_from, some_digit) in
+        let below : from < length (subhistory C h) = omega (arith, all_come, end_from, some_digit) in
         ap (place_of C h) (omega (arith, read_accesses.place_is)) ∙ sym (one_place facts.has_place C h from first first_is)
 
     last_place : ends_at (width - 1) ≡ last
@@ -454,7 +454,7 @@ module _ (facts : OwnFacts) (word_is_safe : WordIsSafe) (writes_made : CellWrite
 
     cell_is_written : WritesWords width cell h items
     cell_is_written =
-        subst (λ l. IsBeginning (cell_writes cell h) l) (looks_to_cell shape cell first_count looks behind (none cell))
+        subst (λ l. IsPrefix (cell_writes cell h) l) (looks_to_cell shape cell first_count looks behind (none cell))
         (writes_made shape h lawful all follows cell)
 
     -- it gives the item that was written last

@@ -6,14 +6,14 @@ use Rattle.bits_core.specs.declared.events.Side.TheVariants.{P, C}
 use Rattle.bits_core.specs.declared.events.Event.{Event}
 use Rattle.bits_core.specs.declared.shapes.Shape.{Shape}
 use Rattle.bits_core.specs.Shape.{batch_of, capacity_of, take_batch_of}
-use Rattle.bits_core.specs.Made.{own, clock}
+use Rattle.bits_core.specs.Made.{subhistory, clock}
 use Rattle.ring_core.specs.Counts.{Count, first_count}
 use Rattle.ring_core.specs.Puts.{Puts, put_phrases}
 use Rattle.ring_core.specs.Takes.{Take, Item, ItemAfterClose, Empty, Takes, taken_in, count_after, take_phrase, take_phrases, end_phrase, take_program}
 use Rattle.ring_core.specs.Items.{events_in, items_put, items_taken, Tells}
 use Rattle.ring_core.proofs.EndedCounts.{taken_begun}
 use Rattle.ring_core.specs.RingLaw.{IsRun}
-use Rattle.ring_core.specs.Linear.{Operation, EndsBefore, KeepsTime, IsLinearizableRun}
+use Rattle.ring_core.specs.Linear.{TimedOperation, EndsBefore, KeepsTime, IsLinearizableRun}
 use Rattle.ring_core.proofs.OverSpans.Spans.{counts_begun, counts_ended}
 use Rattle.ring_core.proofs.OverSpans.LookSpans.{put_spans, take_spans}
 use Rattle.ring_core.proofs.OverSpans.RingOfSpans.{LawOfSpans}
@@ -33,15 +33,15 @@ use Rattle.ring_core.proofs.Linear.TakeTurns.{take_turns, take_turns-ops, take_t
 use Rattle.ring_core.proofs.Linear.TakeTurnFacts.{takes_hold}
 
 -- an order that keeps time from the front keeps it
-in_behind : (xs ys : List Operation) (b : Operation) → In b (xs ++ b ∷ ys)
+in_behind : (xs ys : List TimedOperation) (b : TimedOperation) → In b (xs ++ b ∷ ys)
 in_behind [] ys b = inl refl
 in_behind (x ∷ xs) ys b = inr (in_behind xs ys b)
 
-timely_at : (h : List Event) (a b : Operation) (front between rest : List Operation) → IsTimely h (front ++ a ∷ between ++ b ∷ rest) → ¬ EndsBefore h b a
+timely_at : (h : List Event) (a b : TimedOperation) (front between rest : List TimedOperation) → IsTimely h (front ++ a ∷ between ++ b ∷ rest) → ¬ EndsBefore h b a
 timely_at h a b [] between rest r = r.0 b (in_behind between rest b)
 timely_at h a b (o ∷ front) between rest r = timely_at h a b front between rest r.1
 
-keeps_time : (h : List Event) (order : List Operation) → IsTimely h order → KeepsTime h order
+keeps_time : (h : List Event) (order : List TimedOperation) → IsTimely h order → KeepsTime h order
 keeps_time h order r a b front between rest e = timely_at h a b front between rest (subst (IsTimely h) e r)
 
 -- once all takes have ended, as many items were taken as they take
@@ -73,16 +73,16 @@ all_taken shape c (Empty seen ∷ takes) t l =
 
 module _ (facts : OwnFacts) (shape : Shape) (h : List Event) (puts : Puts) (takes : Takes) (run : IsRun shape h puts takes) (law : LawOfSpans shape h puts takes) where
   abbrev xs : List PutOp
-  xs = put_turns shape first_count 0 puts.puts puts.closes (length (own P h))
+  xs = put_turns shape first_count 0 puts.puts puts.closes (length (subhistory P h))
 
   abbrev ys : List TakeOp
-  ys = take_turns h shape first_count 0 takes.takes takes.end (length (own C h))
+  ys = take_turns h shape first_count 0 takes.takes takes.end (length (subhistory C h))
 
   abbrev stored : ℕ
-  stored = counts_begun (put_spans shape puts) (length (own P h))
+  stored = counts_begun (put_spans shape puts) (length (subhistory P h))
 
   abbrev taken : ℕ
-  taken = taken_begun shape first_count takes.takes (length (own C h))
+  taken = taken_begun shape first_count takes.takes (length (subhistory C h))
 
   abbrev events : ℕ
   events = events_in (put_phrases shape first_count puts.puts)
@@ -98,8 +98,8 @@ module _ (facts : OwnFacts) (shape : Shape) (h : List Event) (puts : Puts) (take
     up_c = clock_rises C h;
   }
 
-  taken_is : counts_begun (take_spans shape takes) (length (own C h)) ≡ taken
-  taken_is = sym (taken_begun_is shape first_count takes.takes takes.end (length (own C h)))
+  taken_is : counts_begun (take_spans shape takes) (length (subhistory C h)) ≡ taken
+  taken_is = sym (taken_begun_is shape first_count takes.takes takes.end (length (subhistory C h)))
 
   more_stored : taken ≤ stored
   more_stored =
@@ -110,8 +110,8 @@ module _ (facts : OwnFacts) (shape : Shape) (h : List Event) (puts : Puts) (take
       omega (arith, (law.within (length h)).1, ap (counts_begun (put_spans shape puts)) (clock_end P h), ap (counts_begun (take_spans shape takes)) (clock_end C h), taken_is)
 
   -- as many items are put as are stored
-  stored_is : length (items_put shape first_count puts.puts (length (own P h))) ≡ stored
-  stored_is = ap length (puts_items shape first_count puts.puts (length (own P h))) ∙ length-begun_items (put_spans shape puts) (length (own P h))
+  stored_is : length (items_put shape first_count puts.puts (length (subhistory P h))) ≡ stored
+  stored_is = ap length (puts_items shape first_count puts.puts (length (subhistory P h))) ∙ length-begun_items (put_spans shape puts) (length (subhistory P h))
 
   told :
       (t : ℕ) → Tells takes.end → 0 + events_in (take_phrases shape first_count takes.takes ++ end_phrase takes.end) ≤ clock C h t →
@@ -121,7 +121,7 @@ module _ (facts : OwnFacts) (shape : Shape) (h : List Event) (puts : Puts) (take
       let ended : events_in (take_program shape takes) ≤ clock C h t = omega (arith, l) in
       let now = law.closed t t (tells, ended) (omega arith) in
       let (put, taken', closes, behind) = law.closed t u (tells, ended) (omega arith) in
-      let last : clock P h u ≡ length (own P h) = omega (arith, clock_within P h u, clock_rises P h (length h) u (omega arith), clock_end P h) in
+      let last : clock P h u ≡ length (subhistory P h) = omega (arith, clock_within P h u, clock_rises P h (length h) u (omega arith), clock_end P h) in
       let fewer : events_in (take_phrases shape first_count takes.takes) ≤ clock C h u =
       omega (arith, ended, clock_rises C h t u (omega arith), length-append (take_phrases shape first_count takes.takes) (end_phrase takes.end)) in (
         now.3,
@@ -138,18 +138,18 @@ module _ (facts : OwnFacts) (shape : Shape) (h : List Event) (puts : Puts) (take
 
   takes_numbered : TakesNumbered taken 0 ys
   takes_numbered =
-      let whole : length (own C h) - 0 ≡ length (own C h) = omega arith in
-      take_turns-numbered h shape first_count 0 takes.takes takes.end (length (own C h)) taken (omega (arith, ap (taken_begun shape first_count takes.takes) whole))
+      let whole : length (subhistory C h) - 0 ≡ length (subhistory C h) = omega arith in
+      take_turns-numbered h shape first_count 0 takes.takes takes.end (length (subhistory C h)) taken (omega (arith, ap (taken_begun shape first_count takes.takes) whole))
 
   puts_numbered : PutsNumbered stored 0 xs
   puts_numbered =
-      let whole : length (own P h) - 0 ≡ length (own P h) = omega arith in
-      put_turns-numbered shape first_count 0 puts.puts puts.closes (length (own P h)) stored (omega (arith, ap (counts_begun (put_spans shape puts)) whole))
+      let whole : length (subhistory P h) - 0 ≡ length (subhistory P h) = omega arith in
+      put_turns-numbered shape first_count 0 puts.puts puts.closes (length (subhistory P h)) stored (omega (arith, ap (counts_begun (put_spans shape puts)) whole))
 
-  items_are : items_put_by xs ≡ items_put shape first_count puts.puts (length (own P h))
+  items_are : items_put_by xs ≡ items_put shape first_count puts.puts (length (subhistory P h))
   items_are =
-      let whole : length (own P h) - 0 ≡ length (own P h) = omega arith in
-      put_turns-items shape first_count 0 puts.puts puts.closes (length (own P h)) ∙ ap (items_put shape first_count puts.puts) whole
+      let whole : length (subhistory P h) - 0 ≡ length (subhistory P h) = omega arith in
+      put_turns-items shape first_count 0 puts.puts puts.closes (length (subhistory P h)) ∙ ap (items_put shape first_count puts.puts) whole
 
   ordered : Ordered h (capacity_of shape) (queue [] false) xs ys
   ordered =
@@ -159,15 +159,15 @@ module _ (facts : OwnFacts) (shape : Shape) (h : List Event) (puts : Puts) (take
       let take_holds =
       takes_hold facts shape h puts takes law (proper_takes shape takes run.takes_follow.are) first_count 0 takes.takes takes.end
       (λ s n x st. stands_at (take_spans shape takes) s (0 + s) n (0 + n) x (omega arith) (omega arith) st) told in
-      let (rest, same) = taken_from (items_put shape first_count puts.puts (length (own P h))) taken 0 ys takes_numbered (λ y i. (take_holds y i).1) in
+      let (rest, same) = taken_from (items_put shape first_count puts.puts (length (subhistory P h))) taken 0 ys takes_numbered (λ y i. (take_holds y i).1) in
       goes h (capacity_of shape) events stored taken (counts_begun (put_spans shape puts)) (counts_ended (put_spans shape puts)) (counts_begun (take_spans shape takes))
       (counts_ended (take_spans shape takes)) tallies more_stored within ys xs 0 [] false
       (record {
         fits = omega arith;
         puts_numbered = puts_numbered;
         takes_numbered = takes_numbered;
-        puts_sorted = put_turns-sorted shape first_count 0 puts.puts puts.closes (length (own P h));
-        takes_sorted = take_turns-sorted h shape first_count 0 takes.takes takes.end (length (own C h));
+        puts_sorted = put_turns-sorted shape first_count 0 puts.puts puts.closes (length (subhistory P h));
+        takes_sorted = take_turns-sorted h shape first_count 0 takes.takes takes.end (length (subhistory C h));
         puts = put_holds;
         takes = λ y i. (take_holds y i).0;
         fulls = λ x i s. omega (arith, (put_holds x i).0.full s 0 (omega (arith, clock-zero P h)));
@@ -175,8 +175,8 @@ module _ (facts : OwnFacts) (shape : Shape) (h : List Event) (puts : Puts) (take
         opened = λ x i. refl;
         ends = λ y i s.
             (let (behind, closes) = (take_holds y i).2 s in
-            subst (λ b. IsClosedBy false (put_turns shape first_count 0 puts.puts b (length (own P h)))) (sym closes)
-            (put_turns-closed shape first_count 0 puts.puts (length (own P h)) (omega (arith, behind))));
+            subst (λ b. IsClosedBy false (put_turns shape first_count 0 puts.puts b (length (subhistory P h)))) (sym closes)
+            (put_turns-closed shape first_count 0 puts.puts (length (subhistory P h)) (omega (arith, behind))));
         same = (rest, items_are ∙ same);
       })
 
@@ -185,8 +185,8 @@ module _ (facts : OwnFacts) (shape : Shape) (h : List Event) (puts : Puts) (take
       let r = ordered in (
         r.order,
         record {
-          producer = r.producer ∙ put_turns-ops shape first_count 0 puts.puts puts.closes (length (own P h));
-          consumer = r.consumer ∙ take_turns-ops h shape first_count 0 takes.takes takes.end (length (own C h));
+          producer = r.producer ∙ put_turns-ops shape first_count 0 puts.puts puts.closes (length (subhistory P h));
+          consumer = r.consumer ∙ take_turns-ops h shape first_count 0 takes.takes takes.end (length (subhistory C h));
           legal = r.legal;
           keeps_time = keeps_time h r.order r.timely;
         },

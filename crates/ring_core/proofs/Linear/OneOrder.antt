@@ -6,16 +6,16 @@ use Rattle.bits_core.specs.declared.events.Event.{Event}
 use Rattle.bits_core.specs.Made.{clock}
 use Rattle.std.proofs.lemmas.Bool.{false≢true}
 use Rattle.queue_calls.specs.Queue.{Queue, queue, exactly, Step, IsLegal}
-use Rattle.ring_core.specs.Linear.{Operation, done_by, of_side, EndsBefore}
+use Rattle.ring_core.specs.Linear.{TimedOperation, done_by, of_side, EndsBefore}
 use Rattle.ring_core.proofs.Readings.Cuts.{at_most_or_above}
 use Rattle.ring_core.proofs.Linear.Turns.{In, Putting, Enqueues, Fulls, Closes, Taking, Dequeues, Empties, Ends, IsEnqueue, IsFull, IsClose, IsEmpty, IsEnd, PutOp, TakeOp, put_op, take_op, put_does, take_does, Tallies, PutFact, TakeFact, PutsTo, TakesTo, puts_to_itself, takes_to_itself, Needs, Must, May, NoMust, find_must, may}
 
 -- the operations of each side
-abbrev pub put_ops : List PutOp → List Operation
+abbrev pub put_ops : List PutOp → List TimedOperation
 put_ops [] = []
 put_ops (x ∷ xs) = put_op x ∷ put_ops xs
 
-abbrev pub take_ops : List TakeOp → List Operation
+abbrev pub take_ops : List TakeOp → List TimedOperation
 take_ops [] = []
 take_ops (y ∷ ys) = take_op y ∷ take_ops ys
 
@@ -77,22 +77,22 @@ IsClosedBy closed [] = closed ≡ true
 IsClosedBy closed (x ∷ xs) = IsClosedBy (closed_by closed x.kind) xs
 
 -- no operation stands behind one before which it had ended, told from the front
-abbrev pub IsTimely : List Event → List Operation → Type 0
+abbrev pub IsTimely : List Event → List TimedOperation → Type 0
 IsTimely h [] = Unit {0}
-IsTimely h (o ∷ order) = ((o' : Operation) → In o' order → ¬ EndsBefore h o' o) × IsTimely h order
+IsTimely h (o ∷ order) = ((o' : TimedOperation) → In o' order → ¬ EndsBefore h o' o) × IsTimely h order
 
 -- an operation of one of the two lists
-abbrev pub IsOf : List PutOp → List TakeOp → Operation → Type 0
+abbrev pub IsOf : List PutOp → List TakeOp → TimedOperation → Type 0
 IsOf xs ys o = ((x : PutOp) × In x xs × (o ≡ put_op x)) ⊎ ((y : TakeOp) × In y ys × (o ≡ take_op y))
 
 -- an order of the operations to come, from a queue on
 pub record Ordered (h : List Event) (capacity : ℕ) (q : Queue) (xs : List PutOp) (ys : List TakeOp) : Type 0 where
-  pub order : List Operation
+  pub order : List TimedOperation
   pub producer : of_side P order ≡ put_ops xs
   pub consumer : of_side C order ≡ take_ops ys
   pub legal : IsLegal (exactly capacity) q (done_by order)
   pub timely : IsTimely h order
-  pub members : (o : Operation) → In o order → IsOf xs ys o
+  pub members : (o : TimedOperation) → In o order → IsOf xs ys o
 
 -- What holds where the operations to come are these, so many items were taken, and these are in the queue.
 pub record Standing (capacity stored taken : ℕ) (IsPut : PutOp → Type 0) (IsTake : TakeOp → Type 0) (k : ℕ) (items : List ℕ) (closed : Bool) (xs : List PutOp) (ys : List TakeOp) : Type 0 where
@@ -190,13 +190,13 @@ module _ (h : List Event) (capacity events stored taken : ℕ) (puts_begun puts_
     ];
   }
     where
-      by_put : (o : Operation) (t : ℕ) (x' : PutOp) → o ≡ put_op x' → IsPut x' × PutsTo x x' → o.stop ≤ clock o.side h t → clock P h t ≤ x.start → ⊥
+      by_put : (o : TimedOperation) (t : ℕ) (x' : PutOp) → o ≡ put_op x' → IsPut x' × PutsTo x x' → o.stop ≤ clock o.side h t → clock P h t ≤ x.start → ⊥
       by_put o t x' e (px', to) a b =
-          let a' : x'.stop ≤ clock P h t = subst (λ (z : Operation). z.stop ≤ clock z.side h t) e a in
+          let a' : x'.stop ≤ clock P h t = subst (λ (z : TimedOperation). z.stop ≤ clock z.side h t) e a in
           omega (arith, a', b, px'.0.some, to.start)
 
-      by_take : (o : Operation) (t : ℕ) (y : TakeOp) → o ≡ take_op y → May h capacity x y → o.stop ≤ clock o.side h t → clock P h t ≤ x.start → ⊥
-      by_take o t y e m a b = m.time t (subst (λ (z : Operation). z.stop ≤ clock z.side h t) e a) b
+      by_take : (o : TimedOperation) (t : ℕ) (y : TakeOp) → o ≡ take_op y → May h capacity x y → o.stop ≤ clock o.side h t → clock P h t ≤ x.start → ⊥
+      by_take o t y e m a b = m.time t (subst (λ (z : TimedOperation). z.stop ≤ clock z.side h t) e a) b
 
   -- an operation of the consumer first
   take_first :
@@ -221,14 +221,14 @@ module _ (h : List Event) (capacity events stored taken : ℕ) (puts_begun puts_
     ];
   }
     where
-      by_put : (o : Operation) (t : ℕ) (x : PutOp) → o ≡ put_op x → ¬ Must h capacity x y → o.stop ≤ clock o.side h t → clock C h t ≤ y.start → ⊥
+      by_put : (o : TimedOperation) (t : ℕ) (x : PutOp) → o ≡ put_op x → ¬ Must h capacity x y → o.stop ≤ clock o.side h t → clock C h t ≤ y.start → ⊥
       by_put o t x e not a b =
-          let a' : x.stop ≤ clock P h t = subst (λ (z : Operation). z.stop ≤ clock z.side h t) e a in
+          let a' : x.stop ≤ clock P h t = subst (λ (z : TimedOperation). z.stop ≤ clock z.side h t) e a in
           not (inl (omega (arith, a', tallies.up_p t y.place (qy.last_place t b))))
 
-      by_take : (o : Operation) (t : ℕ) (y' : TakeOp) → o ≡ take_op y' → IsTake y' × TakesTo y y' → o.stop ≤ clock o.side h t → clock C h t ≤ y.start → ⊥
+      by_take : (o : TimedOperation) (t : ℕ) (y' : TakeOp) → o ≡ take_op y' → IsTake y' × TakesTo y y' → o.stop ≤ clock o.side h t → clock C h t ≤ y.start → ⊥
       by_take o t y' e (qy', to) a b =
-          let a' : y'.stop ≤ clock C h t = subst (λ (z : Operation). z.stop ≤ clock z.side h t) e a in
+          let a' : y'.stop ≤ clock C h t = subst (λ (z : TimedOperation). z.stop ≤ clock z.side h t) e a in
           omega (arith, a', b, qy'.some, to.start)
 
   -- an operation of the producer that may stand before all of the consumer that are to come

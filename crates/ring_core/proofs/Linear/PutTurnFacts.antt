@@ -6,7 +6,7 @@ use Rattle.bits_core.specs.declared.events.Side.TheVariants.{P, C}
 use Rattle.bits_core.specs.declared.events.Event.{Event}
 use Rattle.bits_core.specs.declared.shapes.Shape.{Shape}
 use Rattle.bits_core.specs.Shape.{batch_of, capacity_of, take_batch_of}
-use Rattle.bits_core.specs.Made.{own, clock, place_of, IsPlaceOf}
+use Rattle.bits_core.specs.Made.{subhistory, clock, place_of, IsPlaceOf}
 use Rattle.register_core.specs.ScanState.{scan_phrase, row_read_by}
 use Rattle.ring_core.specs.Counts.{number_past, Count, first_count, batch_phrase}
 use Rattle.ring_core.specs.Puts.{Put, Stored, Full, Puts, stored_after, words_phrase, put_phrase, put_phrases}
@@ -169,7 +169,7 @@ module _ (facts : OwnFacts) (shape : Shape) (h : List Event) (puts : Puts) (take
   abbrev IsPut : PutOp → Type 0
   IsPut x =
       PutFact h (capacity_of shape) all_events (counts_begun (put_spans shape puts)) (counts_ended (put_spans shape puts)) (counts_ended (take_spans shape takes)) x ×
-      (IsEnqueue x.kind → x.number < counts_begun (put_spans shape puts) (length (own P h)))
+      (IsEnqueue x.kind → x.number < counts_begun (put_spans shape puts) (length (subhistory P h)))
 
   -- the spans of puts stand among those of all, behind so many events and a count
   abbrev Stand : Count → ℕ → List Put → Type 0
@@ -192,9 +192,9 @@ module _ (facts : OwnFacts) (shape : Shape) (h : List Event) (puts : Puts) (take
   pub puts_hold :
       (c : Count) (start : ℕ) (rest : List Put) (closes : Bool) → Stand c start rest → start + events_in (put_phrases shape c rest) ≡ all_events →
       c.number + in_all (spans P shape c (put_looks rest)) ≡ in_all (put_spans shape puts) →
-      (x : PutOp) → In x (put_turns shape c start rest closes (length (own P h))) → IsPut x
+      (x : PutOp) → In x (put_turns shape c start rest closes (length (subhistory P h))) → IsPut x
   puts_hold c start [] false stand e f x i = absurd i
-  puts_hold c start [] true stand e f x i = elim (in_if x (nat_lt start (length (own P h))) (put_turn c.number Closes start (start + 2) ∷ []) i).1 [
+  puts_hold c start [] true stand e f x i = elim (in_if x (nat_lt start (length (subhistory P h))) (put_turn c.number Closes start (start + 2) ∷ []) i).1 [
     | inl g ↦ subst IsPut (sym g) ((
       record {
         some = omega arith;
@@ -211,7 +211,7 @@ module _ (facts : OwnFacts) (shape : Shape) (h : List Event) (puts : Puts) (take
   puts_hold c start (Stored seen items ∷ rest) closes stand e f x i =
       let stop : ℕ = start + put_long shape c (Stored seen items) in
       let next : Count = stored_after shape c (Stored seen items) in
-      let t : ℕ = length (own P h) in
+      let t : ℕ = length (subhistory P h) in
       let test : Bool = nat_lt (start + until_count shape c seen items) t in
       let y : Span = span_of P shape c (look seen (Passes items)) in
       let long = long_is shape c seen items in
@@ -240,7 +240,7 @@ module _ (facts : OwnFacts) (shape : Shape) (h : List Event) (puts : Puts) (take
       ]
   puts_hold c start (Full seen ∷ rest) closes stand e f x i =
       let stop : ℕ = start + put_long shape c (Full seen) in
-      let t : ℕ = length (own P h) in
+      let t : ℕ = length (subhistory P h) in
       let y : Span = span_of P shape c (look seen Stops) in
       let some = put_some shape c seen in
       let st : IsSpanAt (put_spans shape puts) start c.number y =

@@ -9,7 +9,7 @@ use Rattle.ring_core.specs.Counts.{number_past, Count, batch_phrase}
 use Rattle.ring_core.specs.Puts.{Put, Stored, Full, stored_after, accesses_before_count, words_phrase, put_phrase}
 use Rattle.ring_core.specs.Items.{events_in}
 use Rattle.queue_calls.specs.Queue.{Enqueue}
-use Rattle.ring_core.specs.Linear.{Operation, operations, put_operations}
+use Rattle.ring_core.specs.Linear.{TimedOperation, operations, put_operations}
 use Rattle.ring_core.proofs.OverSpans.Spans.{Span, counts, before_count, whole, counts_begun, IsSpanAt}
 use Rattle.ring_core.proofs.CountRow.{past_is}
 use Rattle.ring_core.proofs.Machines.Lengths.{length-scan}
@@ -127,7 +127,7 @@ one_test : (a n t : ℕ) → nat_lt (a + n) t ≡ nat_le (a + suc n) t
 one_test a n t = grind (arith, nat_tests)
 
 join_ops :
-    (t t' : Bool) (xs ys : List PutOp) (os rest : List Operation) → t ≡ t' → put_ops xs ≡ os → put_ops ys ≡ rest →
+    (t t' : Bool) (xs ys : List PutOp) (os rest : List TimedOperation) → t ≡ t' → put_ops xs ≡ os → put_ops ys ≡ rest →
     put_ops ((if t then xs else []) ++ ys) ≡ (if t' then os else []) ++ rest
 join_ops t t' xs ys os rest e f g =
     put_ops-append (if t then xs else []) ys ∙ ap₂ (λ a b. a ++ b) (put_ops-if t xs ∙ ap (λ l. if t then l else []) f ∙ ap (λ (b : Bool). if b then os else []) e) g

@@ -9,7 +9,7 @@ use Rattle.std.proofs.lemmas.Option.{slice_get_within}
 use Rattle.ring_core.proofs.OverSpans.Looks.{words_are}
 use Rattle.ring_core.proofs.Cells.CellPlaces.{multiple_up}
 use Rattle.ring_core.proofs.CountRow.{past_is}
-use Rattle.bits_core.specs.Made.{Made, own, clock, place_of, IsPlaceOf}
+use Rattle.bits_core.specs.Made.{Made, subhistory, clock, place_of, IsPlaceOf}
 use Rattle.ring_core.specs.Counts.{Count, first_count}
 use Rattle.ring_core.specs.Puts.{Puts, put_phrases}
 use Rattle.ring_core.specs.Takes.{Take, Item, ItemAfterClose, Empty, End, Open, Closed, Takes, count_after, taken_in, take_phrase, take_phrases, end_phrase}
@@ -34,15 +34,15 @@ module _ (facts : OwnFacts) (shape : Shape) (h : List Event) (puts : Puts) (take
   all_events = events_in (put_phrases shape first_count puts.puts)
 
   abbrev all_stored : ℕ
-  all_stored = counts_begun (put_spans shape puts) (length (own P h))
+  all_stored = counts_begun (put_spans shape puts) (length (subhistory P h))
 
   abbrev all_items : List ℕ
-  all_items = items_put shape first_count puts.puts (length (own P h))
+  all_items = items_put shape first_count puts.puts (length (subhistory P h))
 
   abbrev IsTake : TakeOp → Type 0
   IsTake y =
       TakeFact h all_events all_stored (counts_ended (put_spans shape puts)) (counts_begun (take_spans shape takes)) (counts_ended (take_spans shape takes)) y ×
-      ItemIs all_items y.kind y.number × (IsEnd y.kind → (all_events < length (own P h)) × (puts.closes ≡ true))
+      ItemIs all_items y.kind y.number × (IsEnd y.kind → (all_events < length (subhistory P h)) × (puts.closes ≡ true))
 
   -- these spans stand among those of all takes, behind so many events and items
   abbrev Stand : List Span → ℕ → ℕ → Type 0
@@ -74,13 +74,13 @@ module _ (facts : OwnFacts) (shape : Shape) (h : List Event) (puts : Puts) (take
       omega (arith, here, begun_up (take_batch_of shape) (take_spans shape takes) proper_takes i (start + 0) (omega (arith, l)))
 
   -- the place where an operation begins
-  first_at : (start : ℕ) → start < length (own C h) → IsPlaceOf C h start (place_of C h start)
+  first_at : (start : ℕ) → start < length (subhistory C h) → IsPlaceOf C h start (place_of C h start)
   first_at start l = facts.has_place C h start l
 
   -- a take of items, by its first span, and that which has its count write
   dequeue_holds :
       (k start stop start' : ℕ) (items : List ℕ) (y z : Span) → IsSpanAt (take_spans shape takes) start k y → IsSpanAt (take_spans shape takes) start' k z →
-      z.outcome ≡ Passes items → stop ≡ start' + whole z → start' + before_count z < length (own C h) → start < stop → start ≤ start' →
+      z.outcome ≡ Passes items → stop ≡ start' + whole z → start' + before_count z < length (subhistory C h) → start < stop → start ≤ start' →
       (o : TakeOp) → In o (dequeue_turns h k start stop items) → IsTake o
   dequeue_holds k start stop start' items y z st st' passes stops begun some order o i =
       let d = dequeue_of h k start stop items o i in
@@ -109,11 +109,11 @@ module _ (facts : OwnFacts) (shape : Shape) (h : List Event) (puts : Puts) (take
 
   pub takes_hold :
       (c : Count) (start : ℕ) (rest : List Take) (end : End) → Stand (spans C shape c (take_looks rest end)) start c.number → Told c start rest end →
-      (y : TakeOp) → In y (take_turns h shape c start rest end (length (own C h))) → IsTake y
+      (y : TakeOp) → In y (take_turns h shape c start rest end (length (subhistory C h))) → IsTake y
   takes_hold c start [] Open stand told y i = absurd i
   takes_hold c start [] (Closed seen again) stand told y i =
       let k : ℕ = c.number in
-      let t : ℕ = length (own C h) in
+      let t : ℕ = length (subhistory C h) in
       let stop : ℕ = start + end_long seen again in
       let u : Span = span_of C shape c (look seen (Asks true)) in
       let z : Span = span_of C shape c (look again Stops) in
@@ -140,7 +140,7 @@ module _ (facts : OwnFacts) (shape : Shape) (h : List Event) (puts : Puts) (take
       ]
   takes_hold c start (Item seen items ∷ rest) end stand told y i =
       let k : ℕ = c.number in
-      let t : ℕ = length (own C h) in
+      let t : ℕ = length (subhistory C h) in
       let x : Take = Item seen items in
       let next : Count = count_after shape c x in
       let stop : ℕ = start + take_long shape c x in
@@ -158,7 +158,7 @@ module _ (facts : OwnFacts) (shape : Shape) (h : List Event) (puts : Puts) (take
       ]
   takes_hold c start (ItemAfterClose seen again items ∷ rest) end stand told y i =
       let k : ℕ = c.number in
-      let t : ℕ = length (own C h) in
+      let t : ℕ = length (subhistory C h) in
       let x : Take = ItemAfterClose seen again items in
       let next : Count = count_after shape c x in
       let stop : ℕ = start + take_long shape c x in
@@ -180,7 +180,7 @@ module _ (facts : OwnFacts) (shape : Shape) (h : List Event) (puts : Puts) (take
       ]
   takes_hold c start (Empty seen ∷ rest) end stand told y i =
       let k : ℕ = c.number in
-      let t : ℕ = length (own C h) in
+      let t : ℕ = length (subhistory C h) in
       let x : Take = Empty seen in
       let stop : ℕ = start + take_long shape c x in
       let u : Span = span_of C shape c (look seen (Asks false)) in

@@ -15,7 +15,7 @@ use Rattle.std.specs.Prelude.{map}
 use Rattle.ring_core.proofs.CountRow.{past_is}
 use Rattle.ring_core.specs.Items.{events_in}
 use Rattle.ring_core.proofs.EndedCounts.{take_before_count, taken_begun}
-use Rattle.ring_core.specs.Linear.{Operation, operations, take_effect, take_operations}
+use Rattle.ring_core.specs.Linear.{TimedOperation, operations, take_effect, take_operations}
 use Rattle.ring_core.specs.Linear as linear
 use Rattle.ring_core.proofs.OverSpans.Spans.{Passes, Asks, before_count, whole}
 use Rattle.ring_core.proofs.OverSpans.LookSpans.{look, span_of}
@@ -68,7 +68,7 @@ turns_of-ops h k (Item seen items) start stop = dequeue_turns-ops h k start stop
 turns_of-ops h k (ItemAfterClose seen again items) start stop = dequeue_turns-ops h k start stop items
 turns_of-ops h k (Empty seen) start stop = refl
 
-join_ops : (test : Bool) (xs ys : List TakeOp) (os rest : List Operation) → take_ops xs ≡ os → take_ops ys ≡ rest →
+join_ops : (test : Bool) (xs ys : List TakeOp) (os rest : List TimedOperation) → take_ops xs ≡ os → take_ops ys ≡ rest →
     take_ops ((if test then xs else []) ++ ys) ≡ (if test then os else []) ++ rest
 join_ops true xs ys os rest e f = take_ops-append xs ys ∙ ap₂ (λ a b. a ++ b) e f
 join_ops false xs ys os rest e f = f

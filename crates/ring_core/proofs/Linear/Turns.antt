@@ -4,8 +4,8 @@ use Rattle.bits_core.specs.declared.events.Side.{Side}
 use Rattle.bits_core.specs.declared.events.Side.TheVariants.{P, C}
 use Rattle.bits_core.specs.declared.events.Event.{Event}
 use Rattle.bits_core.specs.Made.{clock}
-use Rattle.queue_calls.specs.Queue.{Does, Enqueue, FindFull, Close, Dequeue, FindEmpty, FindClosed}
-use Rattle.ring_core.specs.Linear.{Operation}
+use Rattle.queue_calls.specs.Queue.{Operation, Enqueue, FindFull, Close, Dequeue, FindEmpty, FindClosed}
+use Rattle.ring_core.specs.Linear.{TimedOperation}
 use Rattle.ring_core.proofs.Readings.Cuts.{at_most_or_above}
 
 -- x is one of the list
@@ -54,12 +54,12 @@ IsEnd (Dequeues item) = ⊥
 IsEnd Empties = ⊥
 IsEnd Ends = Unit {0}
 
-abbrev pub put_does : Putting → Does
+abbrev pub put_does : Putting → Operation
 put_does (Enqueues item) = Enqueue item
 put_does Fulls = FindFull
 put_does Closes = Close
 
-abbrev pub take_does : Taking → Does
+abbrev pub take_does : Taking → Operation
 take_does (Dequeues item) = Dequeue item
 take_does Empties = FindEmpty
 take_does Ends = FindClosed
@@ -79,13 +79,13 @@ pub record TakeOp : Type 0 where
   pub stop : ℕ
   pub place : ℕ
 
-abbrev pub operation : Side → ℕ → ℕ → Does → Operation
+abbrev pub operation : Side → ℕ → ℕ → Operation → TimedOperation
 operation side start stop does = record { side = side; does = does; start = start; stop = stop }
 
-abbrev pub put_op : PutOp → Operation
+abbrev pub put_op : PutOp → TimedOperation
 put_op x = operation P x.start x.stop (put_does x.kind)
 
-abbrev pub take_op : TakeOp → Operation
+abbrev pub take_op : TakeOp → TimedOperation
 take_op y = operation C y.start y.stop (take_does y.kind)
 
 -- what holds of the counts of both sides, of which so many have begun and ended with so many own events

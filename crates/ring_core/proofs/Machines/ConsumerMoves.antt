@@ -13,8 +13,8 @@ use Rattle.register_core.specs.WordState.{ReaderState, ReaderStands, IsReadOf, d
 use Rattle.register_core.specs.ScanState.{ScanState, ScanStands, scan_phrase, row_read_by, IsScanOf}
 use Rattle.register_core.specs.Unary.{count_writes}
 use Rattle.register_core.specs.UnaryState.{UnaryState, UnaryStands}
-use Rattle.ring_core.specs.declared.consumers.TakeReply.{TakeReply}
-use Rattle.ring_core.specs.declared.consumers.TakeReply.TheVariants as replies
+use Rattle.ring_core.specs.declared.replies.TakeReply.{TakeReply}
+use Rattle.ring_core.specs.declared.replies.TakeReply.TheVariants as replies
 use Rattle.ring_core.specs.declared.consumers.Stage.{Stage}
 use Rattle.ring_core.specs.declared.consumers.Stage.TheVariants.{Idle, Scanning, Checking, Rescanning, Loading, Counting}
 use Rattle.ring_core.specs.Counts.{ShowsItem, distance, number_past, Count, first_count, batch_phrase}

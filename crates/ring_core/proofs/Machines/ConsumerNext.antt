@@ -10,7 +10,7 @@ use Rattle.bits_core.specs.declared.events.Access.TheVariants as begins
 use Rattle.bits_core.specs.declared.shapes.Shape.{Shape}
 use Rattle.bits_core.specs.Shape.{belongs, capacity_of, modulus_of, take_batch_of, width_of}
 use Rattle.bits_core.specs.Open.{IsOpenRight}
-use Rattle.bits_core.specs.Made.{Made, Read, answered, IsBeginning}
+use Rattle.bits_core.specs.Made.{Made, Read, answered, IsPrefix}
 use Rattle.register_core.specs.Machine.{IsNext}
 use Rattle.register_core.specs.Row.{row_bit}
 use Rattle.register_core.specs.Word.{word_read}
@@ -39,7 +39,7 @@ use Rattle.ring_core.proofs.Machines.ConsumerMoves.{made_at, open_at}
 begins_take :
     (shape : Shape) (wanted : ℕ) (calls : Takes) (made part : List Made) (x : Take) → AreTakes shape 0 calls.takes calls.end → calls.end ≡ Open →
     IsTake shape (count_taken shape calls).number x × IsTakeOf shape (count_taken shape calls).number wanted x → made ≡ take_phrases shape first_count calls.takes ++ part →
-    IsBeginning part (take_phrase shape (count_taken shape calls) x) → BeginsTake shape wanted calls made
+    IsPrefix part (take_phrase shape (count_taken shape calls) x) → BeginsTake shape wanted calls made
 begins_take shape wanted calls made part x are o (is, of) made_is (rest, e) =
     let front : List Made = take_phrases shape first_count calls.takes in (
       and_take calls x,
@@ -55,11 +55,11 @@ begins_take shape wanted calls made part x are o (is, of) made_is (rest, e) =
 begins_found :
     (shape : Shape) (wanted : ℕ) (calls : Takes) (made part : List Made) (look : Finding) (items : List ℕ) → AreTakes shape 0 calls.takes calls.end → calls.end ≡ Open →
     Finds shape (count_taken shape calls).number wanted look (length items) → IsTakeBatch shape items → made ≡ take_phrases shape first_count calls.takes ++ part →
-    IsBeginning part (finding_phrase look ++ items_phrase shape (count_taken shape calls) items) → BeginsTake shape wanted calls made
+    IsPrefix part (finding_phrase look ++ items_phrase shape (count_taken shape calls) items) → BeginsTake shape wanted calls made
 begins_found shape wanted calls made part look items are o finds batch made_is begins_look =
     let c : Count = count_taken shape calls in
     begins_take shape wanted calls made part (take_of look items) are o (take_of-is shape c.number wanted look items finds batch) made_is
-    (subst (λ l. IsBeginning part l) (sym (take_of-phrase shape c look items)) begins_look)
+    (subst (λ l. IsPrefix part l) (sym (take_of-phrase shape c look items)) begins_look)
 
 -- items of 0 that a take of so many takes where the count shows some
 zeros_for :
@@ -89,7 +89,7 @@ zeros_for shape k wanted c some few below shows =
 begins_end :
     (shape : Shape) (wanted : ℕ) (calls : Takes) (made part : List Made) (seen again : ℕ) → AreTakes shape 0 calls.takes calls.end → calls.end ≡ Open →
     SeesNone shape (count_taken shape calls).number seen → SeesNone shape (count_taken shape calls).number again → made ≡ take_phrases shape first_count calls.takes ++ part →
-    IsBeginning part (end_phrase (Closed seen again)) → BeginsTake shape wanted calls made
+    IsPrefix part (end_phrase (Closed seen again)) → BeginsTake shape wanted calls made
 begins_end shape wanted calls made part seen again are o none none' made_is (rest, e) =
     let front : List Made = take_phrases shape first_count calls.takes in (
       and_end calls seen again,
@@ -110,7 +110,7 @@ shows_or_none shape c k = between_or_not (distance (modulus_of shape) c k) (capa
 -- accesses that begin the first scan of a take
 begins_scan :
     (shape : Shape) (wanted : ℕ) → 1 ≤ wanted → wanted ≤ take_batch_of shape → (calls : Takes) (made part : List Made) (c : ℕ) → AreTakes shape 0 calls.takes calls.end → calls.end ≡ Open → c < modulus_of shape →
-    made ≡ take_phrases shape first_count calls.takes ++ part → IsBeginning part (scan_phrase (row_read_by C) c) → BeginsTake shape wanted calls made
+    made ≡ take_phrases shape first_count calls.takes ++ part → IsPrefix part (scan_phrase (row_read_by C) c) → BeginsTake shape wanted calls made
 begins_scan shape wanted some few calls made part c are o below made_is begins_c =
     let n : Count = count_taken shape calls in
     let k : ℕ = n.number in
@@ -126,7 +126,7 @@ begins_scan shape wanted some few calls made part c are o below made_is begins_c
 begins_rescan :
     (shape : Shape) (wanted : ℕ) → 1 ≤ wanted → wanted ≤ take_batch_of shape → (calls : Takes) (made part : List Made) (seen again : ℕ) → AreTakes shape 0 calls.takes calls.end → calls.end ≡ Open →
     SeesNone shape (count_taken shape calls).number seen → again < modulus_of shape → made ≡ take_phrases shape first_count calls.takes ++ part →
-    IsBeginning part (finding_phrase (Twice seen again)) → BeginsTake shape wanted calls made
+    IsPrefix part (finding_phrase (Twice seen again)) → BeginsTake shape wanted calls made
 begins_rescan shape wanted some few calls made part seen again are o sees below made_is begins_scans =
     let n : Count = count_taken shape calls in
     let k : ℕ = n.number in
@@ -270,7 +270,7 @@ next_rescan p calls made due e stands taking scans due_is =
     let (c, below, begins_c) = scan_goes_on p.shape C p.scan reads answer scans scan_stands one in
     let again : List Made = scan_phrase (row_read_by C) c in
     begins_rescan p.shape p.wanted taking.some taking.few calls (made ++ x) (checked ++ (reads ++ x)) seen c stands.are o sees below (ap (λ l. l ++ x) made_is ∙ longer front checked reads x)
-    (subst (λ l. IsBeginning (checked ++ (reads ++ x)) l) (append_assoc scan (Read X true ∷ []) again) (begins_behind checked (reads ++ x) again begins_c)))
+    (subst (λ l. IsPrefix (checked ++ (reads ++ x)) l) (append_assoc scan (Read X true ∷ []) again) (begins_behind checked (reads ++ x) again begins_c)))
 
 read_due : (r : ReaderState) → r.read < r.width → due_read r ≡ Some (begins.Read (Cell r.cell r.read))
 read_due r l = grind (arith, nat_tests)
@@ -346,7 +346,7 @@ next_word p calls made due e stands taking loads less few unread due_is next =
       fit = fit-append p.shape p.items (item ∷ later) fit (fits, zeros-fit p.shape (p.most - suc (length p.items)));
     })
     (ap (λ l. l ++ x) made_is ∙ longer front begun reads x)
-    (subst (λ l. IsBeginning (begun ++ (reads ++ x)) l) (one_more p.shape c look p.items item later)
+    (subst (λ l. IsPrefix (begun ++ (reads ++ x)) l) (one_more p.shape c look p.items item later)
     (begins_behind begun (reads ++ x) (word ++ count) (begins_more (reads ++ x) word count begins_item))))
 
 -- the count
@@ -382,7 +382,7 @@ next_count_write p calls made due e stands taking least size few side some due_i
     (subst (λ m. Finds p.shape c.number p.wanted look m) (sym size) finds)
     (record { some = omega (arith, size, least); few = omega (arith, size, few, taking.few); fit = fit })
     (ap (λ l. l ++ y) made_is ∙ longer front (scans ++ words) writes y)
-    (subst (λ l. IsBeginning ((scans ++ words) ++ (writes ++ y)) l) (append_assoc scans words count)
+    (subst (λ l. IsPrefix ((scans ++ words) ++ (writes ++ y)) l) (append_assoc scans words count)
     (begins_behind (scans ++ words) (writes ++ y) count (rest, all))))
 
 -- ---- the last bit of the producer's count

@@ -3,7 +3,7 @@ use Rattle.std.proofs.Common.{◌≡◌, ◌*◌, List, [], ◌∷◌, ◌++◌,
 use Rattle.bits_core.specs.declared.events.Side.{Side}
 use Rattle.bits_core.specs.declared.events.Side.TheVariants.{P, C}
 use Rattle.bits_core.specs.declared.events.Event.{Event}
-use Rattle.bits_core.specs.Made.{Made, begin_event, end_event, events_of, IsBeginning}
+use Rattle.bits_core.specs.Made.{Made, begin_event, end_event, events_of, IsPrefix}
 use Rattle.ring_core.specs.Following.{PutsAreFollowed, TakesAreFollowed}
 
 -- the events of two lists of accesses, one after the other
@@ -17,7 +17,7 @@ length-events s [] = refl
 length-events s (x ∷ xs) = omega (arith, length-events s xs)
 
 -- what begins the events of a beginning begins the events of the whole
-through : (s : Side) (es : List Event) (made whole : List Made) → IsBeginning made whole → IsBeginning es (events_of s made) → IsBeginning es (events_of s whole)
+through : (s : Side) (es : List Event) (made whole : List Made) → IsPrefix made whole → IsPrefix es (events_of s made) → IsPrefix es (events_of s whole)
 through s es made whole (more, e) (rest, f) = (
   rest ++ events_of s more,
   sym (append_assoc es rest (events_of s more)) ∙ ap (λ l. l ++ events_of s more) f ∙ sym (events_of-append s made more) ∙ ap (events_of s) e,

@@ -8,7 +8,7 @@ use Rattle.bits_core.specs.declared.events.Access.{Access}
 use Rattle.bits_core.specs.declared.events.Access.TheVariants as begins
 use Rattle.bits_core.specs.declared.shapes.Shape.{Shape}
 use Rattle.bits_core.specs.Shape.{capacity_of, modulus_of, width_of}
-use Rattle.bits_core.specs.Made.{Made, Read, access_of, answered, IsBeginning}
+use Rattle.bits_core.specs.Made.{Made, Read, access_of, answered, IsPrefix}
 use Rattle.register_core.specs.Word.{digit, digit_reads}
 use Rattle.register_core.specs.ScanState.{zero_reads, scan_phrase, row_read_by}
 use Rattle.ring_core.specs.Counts.{ShowsItem, distance, number_past, Count, first_count, batch_phrase}
@@ -58,7 +58,7 @@ access_back (begins.Write b v) answer = refl
 
 -- accesses that begin two lists which ask alike
 same_next :
-    (made xs ys : List Made) (a b : Access) → AskAlike xs ys → IsBeginning (made ++ answered a true ∷ []) xs → IsBeginning (made ++ answered b true ∷ []) ys → a ≡ b
+    (made xs ys : List Made) (a b : Access) → AskAlike xs ys → IsPrefix (made ++ answered a true ∷ []) xs → IsPrefix (made ++ answered b true ∷ []) ys → a ≡ b
 same_next made xs ys a b alike (rest, e) (rest', e') =
     sym (access_back a true) ∙
     alike-next made rest rest' (answered a true) (answered b true) (subst (λ l. AskAlike l ((made ++ answered b true ∷ []) ++ rest')) (sym e) (subst (λ l. AskAlike xs l) (sym e') alike)) ∙
@@ -157,8 +157,8 @@ puts-go_on_by_one shape calls (Put items) made a b goes goes' =
     let c : Count = count_of shape calls in
     same_next made (front ++ put_phrase shape c x) (front ++ put_phrase shape c y) a b
     (alike-behind front (put_phrase shape c x) (put_phrase shape c y) (puts_alike shape c items x y of of'))
-    (subst (λ l. IsBeginning (made ++ answered a true ∷ []) l) (ap (put_program shape) more_is ∙ put_calls.program-push shape calls x) begins_x)
-    (subst (λ l. IsBeginning (made ++ answered b true ∷ []) l) (ap (put_program shape) more_is' ∙ put_calls.program-push shape calls y) begins_y)
+    (subst (λ l. IsPrefix (made ++ answered a true ∷ []) l) (ap (put_program shape) more_is ∙ put_calls.program-push shape calls x) begins_x)
+    (subst (λ l. IsPrefix (made ++ answered b true ∷ []) l) (ap (put_program shape) more_is' ∙ put_calls.program-push shape calls y) begins_y)
 puts-go_on_by_one shape calls Close made a b goes goes' =
     let (more, (more_is, are, open_still), begins_x) = goes true (λ due. refl) in
     let (more', (more_is', are', open_still'), begins_y) = goes' true (λ due. refl) in
@@ -303,5 +303,5 @@ takes-go_on_by_one shape wanted calls made a b goes goes' =
     let (ys, looks', ys_is) = more_looks shape wanted calls more' has' in
     let front : List Made = take_phrases shape first_count calls.takes in
     same_next made (front ++ xs) (front ++ ys) a b (alike-behind front xs ys (once_alike shape (takes.count_taken shape calls) wanted xs ys looks looks'))
-    (subst (λ l. IsBeginning (made ++ answered a true ∷ []) l) xs_is begins_x)
-    (subst (λ l. IsBeginning (made ++ answered b true ∷ []) l) ys_is begins_y)
+    (subst (λ l. IsPrefix (made ++ answered a true ∷ []) l) xs_is begins_x)
+    (subst (λ l. IsPrefix (made ++ answered b true ∷ []) l) ys_is begins_y)

@@ -10,7 +10,7 @@ use Rattle.bits_core.specs.declared.events.Access.TheVariants as begins
 use Rattle.bits_core.specs.declared.shapes.Shape.{Shape}
 use Rattle.bits_core.specs.Shape.{modulus_of}
 use Rattle.bits_core.specs.Open.{IsOpenRight}
-use Rattle.bits_core.specs.Made.{Made, Read, Write, access_of, answered, IsBeginning}
+use Rattle.bits_core.specs.Made.{Made, Read, Write, access_of, answered, IsPrefix}
 use Rattle.register_core.specs.Row.{RowWrite, row_bit}
 use Rattle.register_core.specs.ScanState.{ScanState, ScanStands, BeginsScan, zero_reads, scan_phrase, row_read_by, due_scan}
 use Rattle.register_core.specs.Unary.{clearing, unary_phrase}
@@ -20,11 +20,11 @@ use Rattle.ring_core.specs.Calls.{LastBitIsDue, IsScanning}
 -- ---- beginnings
 
 -- a beginning of a list begins the list with more behind it
-pub begins_more : (part whole more : List Made) → IsBeginning part whole → IsBeginning part (whole ++ more)
+pub begins_more : (part whole more : List Made) → IsPrefix part whole → IsPrefix part (whole ++ more)
 begins_more part whole more (rest, e) = (rest ++ more, sym (append_assoc part rest more) ∙ ap (λ l. l ++ more) e)
 
 -- and with the same before both
-pub begins_behind : (front part whole : List Made) → IsBeginning part whole → IsBeginning (front ++ part) (front ++ whole)
+pub begins_behind : (front part whole : List Made) → IsPrefix part whole → IsPrefix (front ++ part) (front ++ whole)
 begins_behind front part whole (rest, e) = (rest, append_assoc front part rest ∙ ap (λ l. front ++ l) e)
 
 -- accesses that go on are fewer than those that they begin

@@ -15,8 +15,8 @@ use Rattle.register_core.specs.WordState.{WriterState, WriterStands, due_write}
 use Rattle.register_core.specs.ScanState.{ScanState, ScanStands, scan_phrase, row_read_by, IsScanOf}
 use Rattle.register_core.specs.Unary.{count_writes}
 use Rattle.register_core.specs.UnaryState.{UnaryState, UnaryStands}
-use Rattle.ring_core.specs.declared.producers.BatchReply.{BatchReply}
-use Rattle.ring_core.specs.declared.producers.BatchReply.TheVariants as reply
+use Rattle.ring_core.specs.declared.replies.BatchReply.{BatchReply}
+use Rattle.ring_core.specs.declared.replies.BatchReply.TheVariants as reply
 use Rattle.ring_core.specs.declared.producers.Stage.{Stage}
 use Rattle.ring_core.specs.declared.producers.Stage.TheVariants.{Idle, Scanning, Storing, Counting, Closing}
 use Rattle.ring_core.specs.Counts.{LeavesRoom, LeavesRoomFor, distance, number_past, Count, first_count, batch_phrase}

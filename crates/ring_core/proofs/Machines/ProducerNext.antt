@@ -10,7 +10,7 @@ use Rattle.bits_core.specs.declared.events.Access.TheVariants as begins
 use Rattle.bits_core.specs.declared.shapes.Shape.{Shape}
 use Rattle.bits_core.specs.Shape.{belongs, capacity_of, modulus_of, width_of}
 use Rattle.bits_core.specs.Open.{IsOpenRight}
-use Rattle.bits_core.specs.Made.{Made, Write, answered, IsBeginning}
+use Rattle.bits_core.specs.Made.{Made, Write, answered, IsPrefix}
 use Rattle.register_core.specs.Machine.{IsNext}
 use Rattle.register_core.specs.Row.{row_bit}
 use Rattle.register_core.specs.Word.{digit, word_write}
@@ -39,7 +39,7 @@ use Rattle.ring_core.proofs.Machines.ProducerMoves.{made_at, open_at}
 begins_put :
     (shape : Shape) (items : List ℕ) (calls : Puts) (made part : List Made) (x : puts.Put) → ArePuts shape 0 calls.puts → calls.closes ≡ false →
     IsPutOf shape (count_of shape calls).number items x → IsPut shape (count_of shape calls).number x →
-    made ≡ put_phrases shape first_count calls.puts ++ part → IsBeginning part (put_phrase shape (count_of shape calls) x) → BeginsCall shape (Put items) calls made
+    made ≡ put_phrases shape first_count calls.puts ++ part → IsPrefix part (put_phrase shape (count_of shape calls) x) → BeginsCall shape (Put items) calls made
 begins_put shape items calls made part x are o of is made_is (rest, e) =
     let front : List Made = put_phrases shape first_count calls.puts in (
       and_put calls x,
@@ -60,7 +60,7 @@ room_for shape n c items room = (omega (arith, room), omega (arith, room, (taken
 -- accesses that begin the scan of a put
 begins_scan :
     (shape : Shape) (items : List ℕ) (calls : Puts) (made part : List Made) (c : ℕ) → ArePuts shape 0 calls.puts → calls.closes ≡ false → IsBatch shape items →
-    c < modulus_of shape → made ≡ put_phrases shape first_count calls.puts ++ part → IsBeginning part (scan_phrase (row_read_by P) c) → BeginsCall shape (Put items) calls made
+    c < modulus_of shape → made ≡ put_phrases shape first_count calls.puts ++ part → IsPrefix part (scan_phrase (row_read_by P) c) → BeginsCall shape (Put items) calls made
 begins_scan shape items calls made part c are o batch below made_is (rest, e) =
     let count : Count = count_of shape calls in
     let n : ℕ = count.number % modulus_of shape in

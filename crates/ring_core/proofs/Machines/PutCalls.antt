@@ -7,7 +7,7 @@ use Rattle.bits_core.specs.Shape.{modulus_of}
 use Rattle.bits_core.specs.Made.{Write}
 use Rattle.register_core.specs.Row.{RowWrite, row_bit, bits_after, first_bits, writes_in}
 use Rattle.register_core.specs.Unary.{unary_phrase, unary_writes, row_writes, writes_of, count_writes}
-use Rattle.ring_core.specs.declared.producers.BatchReply.{BatchReply}
+use Rattle.ring_core.specs.declared.replies.BatchReply.{BatchReply}
 use Rattle.ring_core.specs.Counts.{number_past, Count, first_count, count_bits, batch_phrase, IsCount}
 use Rattle.ring_core.specs.Puts.{Put, Puts, Stored, Full, stored_after, stored_count, put_values, put_phrase, put_phrases, close_phrase, put_program, IsPut, ArePuts}
 use Rattle.ring_core.specs.ProducerCalls.{count_of, values_of, and_put, put_reply_to, last_put_reply}

@@ -9,7 +9,7 @@ use Rattle.bits_core.specs.Made.{Made, Write}
 use Rattle.register_core.specs.Row.{RowWrite, row_bit, bits_after, first_bits, writes_in}
 use Rattle.register_core.specs.Unary.{unary_phrase, unary_writes, row_writes, writes_of, count_writes}
 use Rattle.register_core.specs.Phrases.{word_read}
-use Rattle.ring_core.specs.declared.consumers.TakeReply.{TakeReply}
+use Rattle.ring_core.specs.declared.replies.TakeReply.{TakeReply}
 use Rattle.ring_core.specs.Counts.{number_past, Count, first_count, count_bits, batch_phrase, IsCount}
 use Rattle.ring_core.specs.Takes.{Take, Takes, Item, ItemAfterClose, Empty, Open, Closed, count_after, taken_count, words_read, items_phrase, take_phrase, take_phrases, end_phrase, take_program, IsTake, SeesNone, IsTakeBatch, AreTakes}
 use Rattle.ring_core.specs.Items.{taken_of}

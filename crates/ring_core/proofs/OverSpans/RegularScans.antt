@@ -9,8 +9,8 @@ use Rattle.bits_core.specs.declared.shapes.Shape.{Shape}
 use Rattle.bits_core.specs.Shape.{batch_of, modulus_of, take_batch_of}
 use Rattle.bits_core.specs.Bits.{other}
 use Rattle.bits_core.specs.Lawful.{IsLawful}
-use Rattle.bits_core.specs.Laws.{OwnHasPlace}
-use Rattle.bits_core.specs.Made.{Made, own, clock, place_of, events_of, IsBeginning}
+use Rattle.bits_core.specs.Laws.{SubhistoryHasPlace}
+use Rattle.bits_core.specs.Made.{Made, subhistory, clock, place_of, events_of, IsPrefix}
 use Rattle.register_core.specs.UnaryLaw.{count_write, count_begun, count_ended, WritesUnary, ended_before, begun_before, IsScan, IsRegularValue, UnaryIsRegular}
 use Rattle.register_core.specs.MadeReads.{begin_place, end_place, ScansAreMade}
 use Rattle.register_core.specs.ScanState.{row_read_by}
@@ -36,13 +36,13 @@ bits_of_beginning s xs rest all i e l = ap (λ z. length (count_begun s z)) (sym
 
 module _
     (shape : Shape) (h : List Event) (lawful : IsLawful shape h) (w : Side) (looks : List Look) (behind : List Made)
-    (follows : IsBeginning (own w h) (events_of w (look_accesses w shape first_count looks behind))) where
+    (follows : IsPrefix (subhistory w h) (events_of w (look_accesses w shape first_count looks behind))) where
   -- the writes to its count are those of unary writes of its counts
   pub writes_unary : IsQuiet w behind → WritesUnary w h (counted_in shape looks)
   writes_unary quiet = (
     count_begun w follows.0,
     ap (λ l. l ++ count_begun w follows.0) (count_begun_own shape w h lawful) ∙
-        sym (filter_map-append (count_write w) (own w h) follows.0) ∙ ap (count_begun w) follows.1 ∙ count_writes_are w shape looks behind quiet,
+        sym (filter_map-append (count_write w) (subhistory w h) follows.0) ∙ ap (count_begun w) follows.1 ∙ count_writes_are w shape looks behind quiet,
   )
 
   abbrev events : List Event
@@ -54,7 +54,7 @@ module _
     ended_there place =
         let same : length (count_ended w (take place h)) ≡ bit_writes w events (clock w h place - 1) =
         ap length (count_ended_before shape w h lawful place) ∙
-        bits_of_beginning w (own w h) follows.0 events (clock w h place - 1) follows.1 (omega (arith, clock_within w h place)) in
+        bits_of_beginning w (subhistory w h) follows.0 events (clock w h place - 1) follows.1 (omega (arith, clock_within w h place)) in
         rw same (count_writes_ended most w shape looks behind fits passing (clock w h place))
 
     -- what the unary writes that had begun before a place count, the count writes of its spans that had do
@@ -62,7 +62,7 @@ module _
     begun_there place =
         let same : length (count_begun w (take place h)) ≡ bit_writes w events (clock w h place) =
         ap length (count_begun_before shape w h lawful place) ∙
-        bits_of_beginning w (own w h) follows.0 events (clock w h place) follows.1 (clock_within w h place) in
+        bits_of_beginning w (subhistory w h) follows.0 events (clock w h place) follows.1 (clock_within w h place) in
         rw same (count_writes_begun most w shape looks behind fits passing (clock w h place))
 
     -- so the value that the register gives is one that the spans permit
@@ -82,8 +82,8 @@ module _
 
 -- a scan of a program that has ended is a scan of the history, from the place of its first event to that of its last
 scan_there :
-    OwnHasPlace → ScansAreMade → (shape : Shape) (h : List Event) (s : Side) (looks : List Look) (behind : List Made) →
-    IsBeginning (own s h) (events_of s (look_accesses s shape first_count looks behind)) →
+    SubhistoryHasPlace → ScansAreMade → (shape : Shape) (h : List Event) (s : Side) (looks : List Look) (behind : List Made) →
+    IsPrefix (subhistory s h) (events_of s (look_accesses s shape first_count looks behind)) →
     (start n : ℕ) (x : Span) → IsSpanAt (spans s shape first_count looks) start n x →
     (first last e : ℕ) → IsPlace (clock s h) start first → IsPlace (clock s h) e last → suc e ≡ start + x.scan →
     (from_place : ℕ → ℕ) × (to_place : ℕ → ℕ) × IsScan (other s) h x.seen from_place to_place × (first ≡ from_place 0) × (last ≡ to_place x.seen)
@@ -109,16 +109,16 @@ scan_there has_place scans_made shape h s looks behind follows start n x st firs
 -- the own events of a producer that follows its calls, by its looks
 pub put_events :
     (shape : Shape) (h : List Event) (calls : Puts) → FollowsPuts shape h calls →
-    IsBeginning (own P h) (events_of P (look_accesses P shape first_count (put_looks calls.puts) (close_phrase calls.closes)))
+    IsPrefix (subhistory P h) (events_of P (look_accesses P shape first_count (put_looks calls.puts) (close_phrase calls.closes)))
 put_events shape h calls follows =
-    subst (λ (l : List Made). IsBeginning (own P h) (events_of P l)) (puts_as_looks shape first_count calls.puts calls.closes) follows.events
+    subst (λ (l : List Made). IsPrefix (subhistory P h) (events_of P l)) (puts_as_looks shape first_count calls.puts calls.closes) follows.events
 
 -- and those of a consumer that follows its calls
 pub take_events :
     (shape : Shape) (h : List Event) (calls : Takes) → FollowsTakes shape h calls →
-    IsBeginning (own C h) (events_of C (look_accesses C shape first_count (take_looks calls.takes calls.end) []))
+    IsPrefix (subhistory C h) (events_of C (look_accesses C shape first_count (take_looks calls.takes calls.end) []))
 take_events shape h calls follows =
-    subst (λ (l : List Made). IsBeginning (own C h) (events_of C l)) (takes_as_looks shape first_count calls.takes calls.end) follows.events
+    subst (λ (l : List Made). IsPrefix (subhistory C h) (events_of C l)) (takes_as_looks shape first_count calls.takes calls.end) follows.events
 
 -- the value that the register gives is between those places
 between :
@@ -126,14 +126,14 @@ between :
     IsRegularValue w h values first' last' c → IsRegularValue w h values first last c
 between w h values first last first' last' c e f r = rw (e, f) r
 
-module _ (regular : UnaryIsRegular) (scans_made : ScansAreMade) (has_place : OwnHasPlace) where
+module _ (regular : UnaryIsRegular) (scans_made : ScansAreMade) (has_place : SubhistoryHasPlace) where
   -- the scans of one side are regular, in a lawful history whose two sides follow their programs
   pub regular_scans :
       (shape : Shape) (h : List Event) → IsLawful shape h →
       (s : Side) (looks writes : List Look) (behind behind_writes : List Made) → IsQuiet (other s) behind_writes →
       (most : ℕ) → most < modulus_of shape → AllPassing most writes →
-      IsBeginning (own s h) (events_of s (look_accesses s shape first_count looks behind)) →
-      IsBeginning (own (other s) h) (events_of (other s) (look_accesses (other s) shape first_count writes behind_writes)) →
+      IsPrefix (subhistory s h) (events_of s (look_accesses s shape first_count looks behind)) →
+      IsPrefix (subhistory (other s) h) (events_of (other s) (look_accesses (other s) shape first_count writes behind_writes)) →
       AreRegular (modulus_of shape) (clock s h) (clock (other s) h) (spans s shape first_count looks) (spans (other s) shape first_count writes)
   regular_scans shape h lawful s looks writes behind behind_writes quiet most fits passing follows follows_writes start n x st first last e is_first is_last ends =
       let scan = scan_there has_place scans_made shape h s looks behind follows start n x st first last e is_first is_last ends in

@@ -6,7 +6,7 @@ use Rattle.bits_core.specs.declared.events.Event.{Event}
 use Rattle.bits_core.specs.declared.shapes.Shape.{Shape}
 use Rattle.bits_core.specs.Shape.{batch_of, capacity_of, modulus_of, take_batch_of, width_of}
 use Rattle.bits_core.specs.Intervals as intervals
-use Rattle.bits_core.specs.Made.{own, clock, IsPlaceOf, IsBeginning}
+use Rattle.bits_core.specs.Made.{subhistory, clock, IsPlaceOf, IsPrefix}
 use Rattle.ring_core.specs.Counts.{distance, first_count}
 use Rattle.ring_core.specs.Puts.{Puts, put_phrases}
 use Rattle.ring_core.specs.Takes.{Takes}
@@ -32,15 +32,15 @@ takes_ended shape h takes t = counts_ended (take_spans shape takes) (clock C h t
 -- An ended scan gives, modulo the modulus, the number of the items counted by the other side's count writes up to one: a number
 -- from least to most, not less than that of those which had ended where the scan began, nor more than that of those which had
 -- begun before it ended.
-pub record ReadsCount (modulus : ℕ) (own other : ℕ → ℕ) (writes : List Span) (s : ℕ) (x : Span) (least most : ℕ) : Type 0 where
+pub record ReadsCount (modulus : ℕ) (subhistory other : ℕ → ℕ) (writes : List Span) (s : ℕ) (x : Span) (least most : ℕ) : Type 0 where
   pub number : ℕ
   pub write : ℕ
   pub tallies : number ≡ tally (sizes writes) write
   pub value : x.seen ≡ number % modulus
   pub low : least ≤ number
   pub high : number ≤ most
-  pub not_older : (first : ℕ) → IsPlace own s first → counts_ended writes (other first) ≤ number
-  pub not_newer : (last : ℕ) → IsPlace own (s + (x.scan - 1)) last → number ≤ counts_begun writes (other last)
+  pub not_older : (first : ℕ) → IsPlace subhistory s first → counts_ended writes (other first) ≤ number
+  pub not_newer : (last : ℕ) → IsPlace subhistory (s + (x.scan - 1)) last → number ≤ counts_begun writes (other last)
 
 -- word access number i of a look, from its first begin to its last end, where the look stands at own event s
 abbrev pub IsWordAccess : Side → Shape → List Event → ℕ → Span → ℕ → ℕ → ℕ → Type 0
@@ -55,13 +55,13 @@ IsWithin shape h puts takes =
 -- a put behind n items reads a count from n - capacity - 1 to n
 abbrev pub PutsAreInRange : Shape → List Event → Puts → Takes → Type 0
 PutsAreInRange shape h puts takes =
-    (s n : ℕ) (x : Span) → IsSpanAt (put_spans shape puts) s n x → s + x.scan ≤ length (own P h) →
+    (s n : ℕ) (x : Span) → IsSpanAt (put_spans shape puts) s n x → s + x.scan ≤ length (subhistory P h) →
     ReadsCount (modulus_of shape) (clock P h) (clock C h) (take_spans shape takes) s x (n - (capacity_of shape + take_batch_of shape)) n
 
 -- take number k reads counts from k - batch to k + capacity
 abbrev pub TakesAreInRange : Shape → List Event → Puts → Takes → Type 0
 TakesAreInRange shape h puts takes =
-    (s k : ℕ) (x : Span) → IsSpanAt (take_spans shape takes) s k x → s + x.scan ≤ length (own C h) →
+    (s k : ℕ) (x : Span) → IsSpanAt (take_spans shape takes) s k x → s + x.scan ≤ length (subhistory C h) →
     ReadsCount (modulus_of shape) (clock C h) (clock P h) (put_spans shape puts) s x (k - batch_of shape) (k + capacity_of shape)
 
 -- no word read of a cell overlaps a word write of it
@@ -75,7 +75,7 @@ CellsAreQuiet shape h puts takes =
 -- at every moment the items taken are a prefix of the items put
 abbrev pub TakenArePrefix : Shape → List Event → Puts → Takes → Type 0
 TakenArePrefix shape h puts takes =
-    (t : ℕ) → IsBeginning (items_taken shape first_count takes.takes (clock C h t)) (items_put shape first_count puts.puts (clock P h t))
+    (t : ℕ) → IsPrefix (items_taken shape first_count takes.takes (clock C h t)) (items_put shape first_count puts.puts (clock P h t))
 
 -- word read i of a take behind k items, once it has ended, has item number k + i of those put
 abbrev pub TakesMatchPuts : Shape → List Event → Puts → Takes → Type 0
@@ -87,7 +87,7 @@ TakesMatchPuts shape h puts takes =
 -- close had ended
 abbrev pub EmptyIsFresh : Shape → List Event → Puts → Takes → Type 0
 EmptyIsFresh shape h puts takes =
-    (s k : ℕ) (x : Span) → IsSpanAt (take_spans shape takes) s k x → x.outcome ≡ Asks false → s + before_count x ≤ length (own C h) →
+    (s k : ℕ) (x : Span) → IsSpanAt (take_spans shape takes) s k x → x.outcome ≡ Asks false → s + before_count x ≤ length (subhistory C h) →
     (first : ℕ) → IsPlaceOf C h s first →
     (puts_ended shape h puts first ≤ takes_ended shape h takes first) × (clock P h first < events_in (put_phrases shape first_count puts.puts) + 2)
 
@@ -95,7 +95,7 @@ EmptyIsFresh shape h puts takes =
 -- least the capacity
 abbrev pub FullIsFresh : Shape → List Event → Puts → Takes → Type 0
 FullIsFresh shape h puts takes =
-    (s n : ℕ) (x : Span) → IsSpanAt (put_spans shape puts) s n x → counts x.outcome ≡ 0 → s + x.scan ≤ length (own P h) →
+    (s n : ℕ) (x : Span) → IsSpanAt (put_spans shape puts) s n x → counts x.outcome ≡ 0 → s + x.scan ≤ length (subhistory P h) →
     (first : ℕ) → IsPlaceOf P h s first → takes_ended shape h takes first + capacity_of shape ≤ n
 
 -- a put whose items fill all the room that its scan left: the items stored up to and with it, less the takes of an item that had
@@ -103,14 +103,14 @@ FullIsFresh shape h puts takes =
 abbrev pub FillIsFresh : Shape → List Event → Puts → Takes → Type 0
 FillIsFresh shape h puts takes =
     (s n : ℕ) (x : Span) → IsSpanAt (put_spans shape puts) s n x →
-    distance (modulus_of shape) (n % modulus_of shape) x.seen + counts x.outcome ≡ capacity_of shape → s + x.scan ≤ length (own P h) →
+    distance (modulus_of shape) (n % modulus_of shape) x.seen + counts x.outcome ≡ capacity_of shape → s + x.scan ≤ length (subhistory P h) →
     (first : ℕ) → IsPlaceOf P h s first → takes_ended shape h takes first + capacity_of shape ≤ n + counts x.outcome
 
 -- a take that takes all the items that its scan showed
 abbrev pub DrainIsFresh : Shape → List Event → Puts → Takes → Type 0
 DrainIsFresh shape h puts takes =
     (s k : ℕ) (x : Span) → IsSpanAt (take_spans shape takes) s k x → 1 ≤ counts x.outcome →
-    distance (modulus_of shape) x.seen (k % modulus_of shape) ≡ counts x.outcome → s + x.scan ≤ length (own C h) →
+    distance (modulus_of shape) x.seen (k % modulus_of shape) ≡ counts x.outcome → s + x.scan ≤ length (subhistory C h) →
     (first : ℕ) → IsPlaceOf C h s first → puts_ended shape h puts first ≤ k + counts x.outcome
 
 -- once the consumer was told that the ring is closed, at every later moment all items of the calls were put and taken, and the

@@ -1,7 +1,7 @@
 -- The law of the ring at every moment, over the clocks of two sides and the spans of their events.
 use Rattle.std.specs.Prelude.{slice_get, Some}
 use Rattle.std.proofs.Common.{◌≡◌, inl, inr, ℕ, ◌+◌, ◌-◌, ◌<◌, ◌≤◌, ◌%◌, true, false, List, [], ◌∷◌, length, drop, refl, sym, ap, arith}
-use Rattle.bits_core.specs.Made.{IsBeginning}
+use Rattle.bits_core.specs.Made.{IsPrefix}
 use Rattle.ring_core.proofs.OverSpans.Spans.{Span, Asks, counts, items_of, before_count, whole, counts_begun, counts_ended, begun_items, ended_items, all_items, total, IsSpanAt}
 use Rattle.ring_core.proofs.OverSpans.RingOfSpans.{ReadsCount}
 use Rattle.ring_core.specs.Counts.{distance}
@@ -74,7 +74,7 @@ pub record SpanLaw (modulus capacity batch more word : ℕ) (p c : ℕ → ℕ) 
       (t s k i : ℕ) (x : Span) (item : ℕ) → IsSpanAt takes s k x → slice_get (items_of x.outcome) i ≡ Some item → word_end word s x i ≤ c t →
       slice_get (begun_items puts (p t)) (k + i) ≡ Some item
   -- the items taken are a beginning of the items put
-  pub prefix : (t : ℕ) → IsBeginning (ended_items takes (c t)) (begun_items puts (p t))
+  pub prefix : (t : ℕ) → IsPrefix (ended_items takes (c t)) (begun_items puts (p t))
   -- a take that finds the ring empty: all puts that had ended before it began were taken by takes that had ended then, and
   -- no close had ended
   pub empty :

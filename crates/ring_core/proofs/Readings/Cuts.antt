@@ -2,7 +2,7 @@
 use Rattle.std.proofs.Common.{◌≡◌, ℕ, suc, ◌*◌, ◌<◌, ◌≤◌, List, [], ◌∷◌, ◌++◌, length, refl, sym, ap, ◌∙◌, arith, ◌⊎◌, append_assoc}
 use Rattle.bits_core.specs.declared.events.Side.{Side}
 use Rattle.bits_core.specs.declared.events.Event.{Event}
-use Rattle.bits_core.specs.Made.{Made, begin_event, events_of, IsBeginning}
+use Rattle.bits_core.specs.Made.{Made, begin_event, events_of, IsPrefix}
 use Rattle.ring_core.proofs.Readings.Phrases.{same_made}
 
 -- one number is at most the other, or above it
@@ -22,15 +22,15 @@ pub record OpenBoth (s : Side) (made left right : List Made) : Type 0 where
 -- the accesses that two programs both begin with, where both begin with so many events
 pub record BeginBoth (s : Side) (t : ℕ) (left right : List Made) : Type 0 where
   pub made : List Made
-  pub begins_left : IsBeginning made left
-  pub begins_right : IsBeginning made right
+  pub begins_left : IsPrefix made left
+  pub begins_right : IsPrefix made right
   pub reach : t ≤ suc (2 * length made)
   pub next : suc (2 * length made) ≤ t → OpenBoth s made left right
 
 -- programs whose events begin alike begin with the same accesses, as far as those have ended
 pub begin_both :
     (s : Side) (es : List Event) (left right : List Made) →
-    IsBeginning es (events_of s left) → IsBeginning es (events_of s right) → BeginBoth s (length es) left right
+    IsPrefix es (events_of s left) → IsPrefix es (events_of s right) → BeginBoth s (length es) left right
 begin_both s [] left right p q = record {
   made = [];
   begins_left = (left, refl);
@@ -88,11 +88,11 @@ cut (u ∷ us) vs (m ∷ made) more l e =
 
 -- another program that begins with the same accesses has their first part too
 pub also_begins :
-    (us rest made left : List Made) → made ≡ us ++ rest → IsBeginning made left → (more : List Made) × (us ++ (rest ++ more) ≡ left)
+    (us rest made left : List Made) → made ≡ us ++ rest → IsPrefix made left → (more : List Made) × (us ++ (rest ++ more) ≡ left)
 also_begins us rest made left e (more, f) = (more, sym (append_assoc us rest more) ∙ ap (λ l. l ++ more) (sym e) ∙ f)
 
 -- accesses whose events begin those of others begin these
-pub made_first : (s : Side) (left right : List Made) → IsBeginning (events_of s left) (events_of s right) → IsBeginning left right
+pub made_first : (s : Side) (left right : List Made) → IsPrefix (events_of s left) (events_of s right) → IsPrefix left right
 made_first s [] right begins = (right, refl)
 made_first s (x ∷ left) [] (r, e) = absurd (cc)
 made_first s (x ∷ left) (y ∷ right) (r, e) =

@@ -9,7 +9,7 @@ use Rattle.bits_core.specs.declared.events.Bit.TheVariants.{X, Cell}
 use Rattle.bits_core.specs.declared.events.Event.{Event}
 use Rattle.bits_core.specs.declared.shapes.Shape.{Shape}
 use Rattle.bits_core.specs.Shape.{modulus_of}
-use Rattle.bits_core.specs.Made.{Made, Read, Write, begin_event, own, IsBeginning}
+use Rattle.bits_core.specs.Made.{Made, Read, Write, begin_event, subhistory, IsPrefix}
 use Rattle.register_core.specs.Word.{DigitsTellItems}
 use Rattle.register_core.specs.ScanState.{scan_phrase, row_read_by}
 use Rattle.ring_core.specs.Counts.{Count, first_count, batch_phrase, IsCount}
@@ -119,7 +119,7 @@ begins_as_cell (Write b w) y j d v e f =
 
 -- behind the words of a put whose count write has begun in one reading, the other one too goes on with no write to a cell
 goes_on :
-    (head after made left right : List Made) (t : ℕ) → left ≡ head ++ after → NoCellFirst after → IsBeginning made left → IsBeginning made right →
+    (head after made left right : List Made) (t : ℕ) → left ≡ head ++ after → NoCellFirst after → IsPrefix made left → IsPrefix made right →
     AreOpen t made left right → events_in head < t → t ≤ suc (2 * length made) → (zs : List Made) × (head ++ zs ≡ right) × NoCellFirst zs
 goes_on head after made left right t left_is none (more, e) begins both early reach =
     let (rest, made_is, ends) = cut head after made more (omega (arith, early, reach)) (e ∙ left_is) in
@@ -190,7 +190,7 @@ module _ (tell : DigitsTellItems) where
   -- where more than the head of the first put of one reading has begun, the other reading begins with the same put
   reads_first :
       (shape : Shape) (c : Count) (x : Put) (xs ys : List Put) (a b : Bool) (made : List Made) (t : ℕ) → IsCount shape c → IsPut shape c.number x →
-      ArePuts shape c.number ys → IsBeginning made (puts_from shape c (x ∷ xs) a) → IsBeginning made (puts_from shape c ys b) →
+      ArePuts shape c.number ys → IsPrefix made (puts_from shape c (x ∷ xs) a) → IsPrefix made (puts_from shape c ys b) →
       AreOpen t made (puts_from shape c (x ∷ xs) a) (puts_from shape c ys b) → events_in (head_of shape c x) < t → t ≤ suc (2 * length made) →
       (more : List Put) × (ys ≡ x ∷ more)
   reads_first shape c (Stored u i) xs ys a b made t is p q l r both early reach =
@@ -225,7 +225,7 @@ module _ (tell : DigitsTellItems) where
   -- puts whose accesses begin alike put the same items within as many events
   same_items :
       (shape : Shape) (c : Count) (xs ys : List Put) (a b : Bool) (made : List Made) (t : ℕ) → IsCount shape c → ArePuts shape c.number xs → ArePuts shape c.number ys →
-      IsBeginning made (puts_from shape c xs a) → IsBeginning made (puts_from shape c ys b) →
+      IsPrefix made (puts_from shape c xs a) → IsPrefix made (puts_from shape c ys b) →
       AreOpen t made (puts_from shape c xs a) (puts_from shape c ys b) → t ≤ suc (2 * length made) →
       items_put shape c xs t ≡ items_put shape c ys t
   same_items shape c [] [] a b made t is p q l r both reach = refl
@@ -258,7 +258,7 @@ module _ (tell : DigitsTellItems) where
             let next : Count = stored_after shape c x in
             let phrase : List Made = put_phrase shape c x in
             let are : ArePuts shape next.number ys = subst (λ z. ArePuts shape (stored_after shape c z).number ys) same q.1 in
-            let begins : IsBeginning made (puts_from shape c (x ∷ ys) b) = subst (λ z. IsBeginning made (puts_from shape c (z ∷ ys) b)) same r in
+            let begins : IsPrefix made (puts_from shape c (x ∷ ys) b) = subst (λ z. IsPrefix made (puts_from shape c (z ∷ ys) b)) same r in
             let both' : AreOpen t made (puts_from shape c (x ∷ xs) a) (puts_from shape c (x ∷ ys) b) =
             subst (λ z. AreOpen t made (puts_from shape c (x ∷ xs) a) (puts_from shape c (z ∷ ys) b)) same both in
             let after : items_put shape next xs (t - events_in phrase) ≡ items_put shape next ys (t - events_in phrase) =
@@ -287,9 +287,9 @@ module _ (tell : DigitsTellItems) where
   -- the items put in a history are the same whichever puts its events are read as
   pub items-are_read : ItemsAreRead
   items-are_read shape h a b p q =
-      let both : BeginBoth P (length (own P h)) (put_program shape a) (put_program shape b) =
-      begin_both P (own P h) (put_program shape a) (put_program shape b) p.events q.events in
-      same_items shape first_count a.puts b.puts a.closes b.closes both.made (length (own P h)) (first_is_count shape) p.are q.are both.begins_left both.begins_right
+      let both : BeginBoth P (length (subhistory P h)) (put_program shape a) (put_program shape b) =
+      begin_both P (subhistory P h) (put_program shape a) (put_program shape b) p.events q.events in
+      same_items shape first_count a.puts b.puts a.closes b.closes both.made (length (subhistory P h)) (first_is_count shape) p.are q.are both.begins_left both.begins_right
       both.next both.reach
 
   -- ---- whole calls that begin others

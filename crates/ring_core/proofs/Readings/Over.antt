@@ -5,7 +5,7 @@ use Rattle.bits_core.specs.declared.events.Side.{Side}
 use Rattle.bits_core.specs.declared.events.Side.TheVariants.{P, C}
 use Rattle.bits_core.specs.declared.events.Event.{Event}
 use Rattle.bits_core.specs.declared.shapes.Shape.{Shape}
-use Rattle.bits_core.specs.Made.{Made, events_of, own, IsBeginning}
+use Rattle.bits_core.specs.Made.{Made, events_of, subhistory, IsPrefix}
 use Rattle.ring_core.specs.Counts.{Count, first_count}
 use Rattle.ring_core.specs.Items.{events_in}
 use Rattle.ring_core.specs.Over.{over, PutsOverAreRead, TakesOverAreRead, puts_over, takes_over}
@@ -69,7 +69,7 @@ module _ {S X : Type 0} (events : S → X → ℕ) (after : S → X → S) where
 -- whole accesses whose events have come, behind which the accesses of a side go on, begin those of each reading
 begin_each :
     (s : Side) (es : List Event) (whole rest one other : List Made) → 2 * length whole ≤ length es → one ≡ whole ++ rest →
-    IsBeginning es (events_of s one) → IsBeginning es (events_of s other) → IsBeginning (events_of s whole) (events_of s other)
+    IsPrefix es (events_of s one) → IsPrefix es (events_of s other) → IsPrefix (events_of s whole) (events_of s other)
 begin_each s es whole rest one other l is (r, e) (r', e') =
     let parts : es ++ r ≡ events_of s whole ++ events_of s rest = e ∙ ap (events_of s) is ∙ events_of-append s whole rest in
     let (more, there, left) = cut (events_of s whole) (events_of s rest) es r (omega (arith, l, length-events s whole)) parts in
@@ -95,9 +95,9 @@ puts_total shape c (x ∷ xs) =
 -- what is over of one reading begins the other
 puts_begin :
     PutsAreFirst → (shape : Shape) (h : List Event) (a b : Puts) → FollowsPuts shape h a → FollowsPuts shape h b →
-    (rest : List Put) × (b.puts ≡ puts_over shape first_count a.puts (length (own P h)) ++ rest)
+    (rest : List Put) × (b.puts ≡ puts_over shape first_count a.puts (length (subhistory P h)) ++ rest)
 puts_begin law shape h a b p q =
-    let t : ℕ = length (own P h) in
+    let t : ℕ = length (subhistory P h) in
     let xs : List Put = puts_over shape first_count a.puts t in
     let f = front (λ c x. events_in (put_phrase shape c x)) (stored_after shape) first_count a.puts t in
     let calls : Puts = record { puts = xs; closes = false } in
@@ -108,11 +108,11 @@ puts_begin law shape h a b p q =
     ∙ ap (λ l. l ++ (put_phrases shape (stored_count shape first_count xs) f.rest ++ close_phrase a.closes)) (sym (append-nil (put_phrases shape first_count xs))) in
     let size : 2 * length (put_program shape calls) ≤ t = omega (arith, f.within, puts_total shape first_count xs, ap length (append-nil (put_phrases shape first_count xs))) in
     (law shape calls b (first_puts shape 0 xs f.rest (subst (ArePuts shape 0) f.parts p.are)) q.are
-    (begin_each P (own P h) (put_program shape calls) _ (put_program shape a) (put_program shape b) size program p.events q.events)).0
+    (begin_each P (subhistory P h) (put_program shape calls) _ (put_program shape a) (put_program shape b) size program p.events q.events)).0
 
 pub puts_over-read : PutsAreFirst → PutsOverAreRead
 puts_over-read law shape h a b p q =
-    same_over (λ c x. events_in (put_phrase shape c x)) (stored_after shape) first_count a.puts b.puts (length (own P h)) (puts_begin law shape h a b p q) (puts_begin law shape h b a q p)
+    same_over (λ c x. events_in (put_phrase shape c x)) (stored_after shape) first_count a.puts b.puts (length (subhistory P h)) (puts_begin law shape h a b p q) (puts_begin law shape h b a q p)
 
 -- ---- takes
 
@@ -133,9 +133,9 @@ takes_total shape c (x ∷ xs) =
 
 takes_begin :
     TakesAreFirst → (shape : Shape) (h : List Event) (a b : Takes) → FollowsTakes shape h a → FollowsTakes shape h b →
-    (rest : List Take) × (b.takes ≡ takes_over shape first_count a.takes (length (own C h)) ++ rest)
+    (rest : List Take) × (b.takes ≡ takes_over shape first_count a.takes (length (subhistory C h)) ++ rest)
 takes_begin law shape h a b p q =
-    let t : ℕ = length (own C h) in
+    let t : ℕ = length (subhistory C h) in
     let xs : List Take = takes_over shape first_count a.takes t in
     let f = front (λ c x. events_in (take_phrase shape c x)) (count_after shape) first_count a.takes t in
     let calls : Takes = record { takes = xs; end = Open } in
@@ -147,8 +147,8 @@ takes_begin law shape h a b p q =
     ∙ ap (λ l. l ++ (left ++ end_phrase a.end)) (sym (append-nil (take_phrases shape first_count xs))) in
     let size : 2 * length (take_program shape calls) ≤ t = omega (arith, f.within, takes_total shape first_count xs, ap length (append-nil (take_phrases shape first_count xs))) in
     (law shape calls b (first_takes shape first_count xs f.rest a.end (subst (λ l. AreTakes shape 0 l a.end) f.parts p.are)) q.are
-    (begin_each C (own C h) (take_program shape calls) _ (take_program shape a) (take_program shape b) size program p.events q.events)).0
+    (begin_each C (subhistory C h) (take_program shape calls) _ (take_program shape a) (take_program shape b) size program p.events q.events)).0
 
 pub takes_over-read : TakesAreFirst → TakesOverAreRead
 takes_over-read law shape h a b p q =
-    same_over (λ c x. events_in (take_phrase shape c x)) (count_after shape) first_count a.takes b.takes (length (own C h)) (takes_begin law shape h a b p q) (takes_begin law shape h b a q p)
+    same_over (λ c x. events_in (take_phrase shape c x)) (count_after shape) first_count a.takes b.takes (length (subhistory C h)) (takes_begin law shape h a b p q) (takes_begin law shape h b a q p)

@@ -5,7 +5,7 @@ use Rattle.std.proofs.lemmas.List.{append_cancel_left}
 use Rattle.bits_core.specs.declared.events.Side.TheVariants.{C}
 use Rattle.bits_core.specs.declared.events.Bit.TheVariants.{X}
 use Rattle.bits_core.specs.declared.shapes.Shape.{Shape}
-use Rattle.bits_core.specs.Made.{Made, Read, own, IsBeginning}
+use Rattle.bits_core.specs.Made.{Made, Read, subhistory, IsPrefix}
 use Rattle.register_core.specs.Word.{DigitsTellItems}
 use Rattle.register_core.specs.ScanState.{row_read_by, zero_reads}
 use Rattle.ring_core.specs.Takes.{Take, Takes, End, Item, ItemAfterClose, Empty, Open, Closed, count_after, items_phrase, take_phrase, take_phrases, end_phrase, take_program, IsTake, AreTakes}
@@ -158,7 +158,7 @@ module _ (tell : DigitsTellItems) where
   -- where the first take of one reading has ended, the other reading begins with the same take
   reads_first :
       (shape : Shape) (k : Count) (is : IsCount shape k) (x : Take) (xs ys : List Take) (a b : End) (made : List Made) → IsTake shape k.number x → AreTakes shape k.number ys b →
-      IsBeginning made (calls_from shape k (x ∷ xs) a) → IsBeginning made (calls_from shape k ys b) →
+      IsPrefix made (calls_from shape k (x ∷ xs) a) → IsPrefix made (calls_from shape k ys b) →
       length (take_phrase shape k x) ≤ length made → (more : List Take) × (ys ≡ x ∷ more)
   reads_first shape k is x xs ys a b made p q (r, e) begins l =
       let (rest, made_is, ends) = cut (take_phrase shape k x) (calls_from shape (count_after shape k x) xs a) made r l (e ∙ from_take shape k x xs a) in
@@ -168,7 +168,7 @@ module _ (tell : DigitsTellItems) where
   -- takes whose accesses begin alike take the same items within as many events
   same_items :
       (shape : Shape) (k : Count) (is : IsCount shape k) (xs ys : List Take) (a b : End) (made : List Made) (t : ℕ) → AreTakes shape k.number xs a → AreTakes shape k.number ys b →
-      IsBeginning made (calls_from shape k xs a) → IsBeginning made (calls_from shape k ys b) → t ≤ suc (2 * length made) →
+      IsPrefix made (calls_from shape k xs a) → IsPrefix made (calls_from shape k ys b) → t ≤ suc (2 * length made) →
       items_taken shape k xs t ≡ items_taken shape k ys t
   same_items shape k is [] [] a b made t p q l r reach = refl
   same_items shape k is [] (y ∷ ys) a b made t p q l r reach =
@@ -195,7 +195,7 @@ module _ (tell : DigitsTellItems) where
             let is' : IsCount shape m = after_is_count shape k x is in
             let phrase : List Made = take_phrase shape k x in
             let are : AreTakes shape m.number ys b = subst (λ z. AreTakes shape (count_after shape k z).number ys b) same q.1 in
-            let begins : IsBeginning made (calls_from shape k (x ∷ ys) b) = subst (λ z. IsBeginning made (calls_from shape k (z ∷ ys) b)) same r in
+            let begins : IsPrefix made (calls_from shape k (x ∷ ys) b) = subst (λ z. IsPrefix made (calls_from shape k (z ∷ ys) b)) same r in
             let (rest, made_is, ends) = cut phrase (calls_from shape m xs a) made l.0 within (l.1 ∙ from_take shape k x xs a) in
             let (more', f) = also_begins phrase rest made (calls_from shape k (x ∷ ys) b) made_is begins in
             let ends' : rest ++ more' ≡ calls_from shape m ys b =
@@ -260,7 +260,7 @@ module _ (tell : DigitsTellItems) where
   still_told :
       (shape : Shape) (a b : Takes) (made : List Made) (t : ℕ) →
       AreTakes shape 0 a.takes a.end → AreTakes shape 0 b.takes b.end →
-      IsBeginning made (take_program shape a) → IsBeginning made (take_program shape b) → t ≤ suc (2 * length made) →
+      IsPrefix made (take_program shape a) → IsPrefix made (take_program shape b) → t ≤ suc (2 * length made) →
       IsTold shape a t → IsTold shape b t
   still_told shape a b made t p q (r, l) begins reach (tells, ended) =
       let program : List Made = take_program shape a in
@@ -274,10 +274,10 @@ module _ (tell : DigitsTellItems) where
   -- the items taken in a history, and whether it was told, are the same whichever takes its events are read as
   pub taken-are_read : TakenAreRead
   taken-are_read shape h a b p q =
-      let both : BeginBoth C (length (own C h)) (take_program shape a) (take_program shape b) =
-      begin_both C (own C h) (take_program shape a) (take_program shape b) p.events q.events in (
-        same_items shape first_count (first_is_count shape) a.takes b.takes a.end b.end both.made (length (own C h)) p.are q.are both.begins_left both.begins_right both.reach,
-        λ told. still_told shape a b both.made (length (own C h)) p.are q.are both.begins_left both.begins_right both.reach told,
+      let both : BeginBoth C (length (subhistory C h)) (take_program shape a) (take_program shape b) =
+      begin_both C (subhistory C h) (take_program shape a) (take_program shape b) p.events q.events in (
+        same_items shape first_count (first_is_count shape) a.takes b.takes a.end b.end both.made (length (subhistory C h)) p.are q.are both.begins_left both.begins_right both.reach,
+        λ told. still_told shape a b both.made (length (subhistory C h)) p.are q.are both.begins_left both.begins_right both.reach told,
       )
 
   -- ---- whole calls that begin others

@@ -4,7 +4,7 @@ use Rattle.std.proofs.lemmas.Bool.Decides.{nat_tests}
 use Rattle.bits_core.specs.declared.events.Side.TheVariants.{P, C}
 use Rattle.bits_core.specs.declared.shapes.Shape.{Shape}
 use Rattle.bits_core.specs.Shape.{batch_of}
-use Rattle.bits_core.specs.Made.{Made, own}
+use Rattle.bits_core.specs.Made.{Made, subhistory}
 use Rattle.ring_core.specs.Counts.{Count, first_count, IsCount, batch_phrase}
 use Rattle.ring_core.specs.Puts.{put_phrases, close_phrase, put_program}
 use Rattle.ring_core.specs.Takes.{Take, End, Item, ItemAfterClose, Empty, count_after, words_read, items_phrase, accesses_before_word, take_phrase, take_phrases, end_phrase, take_program, IsTakeBatch, AreTakes}
@@ -97,7 +97,7 @@ all-counted shape c (Empty seen ∷ takes) end t is (none, are) l =
 
 pub whole-takes : WholeTakesCount
 whole-takes shape h calls are is =
-    let t : ℕ = length (own C h) in
+    let t : ℕ = length (subhistory C h) in
     let long : events_in (take_phrases shape first_count calls.takes) ≤ t =
     omega (arith, ap length is, length-events C (take_program shape calls), length-append (take_phrases shape first_count calls.takes) (end_phrase calls.end)) in
     (all-taken shape first_count calls.takes t long, takes_begun_is shape calls t ∙ all-counted shape first_count calls.takes calls.end t (first_is_count shape) are long)
@@ -106,7 +106,7 @@ whole-takes shape h calls are is =
 
 pub whole-puts : WholePutsCount
 whole-puts shape h calls are is =
-    let t : ℕ = length (own P h) in
+    let t : ℕ = length (subhistory P h) in
     let proper = all_proper (batch_of shape) P shape first_count (put_looks calls.puts) (batch_below shape) (first_is_count shape) (puts_pass shape 0 calls.puts are) in
     let long : total (put_spans shape calls) ≤ t = omega (arith, put_total shape calls, ap length is, length-events P (put_program shape calls), length-append (put_phrases shape first_count calls.puts) (close_phrase calls.closes)) in
     let put = puts_items shape first_count calls.puts t ∙ all_begun (batch_of shape) (put_spans shape calls) proper t long ∙ all_is shape first_count calls.puts in

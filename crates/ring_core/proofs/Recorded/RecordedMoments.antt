@@ -9,7 +9,7 @@ use Rattle.bits_core.specs.declared.events.Event.{Event}
 use Rattle.bits_core.specs.declared.shapes.Shape.{Shape}
 use Rattle.bits_core.specs.Shape.{capacity_of}
 use Rattle.bits_core.specs.Bits.{same_side}
-use Rattle.bits_core.specs.Made.{own, clock, IsPlaceOf, IsBeginning, events_of}
+use Rattle.bits_core.specs.Made.{subhistory, clock, IsPlaceOf, IsPrefix, events_of}
 use Rattle.ring_core.specs.Counts.{first_count}
 use Rattle.ring_core.specs.Puts.{Puts, put_phrases, close_phrase, put_program, FollowsPuts}
 use Rattle.ring_core.specs.Takes.{Takes, take_program, FollowsTakes}
@@ -62,10 +62,10 @@ past_q h t p q e rest by m = record {
 }
 
 -- the next event is one of the side's own
-pub next_p : (h : List Event) (t p q : ℕ) (e : Event) (rest : List Event) → e.side ≡ P → Moment h t p q (e ∷ rest) → p < length (own P h)
+pub next_p : (h : List Event) (t p q : ℕ) (e : Event) (rest : List Event) → e.side ≡ P → Moment h t p q (e ∷ rest) → p < length (subhistory P h)
 next_p h t p q e rest by m = omega (arith, at_p h (suc t) (suc p) q rest (past_p h t p q e rest by m), clock_within P h (suc t))
 
-pub next_q : (h : List Event) (t p q : ℕ) (e : Event) (rest : List Event) → e.side ≡ C → Moment h t p q (e ∷ rest) → q < length (own C h)
+pub next_q : (h : List Event) (t p q : ℕ) (e : Event) (rest : List Event) → e.side ≡ C → Moment h t p q (e ∷ rest) → q < length (subhistory C h)
 next_q h t p q e rest by m = omega (arith, at_q h (suc t) p (suc q) rest (past_q h t p q e rest by m), clock_within C h (suc t))
 
 -- and stands there
@@ -80,21 +80,21 @@ pub place_q : OwnFacts → (h : List Event) (t p q : ℕ) (e : Event) (rest : Li
 place_q facts h t p q e rest by m = place_here facts C h t q (at_q h t p q (e ∷ rest) m) (at_q h (suc t) p (suc q) rest (past_q h t p q e rest by m))
 
 -- a side has no more events than its calls
-few_own : (s : Side) (own all : List Event) → IsBeginning own all → length own ≤ length all
-few_own s own all (more, e) = omega (arith, ap length e, length-append own more)
+few_own : (s : Side) (subhistory all : List Event) → IsPrefix subhistory all → length subhistory ≤ length all
+few_own s subhistory all (more, e) = omega (arith, ap length e, length-append subhistory more)
 
-pub few_puts : (shape : Shape) (h : List Event) (puts : Puts) → FollowsPuts shape h puts → length (own P h) ≤ before_close shape puts + events_in (close_phrase puts.closes)
+pub few_puts : (shape : Shape) (h : List Event) (puts : Puts) → FollowsPuts shape h puts → length (subhistory P h) ≤ before_close shape puts + events_in (close_phrase puts.closes)
 few_puts shape h puts follows =
     omega (
       arith,
-      few_own P (own P h) (events_of P (put_program shape puts)) follows.events,
+      few_own P (subhistory P h) (events_of P (put_program shape puts)) follows.events,
       length-events P (put_program shape puts),
       length-append (put_phrases shape first_count puts.puts) (close_phrase puts.closes),
     )
 
-pub few_takes : (shape : Shape) (h : List Event) (takes : Takes) → FollowsTakes shape h takes → length (own C h) ≤ events_in (take_program shape takes)
+pub few_takes : (shape : Shape) (h : List Event) (takes : Takes) → FollowsTakes shape h takes → length (subhistory C h) ≤ events_in (take_program shape takes)
 few_takes shape h takes follows =
-    omega (arith, few_own C (own C h) (events_of C (take_program shape takes)) follows.events, length-events C (take_program shape takes))
+    omega (arith, few_own C (subhistory C h) (events_of C (take_program shape takes)) follows.events, length-events C (take_program shape takes))
 
 -- ---- the law at a moment
 
@@ -111,7 +111,7 @@ within_at shape h puts takes law t p q rest m =
 
 pub prefix_at :
     (shape : Shape) (h : List Event) (puts : Puts) (takes : Takes) → LawOfSpans shape h puts takes → (t p q : ℕ) (rest : List Event) → Moment h t p q rest →
-    IsBeginning (ended_items (take_spans shape takes) q) (begun_items (put_spans shape puts) p)
+    IsPrefix (ended_items (take_spans shape takes) q) (begun_items (put_spans shape puts) p)
 prefix_at shape h puts takes law t p q rest m =
     let (more, e) = law.prefix t in (
       more,

@@ -11,7 +11,7 @@ use Rattle.bits_core.specs.declared.events.Side.TheVariants.{P, C}
 use Rattle.bits_core.specs.declared.events.Event.{Event}
 use Rattle.bits_core.specs.declared.shapes.Shape.{Shape}
 use Rattle.bits_core.specs.Shape.{batch_of, capacity_of, modulus_of}
-use Rattle.bits_core.specs.Made.{own, clock, IsPlaceOf}
+use Rattle.bits_core.specs.Made.{subhistory, clock, IsPlaceOf}
 use Rattle.ring_core.specs.Counts.{distance, Count, first_count}
 use Rattle.ring_core.specs.Puts.{Put, Stored, Full, Puts, stored_after, put_phrase, put_phrases, close_phrase, room_in}
 use Rattle.ring_core.specs.Takes.{Takes}
@@ -66,7 +66,7 @@ module _ (facts : OwnFacts) (shape : Shape) (offers : ℕ → List ℕ) (wants :
   -- where a put begins that will store fewer items than it is offered
   lacks :
       (c : Count) (stored : List ℕ) (x : Put) (more : List Put) (t p ended inside : ℕ) → (b : PutsBehind shape offers puts c p stored (x ∷ more)) → IsPlaceOf P h p t →
-      counts_ended (take_spans shape takes) (clock C h t) ≡ ended → length stored ≤ ended + inside → p + put_long shape c x ≤ length (own P h) →
+      counts_ended (take_spans shape takes) (clock C h t) ≡ ended → length stored ≤ ended + inside → p + put_long shape c x ≤ length (subhistory P h) →
       length (put_items x) < length (offers b.made) → capacity_of shape ≤ inside + length (put_items x)
   lacks c stored (Stored seen items) more t p ended inside b place e l over fewer =
       let y = span_of P shape c (look seen (Passes items)) in

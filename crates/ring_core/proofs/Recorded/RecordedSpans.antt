@@ -1,6 +1,6 @@
 -- The spans of a side behind its first ones: what had begun and ended there, and in the course of the next one.
 use Rattle.std.proofs.Common.{◌≡◌, inl, inr, ℕ, ◌+◌, ◌-◌, ◌≤◌, List, [], ◌∷◌, ◌++◌, length, refl, sym, ap, ◌∙◌, arith, append_assoc, append-nil, length-append}
-use Rattle.bits_core.specs.Made.{IsBeginning}
+use Rattle.bits_core.specs.Made.{IsPrefix}
 use Rattle.ring_core.proofs.OverSpans.Spans.{Span, counts, items_of, before_count, whole, counts_begun, counts_ended, begun_items, ended_items, IsSpanAt}
 use Rattle.ring_core.proofs.OverSpans.Timeline.{AllProper, counts-items, begun_items_past, begun_items_cons, begun_items_first, ended_items_cons, length-begun_items, length-ended_items, none_begun}
 use Rattle.ring_core.proofs.Readings.Cuts.{at_most_or_above}
@@ -94,7 +94,7 @@ pub counted_here : (most : ℕ) (all : List Span) (start : ℕ) (passed : List �
 counted_here most all start passed rest b = sym (length-begun_items all start) ∙ ap length (begun_here most all start passed rest b)
 
 -- in the course of the next one, those and perhaps its own
-first_begun : (x : Span) (rest : List Span) (j : ℕ) → j ≤ whole x → IsBeginning (begun_items (x ∷ rest) j) (items_of x.outcome)
+first_begun : (x : Span) (rest : List Span) (j : ℕ) → j ≤ whole x → IsPrefix (begun_items (x ∷ rest) j) (items_of x.outcome)
 first_begun x rest j l = elim (at_most_or_above j (before_count x)) [
   | inl m ↦ (items_of x.outcome, ap (λ l. l ++ items_of x.outcome) (begun_items_first x rest j m (omega arith)))
   | inr m ↦ (
@@ -103,7 +103,7 @@ first_begun x rest j l = elim (at_most_or_above j (before_count x)) [
 ]
 
 pub begun_within : (most : ℕ) (all : List Span) (start : ℕ) (passed : List ℕ) (x : Span) (rest : List Span) (i : ℕ) → start ≤ i → i ≤ start + whole x →
-    SpansBehind most all start passed (x ∷ rest) → IsBeginning (begun_items all i) (passed ++ items_of x.outcome)
+    SpansBehind most all start passed (x ∷ rest) → IsPrefix (begun_items all i) (passed ++ items_of x.outcome)
 begun_within most all start passed x rest i l m b =
     let j : ℕ = i - start in
     let at : i ≡ start + j = omega (arith, l) in

@@ -9,7 +9,7 @@ use Rattle.bits_core.specs.declared.events.Side.TheVariants.{P, C}
 use Rattle.bits_core.specs.declared.events.Event.{Event}
 use Rattle.bits_core.specs.declared.shapes.Shape.{Shape}
 use Rattle.bits_core.specs.Shape.{batch_of, capacity_of, modulus_of, take_batch_of}
-use Rattle.bits_core.specs.Made.{own, IsBeginning}
+use Rattle.bits_core.specs.Made.{subhistory, IsPrefix}
 use Rattle.ring_core.specs.Counts.{Count, first_count}
 use Rattle.ring_core.specs.Puts.{Put, Stored, Full, Puts, stored_after, put_phrase, put_phrases, IsPutOf, room_in}
 use Rattle.ring_core.specs.Takes.{Take, Item, ItemAfterClose, Empty, End, Open, Closed, Takes, take_program, AreTakes}
@@ -52,7 +52,7 @@ pub record PutRuns (shape : Shape) (offers : ℕ → List ℕ) (h : List Event) 
   pub left_is : left ≡ offers behind.made
   pub put_is : put ≡ Offers (length left) before
   pub no_room :
-      start + put_long shape count call ≤ length (own P h) → length (put_items call) < length left → capacity_of shape ≤ before + length (put_items call)
+      start + put_long shape count call ≤ length (subhistory P h) → length (put_items call) < length left → capacity_of shape ≤ before + length (put_items call)
 
 -- it is in its close
 pub record PutCloses (shape : Shape) (offers : ℕ → List ℕ) (puts : Puts) (p : ℕ) (stored left : List ℕ) (put : PutTurn) : Type 0 where
@@ -85,28 +85,28 @@ IsClosing shape puts p put = ((again : Bool) × (put ≡ Closes again)) ⊎ ((be
 
 -- what the consumer's steps need of it
 pub record PutView (shape : Shape) (puts : Puts) (p : ℕ) (stored left : List ℕ) (put : PutTurn) : Type 0 where
-  pub begun : IsBeginning (begun_items (put_spans shape puts) p) (stored ++ left)
+  pub begun : IsPrefix (begun_items (put_spans shape puts) p) (stored ++ left)
   pub few : length stored ≤ counts_begun (put_spans shape puts) p
   pub ended : length stored ≤ counts_ended (put_spans shape puts) p
   pub left_by : offered_by put ≡ length left
   pub over : before_close shape puts < p → (left ≡ []) × (stored ≡ all_put puts.puts) × IsClosing shape puts p put
 
 -- a put's items are the first of those that it is offered
-pub first_stored : (shape : Shape) (n : ℕ) (items : List ℕ) (x : Put) → IsPutOf shape n items x → IsBeginning (put_items x) items
+pub first_stored : (shape : Shape) (n : ℕ) (items : List ℕ) (x : Put) → IsPutOf shape n items x → IsPrefix (put_items x) items
 first_stored shape n items (Stored seen stored) e =
     let room : ℕ = room_in shape (n % modulus_of shape) seen in
     (drop room items, ap (λ l. l ++ drop room items) e ∙ take-append-drop room items)
 first_stored shape n items (Full seen) e = (items, refl)
 
-longer : (a b whole : List ℕ) → IsBeginning a b → IsBeginning b whole → IsBeginning a whole
+longer : (a b whole : List ℕ) → IsPrefix a b → IsPrefix b whole → IsPrefix a whole
 longer a b whole (more, e) (rest, f) = (more ++ rest, sym (append_assoc a more rest) ∙ ap (λ l. l ++ rest) e ∙ f)
 
-pub begun_behind : (front a b : List ℕ) → IsBeginning a b → IsBeginning (front ++ a) (front ++ b)
+pub begun_behind : (front a b : List ℕ) → IsPrefix a b → IsPrefix (front ++ a) (front ++ b)
 begun_behind front a b (more, e) = (more, append_assoc front a more ∙ ap (λ l. front ++ l) e)
 
 put_within :
     (shape : Shape) (offers : ℕ → List ℕ) (puts : Puts) (c : Count) (start : ℕ) (stored : List ℕ) (x : Put) (rest : List Put) (p : ℕ) → start ≤ p →
-    p ≤ start + put_long shape c x → PutsBehind shape offers puts c start stored (x ∷ rest) → IsBeginning (begun_items (put_spans shape puts) p) (stored ++ put_items x)
+    p ≤ start + put_long shape c x → PutsBehind shape offers puts c start stored (x ∷ rest) → IsPrefix (begun_items (put_spans shape puts) p) (stored ++ put_items x)
 put_within shape offers puts c start stored (Stored seen items) rest p l m b =
     begun_within (batch_of shape) (put_spans shape puts) start stored (span_of P shape c (look seen (Passes items))) _ p l (omega (arith, m, long_is shape c seen items)) b.spans_are
 put_within shape offers puts c start stored (Full seen) rest p l m b =
@@ -131,7 +131,7 @@ runs_view shape offers h puts p stored left put r =
       begun =
           longer (begun_items (put_spans shape puts) p) (stored ++ put_items r.call) (stored ++ left)
           (put_within shape offers puts r.count r.start stored r.call r.rest p before (omega (arith, r.not_ended)) b)
-          (begun_behind stored (put_items r.call) left (subst (IsBeginning (put_items r.call)) (sym r.left_is) (first_stored shape r.count.number (offers r.behind.made) r.call b.offered.1)));
+          (begun_behind stored (put_items r.call) left (subst (IsPrefix (put_items r.call)) (sym r.left_is) (first_stored shape r.count.number (offers r.behind.made) r.call b.offered.1)));
       few = passed_begun (batch_of shape) (put_spans shape puts) r.start stored _ p before b.spans_are;
       ended = passed_ended (batch_of shape) (put_spans shape puts) r.start stored _ p before b.spans_are;
       left_by = ap offered_by r.put_is;
@@ -185,8 +185,8 @@ pub record TakeRuns (shape : Shape) (wants : ℕ → ℕ) (h : List Event) (take
   pub begun : start < q
   pub not_ended : q < start + take_long shape count call
   pub take_is : take ≡ Waits (wants behind.made) before shut
-  pub no_more : start + take_long shape count call ≤ length (own C h) → length (taken_of call) < wants behind.made → before ≤ length (taken_of call)
-  pub open_then : start + take_long shape count call ≤ length (own C h) → taken_of call ≡ [] → shut ≡ false
+  pub no_more : start + take_long shape count call ≤ length (subhistory C h) → length (taken_of call) < wants behind.made → before ≤ length (taken_of call)
+  pub open_then : start + take_long shape count call ≤ length (subhistory C h) → taken_of call ≡ [] → shut ≡ false
 
 -- it is in the take that is told the ring is closed
 pub record TakeEnds (shape : Shape) (wants : ℕ → ℕ) (takes : Takes) (q : ℕ) (taken : List ℕ) (take : TakeTurn) : Type 0 where
@@ -220,11 +220,11 @@ TakeAt shape wants h takes q taken take =
 pub record TakeView (shape : Shape) (takes : Takes) (q : ℕ) (taken : List ℕ) (take : TakeTurn) : Type 0 where
   pub begun : counts_begun (take_spans shape takes) q ≤ length taken + asked_by take
   pub ended : length taken ≤ counts_ended (take_spans shape takes) q
-  pub first : IsBeginning taken (ended_items (take_spans shape takes) q)
+  pub first : IsPrefix taken (ended_items (take_spans shape takes) q)
 
 first_taken :
     (shape : Shape) (wants : ℕ → ℕ) (takes : Takes) (c : Count) (start : ℕ) (taken : List ℕ) (rest : List Take) (q : ℕ) → start ≤ q →
-    TakesBehind shape wants takes c start taken rest → IsBeginning taken (ended_items (take_spans shape takes) q)
+    TakesBehind shape wants takes c start taken rest → IsPrefix taken (ended_items (take_spans shape takes) q)
 first_taken shape wants takes c start taken rest q l b =
     let on : q ≡ start + (q - start) = omega (arith, l) in
     (ended_items (spans C shape c (take_looks rest takes.end)) (q - start), sym (ap (ended_items (take_spans shape takes)) on ∙ b.spans_are.ended (q - start)))

@@ -12,7 +12,7 @@ use Rattle.bits_core.specs.declared.events.Side.TheVariants.{P, C}
 use Rattle.bits_core.specs.declared.events.Event.{Event}
 use Rattle.bits_core.specs.declared.shapes.Shape.{Shape}
 use Rattle.bits_core.specs.Shape.{batch_of, capacity_of, modulus_of, take_batch_of}
-use Rattle.bits_core.specs.Made.{own, clock, place_of, IsPlaceOf}
+use Rattle.bits_core.specs.Made.{subhistory, clock, place_of, IsPlaceOf}
 use Rattle.register_core.specs.ScanState.{row_read_by}
 use Rattle.ring_core.specs.Counts.{distance, Count, first_count}
 use Rattle.ring_core.specs.Puts.{Puts}
@@ -71,7 +71,7 @@ module _ (facts : OwnFacts) (shape : Shape) (offers : ℕ → List ℕ) (wants :
   none_inside :
       (c : Count) (taken : List ℕ) (seen : ℕ) (more : List Take) (t p q stored inside : ℕ) → TakesBehind shape wants takes c q taken (Empty seen ∷ more) → IsPlaceOf C h q t →
       clock P h t ≡ p → clock C h t ≡ q → stored ≤ counts_ended (put_spans shape puts) p → inside ≡ stored - length taken →
-      q + take_long shape c (Empty seen) ≤ length (own C h) → (inside ≡ 0) × (p < before_close shape puts + 2)
+      q + take_long shape c (Empty seen) ≤ length (subhistory C h) → (inside ≡ 0) × (p < before_close shape puts + 2)
   none_inside c taken seen more t p q stored inside b place ep eq ended l over =
       let y = span_of C shape c (look seen (Asks false)) in
       let most : ℕ = take_batch_of shape in
@@ -91,7 +91,7 @@ module _ (facts : OwnFacts) (shape : Shape) (offers : ℕ → List ℕ) (wants :
   drained :
       (c : Count) (taken : List ℕ) (seen : ℕ) (items : List ℕ) (t s : ℕ) → IsSpanAt (take_spans shape takes) s (length taken) (span_of C shape c (look seen (Passes items))) →
       c.number ≡ length taken → distance (modulus_of shape) seen (c.number % modulus_of shape) ≡ length items → 1 ≤ length items →
-      s + whole (span_of C shape c (look seen (Passes items))) ≤ length (own C h) → clock C h t ≤ s →
+      s + whole (span_of C shape c (look seen (Passes items))) ≤ length (subhistory C h) → clock C h t ≤ s →
       counts_ended (put_spans shape puts) (clock P h t) ≤ length taken + length items
   drained c taken seen items t s st number shown some over l =
       let z : Span = span_of C shape c (look seen (Passes items)) in
@@ -110,7 +110,7 @@ module _ (facts : OwnFacts) (shape : Shape) (offers : ℕ → List ℕ) (wants :
   lacks :
       (c : Count) (taken : List ℕ) (x : Take) (more : List Take) (t p q stored inside : ℕ) → (b : TakesBehind shape wants takes c q taken (x ∷ more)) → IsPlaceOf C h q t →
       clock P h t ≡ p → clock C h t ≡ q → stored ≤ counts_ended (put_spans shape puts) p → inside ≡ stored - length taken →
-      q + take_long shape c x ≤ length (own C h) → length (taken_of x) < wants b.made → inside ≤ length (taken_of x)
+      q + take_long shape c x ≤ length (subhistory C h) → length (taken_of x) < wants b.made → inside ≤ length (taken_of x)
   lacks c taken (Item seen items) more t p q stored inside b place ep eq ended l over fewer =
       let y = span_of C shape c (look seen (Passes items)) in
       let st = stands_next (take_batch_of shape) (take_spans shape takes) q taken y _ b.spans_are in
@@ -134,7 +134,7 @@ module _ (facts : OwnFacts) (shape : Shape) (offers : ℕ → List ℕ) (wants :
       (c : Count) (taken : List ℕ) (x : Take) (more : List Take) (t p q stored inside : ℕ) (shut : Bool) → TakesBehind shape wants takes c q taken (x ∷ more) → IsPlaceOf C h q t →
       clock P h t ≡ p → clock C h t ≡ q → stored ≤ counts_ended (put_spans shape puts) p → inside ≡ stored - length taken →
       (shut ≡ true → (before_close shape puts < p) × ((before_close shape puts + 2 ≤ p) ⊎ (events_in (take_program shape takes) ≤ q))) →
-      q < length (own C h) → q + take_long shape c x ≤ length (own C h) → taken_of x ≡ [] → shut ≡ false
+      q < length (subhistory C h) → q + take_long shape c x ≤ length (subhistory C h) → taken_of x ≡ [] → shut ≡ false
   opened c taken (Item seen items) more t p q stored inside shut b place ep eq ended l is_shut next over none = absurd (omega (arith, b.are.0.1.some, ap length none))
   opened c taken (ItemAfterClose seen again items) more t p q stored inside shut b place ep eq ended l is_shut next over none =
       absurd (omega (arith, b.are.0.2.some, ap length none))
@@ -311,7 +311,7 @@ module _ (facts : OwnFacts) (shape : Shape) (offers : ℕ → List ℕ) (wants :
   take_ends t p q e rest k by now r stop =
       let j : ℕ = q - r.start in
       let on : q ≡ r.start + j = omega (arith, r.begun) in
-      let over : r.start + take_long shape r.count r.call ≤ length (own C h) = omega (arith, stop, next_q h t p q e rest by now.moment) in
+      let over : r.start + take_long shape r.count r.call ≤ length (subhistory C h) = omega (arith, stop, next_q h t p q e rest by now.moment) in
       by_events shape offers wants h puts takes (suc t) p (suc q) rest k (take_answer r.call ∷ []) (told q)
       (ap told on ∙ r.behind.told j ∙
       told_last (take_long shape r.count r.call) (TakeBegin (wants r.behind.made)) (take_answer r.call) j _ (omega (arith, r.begun)) (omega (arith, stop, r.begun)))

@@ -4,7 +4,7 @@ use Rattle.std.proofs.Math.Seq.{take-length}
 use Rattle.std.proofs.lemmas.List.{length-append, length-replicate}
 use Rattle.bits_core.specs.declared.events.Side.{Side}
 use Rattle.bits_core.specs.declared.events.Side.TheVariants.{P}
-use Rattle.ring_script.specs.declared.schedules.Run.{Run}
+use Rattle.ring_script.specs.declared.schedules.LetterRun.{LetterRun}
 use Rattle.ring_script.specs.Schedule.{spelled}
 use Rattle.ring_player.proofs.WorldParts.{left-more, on_err, spelled-more, spelled-none, take-more, take-none, within_all}
 use Rattle.near_misses.specs.NearSides.{NearHas}
@@ -29,11 +29,11 @@ loop-run-init g c =
 
 pub loop-run-preserved : goal.loop-run-preserved
 loop-run-preserved g c =
-    let runs : List Run = c.runs-run-items.result.now in
+    let runs : List LetterRun = c.runs-run-items.result.now in
     let i : ℕ = c.loop-run.run-index in
     let k : ℕ = c.args.letters in
-    let none : Run = record { side = P; count = 0 } in
-    let one : Run = slice_index_or runs i none in
+    let none : LetterRun = record { side = P; count = 0 } in
+    let one : LetterRun = slice_index_or runs i none in
     let count : ℕ = c.min-count.result in
     let before : List Side = spelled (take i runs) in
     let after : spelled (take (i + 1) runs) ≡ before ++ replicate one.count one.side = spelled-more runs i none c.loop-run-test.true in
@@ -61,8 +61,8 @@ loop-run-preserved g c =
 
 pub returns-in_err-repeat-clause-full : goal.returns-in_err-repeat-clause-full
 returns-in_err-repeat-clause-full g c =
-    let runs : List Run = c.runs-run-items.result.now in
-    let none : Run = record { side = P; count = 0 } in
+    let runs : List LetterRun = c.runs-run-items.result.now in
+    let none : LetterRun = record { side = P; count = 0 } in
     let l = c.loop-run.invariant in
     let w = c.loop-run.world in
     let within = within_all runs c.loop-run.run-index none c.loop-run-test.true in
@@ -74,7 +74,7 @@ returns-in_err-repeat-clause-full g c =
 
 pub returns-clause-has : goal.returns-clause-has
 returns-clause-has g c a oracle has =
-    let runs : List Run = c.runs-run-items.result.now in
+    let runs : List LetterRun = c.runs-run-items.result.now in
     let l = c.loop-run.invariant in
     let end : c.loop-run.run-index ≡ length runs = omega arith in
     let all : spelled (take c.loop-run.run-index runs) ≡ spelled c.args.script.runs.now = ap (λ i. spelled (take i runs)) end ∙ ap spelled (take-length runs) ∙ l.all in
@@ -82,7 +82,7 @@ returns-clause-has g c a oracle has =
 
 pub returns-clause-few : goal.returns-clause-few
 returns-clause-few g c =
-    let runs : List Run = c.runs-run-items.result.now in
+    let runs : List LetterRun = c.runs-run-items.result.now in
     let l = c.loop-run.invariant in
     let end : c.loop-run.run-index ≡ length runs = omega arith in
     let all : spelled (take c.loop-run.run-index runs) ≡ spelled c.args.script.runs.now = ap (λ i. spelled (take i runs)) end ∙ ap spelled (take-length runs) ∙ l.all in

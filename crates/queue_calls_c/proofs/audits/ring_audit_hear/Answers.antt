@@ -1,6 +1,6 @@
 use Rattle.std.proofs.Common.{◌≡◌, ◌∙◌, List, false, length, refl, subst}
 use Rattle.queue_calls.specs.Hearings.{FollowsLines}
-use Rattle.queue_calls.specs.Recordings.{Line as ALine}
+use Rattle.queue_calls.specs.Recordings as recordings
 use Rattle.lists.specs.Rings.{ring_items}
 use Rattle.queue_calls_c.specs.Heard.{HearsSome, taken_room}
 use Rattle.queue_calls_c.proofs.ToldLines.{some_map}
@@ -16,7 +16,7 @@ returns c before has =
     let said = c.hear_lines-heard.result.2 in
     let follows = c.in-Some.ensures.goes_on before has.follows in
     let some = c.hear_lines-heard.ensures.hears before follows (c.resume.ensures.line ∙ has.count) in
-    let F : List ALine → Type 0 = λ ls. FollowsLines ring_items ring_items n false ls × (c.hear_lines-heard.result.1 ≡ length ls) in
+    let F : List recordings.Line → Type 0 = λ ls. FollowsLines ring_items ring_items n false ls × (c.hear_lines-heard.result.1 ≡ length ls) in
     let m = c.args.audit.now.limit in
     let o = length c.args.audit.now.offered.now in
     let t = length c.args.audit.now.taken.now in

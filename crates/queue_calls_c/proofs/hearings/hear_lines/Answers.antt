@@ -1,7 +1,7 @@
 use Rattle.std.proofs.Common.{◌≡◌, ◌∙◌, ◌+◌, ◌≢◌, suc, List, [], ◌∷◌, ◌++◌, Ok, None, false, length, take, get_or, refl, sym, ap, subst, arith, append-nil, length-append, append_assoc}
 use Rattle.std.proofs.lemmas.Bool.{false≢true}
 use Rattle.queue_calls.specs.Hearings.{FollowsLines}
-use Rattle.queue_calls.specs.Recordings.{Line as ALine}
+use Rattle.queue_calls.specs.Recordings as recordings
 use Rattle.lists.specs.Rings.{ring_items}
 use Rattle.queue_calls_c.specs.Heard.{TellLines, SaysOf, offered_room, taken_room}
 use Rattle.queue_calls_c.proofs.ToldLines.{says_map, stops_at, stops_none, told_more, with_next}
@@ -25,7 +25,7 @@ pub returns-in_default-clause-hears : goal.returns-in_default-clause-hears
 returns-in_default-clause-hears c earlier follows is =
     let (few, o, t, m, inv) = c.loop-heard.invariant in
     let (heard, told, still, number) = inv earlier follows is in
-    let F : List ALine → Type 0 = λ ls. FollowsLines ring_items ring_items c.loop-heard.hearing false ls × (c.loop-heard.number ≡ length ls) in
+    let F : List recordings.Line → Type 0 = λ ls. FollowsLines ring_items ring_items c.loop-heard.hearing false ls × (c.loop-heard.number ≡ length ls) in
     record {
       heard = heard;
       rest = c.loop-heard.rest.now;
@@ -39,7 +39,7 @@ pub returns-clause-hears : goal.returns-clause-hears
 returns-clause-hears c earlier follows is =
     let (few, o, t, m, inv) = c.loop-heard.invariant in
     let (heard, told, still, number) = inv earlier follows is in
-    let F : List ALine → Type 0 = λ ls. FollowsLines ring_items ring_items c.loop-heard.hearing false ls × (c.loop-heard.number ≡ length ls) in
+    let F : List recordings.Line → Type 0 = λ ls. FollowsLines ring_items ring_items c.loop-heard.hearing false ls × (c.loop-heard.number ≡ length ls) in
     record {
       heard = heard;
       rest = c.loop-heard.rest.now;
@@ -53,8 +53,8 @@ returns-then-not-is_heard-clause-hears c earlier follows is =
     let (few, o, t, m, inv) = c.loop-heard.invariant in
     let (heard, told, still, number) = inv earlier follows is in
     let n = c.hear_one-said.new.hearing in
-    let G : List ALine → Type 0 = λ ls. FollowsLines ring_items ring_items n false ls in
-    let F : List ALine → Type 0 = λ ls. FollowsLines ring_items ring_items n false ls × (c.loop-heard.number ≡ length ls) in
+    let G : List recordings.Line → Type 0 = λ ls. FollowsLines ring_items ring_items n false ls in
+    let F : List recordings.Line → Type 0 = λ ls. FollowsLines ring_items ring_items n false ls × (c.loop-heard.number ≡ length ls) in
     let other : c.hear_one-said.result ≢ Ok None = λ e. absurd (false≢true (sym c.if-not-is_heard.true ∙ c.is_heard.ensures.1 e)) in
     let M = c.args.hearing.now.witness.limit in
     let O = offered_room c.args.hearing.now in
@@ -77,7 +77,7 @@ pub loop-heard-preserved : goal.loop-heard-preserved
 loop-heard-preserved c =
     let (few, o, t, m, inv) = c.loop-heard.invariant in
     let n = c.hear_one-said.new.hearing in
-    let G : List ALine → Type 0 = λ ls. FollowsLines ring_items ring_items n false ls in
+    let G : List recordings.Line → Type 0 = λ ls. FollowsLines ring_items ring_items n false ls in
     let said_none : c.hear_one-said.result ≡ Ok None = c.is_heard.ensures.0 c.if-not-is_heard.false in
     let next = get_or c.args.lines.now c.loop-heard.heard (record { word = 0; count = 0 }) in (
       omega (arith, c.loop-heard-test.true),
@@ -88,7 +88,7 @@ loop-heard-preserved c =
           let (heard, told, still, number) = inv earlier follows is in
           let says = c.hear_one-said.ensures.says (earlier ++ heard) still (omega (arith, number, c.in-Some.ensures)) in
           let here = subst (λ s. SaysOf c.loop-heard.hearing.witness.limit (offered_room c.loop-heard.hearing) (taken_room c.loop-heard.hearing) G (earlier ++ heard) next c.loop-heard.rest.now s) said_none says in
-          let l : ALine = here.0 in
+          let l : recordings.Line = here.0 in
           let one_more : suc c.loop-heard.heard ≡ c.loop-heard.heard + 1 = omega arith in
           let all = told_more (take c.loop-heard.heard c.args.lines.now) c.args.numbers.now heard c.loop-heard.rest.now next l told here.1 in
           let long : length ((earlier ++ heard) ++ l ∷ []) ≡ length (earlier ++ heard) + 1 = length-append (earlier ++ heard) (l ∷ []) in (

@@ -12,8 +12,8 @@ use Rattle.ring_core.proofs.laws.recorded_is_linearizable.Goals as goal
 -- the published facts of own events
 own : goal.After-counted_is_linearizable → OwnFacts
 own c = record {
-  has_place = c.own_has_place.ensures;
-  one_place = c.own_has_one_place.ensures;
+  has_place = c.subhistory_has_place.ensures;
+  one_place = c.subhistory_has_one_place.ensures;
   counts = c.clock_counts_places.ensures;
   made = c.made_is_access.ensures;
   accesses = c.access_is_made.ensures;

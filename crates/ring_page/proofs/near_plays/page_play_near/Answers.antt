@@ -2,7 +2,7 @@ use Rattle.std.proofs.Common.{false, inl, inr, refl}
 use Rattle.std.proofs.lemmas.List.{length-replicate}
 use Rattle.ring_script.specs.Borrowed.{content_of}
 use Rattle.bits_core.specs.declared.events.Side.TheVariants.{P}
-use Rattle.ring_script.specs.declared.schedules.Run.{Run}
+use Rattle.ring_script.specs.declared.schedules.LetterRun.{Run}
 use Rattle.ring_script.specs.declared.faults.ScriptFault.TheVariants.{OutOfMemory}
 use Rattle.ring_page.proofs.Rooms.{near_told_of_fields, short_or_fault}
 use Rattle.ring_page.proofs.near_plays.page_play_near.Goals as goal

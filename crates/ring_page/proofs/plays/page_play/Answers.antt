@@ -2,7 +2,7 @@ use Rattle.std.proofs.Common.{false, inl, inr, refl}
 use Rattle.std.proofs.lemmas.List.{length-replicate}
 use Rattle.ring_script.specs.Borrowed.{content_of}
 use Rattle.bits_core.specs.declared.events.Side.TheVariants.{P}
-use Rattle.ring_script.specs.declared.schedules.Run.{Run}
+use Rattle.ring_script.specs.declared.schedules.LetterRun.{Run}
 use Rattle.ring_script.specs.declared.faults.ScriptFault.TheVariants.{OutOfMemory}
 use Rattle.ring_page.proofs.Rooms.{short_or_fault, told_of_fields}
 use Rattle.ring_page.proofs.plays.page_play.Goals as goal

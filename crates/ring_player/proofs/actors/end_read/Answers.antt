@@ -6,7 +6,7 @@ use Rattle.bits_core.specs.declared.events.Side.{Side}
 use Rattle.bits_core.specs.Bits.{other}
 use Rattle.bits_core.specs.History.{open_access}
 use Rattle.bits_core.specs.Lawful.{IsLawful}
-use Rattle.bits_core.specs.Made.{own}
+use Rattle.bits_core.specs.Made.{subhistory}
 use Rattle.bits_core.specs.Memory.{MemoryState}
 use Rattle.bits_core.specs.Open.{bit_of}
 use Rattle.ring_core.specs.Calls.{EndsInZeros, LastBitIsDue}
@@ -28,10 +28,10 @@ end-requires-clause-one g c last =
     let side_is : g.A.Actor.side a ≡ s = c.reserve.ensures.side ∙ c.requires.side in
     let ok = c.in_ok-answer.ensures.ok in
     let shape_is = ap (λ (m : MemoryState). m.shape) ok ∙ c.requires.shape ∙ ap (λ (t : Content). t.shape) (sym c.reserve.ensures.script) in
-    answers_one c.last_bit_is_one.ensures.puts c.last_bit_is_one.ensures.takes c.own_changes.ensures script s h c.end_read.new.self.events (g.A.Actor.due a) (g.A.Actor.stands a)
+    answers_one c.last_bit_is_one.ensures.puts c.last_bit_is_one.ensures.takes c.subhistory_changes.ensures script s h c.end_read.new.self.events (g.A.Actor.due a) (g.A.Actor.stands a)
     (bit_of (open_access s h)) c.in_ok-answer.answer p (reading (open_access s h) c.requires.open) (ap (λ (m : MemoryState). m.events) ok)
     (subst (λ t. IsLawful t c.end_read.new.self.events) shape_is c.events.ensures.lawful)
-    (subst (λ (t : Content). IsProgram t (other s) (own (other s) h)) (sym c.reserve.ensures.script) c.requires.other)
+    (subst (λ (t : Content). IsProgram t (other s) (subhistory (other s) h)) (sym c.reserve.ensures.script) c.requires.other)
     (λ l. subst (λ (t : Side). EndsInZeros script.shape t p.list) side_is
     (c.last_bit.ensures (subst (λ (t : Side). LastBitIsDue script.shape t (g.A.Actor.due a)) (sym side_is) l) p.list (open_access s h) p.there))
     (subst (λ (t : Side). LastBitIsDue script.shape t (g.A.Actor.due a)) side_is last)
@@ -47,7 +47,7 @@ returns-clause-playing g c =
     let o = reading (open_access s h) c.requires.open in
     let v = c.in_ok-answer.answer in
     let e : Event = record { side = s; bit = b; act = ReadEnd v } in
-    after_end c.open_changes.ensures c.own_changes.ensures s h c.end_read.new.self.events (g.A.Actor.due a) (g.A.Actor.due c.end.new.self) (g.A.Actor.stands a) (g.A.Actor.stands c.end.new.self)
+    after_end c.open_changes.ensures c.subhistory_changes.ensures s h c.end_read.new.self.events (g.A.Actor.due a) (g.A.Actor.due c.end.new.self) (g.A.Actor.stands a) (g.A.Actor.stands c.end.new.self)
     (access.Read b) v e p o (ap (λ (m : MemoryState). m.events) c.in_ok-answer.ensures.ok) refl refl refl
     (c.end.ensures.stands p.list (access.Read b) (p.is_due (access.Read b) o) (there_with s h (g.A.Actor.due a) (g.A.Actor.stands a) (Some (access.Read b)) p o))
 

@@ -20,7 +20,7 @@ returns-clause-playing g c =
     playing_on s h _ (g.A.Actor.due a) (g.A.Actor.stands c.args.actor.now) (g.A.Actor.stands a) c.requires.playing c.reserve.ensures.due c.reserve.ensures.stands in
     let (v, o) = writing (open_access s h) c.requires.open in
     let e : Event = record { side = s; bit = b; act = WriteEnd } in
-    after_end c.open_changes.ensures c.own_changes.ensures s h c.end_write.new.self.events (g.A.Actor.due a) (g.A.Actor.due c.end.new.self) (g.A.Actor.stands a) (g.A.Actor.stands c.end.new.self)
+    after_end c.open_changes.ensures c.subhistory_changes.ensures s h c.end_write.new.self.events (g.A.Actor.due a) (g.A.Actor.due c.end.new.self) (g.A.Actor.stands a) (g.A.Actor.stands c.end.new.self)
     (access.Write b v) true e p o (ap (λ (m : MemoryState). m.events) c.in_ok-end_write.ensures.ok) refl refl refl
     (c.end.ensures.stands p.list (access.Write b v) (p.is_due (access.Write b v) o) (there_with s h (g.A.Actor.due a) (g.A.Actor.stands a) (Some (access.Write b v)) p o))
 

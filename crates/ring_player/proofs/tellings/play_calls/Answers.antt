@@ -4,7 +4,7 @@ use Rattle.std.proofs.lemmas.List.{take_all}
 use Rattle.bits_core.specs.declared.events.Event.{Event}
 use Rattle.bits_core.specs.declared.events.Side.{Side}
 use Rattle.bits_core.specs.declared.events.Side.TheVariants.{P}
-use Rattle.ring_script.specs.declared.schedules.Run.{Run}
+use Rattle.ring_script.specs.declared.schedules.LetterRun.{LetterRun}
 use Rattle.ring_script.specs.Schedule.{spelled}
 use Rattle.ring_script.specs.Content.{Content}
 use Rattle.ring_player.specs.Plays.{Plays, event_sides}
@@ -44,10 +44,10 @@ repeat_told-requires-clause-told g c = c.loop-run.invariant.told
 
 pub loop-run-preserved : goal.loop-run-preserved
 loop-run-preserved g c =
-    let runs : List Run = c.runs-run-items.result.now in
+    let runs : List LetterRun = c.runs-run-items.result.now in
     let i : ℕ = c.loop-run.run-index in
-    let none : Run = record { side = P; count = 0 } in
-    let one : Run = slice_index_or runs i none in
+    let none : LetterRun = record { side = P; count = 0 } in
+    let one : LetterRun = slice_index_or runs i none in
     let before : List Side = spelled (take i runs) in
     let after : spelled (take (i + 1) runs) ≡ before ++ replicate one.count one.side = spelled-more runs i none c.loop-run-test.true in
     let l = c.loop-run.invariant in
@@ -64,7 +64,7 @@ loop-run-preserved g c =
 pub returns : goal.returns
 returns g c =
     let l = c.loop-run.invariant in
-    let runs : List Run = c.runs-run-items.result.now in
+    let runs : List LetterRun = c.runs-run-items.result.now in
     let whole : spelled (take c.loop-run.run-index runs) ≡ c.args.script.now.letters = ap spelled (take_all c.loop-run.run-index runs (omega (arith, c.loop-run-test.false))) ∙ l.all in
     play_records c.recorded_is_linearizable.ensures c.loop-run.world.script c.args.script.now (event_sides c.loop-run.world.history) c.loop-run.world.history c.loop-run.told.items l.script
     c.history-2.ensures.plays (subst (λ (t : List Side). Plays c.args.script.now t c.loop-run.world.history) whole l.plays) l.told

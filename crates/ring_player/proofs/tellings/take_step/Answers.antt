@@ -1,5 +1,5 @@
 use Rattle.std.proofs.Common.{None, subst}
-use Rattle.bits_core.specs.Made.{IsBeginning}
+use Rattle.bits_core.specs.Made.{IsPrefix}
 use Rattle.bits_core.specs.declared.events.Side.TheVariants.{C}
 use Rattle.ring_player.specs.Actors.{IsMove}
 use Rattle.ring_player.specs.Tellings.{TakeTally}
@@ -26,12 +26,12 @@ goes :
     Stepped c.args.world.now.script c.step.new.self.script c.args.world.now.history c.step.new.self.history c.args.at.now.put c.take_says-said.result.0 c.take_says-said.result.1
 goes g c =
     let script = c.args.world.now.script in
-    take_stepped c.own_changes.ensures script c.step.new.self.script c.args.world.now.history c.step.new.self.history c.args.at.now.put c.args.at.now.take c.take_says-said.result.0
+    take_stepped c.subhistory_changes.ensures script c.step.new.self.script c.args.world.now.history c.step.new.self.history c.args.at.now.put c.args.at.now.take c.take_says-said.result.0
     c.wanted-wanted.result (tally c.take_count-before.result) (tally c.take_count-now.result) c.take_says-said.result.1 c.in_ok-moved.ensures.script
     (subst (λ b. IsMove script C b c.args.world.now.history c.step.new.self.history) c.if-not-moved.false c.in_ok-moved.ensures.ok) c.take_says-said.ensures c.wanted-wanted.ensures.wanted c.requires.at
     (c.take_count-before.ensures.taken, c.take_count-before.ensures.empty, c.take_count-before.ensures.told)
     (c.take_count-now.ensures.taken, c.take_count-now.ensures.empty, c.take_count-now.ensures.told)
-    (λ takes f. subst (λ l. IsBeginning l c.step.new.self.script.items) (c.ended_items.ensures.items takes f) c.ended_items.ensures.first)
+    (λ takes f. subst (λ l. IsPrefix l c.step.new.self.script.items) (c.ended_items.ensures.items takes f) c.ended_items.ensures.first)
 
 pub returns-clause-at : goal.returns-clause-at
 returns-clause-at g c = (goes g c).0

@@ -5,7 +5,7 @@ use Rattle.std.proofs.lemmas.List.{length-append, length-replicate}
 use Rattle.bits_core.specs.declared.events.Event.{Event}
 use Rattle.bits_core.specs.declared.events.Side.{Side}
 use Rattle.bits_core.specs.declared.events.Side.TheVariants.{P}
-use Rattle.ring_script.specs.declared.schedules.Run.{Run}
+use Rattle.ring_script.specs.declared.schedules.LetterRun.{LetterRun}
 use Rattle.ring_script.specs.Borrowed.{content_of}
 use Rattle.ring_script.specs.Schedule.{spelled}
 use Rattle.ring_script.specs.Content.{Content}
@@ -32,11 +32,11 @@ loop-run-init g c =
 
 pub loop-run-preserved : goal.loop-run-preserved
 loop-run-preserved g c =
-    let runs : List Run = c.runs-run-items.result.now in
+    let runs : List LetterRun = c.runs-run-items.result.now in
     let i : ℕ = c.loop-run.run-index in
     let k : ℕ = c.args.letters in
-    let none : Run = record { side = P; count = 0 } in
-    let one : Run = slice_index_or runs i none in
+    let none : LetterRun = record { side = P; count = 0 } in
+    let one : LetterRun = slice_index_or runs i none in
     let count : ℕ = c.min-count.result in
     let before : List Side = spelled (take i runs) in
     let after : spelled (take (i + 1) runs) ≡ before ++ replicate one.count one.side = spelled-more runs i none c.loop-run-test.true in
@@ -59,15 +59,15 @@ loop-run-preserved g c =
 
 pub returns-in_err-repeat-clause-full : goal.returns-in_err-repeat-clause-full
 returns-in_err-repeat-clause-full g c =
-    let runs : List Run = c.runs-run-items.result.now in
-    let none : Run = record { side = P; count = 0 } in
+    let runs : List LetterRun = c.runs-run-items.result.now in
+    let none : LetterRun = record { side = P; count = 0 } in
     let l = c.loop-run.invariant in
     let e = c.in_err-repeat.ensures.full in
     on_err c.from_residual.result (e.0, omega (arith, e.1, l.few, l.within, c.min-count.ensures, within_all runs c.loop-run.run-index none c.loop-run-test.true, ap length c.runs-run-items.ensures))
 
 pub returns-clause-plays : goal.returns-clause-plays
 returns-clause-plays g c =
-    let runs : List Run = c.runs-run-items.result.now in
+    let runs : List LetterRun = c.runs-run-items.result.now in
     let k : ℕ = c.args.letters in
     let l = c.loop-run.invariant in
     let end : c.loop-run.run-index ≡ length runs = omega arith in
@@ -76,7 +76,7 @@ returns-clause-plays g c =
 
 pub returns-clause-few : goal.returns-clause-few
 returns-clause-few g c =
-    let runs : List Run = c.runs-run-items.result.now in
+    let runs : List LetterRun = c.runs-run-items.result.now in
     let l = c.loop-run.invariant in
     let end : c.loop-run.run-index ≡ length runs = omega arith in
     let all : spelled (take c.loop-run.run-index runs) ≡ spelled c.args.script.runs.now = ap (λ i. spelled (take i runs)) end ∙ ap spelled (take-length runs) ∙ l.all in

@@ -12,7 +12,7 @@ use Rattle.ring_program.specs.Readings.{IsFoundBy}
 use Rattle.ring_program.specs.declared.faults.AppFault.TheVariants as app
 use Rattle.ring_program.specs.declared.faults.Refusal.{Refusal}
 use Rattle.ring_program.specs.declared.faults.Refusal.TheVariants as refusal
-use Rattle.ring_program.specs.declared.recordings.Found.{Found}
+use Rattle.ring_program.specs.declared.recordings.CallsFound.{CallsFound}
 use Rattle.ring_program.proofs.FirstFaults.{nothing_is_faultless}
 use Rattle.ring_program.proofs.ReadingLemmas.{at_end, at_fault}
 use Rattle.ring_program.proofs.recordings.read_calls.Goals as goal
@@ -28,7 +28,7 @@ none_more zero piece came same = append-nil came
 none_more (suc count) piece came same = cc
 
 -- a fault of the text, of these bytes
-told : (result : Result Found Refusal) (fault : RecordingFault) (bytes : List ℕ) → IsErrAnd result (λ e. e ≡ refusal.Calls fault) → RefusesText fault bytes → IfErr result (IsCallsCause bytes)
+told : (result : Result CallsFound Refusal) (fault : RecordingFault) (bytes : List ℕ) → IsErrAnd result (λ e. e ≡ refusal.Calls fault) → RefusesText fault bytes → IfErr result (IsCallsCause bytes)
 unfolding IsCallsCause
 told (Ok finding) fault bytes is refuses = tt
 told (Err e) fault bytes is refuses = inr (inr (fault, is, refuses))
@@ -42,7 +42,7 @@ all_turns : (turns : ℕ) (came more : List ℕ) → turns ≤ length came → 1
 all_turns turns came more read over = omega (arith, read, over, length-append came more)
 
 -- a fault of the text is no fault of the output
-not_written : (result : Result Found Refusal) (fault : RecordingFault) → IsErrAnd result (λ e. e ≡ refusal.Calls fault) → IfErr result (λ e. e ≢ refusal.App app.WriteFailed)
+not_written : (result : Result CallsFound Refusal) (fault : RecordingFault) → IsErrAnd result (λ e. e ≡ refusal.Calls fault) → IfErr result (λ e. e ≢ refusal.App app.WriteFailed)
 not_written (Ok finding) fault is = tt
 not_written (Err e) fault is = λ written. cc
 

@@ -1,7 +1,7 @@
 use Rattle.std.proofs.Common.{◌≡◌, ◌∙◌, ℕ, List, string_bytes, take, sym, subst, arith}
 use Rattle.std.specs.Prelude.{option_map}
 use Rattle.std.specs.Duration.{as_nanos}
-use Rattle.bits_core.specs.Made.{IsBeginning}
+use Rattle.bits_core.specs.Made.{IsPrefix}
 use Rattle.bits_core.specs.Shape.{AllFit}
 use Rattle.ring_run.specs.Relays.{IsRelayed}
 use Rattle.ring_program.specs.Answers.{TellsRun}
@@ -32,7 +32,7 @@ returns-clause-answered g c =
       time = option_map as_nanos c.time_since-time.result;
       of_numbers = c.in_ok-shape.ensures;
       relayed = subst (λ (items : List ℕ). IsRelayed c.in_ok-shape.shape items run.limits.puts run.limits.takes o.put o.calls o.full o.taken.items o.takes o.empty o.closed) is told.counted;
-      prefix = subst (λ (items : List ℕ). IsBeginning o.taken.items (take o.put items)) is told.prefix;
+      prefix = subst (λ (items : List ℕ). IsPrefix o.taken.items (take o.put items)) is told.prefix;
       all = λ e. (told.all e).1 ∙ is;
       within = omega (arith, told.within, c.in_ok-shape.ensures.capacity_is);
       words = subst (λ (items : List ℕ). TellsRun run.text c.in_ok-shape.shape items o.put o.calls o.full o.taken.items o.takes o.empty o.closed (option_map as_nanos c.time_since-time.result)

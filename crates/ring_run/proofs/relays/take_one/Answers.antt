@@ -1,6 +1,6 @@
 use Rattle.std.proofs.Common.{[], ◌∷◌, refl}
-use Rattle.ring_core.specs.declared.consumers.TakeReply.TheVariants as reply
-use Rattle.ring_core.specs.declared.consumers.TakeBatchReply.TheVariants as batch_reply
+use Rattle.ring_core.specs.declared.replies.TakeReply.TheVariants as reply
+use Rattle.ring_core.specs.declared.replies.TakeBatchReply.TheVariants as batch_reply
 use Rattle.ring_run.proofs.OneTake.{one_of_several}
 use Rattle.ring_run.proofs.relays.take_one.Goals as goal
 

@@ -1,6 +1,6 @@
 use Rattle.std.proofs.Common.{◌≡◌, ℕ, ◌≤◌, Some, List, [], ◌∷◌, length, take, drop, refl, sym, subst, ap, ◌∙◌, arith}
 use Rattle.std.proofs.lemmas.List.{take_at}
-use Rattle.ring_core.specs.declared.consumers.TakeBatchReply.TheVariants.{Taken}
+use Rattle.ring_core.specs.declared.replies.TakeBatchReply.TheVariants.{Taken}
 use Rattle.bits_core.specs.Shape.{take_batch_of}
 use Rattle.ring_core.specs.Takes.{Takes, Open}
 use Rattle.ring_core.specs.ConsumerCalls.{count_taken, take_batch_reply, items_reply}

@@ -1,7 +1,7 @@
 use Rattle.std.proofs.Common.{List, subst, arith}
 use Rattle.bits_core.specs.declared.events.Event.{Event}
 use Rattle.bits_core.specs.declared.events.Side.TheVariants.{P}
-use Rattle.ring_core.specs.declared.producers.PutReply.TheVariants as reply
+use Rattle.ring_core.specs.declared.replies.PutReply.TheVariants as reply
 use Rattle.ring_run.specs.Ring.{Ring}
 use Rattle.ring_run.specs.Rule.{Stands}
 use Rattle.ring_run.specs.Ends.{HasPut}

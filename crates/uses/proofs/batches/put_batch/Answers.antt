@@ -1,5 +1,5 @@
 use Rattle.std.proofs.Common.{List, append-nil, refl, subst, sym, ℕ}
-use Rattle.ring_core.specs.declared.producers.BatchReply.TheVariants as reply
+use Rattle.ring_core.specs.declared.replies.BatchReply.TheVariants as reply
 use Rattle.uses.specs.Passed.{HasStored}
 use Rattle.uses.proofs.Passing.{few_stored, stored_late, stored_more, stored_none}
 use Rattle.uses.proofs.batches.put_batch.Goals as goal

@@ -1,5 +1,5 @@
 use Rattle.std.proofs.Common.{length, refl}
-use Rattle.ring_core.specs.declared.consumers.TakeBatchReply.TheVariants as reply
+use Rattle.ring_core.specs.declared.replies.TakeBatchReply.TheVariants as reply
 use Rattle.uses.proofs.Taking.{took_all}
 use Rattle.uses.proofs.batches.take_batch.Goals as goal
 

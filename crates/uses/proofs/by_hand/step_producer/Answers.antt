@@ -12,7 +12,7 @@ feed-requires-clause-due g c =
     let m' = c.next_event.new.memory in
     let s : HasMadeStep P c.next-due.result (g.O.Oracle.answers c.args.oracle.now 0) m m' (End c.in-End.answer) =
     subst (λ (x : Step). HasMadeStep P c.next-due.result (g.O.Oracle.answers c.args.oracle.now 0) m m' x) c.in-End.is c.in_ok-step.ensures.step in
-    was_due c.own_changes.ensures c.open_from_own.ensures c.open_changes.ensures c.made_leave_none_open.ensures m c.args.producer.now c.requires.driven m' c.in_ok-step.ensures.shape s.0 c.in-End.answer s.1 s.3
+    was_due c.subhistory_changes.ensures c.open_from_own.ensures c.open_changes.ensures c.made_leave_none_open.ensures m c.args.producer.now c.requires.driven m' c.in_ok-step.ensures.shape s.0 c.in-End.answer s.1 s.3
 
 pub feed-requires-clause-one : goal.feed-requires-clause-one
 feed-requires-clause-one g c =
@@ -20,7 +20,7 @@ feed-requires-clause-one g c =
     let m' = c.next_event.new.memory in
     let s : HasMadeStep P c.next-due.result (g.O.Oracle.answers c.args.oracle.now 0) m m' (End c.in-End.answer) =
     subst (λ (x : Step). HasMadeStep P c.next-due.result (g.O.Oracle.answers c.args.oracle.now 0) m m' x) c.in-End.is c.in_ok-step.ensures.step in
-    reads_one c.own_changes.ensures c.open_from_own.ensures c.open_changes.ensures c.made_leave_none_open.ensures m c.args.producer.now c.requires.driven m' c.in_ok-step.ensures.shape s.0 c.in-End.answer s.1 s.3
+    reads_one c.subhistory_changes.ensures c.open_from_own.ensures c.open_changes.ensures c.made_leave_none_open.ensures m c.args.producer.now c.requires.driven m' c.in_ok-step.ensures.shape s.0 c.in-End.answer s.1 s.3
     c.last_bit_is_one.ensures.takes c.events-lawful.ensures.lawful c.expects_one-expects.result c.expects_one-expects.ensures.due c.expects_one-expects.ensures.stands
 
 pub returns-in-Begin-clause-driven : goal.returns-in-Begin-clause-driven
@@ -29,7 +29,7 @@ returns-in-Begin-clause-driven g c =
     let m' = c.next_event.new.memory in
     let s : HasMadeStep P c.next-due.result (g.O.Oracle.answers c.args.oracle.now 0) m m' Begin =
     subst (λ (x : Step). HasMadeStep P c.next-due.result (g.O.Oracle.answers c.args.oracle.now 0) m m' x) c.in-Begin.is c.in_ok-step.ensures.step in
-    began c.own_changes.ensures c.open_from_own.ensures c.open_changes.ensures c.made_leave_none_open.ensures m c.args.producer.now c.requires.driven m' c.in_ok-step.ensures.shape s.0 (sym c.next-due.ensures.due ∙ s.1) s.2 s.3
+    began c.subhistory_changes.ensures c.open_from_own.ensures c.open_changes.ensures c.made_leave_none_open.ensures m c.args.producer.now c.requires.driven m' c.in_ok-step.ensures.shape s.0 (sym c.next-due.ensures.due ∙ s.1) s.2 s.3
 
 pub returns-in-End-clause-driven : goal.returns-in-End-clause-driven
 returns-in-End-clause-driven g c =
@@ -37,5 +37,5 @@ returns-in-End-clause-driven g c =
     let m' = c.next_event.new.memory in
     let s : HasMadeStep P c.next-due.result (g.O.Oracle.answers c.args.oracle.now 0) m m' (End c.in-End.answer) =
     subst (λ (x : Step). HasMadeStep P c.next-due.result (g.O.Oracle.answers c.args.oracle.now 0) m m' x) c.in-End.is c.in_ok-step.ensures.step in
-    fed c.own_changes.ensures c.open_from_own.ensures c.open_changes.ensures c.made_leave_none_open.ensures m c.args.producer.now c.requires.driven m' c.in_ok-step.ensures.shape s.0 c.in-End.answer s.1 s.3
+    fed c.subhistory_changes.ensures c.open_from_own.ensures c.open_changes.ensures c.made_leave_none_open.ensures m c.args.producer.now c.requires.driven m' c.in_ok-step.ensures.shape s.0 c.in-End.answer s.1 s.3
     c.feed.new.self c.feed.ensures.shape (λ calls made b stands due. c.feed.ensures.stands calls made b stands due)

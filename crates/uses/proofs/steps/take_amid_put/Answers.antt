@@ -1,6 +1,6 @@
 use Rattle.std.proofs.Common.{◌≡◌, Option, Some, [], ◌∷◌, ap, sym, ◌∙◌, subst}
-use Rattle.ring_core.specs.declared.producers.PutReply.{PutReply}
-use Rattle.ring_core.specs.declared.consumers.TakeReply.{TakeReply}
+use Rattle.ring_core.specs.declared.replies.PutReply.{PutReply}
+use Rattle.ring_core.specs.declared.replies.TakeReply.{TakeReply}
 use Rattle.ring_run.specs.Ring.{RingEnd}
 use Rattle.ring_core.specs.ConsumerCalls.{reply_items}
 use Rattle.uses.specs.Stepping.{IsFirstPut, IsFirstTake}

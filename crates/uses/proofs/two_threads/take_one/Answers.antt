@@ -1,5 +1,5 @@
 use Rattle.std.proofs.Common.{List, ℕ, refl, sym, subst}
-use Rattle.ring_core.specs.declared.consumers.TakeReply.TheVariants.{Item, Empty, Closed}
+use Rattle.ring_core.specs.declared.replies.TakeReply.TheVariants.{Item, Empty, Closed}
 use Rattle.uses.specs.Passed.{HasTook}
 use Rattle.uses.proofs.Passing.{took_more, took_none}
 use Rattle.uses.proofs.two_threads.take_one.Goals as goal

@@ -4,7 +4,7 @@ use Rattle.bits_core.specs.declared.events.Event.{Event}
 use Rattle.bits_core.specs.declared.shapes.Shape.{Shape}
 use Rattle.bits_core.specs.TraceAudits.{BreaksAt, IsFoundSoFar}
 use Rattle.bits_core.proofs.TraceLemmas.{length-push}
-use Rattle.bits_core.proofs.trace_audits.Hearing.hear.Goals as goal
+use Rattle.bits_core.proofs.trace_audits.TraceHearing.hear.Goals as goal
 
 breaks_before : (shape : Shape) (events : List Event) (e : Event) (place : ℕ) (kind : Kind) → BreaksAt shape events place kind → BreaksAt shape (events ++ e ∷ []) place kind
 breaks_before shape events e place kind broken = record {

@@ -1,6 +1,6 @@
 use Rattle.std.proofs.Common.{◌≡◌, sym, ◌∙◌, Some, slice_get}
 use Rattle.std.proofs.lemmas.Option.{slice_get_within, get_or_from_slice_get}
-use Rattle.queue_calls.proofs.TakeEnds.{next_one}
+use Rattle.queue_calls.proofs.Ends.TakeEnds.{next_one}
 use Rattle.queue_calls.proofs.auditors.CallAuditor.are_next.Goals as goal
 
 pub loop-index-preserved : goal.loop-index-preserved

@@ -2,7 +2,7 @@ use Rattle.std.proofs.Common.{◌≡◌, ℕ, inl, inr, true, false, refl, sym, 
 use Rattle.queue_calls.specs.Told.{meant, told}
 use Rattle.queue_calls.specs.Counting.{kept_by}
 use Rattle.queue_calls.specs.State.{call_of_put}
-use Rattle.queue_calls.proofs.EndLemmas.{late_had, none_moves, put_had, put_in_turn}
+use Rattle.queue_calls.proofs.Ends.EndLemmas.{late_had, none_moves, put_had, put_in_turn}
 use Rattle.queue_calls.proofs.Decided.{kept_as}
 use Rattle.queue_calls.proofs.auditors.CallAuditor.put_ends.Goals as goal
 

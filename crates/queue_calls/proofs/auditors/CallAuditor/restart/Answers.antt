@@ -3,7 +3,7 @@ use Rattle.queue_calls.specs.declared.turns.PutTurn.TheVariants.{Free}
 use Rattle.queue_calls.specs.declared.turns.TakeTurn.TheVariants.{Rests}
 use Rattle.queue_calls.specs.State.{Keeps}
 use Rattle.queue_calls.specs.Told.{meant}
-use Rattle.queue_calls.proofs.TakeBegins.{keeps_nothing}
+use Rattle.queue_calls.proofs.Ends.TakeBegins.{keeps_nothing}
 use Rattle.queue_calls.proofs.auditors.CallAuditor.restart.Goals as goal
 
 pub returns-clause-reads : goal.returns-clause-reads

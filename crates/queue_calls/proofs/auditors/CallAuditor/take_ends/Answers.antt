@@ -2,7 +2,7 @@ use Rattle.std.proofs.Common.{◌≡◌, ℕ, true, false, length, refl, sym, ap
 use Rattle.queue_calls.specs.Told.{meant, told}
 use Rattle.queue_calls.specs.Counting.{kept_by}
 use Rattle.queue_calls.specs.State.{AreNext, CanEndTake, call_of_take, offered_by}
-use Rattle.queue_calls.proofs.EndLemmas.{take_had, take_in_turn}
+use Rattle.queue_calls.proofs.Ends.EndLemmas.{take_had, take_in_turn}
 use Rattle.queue_calls.proofs.Decided.{kept_as}
 use Rattle.queue_calls.proofs.auditors.CallAuditor.take_ends.Goals as goal
 use Rattle.queue_calls.proofs.auditors.CallAuditor.take_ends.Goals.{then-not-are_next-via-then-not-are_next, then-not-are_next-via-else-not-are_next+then-not-ends_take}

@@ -1,5 +1,5 @@
 use Rattle.std.proofs.Common.{ℕ, List, inl, refl, Some, subst, sym, ap, ◌∙◌}
-use Rattle.ring_core.specs.declared.consumers.TakeReply.TheVariants.{Closed}
+use Rattle.ring_core.specs.declared.replies.TakeReply.TheVariants.{Closed}
 use Rattle.bits_core.specs.Shape.{take_batch_of}
 use Rattle.ring_core.specs.GoingOn.{WritesTakeCount}
 use Rattle.ring_core.specs.ConsumerState.{ConsumerState, IsBetweenWords, is_taking}

@@ -1,7 +1,7 @@
 use Rattle.std.proofs.Common.{◌+◌, arith, ◌≡◌, ◌≤◌, ◌∷◌, List, [], ◌++◌, None, Some, length, sym, subst, ap, ◌∙◌, append-nil, ℕ, Option, true}
 use Rattle.bits_core.specs.Made.{answered}
-use Rattle.ring_core.specs.declared.consumers.TakeBatchReply.{TakeBatchReply}
-use Rattle.ring_core.specs.declared.consumers.TakeBatchReply.TheVariants as batch
+use Rattle.ring_core.specs.declared.replies.TakeBatchReply.{TakeBatchReply}
+use Rattle.ring_core.specs.declared.replies.TakeBatchReply.TheVariants as batch
 use Rattle.ring_player.specs.Actors.{empty_in, TakeActorStands}
 use Rattle.ring_player.specs.Wants.{wanted_at}
 use Rattle.ring_player.proofs.Nexts.{take_next}

@@ -1,7 +1,7 @@
 use Rattle.std.proofs.Common.{◌≡◌, take, sym, subst, ◌∙◌}
 use Rattle.bits_core.specs.declared.events.Side.TheVariants.{P, C}
 use Rattle.bits_core.specs.History.{open_access}
-use Rattle.bits_core.specs.Made.{IsBeginning}
+use Rattle.bits_core.specs.Made.{IsPrefix}
 use Rattle.ring_player.specs.Headline.{HoldsHeadline}
 use Rattle.ring_player.specs.Worlds.{Played}
 use Rattle.ring_core.specs.Items.{all_taken}
@@ -30,5 +30,5 @@ returns-clause-first g c =
     let front = front_of (content_of w.script) (content_of w.producer.script) (content_of w.consumer.script) h _ _ _ _ (take w.producer.put (content_of w.producer.script).items) (g.T.Store.items w.consumer.taken) (record { stored = w.producer.stored; full = w.producer.full }) w.consumer.told w.consumer.empty
     i.put_script_is i.take_script_is i.puts i.takes puts takes holds in
     let first = first_of (g.T.Store.items w.consumer.taken) (content_of w.producer.script).items w.producer.put front in
-    subst (λ (x : Played). IsBeginning c.taken.result.now x.script.items) c.self.view_is
-    (subst (λ (x : Content). IsBeginning c.taken.result.now x.items) i.put_script_is (subst (λ l. IsBeginning l (content_of w.producer.script).items) (sym c.taken.ensures) first))
+    subst (λ (x : Played). IsPrefix c.taken.result.now x.script.items) c.self.view_is
+    (subst (λ (x : Content). IsPrefix c.taken.result.now x.items) i.put_script_is (subst (λ l. IsPrefix l (content_of w.producer.script).items) (sym c.taken.ensures) first))

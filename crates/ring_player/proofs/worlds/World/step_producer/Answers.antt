@@ -7,5 +7,5 @@ pub invariant_of-self : goal.invariant_of-self
 invariant_of-self g c =
     let w = c.self.inside in
     let e = c.advance.ensures in
-    producer_steps c.open_changes.ensures c.own_changes.ensures (content_of w.script) w.memory c.advance.new.memory _ _ _ _ _ _ _ _ _ _ _ c.self.invariant e.shape e.script e.playing
+    producer_steps c.open_changes.ensures c.subhistory_changes.ensures (content_of w.script) w.memory c.advance.new.memory _ _ _ _ _ _ _ _ _ _ _ c.self.invariant e.shape e.script e.playing
     (grown (content_of w.producer.script) P w.memory.events c.advance.new.memory.events c.advance.result e.ok e.err) e.turns

@@ -14,10 +14,10 @@ load-requires g c =
     let id : now.id ≡ t.table_id = sym (ap (λ (r : Ring). r.id) c.self.view_is) in
     let shape : c.self.inside.shape ≡ now.shape = ap (λ (r : Ring). r.shape) c.self.view_is in
     let key : now.shape ≡ t.key = sym (c.self.invariant.0 ∙ shape) in
-    let words = sym (c.self.invariant.1 ∙ ap g.K.Kind.count shape) in (
+    let words = sym (c.self.invariant.1 ∙ ap g.K.WordKind.count shape) in (
       c.requires.own.0 ∙ id,
       subst (λ (n : ℕ). c.args.word < n) words c.requires.own.1,
-      subst (λ (z : Shape × TableId). Allows (KeptBy g.K.Kind.count g.K.Kind.shows z.0) z.1.slots c.args.seat.now.id c.args.seat.now.me c.args.word (λ n. n) (g.N.Play.then (step z.1.slots c.args.word 0 0 none) c.args.seat.now.me)) (λ i. (key i, id i)) c.requires.rule,
+      subst (λ (z : Shape × TableId). Allows (KeptBy g.K.WordKind.count g.K.WordKind.shows z.0) z.1.slots c.args.seat.now.id c.args.seat.now.me c.args.word (λ n. n) (g.N.Play.then (step z.1.slots c.args.word 0 0 none) c.args.seat.now.me)) (λ i. (key i, id i)) c.requires.rule,
     )
 
 pub returns-clause-told : goal.returns-clause-told

@@ -12,7 +12,7 @@ use Rattle.queue_calls.proofs.Points.{goes, happens}
 use Rattle.queue_calls.proofs.Effects.{described_at, fits_while_open, fits_alike}
 use Rattle.queue_calls.proofs.Keeping.{Accepts, accept}
 use Rattle.queue_calls.proofs.Sides.{with_producer}
-use Rattle.queue_calls.proofs.Batches.{enqueues, moves, Stored, stored}
+use Rattle.queue_calls.proofs.Ends.Batches.{enqueues, moves, Stored, stored}
 
 -- two lists that go on alike have the same first items
 record Cut (n : ℕ) (a b c d : List ℕ) : Type 0 where

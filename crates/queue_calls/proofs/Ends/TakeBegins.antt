@@ -12,7 +12,7 @@ use Rattle.queue_calls.proofs.Points.{start, goes, happens, only_start}
 use Rattle.queue_calls.proofs.Effects.{described_at, stays}
 use Rattle.queue_calls.proofs.Keeping.{Accepts, accept, at_most_or_above, split, Split}
 use Rattle.queue_calls.proofs.Sides.{free_idle, rests_resting, with_consumer}
-use Rattle.queue_calls.proofs.Batches.{dequeues, moves}
+use Rattle.queue_calls.proofs.Ends.Batches.{dequeues, moves}
 
 -- items may come to an open queue, and are in one that is closed with some inside
 not_drained : (xs : List ℕ) (closed : Bool) → (closed ≡ true → 0 < length xs) → ¬ IsDrained (queue xs closed)

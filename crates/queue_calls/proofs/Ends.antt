@@ -1,0 +1,8 @@
+-- What the begins and the ends of calls do to what an auditor keeps.
+pub mod Batches
+pub mod Closing
+pub mod EndLemmas
+pub mod PutBegins
+pub mod PutEnds
+pub mod TakeBegins
+pub mod TakeEnds
