@@ -7,7 +7,7 @@ use Rattle.queue_calls.specs.Queue.{Capacity}
 use Rattle.queue_calls.specs.Calls.{Event, PutBegin, PutStored, PutFull, PutShort, PutNothing, PutClosed, CloseBegin, CloseEnd, TakeBegin, TakeItems, TakeEmpty, TakeShort, TakeNothing, TakeClosed}
 use Rattle.queue_calls.specs.State.{AreNext, offered_by, asked_by, has_closed}
 use Rattle.queue_calls.specs.Counting.{Kept, kept, without, Counts}
-use Rattle.queue_calls.specs.declared.entries.Offered.{Offered}
+use Rattle.call_causes.specs.declared.entries.Offered.{Offered}
 use Rattle.queue_calls.proofs.Agrees.{PutFits, PutAgrees, TakeAgrees, Agrees}
 use Rattle.queue_calls.specs.Reasons.{line_behind, has_begun, has_ended, has_told, before_take, offered_at, stored_at, taken_at, offers, stored, taken, wanted, n_of, k_of, coming, items_of}
 use Rattle.queue_calls.specs.declared.turns.PutTurn.{PutTurn}

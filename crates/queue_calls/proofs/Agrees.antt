@@ -3,7 +3,7 @@ use Rattle.std.proofs.Common.{◌≡◌, ℕ, ◌+◌, ◌-◌, ◌≤◌, Bool,
 use Rattle.queue_calls.specs.Calls.{Event}
 use Rattle.queue_calls.specs.Counting.{Kept}
 use Rattle.queue_calls.specs.Reasons.{has_begun, has_ended, has_told, before_put, before_take, offers, stored, wanted, n_of, k_of, items_of}
-use Rattle.queue_calls.specs.declared.entries.Offered.{Offered}
+use Rattle.call_causes.specs.declared.entries.Offered.{Offered}
 use Rattle.queue_calls.specs.declared.turns.PutTurn.{PutTurn}
 use Rattle.queue_calls.specs.declared.turns.PutTurn.TheVariants.{Free, Offers, Late, Closes}
 use Rattle.queue_calls.specs.declared.turns.TakeTurn.{TakeTurn}

@@ -11,10 +11,10 @@ use Rattle.queue_calls.specs.Counting.{Kept}
 use Rattle.queue_calls.specs.State.{MayHold, offered_by, asked_by, has_closed}
 use Rattle.queue_calls.specs.Reasons.{at, before_put, before_stored, before_take, can_hold, closed_cause, coming, empty_cause, ended_line, fewer_cause, full_cause, has_begun, has_ended, has_told, items_cause, k_of, last_taken, line_behind, n_of, not_taken_cause, offers, put_short_cause, stored_cause, take_short_cause, taken_at, wanted}
 use Rattle.queue_calls.specs.Witnesses.{agreed}
-use Rattle.queue_calls.specs.declared.causes.Cause.{Cause}
-use Rattle.queue_calls.specs.declared.causes.Cause.TheVariants.{StoredAfterClose, OnlySomeStored, StoredTooMany, OnlySomeWithRoom, FullWithRoom, FullAfterClose, NotStoredButTaken, ShortWithRoom, NoMoreWhileInside, NotTaken, EmptyWhileInside, EmptyAfterClose, ShortWhileInside, ShortAfterClose, ClosedBeforeClose, ClosedWhileInside}
-use Rattle.queue_calls.specs.declared.entries.Offered.{Offered}
-use Rattle.queue_calls.specs.declared.entries.Taken.{Taken}
+use Rattle.call_causes.specs.declared.causes.Cause.{Cause}
+use Rattle.call_causes.specs.declared.causes.Cause.TheVariants.{StoredAfterClose, OnlySomeStored, StoredTooMany, OnlySomeWithRoom, FullWithRoom, FullAfterClose, NotStoredButTaken, ShortWithRoom, NoMoreWhileInside, NotTaken, EmptyWhileInside, EmptyAfterClose, ShortWhileInside, ShortAfterClose, ClosedBeforeClose, ClosedWhileInside}
+use Rattle.call_causes.specs.declared.entries.Offered.{Offered}
+use Rattle.call_causes.specs.declared.entries.Taken.{Taken}
 use Rattle.queue_calls.specs.declared.turns.PutTurn.TheVariants.{Offers, Late}
 use Rattle.queue_calls.specs.declared.turns.TakeTurn.TheVariants.{Waits}
 use Rattle.queue_calls.proofs.Agrees.{Agrees}

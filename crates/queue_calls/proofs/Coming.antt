@@ -7,7 +7,7 @@ use Rattle.queue_calls.specs.Calls.{Event, PutBegin, PutStored, TakeItems}
 use Rattle.queue_calls.specs.Counting.{Kept}
 use Rattle.queue_calls.proofs.Agrees.{Agrees}
 use Rattle.queue_calls.specs.Reasons.{line_behind, has_ended, has_told, offered_at, stored_at, taken_at, offers, stored, taken, n_of, k_of, coming}
-use Rattle.queue_calls.specs.declared.entries.Offered.{Offered}
+use Rattle.call_causes.specs.declared.entries.Offered.{Offered}
 use Rattle.queue_calls.specs.declared.turns.PutTurn.TheVariants.{Free, Offers, Late}
 use Rattle.queue_calls.proofs.Agreeing.{as_put, long, is_late}
 

@@ -13,8 +13,8 @@ use Rattle.queue_calls.specs.Reporting.{as_number, IsReport, IsSurelyInside, IsP
 use Rattle.queue_calls.specs.Tallying.{HaveNumbersOf, IsTallied, IsToldOf, Tallies, least_kept, most_behind, most_kept, has_put, has_take}
 use Rattle.queue_calls.specs.Told.{meant}
 use Rattle.queue_calls.specs.Witnesses.{Remembers}
-use Rattle.queue_calls.specs.declared.entries.Offered.{Offered}
-use Rattle.queue_calls.specs.declared.entries.Taken.{Taken}
+use Rattle.call_causes.specs.declared.entries.Offered.{Offered}
+use Rattle.call_causes.specs.declared.entries.Taken.{Taken}
 use Rattle.queue_calls.specs.declared.reports.CallsReport.{CallsReport}
 use Rattle.queue_calls.specs.declared.reports.Tally.{Tally}
 use Rattle.queue_calls.specs.declared.turns.PutTurn.TheVariants.{Free}

@@ -12,8 +12,8 @@ use Rattle.queue_calls.specs.Reasons.{before_put, before_stored, coming, ended_l
 use Rattle.queue_calls.specs.State.{Keeps}
 use Rattle.queue_calls.specs.Told.{meant}
 use Rattle.queue_calls.specs.Witnesses.{Remembers, RefusesNext, mark_last}
-use Rattle.queue_calls.specs.declared.entries.Offered.{Offered}
-use Rattle.queue_calls.specs.declared.entries.Taken.{Taken}
+use Rattle.call_causes.specs.declared.entries.Offered.{Offered}
+use Rattle.call_causes.specs.declared.entries.Taken.{Taken}
 use Rattle.queue_calls.specs.declared.faults.Fault.{Fault}
 use Rattle.queue_calls.specs.declared.faults.Fault.TheVariants.{OutOfTurn, NotLinearizable, OutOfMemory}
 use Rattle.queue_calls.specs.declared.turns.PutTurn.{PutTurn}

@@ -30,5 +30,3 @@ pub mod CauseTold
 pub mod Remembering
 pub mod Hears
 mod LastOnes
-pub mod Writes
-pub mod Shortness

@@ -10,8 +10,8 @@ use Rattle.queue_calls.specs.Recordings.{Line, line, lines_text, AreLines, and_t
 use Rattle.queue_calls.specs.RecordingStates.{IsFaultSoFar}
 use Rattle.queue_calls.specs.Rooms.{HasLongHistory}
 use Rattle.queue_calls.specs.Hearings.{HasHeardAll, HearsNext, FollowsLines, IsNotLawful}
-use Rattle.queue_calls.specs.declared.entries.Offered.{Offered}
-use Rattle.queue_calls.specs.declared.entries.Taken.{Taken}
+use Rattle.call_causes.specs.declared.entries.Offered.{Offered}
+use Rattle.call_causes.specs.declared.entries.Taken.{Taken}
 use Rattle.queue_calls.specs.declared.hearings.Begun.TheVariants as begun
 use Rattle.queue_calls.specs.declared.hearings.Hearing.{Hearing}
 use Rattle.call_lines.specs.declared.lines.Word.{Word}

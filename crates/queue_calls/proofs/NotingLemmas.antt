@@ -7,7 +7,7 @@ use Rattle.call_lines.specs.Lines.{line_text}
 use Rattle.queue_calls.specs.Recordings.{Line, line, first_word, lines_text, AreLines, and_then, begun_behind, capacity_told, event_told, events_told}
 use Rattle.call_lines.specs.Lines.{BeginsWithNumbers}
 use Rattle.queue_calls.specs.Rooms.{AreTooShort, HasLongHistory, HasLongLine, HasManyNumbers, Rooms}
-use Rattle.queue_calls.specs.declared.entries.TheConstants.{TAKEN_LIMIT}
+use Rattle.call_causes.specs.declared.entries.TheConstants.{TAKEN_LIMIT}
 use Rattle.call_lines.specs.declared.lines.Word.{Word}
 use Rattle.queue_calls.specs.declared.hearings.Begun.TheVariants as begun
 use Rattle.queue_calls.proofs.HeardLines.{events_more}

@@ -7,8 +7,8 @@ use Rattle.queue_calls.specs.InTurn.{CallsAreInTurn, MovesSides, NoCall, Sides, 
 use Rattle.queue_calls.specs.Reasons.{items_of}
 use Rattle.queue_calls.specs.State.{IsProper, sides_of}
 use Rattle.queue_calls.specs.Witnesses.{Remembers}
-use Rattle.queue_calls.specs.declared.entries.Offered.{Offered}
-use Rattle.queue_calls.specs.declared.entries.Taken.{Taken}
+use Rattle.call_causes.specs.declared.entries.Offered.{Offered}
+use Rattle.call_causes.specs.declared.entries.Taken.{Taken}
 use Rattle.queue_calls.specs.declared.turns.PutTurn.TheVariants.{Free}
 use Rattle.queue_calls.specs.declared.turns.TakeTurn.TheVariants.{Rests}
 use Rattle.queue_calls.specs.declared.witnesses.Witness.{Witness}

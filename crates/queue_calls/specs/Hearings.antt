@@ -9,8 +9,8 @@ use Rattle.queue_calls.specs.Tallying.{IsTallied}
 use Rattle.queue_calls.specs.Witnesses.{Remembers}
 use Rattle.queue_calls.specs.declared.auditors.AuditorState.{AuditorState}
 use Rattle.queue_calls.specs.declared.auditors.CallAuditor.{CallAuditor}
-use Rattle.queue_calls.specs.declared.entries.Offered.{Offered}
-use Rattle.queue_calls.specs.declared.entries.Taken.{Taken}
+use Rattle.call_causes.specs.declared.entries.Offered.{Offered}
+use Rattle.call_causes.specs.declared.entries.Taken.{Taken}
 use Rattle.queue_calls.specs.declared.hearings.Hearing.{Hearing}
 use Rattle.queue_calls.specs.declared.hearings.HearingState.{HearingState}
 use Rattle.call_lines.specs.declared.lines.Word.{Word}

@@ -11,7 +11,6 @@ pub mod Order
 pub mod Counting
 pub mod Deciding
 pub mod Laws
-pub mod Causes
 pub mod Reasons
 pub mod Witnesses
 pub mod Faults
@@ -21,5 +20,4 @@ pub mod Tallying
 pub mod RecordingStates
 pub mod RecordingLaws
 pub mod Tellings
-pub mod Words
 pub mod Hearings

@@ -6,9 +6,9 @@ use Rattle.call_lines.specs.Lines.{line_text}
 use Rattle.queue_calls.specs.Witnesses.{Remembers}
 use Rattle.queue_calls.specs.Tallying.{IsTallied}
 use Rattle.queue_calls.specs.Recordings.{Line, line, first_word, lines_text, AreLines, capacity_told, events_told, begun_behind, IsFoundWithin}
-use Rattle.queue_calls.specs.declared.entries.TheConstants.{TAKEN_LIMIT}
-use Rattle.queue_calls.specs.declared.entries.Offered.{Offered}
-use Rattle.queue_calls.specs.declared.entries.Taken.{Taken}
+use Rattle.call_causes.specs.declared.entries.TheConstants.{TAKEN_LIMIT}
+use Rattle.call_causes.specs.declared.entries.Offered.{Offered}
+use Rattle.call_causes.specs.declared.entries.Taken.{Taken}
 use Rattle.queue_calls.specs.declared.reports.Tally.{Tally}
 use Rattle.queue_calls.specs.declared.witnesses.Witness.{Witness}
 use Rattle.queue_calls.specs.declared.hearings.Begun.TheVariants.{Nothing}

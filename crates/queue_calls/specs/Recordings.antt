@@ -6,7 +6,7 @@ use Rattle.queue_calls.specs.InTurn.{CallsAreInTurn}
 use Rattle.queue_calls.specs.Reasons.{IsCause}
 use Rattle.queue_calls.specs.Reporting.{IsReport}
 use Rattle.call_lines.specs.Lines.{line_text, Allows, AreSmall}
-use Rattle.queue_calls.specs.declared.entries.TheConstants.{TAKEN_LIMIT}
+use Rattle.call_causes.specs.declared.entries.TheConstants.{TAKEN_LIMIT}
 use Rattle.call_lines.specs.declared.lines.Word.{Word}
 use Rattle.call_lines.specs.declared.lines.Word.TheVariants as word
 use Rattle.queue_calls.specs.declared.hearings.Begun.{Begun}

@@ -6,7 +6,7 @@ use Rattle.queue_calls.specs.Noting.{OutgrowsLists}
 use Rattle.call_lines.specs.Lines.{BeginsWithNumbers}
 use Rattle.queue_calls.specs.Recordings.{Line, lines_text, IsRecording}
 use Rattle.queue_calls.specs.RecordingStates.{HasNoFeed}
-use Rattle.queue_calls.specs.declared.entries.TheConstants.{TAKEN_LIMIT}
+use Rattle.call_causes.specs.declared.entries.TheConstants.{TAKEN_LIMIT}
 use Rattle.queue_calls.specs.declared.recordings.RecordingIn.{RecordingIn}
 
 -- the text begins with the recording of such a history

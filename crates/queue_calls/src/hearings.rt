@@ -11,7 +11,6 @@ ghost use Rattle.queue_calls.specs.Told.{meant, told};
 
 use crate::auditors::{AuditorState, CallAuditor};
 use crate::capacities::{Capacity, exactly};
-use crate::entries::Taken;
 use crate::events::Event;
 use crate::faults::Fault;
 use crate::insides::Lined;
@@ -19,6 +18,7 @@ use crate::recordings::{CallsFinding, RecordingFault};
 use crate::reports::{CallsReport, Tally};
 use crate::storage::Storage;
 use crate::witnesses::Witness;
+use call_causes::Taken;
 use call_lines::{Word, allows};
 
 /// What the producer began last: it tells apart the two ends `P closed`, and how many items `P stored` says.

@@ -1,7 +1,7 @@
 //! The items inside of a queue that is audited, each with what is to be known of it.
 ghost use Rattle.std.specs.Prelude.{map};
 
-use crate::entries::Offered;
+use call_causes::Offered;
 use lists::Fifo;
 use std::alloc::AllocError;
 

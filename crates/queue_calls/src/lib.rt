@@ -6,8 +6,6 @@
 mod auditors;
 mod bounds;
 mod capacities;
-mod causes;
-mod entries;
 mod events;
 mod faults;
 mod hearings;
@@ -18,13 +16,11 @@ mod reports;
 mod storage;
 mod turns;
 mod witnesses;
-mod words;
 
 pub use auditors::{AuditorState, CallAuditor};
+pub use call_causes::{CAUSE_WORDS, Cause, Next, Offered, Said, TAKEN_LIMIT, Taken, write_cause};
 pub use call_lines::{Word, allows};
 pub use capacities::{Capacity, exactly};
-pub use causes::{Cause, Next, Said};
-pub use entries::{Offered, TAKEN_LIMIT, Taken};
 pub use events::{CallEvent, Event};
 pub use faults::Fault;
 pub use hearings::{Begun, Hearing, HearingState, begun_after, event_told};
@@ -34,4 +30,3 @@ pub use recordings::{CallsFinding, Recording, RecordingFault, RecordingIn};
 pub use reports::CallsReport;
 pub use storage::{Lent, Lists, Owned, Storage};
 pub use turns::{PutTurn, TakeTurn};
-pub use words::{CAUSE_WORDS, write_cause};

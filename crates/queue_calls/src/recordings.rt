@@ -7,13 +7,12 @@ ghost use Rattle.queue_calls.specs.Recordings.{IsFaultOf, IsFindingOf, IsRecordi
 ghost use Rattle.queue_calls.specs.RecordingStates.{ContinuesLines, HasLines, HasNoFeed, HasRead, RefusesLine};
 ghost use Rattle.call_lines.specs.Lines.{BeginsWithNumbers};
 ghost use Rattle.queue_calls.specs.Rooms.{AreTooShort, HasLongHistory, rooms_in, rooms_of};
-ghost use Rattle.queue_calls.specs.declared.entries.TheConstants.{TAKEN_LIMIT};
+ghost use Rattle.call_causes.specs.declared.entries.TheConstants.{TAKEN_LIMIT};
 
-use crate::causes::Cause;
-use crate::entries::TAKEN_LIMIT;
 use crate::hearings::{Hearing, begun_after, event_told};
 use crate::reports::CallsReport;
 use crate::storage::{Lists, Owned, Storage};
+use call_causes::{Cause, TAKEN_LIMIT};
 use call_lines::{Word, read_line};
 use lists::Store;
 use memchr::memchr;

@@ -1,6 +1,6 @@
 //! Where the lists of a recording lie.
 
-use crate::entries::{Offered, Taken};
+use call_causes::{Offered, Taken};
 use lists::{Fifo, Filled, Slots, Store};
 use std::alloc::Allocator;
 use std::collections::VecDeque;

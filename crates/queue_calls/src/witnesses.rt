@@ -12,13 +12,12 @@ ghost use Rattle.queue_calls.specs.declared.faults.Fault.TheVariants.{OutOfMemor
 
 use crate::auditors::CallAuditor;
 use crate::capacities::Capacity;
-use crate::causes::Cause;
-use crate::entries::{Offered, Taken};
 use crate::events::Event;
 use crate::faults::Fault;
 use crate::insides::{Inside, Lined};
 use crate::storage::Storage;
 use crate::turns::{PutTurn, TakeTurn};
+use call_causes::{Cause, Offered, Taken};
 use lists::Fifo;
 
 // A history of a queue, with the lines of its events.

@@ -3,8 +3,8 @@ use Rattle.std.proofs.Common.{Bool, List}
 use Rattle.queue_calls.specs.Hearings.{FollowsLines, hearing_of}
 use Rattle.queue_calls.specs.Recordings.{Line}
 use Rattle.lists.specs.Rings.{ring_items}
-use Rattle.queue_calls.specs.declared.entries.Offered.{Offered}
-use Rattle.queue_calls.specs.declared.entries.Taken.{Taken}
+use Rattle.call_causes.specs.declared.entries.Offered.{Offered}
+use Rattle.call_causes.specs.declared.entries.Taken.{Taken}
 use Rattle.queue_calls.specs.declared.hearings.HearingState.{HearingState}
 use Rattle.lists.specs.declared.slots.Slots.{Slots}
 

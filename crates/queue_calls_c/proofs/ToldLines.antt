@@ -5,8 +5,8 @@ use Rattle.queue_calls.specs.Hearings.{FollowsLines, HearsLine}
 use Rattle.call_lines.specs.Lines.{line_text, word_of, AllowsQueue, AreSmall}
 use Rattle.queue_calls.specs.Recordings.{Line, line, AreLines, capacity_told}
 use Rattle.queue_calls.specs.RecordingStates.{HasHeard}
-use Rattle.queue_calls.specs.declared.entries.Offered.{Offered}
-use Rattle.queue_calls.specs.declared.entries.Taken.{Taken}
+use Rattle.call_causes.specs.declared.entries.Offered.{Offered}
+use Rattle.call_causes.specs.declared.entries.Taken.{Taken}
 use Rattle.queue_calls.specs.declared.hearings.Hearing.{Hearing}
 use Rattle.queue_calls.specs.declared.hearings.Begun.TheVariants.{Nothing}
 use Rattle.call_lines.specs.declared.lines.Word.{Word}

@@ -1,13 +1,13 @@
 -- What an audit has heard, and what is said of the next lines.
 use Rattle.std.specs.Prelude.{◌≡◌, ◌≢◌, ℕ, ◌+◌, ◌-◌, ◌^◌, ◌≤◌, Bool, true, false, List, [], ◌∷◌, ◌++◌, Option, Some, None, Result, Ok, Err, length, take, drop, min, unwrap_or}
-use Rattle.queue_calls.specs.Causes.{cause_line, cause_words}
+use Rattle.call_causes.specs.Causes.{cause_line, cause_words}
 use Rattle.queue_calls.specs.Hearings.{FollowsLines, IsNotLawful, hearing_of}
 use Rattle.call_lines.specs.Lines.{word_of}
 use Rattle.queue_calls.specs.Recordings.{Line, lines_text, AreLines, IsFindingWithin}
 use Rattle.queue_calls.specs.Rooms.{HasLongHistory}
-use Rattle.queue_calls.specs.Words.{written}
-use Rattle.queue_calls.specs.declared.entries.Offered.{Offered}
-use Rattle.queue_calls.specs.declared.entries.Taken.{Taken}
+use Rattle.call_causes.specs.Words.{written}
+use Rattle.call_causes.specs.declared.entries.Offered.{Offered}
+use Rattle.call_causes.specs.declared.entries.Taken.{Taken}
 use Rattle.queue_calls.specs.declared.hearings.Hearing.{Hearing}
 use Rattle.queue_calls.specs.declared.recordings.CallsFinding.{CallsFinding}
 use Rattle.queue_calls.specs.declared.recordings.CallsFinding.TheVariants.{Lawful, OutOfTurn, NotLinearizable}

@@ -4,8 +4,8 @@ use Rattle.lists.specs.Rings.{round_from}
 use Rattle.queue_calls.specs.declared.auditors.AuditorState.{AuditorState}
 use Rattle.queue_calls.specs.declared.capacities.Capacity.{Capacity}
 use Rattle.queue_calls.specs.declared.capacities.Capacity.TheVariants.{Unbounded, Between}
-use Rattle.queue_calls.specs.declared.entries.Offered.{Offered}
-use Rattle.queue_calls.specs.declared.entries.Taken.{Taken}
+use Rattle.call_causes.specs.declared.entries.Offered.{Offered}
+use Rattle.call_causes.specs.declared.entries.Taken.{Taken}
 use Rattle.queue_calls.specs.declared.hearings.Begun.{Begun}
 use Rattle.queue_calls.specs.declared.hearings.Begun.TheVariants as begun
 use Rattle.queue_calls.specs.declared.hearings.HearingState.{HearingState}

@@ -1,7 +1,7 @@
 -- What the page is told of recorded calls.
 use Rattle.std.specs.Prelude.{◌≡◌, ◌⊎◌, ℕ, ◌≤◌, Bool, List, length, min, unwrap_or}
 use Rattle.queue_calls.specs.Calls.{Event}
-use Rattle.queue_calls.specs.Causes.{cause_line, cause_words}
+use Rattle.call_causes.specs.Causes.{cause_line, cause_words}
 use Rattle.queue_calls.specs.Queue.{Capacity}
 use Rattle.queue_calls.specs.Rooms.{AreTooShort, Rooms}
 use Rattle.queue_calls.specs.Recordings.{IsFoundOf, IsRecording, RefusesText}
@@ -13,8 +13,8 @@ use Rattle.queue_calls.specs.declared.reports.CallsReport.{CallsReport}
 use Rattle.ring_page.specs.Marks.{bit_number}
 use Rattle.ring_page.specs.declared.calls.CallsTold.{CallsTold}
 use Rattle.ring_page.specs.declared.calls.Counts.{Counts}
-use Rattle.queue_calls.specs.declared.words.TheConstants.{CAUSE_WORDS}
-use Rattle.queue_calls.specs.Words.{written}
+use Rattle.call_causes.specs.declared.words.TheConstants.{CAUSE_WORDS}
+use Rattle.call_causes.specs.Words.{written}
 
 -- the numbers of a report, and of none
 abbrev pub counts_of : CallsReport → Counts

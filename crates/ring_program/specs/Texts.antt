@@ -8,7 +8,7 @@ use Rattle.bits_core.specs.declared.audits.Kind.{Kind}
 use Rattle.bits_core.specs.declared.events.Event.{Event}
 use Rattle.bits_core.specs.Shape.{capacity_of}
 use Rattle.queue_calls.specs.Calls as queue
-use Rattle.queue_calls.specs.Causes.{cause_words}
+use Rattle.call_causes.specs.Causes.{cause_words}
 use Rattle.queue_calls.specs.Recordings.{line, lines_text}
 use Rattle.queue_calls.specs.Tellings.{lines_of}
 use Rattle.queue_calls.specs.Told.{event_by}

@@ -1,7 +1,7 @@
 //! The audit of recorded calls.
 ghost use Rattle.std.specs.Prelude.{◌≡◌, ◌≢◌, ◌⊎◌, ◌<◌, ◌++◌, List, [], ◌∷◌, ℕ, IfOk, IfErr, IfSome, MatchOption, length, string_bytes, true};
 ghost use Rattle.std.specs.Io.KnownBytes.{Appends};
-ghost use Rattle.queue_calls.specs.Causes.{cause_words};
+ghost use Rattle.call_causes.specs.Causes.{cause_words};
 ghost use Rattle.queue_calls.specs.RecordingStates.{HasNoFeed, HasRead};
 ghost use Rattle.queue_calls.specs.Recordings.{RefusesText};
 ghost use Rattle.ring_program.specs.Answers.{AnswersCallsBy, IsCallsCause, IsOneLine, RefusedCalls, calls_ending_of};

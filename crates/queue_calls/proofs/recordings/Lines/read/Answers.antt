@@ -5,7 +5,7 @@ use Rattle.queue_calls.specs.Noting.{OutgrowsLists}
 use Rattle.queue_calls.specs.Recordings.{Line, line, first_word, begun_after, begun_behind, capacity_told, event_told, events_told}
 use Rattle.queue_calls.specs.RecordingStates.{HasHeard}
 use Rattle.queue_calls.specs.Told.{told}
-use Rattle.queue_calls.specs.declared.entries.TheConstants.{TAKEN_LIMIT}
+use Rattle.call_causes.specs.declared.entries.TheConstants.{TAKEN_LIMIT}
 use Rattle.call_lines.specs.declared.lines.Word.{Word}
 use Rattle.queue_calls.specs.declared.hearings.Begun.TheVariants as begun
 use Rattle.queue_calls.proofs.HeardLines.{IsFirst, first_line, is_line, first_heard, further_line, count_is, further_heard, not_the_first, not_further}

@@ -6,8 +6,8 @@ use Rattle.queue_calls.specs.InTurn.{MovesSides}
 use Rattle.queue_calls.specs.Reasons.{IsCause, cause_of}
 use Rattle.queue_calls.specs.State.{sides_of}
 use Rattle.queue_calls.specs.Told.{told}
-use Rattle.queue_calls.specs.declared.causes.Cause.{Cause}
-use Rattle.queue_calls.specs.declared.causes.Cause.TheVariants.{ClosedWithoutClose, NotStoredButTaken}
+use Rattle.call_causes.specs.declared.causes.Cause.{Cause}
+use Rattle.call_causes.specs.declared.causes.Cause.TheVariants.{ClosedWithoutClose, NotStoredButTaken}
 use Rattle.queue_calls.proofs.CauseFound.{fault_has_a_cause}
 use Rattle.queue_calls.proofs.CauseTold.{told_last}
 use Rattle.queue_calls.proofs.Remembering.{in_turn, linear_of}

@@ -1,6 +1,6 @@
 use Rattle.std.proofs.Common.{◌∙◌, ap, sym, reverse}
 use Rattle.queue_calls.specs.Reasons.{at}
-use Rattle.queue_calls.specs.declared.causes.Cause.TheVariants.{ClosedWhileInside}
+use Rattle.call_causes.specs.declared.causes.Cause.TheVariants.{ClosedWhileInside}
 use Rattle.queue_calls.proofs.CauseTold.{closed_inside, closed_open}
 use Rattle.queue_calls.proofs.Remembering.{agrees_of, kept_of}
 use Rattle.queue_calls.proofs.witnesses.Witness.closed_cause.Goals as goal

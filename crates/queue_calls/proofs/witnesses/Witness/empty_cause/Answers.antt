@@ -1,6 +1,6 @@
 use Rattle.std.proofs.Common.{◌≡◌, false, ◌∙◌, ap, reverse, arith}
 use Rattle.queue_calls.specs.Reasons.{at, has_told, told_closed_line}
-use Rattle.queue_calls.specs.declared.causes.Cause.TheVariants.{EmptyAfterClose, EmptyWhileInside}
+use Rattle.call_causes.specs.declared.causes.Cause.TheVariants.{EmptyAfterClose, EmptyWhileInside}
 use Rattle.queue_calls.proofs.CauseTold.{empty_early, empty_inside, empty_late, is_line, no_line, take_ends}
 use Rattle.queue_calls.proofs.Remembering.{agrees_of, kept_of}
 use Rattle.queue_calls.proofs.witnesses.Witness.empty_cause.Goals as goal

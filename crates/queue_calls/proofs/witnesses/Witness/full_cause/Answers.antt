@@ -1,5 +1,5 @@
 use Rattle.std.proofs.Common.{◌<◌, ◌≤◌, length, ◌∙◌, ap, reverse, arith, inl, inr}
-use Rattle.queue_calls.specs.declared.causes.Cause.TheVariants.{FullAfterClose, FullWithRoom, NotStoredButTaken}
+use Rattle.call_causes.specs.declared.causes.Cause.TheVariants.{FullAfterClose, FullWithRoom, NotStoredButTaken}
 use Rattle.queue_calls.proofs.CauseFound.{put_of}
 use Rattle.queue_calls.proofs.CauseTold.{full_gone, full_room, is_line, late_ends, late_full}
 use Rattle.queue_calls.proofs.Remembering.{agrees_of, kept_of}

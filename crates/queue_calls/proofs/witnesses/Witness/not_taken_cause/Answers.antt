@@ -1,6 +1,6 @@
 use Rattle.std.proofs.Common.{◌≡◌, ◌-◌, length, ◌∙◌, ap, reverse, arith}
 use Rattle.queue_calls.specs.State.{offered_by}
-use Rattle.queue_calls.specs.declared.causes.Cause.TheVariants.{NotTaken}
+use Rattle.call_causes.specs.declared.causes.Cause.TheVariants.{NotTaken}
 use Rattle.queue_calls.proofs.CauseTold.{too_few}
 use Rattle.queue_calls.proofs.Remembering.{agrees_of, kept_of}
 use Rattle.queue_calls.proofs.witnesses.Witness.not_taken_cause.Goals as goal

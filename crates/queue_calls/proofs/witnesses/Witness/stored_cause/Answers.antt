@@ -1,7 +1,7 @@
 use Rattle.std.proofs.Common.{◌≡◌, ◌-◌, ◌<◌, ◌≤◌, length, ◌∙◌, ap, sym, subst, reverse, arith, inl, inr, true, false}
 use Rattle.queue_calls.specs.InTurn.{APut}
 use Rattle.queue_calls.specs.State.{MayHold, asked_by, call_of_put}
-use Rattle.queue_calls.specs.declared.causes.Cause.TheVariants.{OnlySomeStored, OnlySomeWithRoom, StoredAfterClose, StoredTooMany}
+use Rattle.call_causes.specs.declared.causes.Cause.TheVariants.{OnlySomeStored, OnlySomeWithRoom, StoredAfterClose, StoredTooMany}
 use Rattle.queue_calls.proofs.CauseFound.{put_of}
 use Rattle.queue_calls.proofs.CauseTold.{is_line, late_ends, late_stored, stored_gone, stored_over, stored_room}
 use Rattle.queue_calls.proofs.Remembering.{agrees_of, kept_of}

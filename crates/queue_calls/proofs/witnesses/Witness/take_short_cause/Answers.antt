@@ -2,7 +2,7 @@ use Rattle.std.proofs.Common.{◌≡◌, ◌<◌, length, true, false, ◌∙◌
 use Rattle.queue_calls.specs.InTurn.{ATake}
 use Rattle.queue_calls.specs.Reasons.{at, coming, has_told, told_closed_line}
 use Rattle.queue_calls.specs.State.{call_of_take}
-use Rattle.queue_calls.specs.declared.causes.Cause.TheVariants.{ShortAfterClose, ShortWhileInside}
+use Rattle.call_causes.specs.declared.causes.Cause.TheVariants.{ShortAfterClose, ShortWhileInside}
 use Rattle.queue_calls.proofs.Agreeing.{both}
 use Rattle.queue_calls.proofs.CauseTold.{is_line, no_line, short_early, short_inside, short_late, take_ends}
 use Rattle.queue_calls.proofs.Remembering.{agrees_of, kept_of}

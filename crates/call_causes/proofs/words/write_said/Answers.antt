@@ -1,7 +1,7 @@
 use Rattle.std.proofs.Common.{◌∙◌, ◌++◌, [], codes, decimal, ap, sym}
-use Rattle.queue_calls.specs.Causes.{next_words, said_words}
-use Rattle.queue_calls.proofs.Writes.{joined, joined_twice, nothing_written, written_as}
-use Rattle.queue_calls.proofs.words.write_said.Goals as goal
+use Rattle.call_causes.specs.Causes.{next_words, said_words}
+use Rattle.call_causes.proofs.Writes.{joined, joined_twice, nothing_written, written_as}
+use Rattle.call_causes.proofs.words.write_said.Goals as goal
 
 pub returns-in-Words : goal.returns-in-Words
 returns-in-Words c = written_as _ _ (c.write.ensures.written [] _ (nothing_written c.args.slots.now)) (ap said_words (sym c.in-Words.is))

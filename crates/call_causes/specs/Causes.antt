@@ -1,10 +1,10 @@
 -- The words of what speaks against a line of a recording.
 use Rattle.std.specs.Prelude.{ℕ, List, ◌++◌, Option, Some, None, option_map, codes, decimal}
-use Rattle.queue_calls.specs.declared.entries.Offered.{Offered}
-use Rattle.queue_calls.specs.declared.causes.Cause.{Cause}
-use Rattle.queue_calls.specs.declared.causes.Said.{Said}
-use Rattle.queue_calls.specs.declared.causes.Said.TheVariants as said
-use Rattle.queue_calls.specs.declared.causes.Cause.TheVariants.{StoredAfterClose, OnlySomeStored, StoredTooMany, OnlySomeWithRoom, FullWithRoom, FullAfterClose, NotStoredButTaken, ShortWithRoom, ClosedWithoutClose, ItemAfterTold, NotNext, ComesAgain, NotInside, NoMoreWhileInside, NotTaken, EmptyAfterTold, EmptyWhileInside, EmptyAfterClose, ShortAfterTold, ShortWhileInside, ShortAfterClose, ClosedBeforeClose, ClosedWhileInside}
+use Rattle.call_causes.specs.declared.entries.Offered.{Offered}
+use Rattle.call_causes.specs.declared.causes.Cause.{Cause}
+use Rattle.call_causes.specs.declared.causes.Said.{Said}
+use Rattle.call_causes.specs.declared.causes.Said.TheVariants as said
+use Rattle.call_causes.specs.declared.causes.Cause.TheVariants.{StoredAfterClose, OnlySomeStored, StoredTooMany, OnlySomeWithRoom, FullWithRoom, FullAfterClose, NotStoredButTaken, ShortWithRoom, ClosedWithoutClose, ItemAfterTold, NotNext, ComesAgain, NotInside, NoMoreWhileInside, NotTaken, EmptyAfterTold, EmptyWhileInside, EmptyAfterClose, ShortAfterTold, ShortWhileInside, ShortAfterClose, ClosedBeforeClose, ClosedWhileInside}
 
 -- words with numbers between them
 abbrev pub one : List ℕ → ℕ → List ℕ → List ℕ

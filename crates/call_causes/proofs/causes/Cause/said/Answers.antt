@@ -1,6 +1,6 @@
 use Rattle.std.proofs.Common.{◌++◌, codes, decimal, sym, ap, ◌∙◌, append-nil}
-use Rattle.queue_calls.specs.Causes.{cause_words, one}
-use Rattle.queue_calls.proofs.causes.Cause.said.Goals as goal
+use Rattle.call_causes.specs.Causes.{cause_words, one}
+use Rattle.call_causes.proofs.causes.Cause.said.Goals as goal
 
 pub returns-in-OnlySomeStored : goal.returns-in-OnlySomeStored
 returns-in-OnlySomeStored c =

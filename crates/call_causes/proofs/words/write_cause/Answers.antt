@@ -1,7 +1,7 @@
 use Rattle.std.proofs.Common.{rules, ◌≡◌, refl, Some, None}
-use Rattle.queue_calls.specs.declared.causes.Cause.TheVariants.{StoredAfterClose, OnlySomeStored, StoredTooMany, OnlySomeWithRoom, FullWithRoom, FullAfterClose, NotStoredButTaken, ShortWithRoom, ClosedWithoutClose, ItemAfterTold, NotNext, ComesAgain, NotInside, NoMoreWhileInside, NotTaken, EmptyAfterTold, EmptyWhileInside, EmptyAfterClose, ShortAfterTold, ShortWhileInside, ShortAfterClose, ClosedBeforeClose, ClosedWhileInside}
-use Rattle.queue_calls.proofs.Shortness.{AreSmall, cause_length}
-use Rattle.queue_calls.proofs.words.write_cause.Goals as goal
+use Rattle.call_causes.specs.declared.causes.Cause.TheVariants.{StoredAfterClose, OnlySomeStored, StoredTooMany, OnlySomeWithRoom, FullWithRoom, FullAfterClose, NotStoredButTaken, ShortWithRoom, ClosedWithoutClose, ItemAfterTold, NotNext, ComesAgain, NotInside, NoMoreWhileInside, NotTaken, EmptyAfterTold, EmptyWhileInside, EmptyAfterClose, ShortAfterTold, ShortWhileInside, ShortAfterClose, ClosedBeforeClose, ClosedWhileInside}
+use Rattle.call_causes.proofs.Shortness.{AreSmall, cause_length}
+use Rattle.call_causes.proofs.words.write_cause.Goals as goal
 
 pub returns-clause-enough : goal.returns-clause-enough
 returns-clause-enough c = cause_length c.args.cause (elim c.args.cause as (λ cause. c.args.cause ≡ cause → AreSmall cause) [

@@ -1,8 +1,8 @@
 use Rattle.std.proofs.Common.{◌≡◌, ℕ, ◌+◌, ◌-◌, ◌++◌, arith, take, subst, sym, ◌∙◌, ap}
 use borrow.Rule.Slice.PartMut.{put_mid}
-use Rattle.queue_calls.specs.Words.{AreWritten}
-use Rattle.queue_calls.proofs.Writes.{written_behind}
-use Rattle.queue_calls.proofs.words.write.Goals as goal
+use Rattle.call_causes.specs.Words.{AreWritten}
+use Rattle.call_causes.proofs.Writes.{written_behind}
+use Rattle.call_causes.proofs.words.write.Goals as goal
 
 pub returns-clause-written : goal.returns-clause-written
 returns-clause-written c words before so_far =

@@ -1,7 +1,7 @@
 //! The words of a cause, where there is no memory for a text.
 ghost use Rattle.std.specs.Prelude.{◌≡◌, ℕ, ◌≤◌, List, ◌++◌, decimal, length, min};
-ghost use Rattle.queue_calls.specs.Causes.{cause_words, next_words, said_words};
-ghost use Rattle.queue_calls.specs.Words.{AreWritten, written};
+ghost use Rattle.call_causes.specs.Causes.{cause_words, next_words, said_words};
+ghost use Rattle.call_causes.specs.Words.{AreWritten, written};
 
 use crate::causes::{Cause, Said};
 use crate::entries::Offered;

@@ -3,7 +3,7 @@ use Rattle.std.proofs.Common.{◌≡◌, ◌∙◌, ℕ, ◌+◌, ◌-◌, zero,
 use Rattle.std.proofs.Math.Seq.{take-nil}
 use borrow.Rule.Slice.PartMut.{put_mid}
 use Rattle.std.proofs.lemmas.List.{length-append, length-take, length-drop}
-use Rattle.queue_calls.specs.Words.{AreWritten, written}
+use Rattle.call_causes.specs.Words.{AreWritten, written}
 
 -- no words change no slot
 written_none : (slots : List ℕ) → written [] slots ≡ slots

@@ -1,6 +1,6 @@
 //! What speaks against a line of a recording.
 ghost use Rattle.std.specs.Prelude.{◌≡◌, ◌++◌, codes, decimal};
-ghost use Rattle.queue_calls.specs.Causes.{cause_line, cause_words, next_words, said_words};
+ghost use Rattle.call_causes.specs.Causes.{cause_line, cause_words, next_words, said_words};
 
 use crate::entries::{Offered, Taken};
 use std::fmt;

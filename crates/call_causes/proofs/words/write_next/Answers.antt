@@ -1,7 +1,7 @@
 use Rattle.std.proofs.Common.{◌∙◌, ◌++◌, codes, decimal, ap, sym, append_assoc}
-use Rattle.queue_calls.specs.Causes.{next_words}
-use Rattle.queue_calls.proofs.Writes.{joined, written_as}
-use Rattle.queue_calls.proofs.words.write_next.Goals as goal
+use Rattle.call_causes.specs.Causes.{next_words}
+use Rattle.call_causes.proofs.Writes.{joined, written_as}
+use Rattle.call_causes.proofs.words.write_next.Goals as goal
 
 pub returns-in-Some-clause-written : goal.returns-in-Some-clause-written
 returns-in-Some-clause-written c words before so_far =
