@@ -297,7 +297,11 @@ fn relay_through<
     requires idle { E.idle putter × F.idle taker }
     requires fresh { ((E.end putter).list ≡ []) × ((F.end taker).list ≡ []) }
     requires fit { AllFit (E.end putter).ring.shape items.now }
-    ensures { IsRelayed (E.end putter).ring.shape items.now limits.puts limits.takes result.put result.calls result.full result.taken.items result.takes result.empty result.closed }
+    ensures counted { IsRelayed (E.end putter).ring.shape items.now limits.puts limits.takes result.put result.calls result.full
+        result.taken.items result.takes result.empty result.closed }
+    ensures prefix { IsBeginning result.taken.items (take result.put items.now) }
+    ensures all { result.closed ≡ true → (result.put ≡ length items.now) × (result.taken.items ≡ items.now) }
+    ensures within { result.put ≤ length result.taken.items + capacity_of (E.end putter).ring.shape }
 {
     ring_law();
     whole_calls_count();
@@ -341,8 +345,6 @@ pub fn relay_flicker<
     ensures all { IfOk result (λ r. r.closed ≡ true → (r.put ≡ length items.now) × (r.taken.items ≡ items.now)) }
     ensures within { IfOk result (λ r. r.put ≤ length r.taken.items + capacity_of shape) }
 {
-    ring_law();
-    whole_calls_count();
     let (ring, start) = FlickerRing::new(alloc, shape)?;
     let taken = room_for(alloc, items, limits)?;
     let (putter, taker) = ring.ends(start, oracle_p, oracle_c);
@@ -373,8 +375,6 @@ pub fn relay_counter<R: Threads, A: Allocator + Copy, G: Gate + Sync>(
     ensures all { IfOk result (λ r. r.closed ≡ true → (r.put ≡ length items.now) × (r.taken.items ≡ items.now)) }
     ensures within { IfOk result (λ r. r.put ≤ length r.taken.items + capacity_of shape) }
 {
-    ring_law();
-    whole_calls_count();
     let (ring, start) = CounterRing::new(alloc, shape)?;
     let taken = room_for(alloc, items, limits)?;
     let (putter, taker) = ring.ends(start);
