@@ -22,7 +22,6 @@ use Rattle.ring_seats.specs.Below.{LawsBelow}
 use Rattle.ring_seats.specs.Ring.{RingEnd}
 use Rattle.ring_seats.specs.Programs.{Follows}
 use Rattle.ring_seats.specs.Steppers.{IsSameEnd, StandsAs}
-use Rattle.ring_seats.specs.Rule.{Stands}
 use Rattle.ring_seats.specs.Calls.{HasTakes, closed_reply}
 use Rattle.ring_seats.specs.Counters.{GrowsBy, unary_over}
 use Rattle.ring_seats.specs.CounterEnds.{TakerList, TakeMade, TakeKept, HasFound, LookMade, HasLooked}
