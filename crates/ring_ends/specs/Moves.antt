@@ -54,9 +54,9 @@ pub record Due (k : Machine) (m : k.State) (a : Access) : Type 0 where
       EndsInZeros (k.shape_of m) k.side made
 
 -- what a machine tells: the due access, or that no call is under way
-abbrev pub Tells : (k : Machine) → k.State → Option Access → Type 0
-Tells k m None = (calls : k.Calls) (made : List Made) → k.Stands m calls made → k.Rests m
-Tells k m (Some a) = Due k m a
+abbrev pub TellsNext : (k : Machine) → k.State → Option Access → Type 0
+TellsNext k m None = (calls : k.Calls) (made : List Made) → k.Stands m calls made → k.Rests m
+TellsNext k m (Some a) = Due k m a
 
 -- an answer to the due access may be fed: not a 0 of the last bit of the other side's count
 abbrev pub MayFeed : (k : Machine) → k.State → Bool → Type 0

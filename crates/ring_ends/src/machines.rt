@@ -7,7 +7,7 @@ use bits_core::Access;
 pub(crate) trait SideMachine {
     ghost use Rattle.std.specs.Prelude.{◌≡◌, ◌↔◌, ◌<◌, ℕ, true, false, IfSome, IsTrue};
     ghost use Rattle.ring_ends.specs.Machines.{Machine};
-    ghost use Rattle.ring_ends.specs.Moves.{Due, Fed, MachineLaws, MayFeed, Tells};
+    ghost use Rattle.ring_ends.specs.Moves.{Due, Fed, MachineLaws, MayFeed, TellsNext};
 
     type Scan: Drop;
 
@@ -40,7 +40,7 @@ pub(crate) trait SideMachine {
         ensures { MachineLaws kind };
 
     fn next(&self) -> Option<Access>
-        ensures { Tells kind (state self.now) result };
+        ensures { TellsNext kind (state self.now) result };
 
     fn feed(&mut self, answer: bool)
         requires { MayFeed kind (state self.old) answer }
