@@ -186,6 +186,9 @@ pub record Whole (k : Machine) (c : k.Call) : Type 0 where
   pub now : ℕ → Bool
   pub ended : MachineEnded k begun.e begun.now e m old now
 
+abbrev pub whole_of : (k : Machine) {c : k.Call} (b : Begun k c) → k.Rests b.m → (e : RingEnd) (m : k.State) {old now : ℕ → Bool} → MachineEnded k b.e b.now e m old now → Whole k c
+whole_of k b idle e m {old} {now} ended = record { begun = b; idle = idle; e = e; m = m; old = old; now = now; ended = ended }
+
 module _ (k : Machine) (ks : MachineLaws k) {c : k.Call} (w : Whole k c) where
   abbrev b : Begun k c
   b = w.begun

@@ -1,30 +1,17 @@
 -- A whole take of the consumer's end, access by access.
-use Rattle.std.proofs.Common.{◌≡◌, ℕ, Bool, false, Some, refl, ap, sym, subst, ◌∙◌}
+use Rattle.std.proofs.Common.{◌≡◌, ℕ, Bool, Some, refl, ap, sym, subst, ◌∙◌}
 use Rattle.bits_core.specs.declared.shapes.Shape.{Shape}
 use Rattle.ring_core.specs.declared.replies.TakeReply as replies
 use Rattle.ring_core.specs.declared.replies.TakeReply.TheVariants as reply
-use Rattle.ring_core.specs.Takes.{Takes, AreTakes}
-use Rattle.ring_core.specs.ConsumerState.{ConsumerState, is_taking}
+use Rattle.ring_core.specs.Takes.{AreTakes}
 use Rattle.ring_core.specs.ConsumerCalls.{IsReplyToTake, reply_at_end}
 use Rattle.ring_seats.specs.Ring.{RingEnd}
-use Rattle.ring_ends.specs.Ends.{HasTakes, HasTakenOf, TakeAdds, TakerState, whole_take}
-use Rattle.ring_ends.specs.Machines.{IsMachine, IsMarked, MachineEnded, MachineReady, consuming, longest_while, without_last}
-use Rattle.ring_ends.proofs.MachineWhole.{Ended, More, Refused, Whole, ending, list_there, more_there, over_list, ready, shape_whole}
-use Rattle.ring_ends.proofs.TakerCalls.{Begins, over_adds, over_reply, take_begun, take_laws}
+use Rattle.ring_ends.specs.Ends.{HasTakes, HasTakenOf, TakeAdds}
+use Rattle.ring_ends.specs.Machines.{consuming}
+use Rattle.ring_ends.proofs.MachineWhole.{Ended, More, Refused, Whole, ending, list_there, more_there, over_list, shape_whole}
+use Rattle.ring_ends.proofs.TakerCalls.{over_adds, over_reply, take_laws}
 
 -- ---- a whole take
-
-module _ {O : Type 0} (o : O) (e : RingEnd) (m : ConsumerState) (n : ℕ) (s : TakerState O) (view : record { end = e; taking = is_taking m; wanted = m.wanted; start = without_last n e.list; oracle = o } ≡ s)
-    (was : IsMachine consuming e m (whole_take (is_taking m) e.list (without_last n e.list)) × IsMarked n e.list (longest_while m.shape (is_taking m) m.wanted)) (idle : s.taking ≡ false) (wanted : ℕ) (now : ConsumerState) (begins : Begins m now wanted) where
-  pub idle_there : is_taking m ≡ false
-  idle_there = ap (λ (z : TakerState O). z.taking) view ∙ idle
-
-  pub take_ready : (calls : Takes) × MachineReady consuming e now calls
-  take_ready = ready consuming take_laws (take_begun o e m n s view was wanted now begins) idle_there
-
-  -- a take, and what its accesses came to
-  abbrev pub take_whole : (e' : RingEnd) (m' : ConsumerState) {before after : ℕ → Bool} → MachineEnded consuming e now e' m' before after → Whole consuming wanted
-  take_whole e' m' {before} {after} ended = record { begun = take_begun o e m n s view was wanted now begins; idle = idle_there; e = e'; m = m'; old = before; now = after; ended = ended }
 
 -- a take was answered, and this is what it added
 pub take_ended : (wanted : ℕ) (w : Whole consuming wanted) → (x : replies.TakeReply) × (w.m.reply ≡ Some x) × HasTakenOf w.e.ring.shape wanted w.begun.seen.list w.e.list x

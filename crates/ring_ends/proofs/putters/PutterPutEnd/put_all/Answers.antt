@@ -3,19 +3,21 @@ use Rattle.ring_core.specs.ProducerState.{Put}
 use Rattle.ring_ends.specs.Ends.{HasPutAll}
 use Rattle.ring_seats.specs.Steppers.{AreAnswered}
 use Rattle.ring_ends.specs.Machines.{producing}
-use Rattle.ring_ends.proofs.MachineWhole.{Whole, idle_after, lawful_whole, same_whole, whole_invariant}
-use Rattle.ring_ends.proofs.PutterCalls.{put_laws, put_seen}
-use Rattle.ring_ends.proofs.PutterWhole.{batch_told, put_ended, put_ready, put_whole, told_so}
+use Rattle.ring_ends.proofs.MachineWhole.{Whole, idle_after, lawful_whole, ready, same_whole, whole_invariant, whole_of}
+use Rattle.ring_ends.proofs.PutterCalls.{call_seen, put_begun, put_laws, put_seen}
+use Rattle.ring_ends.proofs.PutterWhole.{batch_told, put_ended, told_so}
 use Rattle.ring_ends.proofs.putters.PutterPutEnd.put_all.Given.{Over}
 use Rattle.ring_ends.proofs.putters.PutterPutEnd.put_all.Goals.{After-finish}
 use Rattle.ring_ends.proofs.putters.PutterPutEnd.put_all.Goals as goal
 
 -- the call, and what its accesses came to
 abbrev done : (g : Over) (c : After-finish g) → Whole producing (Put c.args.items.now)
-done g c = put_whole c.self.inside.oracle c.self.inside.stepper c.self.inside.machine c.self.inside.steps c.args.self.now c.self.view_is c.self.invariant c.requires.idle (Put c.args.items.now) c.begin_put_all.new.machine c.begin_put_all.ensures.begins c.finish.new.stepper c.finish.new.machine c.finish.ensures
+done g c = whole_of producing (put_begun c.self.inside.oracle c.self.inside.stepper c.self.inside.machine c.self.inside.steps c.args.self.now c.self.view_is c.self.invariant (Put c.args.items.now) c.begin_put_all.new.machine c.begin_put_all.ensures.begins)
+    (call_seen c.self.view_is ∙ c.requires.idle) c.finish.new.stepper c.finish.new.machine c.finish.ensures
 
 pub finish-requires : goal.finish-requires
-finish-requires g c = put_ready c.self.inside.oracle c.self.inside.stepper c.self.inside.machine c.self.inside.steps c.args.self.now c.self.view_is c.self.invariant c.requires.idle (Put c.args.items.now) c.begin_put_all.new.machine c.begin_put_all.ensures.begins
+finish-requires g c = ready producing put_laws (put_begun c.self.inside.oracle c.self.inside.stepper c.self.inside.machine c.self.inside.steps c.args.self.now c.self.view_is c.self.invariant (Put c.args.items.now) c.begin_put_all.new.machine c.begin_put_all.ensures.begins)
+    (call_seen c.self.view_is ∙ c.requires.idle)
 
 pub invariant_of-self : goal.invariant_of-self
 invariant_of-self g c = whole_invariant producing put_laws (done g (goal.at.invariant_of-self g c).After-finish)

@@ -2,20 +2,22 @@ use Rattle.std.proofs.Common.{IsSome, refl, sym, ap, subst, ◌∙◌}
 use Rattle.ring_ends.specs.Ends.{HasTaken, wants_next}
 use Rattle.ring_seats.specs.Steppers.{AreAnswered}
 use Rattle.ring_ends.specs.Machines.{consuming}
-use Rattle.ring_ends.proofs.MachineWhole.{Whole, idle_after, lawful_whole, same_whole, whole_invariant}
+use Rattle.ring_ends.proofs.MachineWhole.{Whole, idle_after, lawful_whole, ready, same_whole, whole_invariant, whole_of}
 use Rattle.ring_ends.proofs.PutterWhole.{told_so}
-use Rattle.ring_ends.proofs.TakerCalls.{begins_seen, take_laws, take_seen}
-use Rattle.ring_ends.proofs.TakerWhole.{take_ended, take_ready, take_whole}
+use Rattle.ring_ends.proofs.TakerCalls.{begins_seen, take_begun, take_laws, take_seen, taking_seen}
+use Rattle.ring_ends.proofs.TakerWhole.{take_ended}
 use Rattle.ring_ends.proofs.takers.TakerTakeEnd.take.Given.{Over}
 use Rattle.ring_ends.proofs.takers.TakerTakeEnd.take.Goals.{After-finish}
 use Rattle.ring_ends.proofs.takers.TakerTakeEnd.take.Goals as goal
 
 -- the take, and what its accesses came to
 abbrev done : (g : Over) (c : After-finish g) → Whole consuming 1
-done g c = take_whole c.self.inside.oracle c.self.inside.stepper c.self.inside.machine c.self.inside.steps c.args.self.now c.self.view_is c.self.invariant c.requires.idle 1 c.begin_take.new.machine (begins_seen c.self.view_is c.self.inside.machine c.begin_take.new.machine 1 1 (ap (λ t. wants_next t c.args.self.now.wanted 1) c.requires.idle) c.begin_take.ensures.begins) c.finish.new.stepper c.finish.new.machine c.finish.ensures
+done g c = whole_of consuming (take_begun c.self.inside.oracle c.self.inside.stepper c.self.inside.machine c.self.inside.steps c.args.self.now c.self.view_is c.self.invariant 1 c.begin_take.new.machine (begins_seen c.self.view_is c.self.inside.machine c.begin_take.new.machine 1 1 (ap (λ t. wants_next t c.args.self.now.wanted 1) c.requires.idle) c.begin_take.ensures.begins))
+    (taking_seen c.self.view_is ∙ c.requires.idle) c.finish.new.stepper c.finish.new.machine c.finish.ensures
 
 pub finish-requires : goal.finish-requires
-finish-requires g c = take_ready c.self.inside.oracle c.self.inside.stepper c.self.inside.machine c.self.inside.steps c.args.self.now c.self.view_is c.self.invariant c.requires.idle 1 c.begin_take.new.machine (begins_seen c.self.view_is c.self.inside.machine c.begin_take.new.machine 1 1 (ap (λ t. wants_next t c.args.self.now.wanted 1) c.requires.idle) c.begin_take.ensures.begins)
+finish-requires g c = ready consuming take_laws (take_begun c.self.inside.oracle c.self.inside.stepper c.self.inside.machine c.self.inside.steps c.args.self.now c.self.view_is c.self.invariant 1 c.begin_take.new.machine (begins_seen c.self.view_is c.self.inside.machine c.begin_take.new.machine 1 1 (ap (λ t. wants_next t c.args.self.now.wanted 1) c.requires.idle) c.begin_take.ensures.begins))
+    (taking_seen c.self.view_is ∙ c.requires.idle)
 
 pub invariant_of-self : goal.invariant_of-self
 invariant_of-self g c = whole_invariant consuming take_laws (done g (goal.at.invariant_of-self g c).After-finish)

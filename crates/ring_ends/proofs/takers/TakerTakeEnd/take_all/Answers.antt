@@ -3,9 +3,8 @@ use Rattle.std.specs.Prelude.{IfSome}
 use Rattle.ring_ends.specs.Ends.{HasTakenAll, number_brought, wants_next}
 use Rattle.ring_seats.specs.Steppers.{AreAnswered}
 use Rattle.ring_ends.specs.Machines.{consuming}
-use Rattle.ring_ends.proofs.MachineWhole.{Whole, idle_after, lawful_whole, same_whole, whole_invariant}
-use Rattle.ring_ends.proofs.TakerCalls.{begins_seen, take_laws, take_seen}
-use Rattle.ring_ends.proofs.TakerWhole.{take_ready, take_whole}
+use Rattle.ring_ends.proofs.MachineWhole.{Whole, idle_after, lawful_whole, ready, same_whole, whole_invariant, whole_of}
+use Rattle.ring_ends.proofs.TakerCalls.{begins_seen, take_begun, take_laws, take_seen, taking_seen}
 use Rattle.ring_ends.proofs.TakesAll.{Brought, brought_within, some_so, take_brought, told_of}
 use Rattle.ring_ends.proofs.takers.TakerTakeEnd.take_all.Given.{Over}
 use Rattle.ring_ends.proofs.takers.TakerTakeEnd.take_all.Goals.{After-finish}
@@ -13,10 +12,12 @@ use Rattle.ring_ends.proofs.takers.TakerTakeEnd.take_all.Goals as goal
 
 -- the take, and what its accesses came to
 abbrev done : (g : Over) (c : After-finish g) → Whole consuming (length c.args.into.now)
-done g c = take_whole c.self.inside.oracle c.self.inside.stepper c.self.inside.machine c.self.inside.steps c.args.self.now c.self.view_is c.self.invariant c.requires.idle (length c.args.into.now) c.begin_take.new.machine (begins_seen c.self.view_is c.self.inside.machine c.begin_take.new.machine (length c.args.into.now) (length c.args.into.now) (ap (λ t. wants_next t c.args.self.now.wanted (length c.args.into.now)) c.requires.idle) c.begin_take.ensures.begins) c.finish.new.stepper c.finish.new.machine c.finish.ensures
+done g c = whole_of consuming (take_begun c.self.inside.oracle c.self.inside.stepper c.self.inside.machine c.self.inside.steps c.args.self.now c.self.view_is c.self.invariant (length c.args.into.now) c.begin_take.new.machine (begins_seen c.self.view_is c.self.inside.machine c.begin_take.new.machine (length c.args.into.now) (length c.args.into.now) (ap (λ t. wants_next t c.args.self.now.wanted (length c.args.into.now)) c.requires.idle) c.begin_take.ensures.begins))
+    (taking_seen c.self.view_is ∙ c.requires.idle) c.finish.new.stepper c.finish.new.machine c.finish.ensures
 
 pub finish-requires : goal.finish-requires
-finish-requires g c = take_ready c.self.inside.oracle c.self.inside.stepper c.self.inside.machine c.self.inside.steps c.args.self.now c.self.view_is c.self.invariant c.requires.idle (length c.args.into.now) c.begin_take.new.machine (begins_seen c.self.view_is c.self.inside.machine c.begin_take.new.machine (length c.args.into.now) (length c.args.into.now) (ap (λ t. wants_next t c.args.self.now.wanted (length c.args.into.now)) c.requires.idle) c.begin_take.ensures.begins)
+finish-requires g c = ready consuming take_laws (take_begun c.self.inside.oracle c.self.inside.stepper c.self.inside.machine c.self.inside.steps c.args.self.now c.self.view_is c.self.invariant (length c.args.into.now) c.begin_take.new.machine (begins_seen c.self.view_is c.self.inside.machine c.begin_take.new.machine (length c.args.into.now) (length c.args.into.now) (ap (λ t. wants_next t c.args.self.now.wanted (length c.args.into.now)) c.requires.idle) c.begin_take.ensures.begins))
+    (taking_seen c.self.view_is ∙ c.requires.idle)
 
 pub invariant_of-self : goal.invariant_of-self
 invariant_of-self g c = whole_invariant consuming take_laws (done g (goal.at.invariant_of-self g c).After-finish)
