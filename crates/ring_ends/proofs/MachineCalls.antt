@@ -1,5 +1,5 @@
 -- A step call of an end, by its machine, whichever side it is of.
-use Rattle.std.proofs.Common.{◌≡◌, ◌⊎◌, inl, inr, ⊎_elim, ℕ, ◌+◌, ◌-◌, ◌*◌, ◌≤◌, Option, None, List, [], ◌∷◌, ◌++◌, length, take, ap, sym, subst, ◌∙◌, arith}
+use Rattle.std.proofs.Common.{◌≡◌, ◌⊎◌, inl, inr, ⊎_elim, ℕ, ◌+◌, ◌-◌, ◌*◌, ◌≤◌, Bool, Option, None, List, [], ◌∷◌, ◌++◌, length, take, ap, sym, subst, ◌∙◌, arith}
 use Rattle.std.proofs.lemmas.List.{length-append, length-take-le, take-append-le, take_all}
 use Rattle.bits_core.specs.declared.events.Side.{Side}
 use Rattle.bits_core.specs.declared.events.Access.{Access}
@@ -8,9 +8,9 @@ use Rattle.bits_core.specs.declared.shapes.Shape.{Shape}
 use Rattle.bits_core.specs.Made.{Made, events_of}
 use Rattle.ring_seats.specs.Ring.{Ring, RingEnd}
 use Rattle.ring_seats.specs.Steppers.{Grows, IsSameEnd, StandsAs}
-use Rattle.ring_ends.specs.Machines.{ListIs, IsMarked, Machine, MachineAt, MachineStep, IsMachine, CallBegins, without_last}
+use Rattle.ring_ends.specs.Machines.{ListIs, IsMarked, Machine, MachineAt, MachineStep, MachineStepped, IsMachine, CallBegins, without_last}
+use Rattle.ring_ends.specs.Moves.{MachineLaws}
 use Rattle.ring_ends.proofs.Lists.{length-events_of}
-use Rattle.ring_ends.proofs.MachineMoves.{MachineLaws}
 use Rattle.ring_ends.proofs.Steps.{none-some}
 
 -- ---- at rest
@@ -124,6 +124,16 @@ module _ (k : Machine) (ks : MachineLaws k) (e : RingEnd) (m : k.State) (calls :
         let same : length e'.list ≡ length whole = ap (λ (x : RingEnd). length x.list) (rests gone.0).1 ∙ ap length (rest_list k ks e m1 calls made at_one gone.0 ∙ sym w) in
         omega (arith, same))
         begins.2
+
+-- ---- one step of an end
+
+pub stepped_stands :
+    (k : Machine) → MachineLaws k → {e : RingEnd} {m : k.State} {e' : RingEnd} {m' : k.State} {old now : ℕ → Bool} → MachineStepped k e m e' m' old now →
+    (calls : k.Calls) (made : List Made) → MachineAt k e m calls made → (calls' : k.Calls) × (made' : List Made) × k.Stands m' calls' made'
+stepped_stands k ks {e} {m} s calls made at = ⊎_elim
+    (λ none. (calls, made, subst (λ (z : k.State). k.Stands z calls made) (sym (s.rests none).0) at.stands))
+    (λ on. let t = s.steps calls made at on.0 on.1 in (t.more, t.made, t.at.stands))
+    (ks.either m)
 
 -- ---- of an end that marks the events of the call under way
 

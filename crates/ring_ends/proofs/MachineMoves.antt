@@ -1,5 +1,5 @@
 -- A step of an end by its machine, whichever side it is of.
-use Rattle.std.proofs.Common.{◌≡◌, ◌⊎◌, inl, inr, ◌+◌, ◌*◌, ◌<◌, Bool, true, false, Option, Some, None, IsTrue, ◌↔◌, List, [], ◌∷◌, ◌++◌, length, refl, ap, sym, subst, ◌∙◌, arith}
+use Rattle.std.proofs.Common.{◌≡◌, inl, inr, ◌+◌, ◌*◌, ◌<◌, Bool, true, false, Some, None, List, [], ◌∷◌, ◌++◌, length, refl, ap, sym, subst, ◌∙◌, arith}
 use Rattle.std.proofs.lemmas.List.{length-append}
 use Rattle.bits_core.specs.declared.events.Side.{Side}
 use Rattle.bits_core.specs.declared.events.Access.{Access}
@@ -15,44 +15,10 @@ use Rattle.ring_seats.specs.Ring.{Ring, RingEnd}
 use Rattle.ring_seats.specs.Programs.{Follows, IsRing, GoesOn, begin_of, ending_event}
 use Rattle.ring_seats.specs.Steppers.{Grows, IsSameEnd, StandsAs, CanMake, CanStep, HasStepped}
 use Rattle.ring_ends.specs.Machines.{ListIs, Machine, MachineAt, MachineStep}
+use Rattle.ring_ends.specs.Moves.{Due, Fed, MachineLaws, Next}
 use Rattle.ring_seats.specs.Below.{LawsBelow}
 use Rattle.ring_ends.proofs.Lists.{own-mine, own-theirs, ring_follows, events_begin, events_more, begun_open, shorter, no_zero, length-events_of}
 use Rattle.ring_ends.proofs.Steps.{by_end, not_by_end, list_closed, list_open, CanMakeAt, CanStepAt, last_false}
-
--- What holds of a side's machine. A call is under way, or none is, and not two. At rest its accesses are those of its calls, and
--- none is due. One call more is one of the side's program, and a part of it is one. While a call is under way it stays the same;
--- once it is over it is one of the calls.
-pub record MachineLaws (k : Machine) : Type 0 where
-  pub either : (m : k.State) → k.Rests m ⊎ ((c : k.Call) × k.Busy m c)
-  pub never : (m : k.State) (c : k.Call) → k.Rests m → k.Busy m c → ⊥
-  pub one : (m : k.State) (c d : k.Call) → k.Busy m c → k.Busy m d → c ≡ d
-  pub at_rest : (m : k.State) (calls : k.Calls) (made : List Made) → k.Stands m calls made → k.Rests m → (made ≡ k.program (k.shape_of m) calls) × (k.due m ≡ None)
-  pub follows : (shape : Shape) (c : k.Call) (calls more : k.Calls) (list : List Event) → k.More shape c calls more → IsPrefix list (events_of k.side (k.program shape more)) → Follows shape k.side list
-  pub part : (m : k.State) (c : k.Call) (calls more : k.Calls) (made : List Made) (list : List Event) → k.Stands m calls made → k.More (k.shape_of m) c calls more → IsPrefix list (events_of k.side (k.program (k.shape_of m) more)) →
-      k.Part (k.shape_of m) c (events_of k.side (k.program (k.shape_of m) calls)) list
-  pub stays : (m : k.State) (c : k.Call) (calls : k.Calls) → k.Busy m c → k.After m m calls calls
-  pub goes : (m m' : k.State) (c d : k.Call) (calls more : k.Calls) → k.Busy m c → k.Busy m' d → k.After m m' calls more → (d ≡ c) × (more ≡ calls)
-  pub over : (m m' : k.State) (c : k.Call) (calls more : k.Calls) → k.Busy m c → k.Rests m' → k.After m m' calls more → k.More (k.shape_of m) c calls more
-  pub whole_rests : (m : k.State) (list start : List Event) → k.Rests m → k.whole m list start ≡ list
-  pub whole_busy : (m : k.State) (c : k.Call) (list start : List Event) → k.Busy m c → k.whole m list start ≡ start
-  pub most_rests : (m : k.State) → k.Rests m → k.most m ≡ 0
-  pub most_busy : (m : k.State) (c : k.Call) → k.Busy m c → k.most m ≡ k.longest (k.shape_of m) c
-
--- what goes on
-pub record Next (k : Machine) (m : k.State) (calls : k.Calls) (made : List Made) (a : Access) : Type 0 where
-  pub one : k.Call
-  pub is : k.Busy m one
-  pub goes : (answer : Bool) → (LastBitIsDue (k.shape_of m) k.side (Some a) → answer ≡ true) → (more : k.Calls) × k.More (k.shape_of m) one calls more × IsPrefix (made ++ answered a answer ∷ []) (k.program (k.shape_of m) more)
-  pub few : length made < length (k.program (k.shape_of m) calls) + k.longest (k.shape_of m) one
-
--- what a machine tells of its due access: by its calls and accesses it goes on, and whether a 0 as its answer may not be
-pub record Due (k : Machine) (m : k.State) (a : Access) : Type 0 where
-  pub is : k.due m ≡ Some a
-  pub right : IsOpenRight (k.shape_of m) k.side a
-  pub next : (calls : k.Calls) (made : List Made) → k.Stands m calls made → Next k m calls made a
-  pub expects : Bool
-  pub one : IsTrue expects ↔ LastBitIsDue (k.shape_of m) k.side (k.due m)
-  pub zeros : (calls : k.Calls) (made : List Made) → k.Stands m calls made → IsTrue expects → EndsInZeros (k.shape_of m) k.side made
 
 -- the due access is one that the end may make
 pub right_there : (k : Machine) (e : RingEnd) (m : k.State) (calls : k.Calls) (made : List Made) → MachineAt k e m calls made → (a : Access) → Due k m a → IsOpenRight e.ring.shape e.side a
@@ -70,12 +36,12 @@ module _ (laws : LawsBelow) (k : Machine) (ks : MachineLaws k) (m : k.State) (ca
   follows_begun list is = subst (λ (l : List Event). Follows (k.shape_of m) k.side (l ++ begin_of k.side a ∷ [])) (sym is)
       (let b = begun_so in ks.follows (k.shape_of m) next.one calls b.0 (events_of k.side made ++ begin_of k.side a ∷ []) b.1 b.2)
 
-  module _ (expects : Bool) (due_is : IsTrue expects ↔ LastBitIsDue (k.shape_of m) k.side (Some a)) (zeros : IsTrue expects → EndsInZeros (k.shape_of m) k.side made) where
+  module _ (zeros : LastBitIsDue (k.shape_of m) k.side (Some a) → EndsInZeros (k.shape_of m) k.side made) where
     -- the last bit is never read as 0
     answers_one : (h : List Event) → IsLawful (k.shape_of m) h → Follows (k.shape_of m) (other k.side) (subhistory (other k.side) h) → (v : Bool) → subhistory k.side h ≡ events_of k.side (made ++ answered a v ∷ []) → LastBitIsDue (k.shape_of m) k.side (Some a) → v ≡ true
     answers_one h lawful f true is last = refl
     answers_one h lawful f false is last =
-        absurd (no_zero laws (k.shape_of m) k.side h lawful f made last.0 last.2 (zeros (due_is.1 last)) (is ∙ ap (λ (x : Made). events_of k.side (made ++ x ∷ [])) (last_false k.side a last.0 last.1)))
+        absurd (no_zero laws (k.shape_of m) k.side h lawful f made last.0 last.2 (zeros last) (is ∙ ap (λ (x : Made). events_of k.side (made ++ x ∷ [])) (last_false k.side a last.0 last.1)))
 
     goes_on : (list : List Event) → list ≡ events_of k.side made ++ begin_of k.side a ∷ [] → GoesOn (k.shape_of m) k.side a list
     goes_on list is h v lawful ring mine =
@@ -110,14 +76,11 @@ module _ (laws : LawsBelow) (k : Machine) (ks : MachineLaws k) (e : RingEnd) (m 
   list_due : ListIs k.side e.list made (Some a)
   list_due = subst (ListIs k.side e.list made) d.is at.list_is
 
-  one_is : IsTrue d.expects ↔ LastBitIsDue (k.shape_of m) k.side (Some a)
-  one_is = subst (λ (o : Option Access). IsTrue d.expects ↔ LastBitIsDue (k.shape_of m) k.side o) d.is d.one
-
   pub can_there : CanStep e a
-  can_there = subst (λ (z : Shape × Side). CanStepAt z.0 z.1 e.list a) (λ i. (at.shape_is i, sym at.side_is i)) (can laws k ks m calls made a next d.expects one_is (d.zeros calls made at.stands) e.list list_due)
+  can_there = subst (λ (z : Shape × Side). CanStepAt z.0 z.1 e.list a) (λ i. (at.shape_is i, sym at.side_is i)) (can laws k ks m calls made a next (d.zeros calls made at.stands) e.list list_due)
 
   pub can_make : e.list ≡ events_of k.side made → CanMake e a
-  can_make is = subst (λ (z : Shape × Side). CanMakeAt z.0 z.1 e.list a) (λ i. (at.shape_is i, sym at.side_is i)) (can_whole laws k ks m calls made a next d.expects one_is (d.zeros calls made at.stands) e.list is)
+  can_make is = subst (λ (z : Shape × Side). CanMakeAt z.0 z.1 e.list a) (λ i. (at.shape_is i, sym at.side_is i)) (can_whole laws k ks m calls made a next (d.zeros calls made at.stands) e.list is)
 
   module _ (b : RingEnd) where
     shape_b : IsSameEnd e b → k.shape_of m ≡ b.ring.shape
@@ -166,15 +129,21 @@ module _ (laws : LawsBelow) (k : Machine) (ks : MachineLaws k) (e : RingEnd) (m 
           let st = s.1.stands in
           let ring : IsRing (k.shape_of m) st.history = subst (λ (z : Shape). IsRing z st.history) (sym (shape_b s.1.same)) st.ring in
           let mine : subhistory k.side st.history ≡ events_of k.side (made ++ answered a v ∷ []) = ap (λ (x : Side). subhistory x st.history) (sym (s.1.same.side ∙ at.side_is)) ∙ st.list_is ∙ list_ended in
-          answers_one laws k ks m calls made a next d.expects one_is (d.zeros calls made at.stands) st.history ring.run.lawful (ring_follows (k.shape_of m) st.history ring (other k.side)) v mine
+          answers_one laws k ks m calls made a next (d.zeros calls made at.stands) st.history ring.run.lawful (ring_follows (k.shape_of m) st.history ring (other k.side)) v mine
 
       pub one_there : LastBitIsDue (k.shape_of m) k.side (k.due m) → v ≡ true
       one_there last = one_due (subst (LastBitIsDue (k.shape_of m) k.side) d.is last)
 
-      module _ (m' : k.State) (same_shape : k.shape_of m' ≡ k.shape_of m) (more : k.Calls) (stands : k.Stands m' more (made ++ answered a v ∷ [])) (after : k.After m m' calls more) where
+      module _ (m' : k.State) (fed : Fed k m v m') where
+        abbrev pub moved : (more : k.Calls) × k.Stands m' more (made ++ answered a v ∷ []) × k.After m m' calls more
+        moved = fed.moved calls made a at.stands d.is
+
+        abbrev more : k.Calls
+        more = moved.0
+
         -- the end of the due access, and where the end then stands
         pub at_ended : MachineAt k b m' more (made ++ answered a v ∷ [])
-        at_ended = record { side_is = s.1.same.side ∙ at.side_is; lawful = lawful_b s.1; shape_is = same_shape ∙ shape_b s.1.same; stands = stands; list_is = inl list_ended }
+        at_ended = record { side_is = s.1.same.side ∙ at.side_is; lawful = lawful_b s.1; shape_is = fed.shape ∙ shape_b s.1.same; stands = moved.1; list_is = inl list_ended }
 
         pub ended : MachineStep k e m b m' calls
         ended = record {
@@ -183,13 +152,13 @@ module _ (laws : LawsBelow) (k : Machine) (ks : MachineLaws k) (e : RingEnd) (m 
           more = more;
           made = made ++ answered a v ∷ [];
           at = at_ended;
-          after = after;
+          after = moved.2;
           within = λ c is.
               let same : next.one ≡ c = ks.one m next.one c next.is is in
               subst (λ (d : k.Call). length b.list < 2 * (length (k.program (k.shape_of m) calls) + k.longest (k.shape_of m) d) + 1) same
               (omega (arith, ap length list_ended, length-append made (answered a v ∷ []), length-events_of k.side (made ++ answered a v ∷ []), next.few));
           part = λ c is.
-              let same : next.one ≡ c = sym (ks.goes m m' next.one c calls more next.is is after).0 in
+              let same : next.one ≡ c = sym (ks.goes m m' next.one c calls more next.is is moved.2).0 in
               let f = begins laws k ks m calls made a next v one_due in
               subst (λ (z : Shape × k.Call). k.Part z.0 z.1 (events_of k.side (k.program (k.shape_of m) calls)) b.list) (λ i. (shape_b s.1.same i, same i))
               (ks.part m next.one calls f.0 made b.list at.stands f.1 (subst (λ (l : List Event). IsPrefix l (events_of k.side (k.program (k.shape_of m) f.0))) (sym list_ended) f.2));

@@ -1,5 +1,5 @@
 -- A whole call of an end, access by access, by its machine, whichever side it is of.
-use Rattle.std.proofs.Common.{append-nil, add-zero, ◌≡◌, inl, inr, ⊎_elim, ◌+◌, ◌*◌, ◌<◌, Bool, true, Some, None, List, [], ◌∷◌, ◌++◌, length, refl, ap, sym, subst, ◌∙◌, arith, ℕ}
+use Rattle.std.proofs.Common.{append-nil, add-zero, ◌≡◌, inl, inr, ⊎_elim, ◌+◌, ◌*◌, ◌<◌, Bool, Some, None, List, [], ◌∷◌, ◌++◌, length, refl, ap, sym, subst, ◌∙◌, arith, ℕ}
 use Rattle.bits_core.specs.declared.events.Side.{Side}
 use Rattle.bits_core.specs.declared.events.Access.{Access}
 use Rattle.bits_core.specs.declared.events.Event.{Event}
@@ -7,17 +7,15 @@ use Rattle.bits_core.specs.declared.shapes.Shape.{Shape}
 use Rattle.bits_core.specs.History.{open_access}
 use Rattle.bits_core.specs.Made.{Made, answered, events_of}
 use Rattle.bits_core.specs.Open.{IsOpenRight}
-use Rattle.register_core.specs.Row.{RowWrite, row_bit}
-use Rattle.register_core.specs.UnaryState.{UnaryState, due_unary, due_writes, first_access}
-use Rattle.ring_core.specs.Calls.{LastBitIsDue}
 use Rattle.ring_seats.specs.Ring.{Ring, RingEnd}
 use Rattle.ring_seats.specs.Programs.{begin_of, ending_event}
 use Rattle.ring_seats.specs.Steppers.{AreAnswered, answers_in, CanMake, Grows, HasMade, HasStepped, IsSameEnd, StandsAs}
 use Rattle.ring_ends.specs.Machines.{Machine, MachineAt, MachineReady, MachineGoes, MachineOver, MachineIn, MachineBusy, MachineWent, MachineEnded, IsMachine, IsMarked, without_last}
+use Rattle.ring_ends.specs.Moves.{Due, Fed, MachineLaws, MayFeed}
 use Rattle.ring_seats.specs.Below.{LawsBelow}
 use Rattle.ring_ends.proofs.Accesses.{longer, same, same_on}
 use Rattle.ring_ends.proofs.Lists.{begun_open, length-events_of}
-use Rattle.ring_ends.proofs.MachineMoves.{Due, MachineLaws, right_there, at_begun, at_ended, can_make, list_ended, one_there}
+use Rattle.ring_ends.proofs.MachineMoves.{right_there, at_begun, at_ended, can_make, list_ended, moved, one_there}
 use Rattle.ring_ends.proofs.MachineCalls.{Begun, list_rests, rest_list, rest_marked, at_one}
 use Rattle.ring_ends.proofs.Steps.{none-some}
 
@@ -41,20 +39,20 @@ module _ (laws : LawsBelow) (k : Machine) (ks : MachineLaws k) (e : RingEnd) (m 
     )
 
     -- the answer may be fed
-    pub may_feed : LastBitIsDue (k.shape_of m) k.side (k.due m) → v ≡ true
-    may_feed = one_there laws k ks h.0 m calls g.made at_mid a d b v ended
+    pub may_feed : MayFeed k m v
+    may_feed = ((a, d.is), one_there laws k ks h.0 m calls g.made at_mid a d b v ended)
 
-    pub went : (m' : k.State) → k.shape_of m' ≡ k.shape_of m → (more : k.Calls) × k.Stands m' more (g.made ++ answered a v ∷ []) × k.After m m' calls more → MachineIn k b m' calls c
-    went m' same_shape moved =
-        let made : List Made = g.made ++ answered a v ∷ [] in
-        let there : MachineAt k b m' moved.0 made = at_ended laws k ks h.0 m calls g.made at_mid a d b v ended m' same_shape moved.0 moved.1 moved.2 in
+    pub went : (m' : k.State) → Fed k m v m' → MachineIn k b m' calls c
+    went m' fed =
+        let m_more = moved laws k ks h.0 m calls g.made at_mid a d b v ended m' fed in
+        let there : MachineAt k b m' m_more.0 (g.made ++ answered a v ∷ []) = at_ended laws k ks h.0 m calls g.made at_mid a d b v ended m' fed in
         ⊎_elim
-        (λ rests. inr (record { more = moved.0; made = made; at = there; rests = rests; is_more = subst (λ (z : Shape). k.More z c calls moved.0) (sym same_shape) (ks.over m m' c calls moved.0 g.busy rests moved.2) }))
+        (λ rests. inr (record { more = m_more.0; made = g.made ++ answered a v ∷ []; at = there; rests = rests; is_more = subst (λ (z : Shape). k.More z c calls m_more.0) (sym fed.shape) (ks.over m m' c calls m_more.0 g.busy rests m_more.2) }))
         (λ on.
-        let t = ks.goes m m' c on.0 calls moved.0 g.busy on.1 moved.2 in
+        let t = ks.goes m m' c on.0 calls m_more.0 g.busy on.1 m_more.2 in
         inl (record {
-          made = made;
-          at = subst (λ (z : k.Calls). MachineAt k b m' z made) t.1 there;
+          made = g.made ++ answered a v ∷ [];
+          at = subst (λ (z : k.Calls). MachineAt k b m' z (g.made ++ answered a v ∷ [])) t.1 there;
           list_is = list_ended laws k ks h.0 m calls g.made at_mid a d b v ended;
           busy = subst (k.Busy m') t.0 on.1;
         }))
@@ -63,8 +61,14 @@ module _ (laws : LawsBelow) (k : Machine) (ks : MachineLaws k) (e : RingEnd) (m 
 -- ---- some accesses of a call
 
 -- none, and some behind others
+pub answered_nothing : (e : RingEnd) (said : ℕ → Bool) → AreAnswered e e said said
+answered_nothing e said = record { loads = []; loads_are = sym (append-nil e.loads); answers_are = sym (append-nil (answers_in e.list)); asked = λ i. ap said (sym (add-zero i)) }
+
 pub went_nowhere : (k : Machine) (e : RingEnd) (m : k.State) (said : ℕ → Bool) → MachineWent k e m e m said said
-went_nowhere k e m said = record { same = record { ring = refl; side = refl; known = refl }; longer = omega arith; kind = refl; rests = λ _. (refl, refl); goes = λ calls c was. was; answered = record { loads = []; loads_are = sym (append-nil e.loads); answers_are = sym (append-nil (answers_in e.list)); asked = λ i. ap said (sym (add-zero i)) } }
+went_nowhere k e m said = record { same = record { ring = refl; side = refl; known = refl }; longer = omega arith; kind = refl; rests = λ _. (refl, refl); goes = λ calls c was. was; answered = answered_nothing e said }
+
+pub went_same : (k : Machine) (e : RingEnd) (m : k.State) {m' : k.State} (said : ℕ → Bool) → m' ≡ m → MachineWent k e m e m' said said
+went_same k e m said is = subst (λ (z : k.State). MachineWent k e m e z said said) (sym is) (went_nowhere k e m said)
 
 pub went_then : LawsBelow → (k : Machine) {e a b : RingEnd} {m n o : k.State} {old mid now : ℕ → Bool} → MachineWent k e m a n old mid → MachineWent k a n b o mid now → MachineWent k e m b o old now
 went_then laws k w v = record {
@@ -89,18 +93,22 @@ module _ (k : Machine) (ks : MachineLaws k) {e0 : RingEnd} {m0 : k.State} {e : R
     first c is = inl (record { made = k.program (k.shape_of m0) calls; at = ready.at; list_is = ready.list_is; busy = is })
 
     -- while an access is due, the call under way goes on
-    pub going : (a : Access) → k.due m ≡ Some a → (c : k.Call) × k.Busy m0 c × MachineGoes k e m calls c
+    going : (a : Access) → k.due m ≡ Some a → (c : k.Call) × k.Busy m0 c × MachineGoes k e m calls c
     going a due = ⊎_elim
         (λ none. absurd (none-some a (sym (ks.at_rest m0 calls (k.program (k.shape_of m0) calls) ready.at.stands none).1 ∙ ap k.due (sym (w.rests none).0) ∙ due)))
         (λ on. ⊎_elim (λ g. (on.0, on.1, g)) (λ o. absurd (none-some a (sym (ks.at_rest m o.more o.made o.at.stands o.rests).1 ∙ due))) (w.goes calls on.0 (first on.0 on.1)))
         (ks.either m0)
 
     -- the list stays below the longest of the call
-    pub below : (c : k.Call) → k.Busy m0 c → (g : MachineGoes k e m calls c) → length g.made < length (k.program (k.shape_of m) calls) + k.longest (k.shape_of m) c → length e.list < length e0.list + 2 * k.most m0
-    below c is g few =
+    pub below : (a : Access) → Due k m a → length e.list < length e0.list + 2 * k.most m0
+    below a d =
+        let (c, is, g) = going a d.is in
+        let next = d.next calls g.made g.at.stands in
+        let same : next.one ≡ c = ks.one m next.one c next.is g.busy in
         let shape : k.shape_of m ≡ k.shape_of m0 = g.at.shape_is ∙ ap (λ (r : Ring). r.shape) w.same.ring ∙ sym ready.at.shape_is in
-        let few' : length g.made < length (k.program (k.shape_of m0) calls) + k.longest (k.shape_of m0) c = subst (λ (z : Shape). length g.made < length (k.program z calls) + k.longest z c) shape few in
-        omega (arith, few', ks.most_busy m0 c is, ap length g.list_is, length-events_of k.side g.made, ap length ready.list_is, length-events_of k.side (k.program (k.shape_of m0) calls))
+        let few : length g.made < length (k.program (k.shape_of m0) calls) + k.longest (k.shape_of m0) c =
+        subst (λ (z : Shape × k.Call). length g.made < length (k.program z.0 calls) + k.longest z.0 z.1) (λ i. (shape i, same i)) next.few in
+        omega (arith, few, ks.most_busy m0 c is, ap length g.list_is, length-events_of k.side g.made, ap length ready.list_is, length-events_of k.side (k.program (k.shape_of m0) calls))
 
   -- where no access is due, the call is over
   pub ended_by : ((calls : k.Calls) (made : List Made) → k.Stands m calls made → k.Rests m) → MachineEnded k e0 m0 e m old now
@@ -117,13 +125,13 @@ pub ready_busy : (k : Machine) (e : RingEnd) (m : k.State) (calls : k.Calls) →
 ready_busy k e m calls ready d is = (calls, d, inl (record { made = k.program (k.shape_of m) calls; at = ready.at; list_is = ready.list_is; busy = is }))
 
 -- one access behind them, while the call goes on
-module _ (laws : LawsBelow) (k : Machine) (ks : MachineLaws k) {e0 : RingEnd} {m0 : k.State} {e : RingEnd} {m : k.State} {old now : ℕ → Bool} (was : MachineBusy k e0 m0) (w : MachineWent k e0 m0 e m old now) (one : k.Call) (busy : k.Busy m one) (a : Access) (d : Due k m a) where
+module _ (laws : LawsBelow) (k : Machine) (ks : MachineLaws k) {e0 : RingEnd} {m0 : k.State} {e : RingEnd} {m : k.State} {old now : ℕ → Bool} (was : MachineBusy k e0 m0) (w : MachineWent k e0 m0 e m old now) (a : Access) (d : Due k m a) where
   goes_in : (calls : k.Calls) (c : k.Call) → MachineIn k e m calls c → MachineGoes k e m calls c
   goes_in calls c (inl g) = g
-  goes_in calls c (inr o) = absurd (ks.never m one o.rests busy)
+  goes_in calls c (inr o) = let on = ks.due_busy m a d.is in absurd (ks.never m on.0 o.rests on.1)
 
   there : (calls : k.Calls) × (c : k.Call) × MachineGoes k e m calls c
-  there = let t = went_busy k ks w was one busy in (t.0, t.1, goes_in t.0 t.1 t.2)
+  there = let on = ks.due_busy m a d.is in let t = went_busy k ks w was on.0 on.1 in (t.0, t.1, goes_in t.0 t.1 t.2)
 
   pub access_right : IsOpenRight e.ring.shape e.side a
   access_right = right_there k e m there.0 (there.2).made (there.2).at a d
@@ -132,27 +140,18 @@ module _ (laws : LawsBelow) (k : Machine) (ks : MachineLaws k) {e0 : RingEnd} {m
   access_can = can_go laws k ks e m there.0 there.1 there.2 a d
 
   module _ (b : RingEnd) (v : Bool) (h : HasMade e b a v) where
-    pub access_feeds : LastBitIsDue (k.shape_of m) k.side (k.due m) → v ≡ true
+    pub access_feeds : MayFeed k m v
     access_feeds = may_feed laws k ks e m there.0 there.1 there.2 a d b v h
 
-    pub access_went : (m' : k.State) → k.shape_of m' ≡ k.shape_of m → k.is_batch m' ≡ k.is_batch m → ((calls : k.Calls) (made : List Made) → k.Stands m calls made → (more : k.Calls) × k.Stands m' more (made ++ answered a v ∷ []) × k.After m m' calls more)
-        → (after : ℕ → Bool) → AreAnswered e b now after → MachineWent k e0 m0 b m' old after
-    access_went m' same_shape kind moved after said = went_then laws k w (record {
+    pub access_went : (m' : k.State) → Fed k m v m' → (after : ℕ → Bool) → AreAnswered e b now after → MachineWent k e0 m0 b m' old after
+    access_went m' fed after said = went_then laws k w (record {
       same = same e b a v h;
       longer = omega (arith, longer e b a v h);
-      kind = kind;
-      rests = λ none. absurd (ks.never m one none busy);
-      goes = λ calls c in_call. (let g = goes_in calls c in_call in went laws k ks e m calls c g a d b v h m' same_shape (moved calls g.made g.at.stands));
+      kind = fed.kind;
+      rests = λ none. (let on = ks.due_busy m a d.is in absurd (ks.never m on.0 none on.1));
+      goes = λ calls c in_call. went laws k ks e m calls c (goes_in calls c in_call) a d b v h m' fed;
       answered = said;
     })
-
--- while a count is written there is a write of it that is due
-pub writes_left : (row : UnaryState) (a : Access) → due_unary row ≡ Some a → (x : RowWrite) × (rest : List RowWrite) × (due_writes row ≡ x ∷ rest)
-writes_left row a due = by (due_writes row) refl
-  where
-    by : (l : List RowWrite) → due_writes row ≡ l → (x : RowWrite) × (rest : List RowWrite) × (due_writes row ≡ x ∷ rest)
-    by [] is = absurd (none-some a (sym (ap (first_access (row_bit row.side)) is) ∙ due))
-    by (x ∷ rest) is = (x, rest, is)
 
 -- ---- a whole call
 
@@ -186,6 +185,9 @@ pub record Whole (k : Machine) (c : k.Call) : Type 0 where
   pub old : ℕ → Bool
   pub now : ℕ → Bool
   pub ended : MachineEnded k begun.e begun.now e m old now
+
+abbrev pub whole_of : (k : Machine) {c : k.Call} (b : Begun k c) → k.Rests b.m → (e : RingEnd) (m : k.State) {old now : ℕ → Bool} → MachineEnded k b.e b.now e m old now → Whole k c
+whole_of k b idle e m {old} {now} ended = record { begun = b; idle = idle; e = e; m = m; old = old; now = now; ended = ended }
 
 module _ (k : Machine) (ks : MachineLaws k) {c : k.Call} (w : Whole k c) where
   abbrev b : Begun k c

@@ -1,11 +1,11 @@
 -- The producer's machine, and a step call of its end.
-use Rattle.std.proofs.Common.{◌≡◌, cond, ◌≢◌, ◌⊎◌, inl, inr, ⊎_elim, ℕ, ◌+◌, ◌<◌, ◌≤◌, Bool, true, false, true≢false, Option, Some, None, IsTrue, ◌↔◌, List, [], ◌∷◌, ◌++◌, length, refl, ap, sym, subst, ◌∙◌, arith, mul-le-mul_right}
+use Rattle.std.proofs.Common.{◌≡◌, cond, ◌≢◌, ◌⊎◌, inl, inr, ⊎_elim, ℕ, ◌+◌, ◌<◌, ◌≤◌, Bool, true, false, true≢false, Option, Some, None, List, [], ◌∷◌, ◌++◌, length, refl, ap, sym, subst, ◌∙◌, arith, mul-le-mul_right}
 use Rattle.std.specs.Prelude.{IfSome, IfNone, is_some, not}
 use Rattle.bits_core.specs.declared.events.Side.TheVariants.{P}
 use Rattle.bits_core.specs.declared.events.Access.{Access}
 use Rattle.bits_core.specs.declared.events.Event.{Event}
 use Rattle.bits_core.specs.declared.shapes.Shape.{Shape}
-use Rattle.bits_core.specs.Made.{Made, answered, events_of}
+use Rattle.bits_core.specs.Made.{Made, events_of}
 use Rattle.bits_core.specs.Open.{IsOpenRight}
 use Rattle.bits_core.specs.Shape.{width_of}
 use Rattle.ring_core.specs.Calls.{LastBitIsDue, EndsInZeros}
@@ -18,13 +18,13 @@ use Rattle.ring_core.specs.declared.replies.BatchReply.TheVariants as reply
 use Rattle.ring_core.specs.Puts.{IsBatch, Put, Puts, put_program, ArePuts}
 use Rattle.ring_core.specs.ProducerState as producer
 use Rattle.ring_core.specs.ProducerState.{ProducerState, Call, Close, due_put, call_of, call_at, producer_due_at}
-use Rattle.ring_core.specs.ProducerCalls.{ProducerHasMoved, ProducerStands, PutGoesOn, longest_of, ProducerMadeAt, HasCallMore, IsAfterCall, IsReplyToCall, longest, put_reply_to, last_put_reply, and_put}
+use Rattle.ring_core.specs.ProducerCalls.{ProducerStands, PutGoesOn, longest_of, ProducerMadeAt, HasCallMore, IsAfterCall, IsReplyToCall, longest, put_reply_to, last_put_reply, and_put}
 use Rattle.ring_seats.specs.Ring.{RingEnd}
 use Rattle.ring_seats.specs.Steppers.{Grows}
 use Rattle.ring_ends.specs.Ends.{HasPuts, HasPut, HasPutAll, HasPutPart, HasClosed, PutAdds, CloseAdds, PutterState, whole_put, puts_whole}
-use Rattle.ring_ends.specs.Machines.{IsMarked, MachineStep, MachineAt, IsMachine, CallBegins, producing, without_last, longest_at}
-use Rattle.ring_ends.proofs.MachineMoves.{Due, MachineLaws}
-use Rattle.ring_ends.proofs.MachineCalls.{Begun, Step, Outcome, Refused, Goes, Over, one_step, out, shape_there, step_invariant, stays, whole_there}
+use Rattle.ring_ends.specs.Machines.{IsMarked, MachineStepped, IsMachine, CallBegins, producing, without_last, longest_at}
+use Rattle.ring_ends.specs.Moves.{Due, MachineLaws}
+use Rattle.ring_ends.proofs.MachineCalls.{Begun, Step, Outcome, Refused, Goes, Over, one_step, out, shape_there, stays, whole_there}
 use Rattle.ring_ends.proofs.Steps.{none-some}
 
 -- ---- the machine
@@ -53,11 +53,19 @@ either_call (Some c) = inr (c, refl)
 one_call : (c d : Call) → Some c ≡ Some d → c ≡ d
 one_call c d e = cc
 
+busy_due : (s : Stage) (m : ProducerState) (items : List ℕ) (a : Access) → producer_due_at s m ≡ Some a → (c : Call) × (call_at s items ≡ Some c)
+busy_due Idle m items a is = absurd (none-some a is)
+busy_due Scanning m items a is = (producer.Put items, refl)
+busy_due Storing m items a is = (producer.Put items, refl)
+busy_due Counting m items a is = (producer.Put items, refl)
+busy_due Closing m items a is = (Close, refl)
+
 pub put_laws : MachineLaws producing
 put_laws = record {
   either = λ m. either_call (call_of m);
   never = λ m c none is. none-some c (sym none ∙ is);
   one = λ m c d is on. one_call c d (sym is ∙ on);
+  due_busy = λ m a is. busy_due m.stage m m.items a is;
   at_rest = rest;
   follows = λ shape c calls more list is_more begins. (more, call_are shape c calls more is_more, begins);
   part = λ m c calls more made list stands is_more begins. record { calls = calls; before = record { are = stands.are; list_is = refl }; more = more; is_more = is_more; part = begins };
@@ -70,17 +78,17 @@ put_laws = record {
   most_busy = λ m c is. ap (longest_at m.shape) is;
 }
 
--- what the machine tells of its due access
-pub put_due : (m : ProducerState) (a : Access) → due_put m ≡ Some a → IsOpenRight m.shape P a → ((calls : Puts) (made : List Made) → ProducerStands m calls made → (c : Call) × (call_of m ≡ Some c) × PutGoesOn m.shape calls c made a) →
+-- what the machine tells of its due access, and where none is due
+pub put_due :
+    (m : ProducerState) (a : Access) → due_put m ≡ Some a → IsOpenRight m.shape P a →
+    ((calls : Puts) (made : List Made) → ProducerStands m calls made → (c : Call) × (call_of m ≡ Some c) × PutGoesOn m.shape calls c made a) →
     ((calls : Puts) (made : List Made) (c : Call) → ProducerStands m calls made → call_of m ≡ Some c → length made < length (put_program m.shape calls) + longest m.shape c) →
-    (expects : Bool) → IsTrue expects ↔ LastBitIsDue m.shape P (due_put m) → ((calls : Puts) (made : List Made) → ProducerStands m calls made → IsTrue expects → EndsInZeros m.shape P made) → Due producing m a
-put_due m a due right goes_on bounded expects one zeros = record {
+    ((calls : Puts) (made : List Made) → ProducerStands m calls made → LastBitIsDue m.shape P (due_put m) → EndsInZeros m.shape P made) → Due producing m a
+put_due m a due right goes_on bounded zeros = record {
   is = due;
   right = right;
-  expects = expects;
-  one = one;
-  zeros = zeros;
   next = λ calls made st. let (c, is, goes) = goes_on calls made st in record { one = c; is = is; goes = goes; few = bounded calls made c st is };
+  zeros = λ calls made st last. zeros calls made st (subst (LastBitIsDue m.shape P) (sym due) last);
 }
 
 pub busy_at : (m : ProducerState) (c : Call) → call_of m ≡ Some c → call_of m ≢ None
@@ -99,11 +107,6 @@ few_marked shape o c n list marked here few = ⊎_elim
     (λ none. let most : longest_at shape o ≡ 0 = ap (longest_at shape) none in omega (arith, marked.1, most))
     (λ is. let most : longest_at shape o ≡ longest shape c = ap (longest_at shape) is in omega (arith, marked.1, most, few))
     here
-
--- what a machine that came to where a part of its call is makes of the answer, it makes of that part
-pub put_fed : (part m m' : ProducerState) → m ≡ part → (a : Access) (v : Bool) → ((calls : Puts) (made : List Made) (b : Access) → ProducerStands m calls made → due_put m ≡ Some b → ProducerHasMoved m m' calls (made ++ answered b v ∷ [])) → due_put part ≡ Some a →
-    (calls : Puts) (made : List Made) → ProducerStands part calls made → ProducerHasMoved part m' calls (made ++ answered a v ∷ [])
-put_fed part m m' is a v fed due calls made st = subst (λ (p : ProducerState). ProducerHasMoved p m' calls (made ++ answered a v ∷ [])) is (fed calls made a (subst (λ (p : ProducerState). ProducerStands p calls made) (sym is) st) (ap due_put is ∙ due))
 
 -- ---- replies
 
@@ -182,8 +185,8 @@ module _ {O : Type 0} (o : O) (e : RingEnd) (m : ProducerState) (n : ℕ) (s : P
   }
 
   -- and one step of it
-  abbrev pub put_step : (e' : RingEnd) (m' : ProducerState) → (call_of now ≡ None → (m' ≡ now) × (e' ≡ e)) → ((calls : Puts) (made : List Made) → MachineAt producing e now calls made → (d : Call) → call_of now ≡ Some d → MachineStep producing e now e' m' calls) → Step producing c
-  put_step e' m' rests steps = record { begun = put_begun; e = e'; m = m'; rests = rests; steps = λ at is. steps was.0.calls was.0.made at c is }
+  abbrev pub put_step : (e' : RingEnd) (m' : ProducerState) {before after : ℕ → Bool} → MachineStepped producing e now e' m' before after → Step producing c
+  put_step e' m' {before} {after} s = record { begun = put_begun; e = e'; m = m'; rests = s.rests; steps = λ at is. s.steps was.0.calls was.0.made at c is }
 
 -- ---- the clauses of a step
 
@@ -197,15 +200,12 @@ module _ {c : Call} (s : Step producing c) where
   before_is : HasPuts s.e.ring.shape whole calls
   before_is = record { are = subst (λ (z : Shape). ArePuts z 0 calls.puts) (shape_there producing put_laws s) s.begun.was.0.at.stands.are; list_is = whole_there producing put_laws s }
 
-  module _ (n' : ℕ) (n_rests : call_of s.m ≡ None → n' ≡ 0) (n_goes : call_of s.m ≢ None → n' ≡ s.begun.n + 1) where
+  module _ (n' : ℕ) (n_rests : call_of s.m ≡ None → n' ≡ 0) (n_goes : (d : Call) → call_of s.m ≡ Some d → n' ≡ s.begun.n + 1) where
     abbrev new : List Event
     new = whole_put (call_of s.m) s.e.list (without_last n' s.e.list)
 
-    pub put_invariant : IsMachine producing s.e s.m (whole_put (call_of s.m) s.e.list (without_last n' s.e.list)) × IsMarked n' s.e.list (longest_at s.m.shape (call_of s.m))
-    put_invariant = step_invariant producing put_laws s n' n_rests (λ d is. n_goes (busy_at s.m d is))
-
     part_on : call_of s.m ≡ Some c → HasPutPart s.e.ring.shape c (events_of P (put_program s.e.ring.shape calls)) s.e.list → (new ≡ whole) × HasPutPart s.e.ring.shape c new s.e.list
-    part_on goes part = let stay = stays producing put_laws s n' n_rests (λ d is. n_goes (busy_at s.m d is)) goes in (stay, subst (λ (l : List Event). HasPutPart s.e.ring.shape c l s.e.list) (sym (whole_there producing put_laws s) ∙ sym stay) part)
+    part_on goes part = let stay = stays producing put_laws s n' n_rests n_goes goes in (stay, subst (λ (l : List Event). HasPutPart s.e.ring.shape c l s.e.list) (sym (whole_there producing put_laws s) ∙ sym stay) part)
 
 module _ (items : List ℕ) (s : Step producing (producer.Put items)) where
   abbrev PutOf : Type 0
@@ -226,7 +226,7 @@ module _ (items : List ℕ) (s : Step producing (producer.Put items)) where
   some : IfSome s.m.reply (λ x. (call_of s.m ≡ None) × HasPutAll s.e.ring.shape items (whole s) s.e.list x)
   some = some_put s.m.reply refl (out producing put_laws s)
 
-  module _ (n' : ℕ) (n_rests : call_of s.m ≡ None → n' ≡ 0) (n_goes : call_of s.m ≢ None → n' ≡ s.begun.n + 1) where
+  module _ (n' : ℕ) (n_rests : call_of s.m ≡ None → n' ≡ 0) (n_goes : (d : Call) → call_of s.m ≡ Some d → n' ≡ s.begun.n + 1) where
     none_put : (o : Option replies.BatchReply) → s.m.reply ≡ o → PutOf → IfNone o ((call_of s.m ≡ Some (producer.Put items)) × (new s n' n_rests n_goes ≡ whole s) × HasPutPart s.e.ring.shape (producer.Put items) (new s n' n_rests n_goes) s.e.list)
     none_put (Some x) is o = tt
     none_put None is (Refused same none refused list) = absurd (none-some reply.Closed (sym is ∙ refused.1))
@@ -248,7 +248,7 @@ module _ (items : List ℕ) (s : Step producing (producer.Put items)) (kind : s.
   pub batch_some : IfSome r (λ x. (call_of s.m ≡ None) × HasPutAll s.e.ring.shape items (whole s) s.e.list x)
   batch_some = subst (λ (a : Option replies.BatchReply). IfSome a (λ x. (call_of s.m ≡ None) × HasPutAll s.e.ring.shape items (whole s) s.e.list x)) batch_is (some items s)
 
-  pub batch_none : (n' : ℕ) (n_rests : call_of s.m ≡ None → n' ≡ 0) (n_goes : call_of s.m ≢ None → n' ≡ s.begun.n + 1)
+  pub batch_none : (n' : ℕ) (n_rests : call_of s.m ≡ None → n' ≡ 0) (n_goes : (d : Call) → call_of s.m ≡ Some d → n' ≡ s.begun.n + 1)
       → IfNone r ((call_of s.m ≡ Some (producer.Put items)) × (s.m.batched ≡ true) × (new s n' n_rests n_goes ≡ whole s) × HasPutPart s.e.ring.shape (producer.Put items) (new s n' n_rests n_goes) s.e.list)
   batch_none n' n_rests n_goes = subst (λ (a : Option replies.BatchReply). IfNone a ((call_of s.m ≡ Some (producer.Put items)) × (s.m.batched ≡ true) × (new s n' n_rests n_goes ≡ whole s) × HasPutPart s.e.ring.shape (producer.Put items) (new s n' n_rests n_goes) s.e.list))
       batch_is (with_kind true s.m.reply _ _ _ kind (none items s n' n_rests n_goes))
@@ -265,7 +265,7 @@ module _ (item : ℕ) (s : Step producing (producer.Put (item ∷ []))) (kind : 
   item_some = subst (λ (a : Option items_replies.PutReply). IfSome a (λ x. (call_of s.m ≡ None) × HasPut s.e.ring.shape item (whole s) s.e.list x)) item_is
       (some_item s.m.reply (call_of s.m ≡ None) (HasPutAll s.e.ring.shape (item ∷ []) (whole s) s.e.list) (some (item ∷ []) s))
 
-  pub item_none : (n' : ℕ) (n_rests : call_of s.m ≡ None → n' ≡ 0) (n_goes : call_of s.m ≢ None → n' ≡ s.begun.n + 1)
+  pub item_none : (n' : ℕ) (n_rests : call_of s.m ≡ None → n' ≡ 0) (n_goes : (d : Call) → call_of s.m ≡ Some d → n' ≡ s.begun.n + 1)
       → IfNone r ((call_of s.m ≡ Some (producer.Put (item ∷ []))) × (s.m.batched ≡ false) × (new s n' n_rests n_goes ≡ whole s) × HasPutPart s.e.ring.shape (producer.Put (item ∷ [])) (new s n' n_rests n_goes) s.e.list)
   item_none n' n_rests n_goes = subst (λ (a : Option items_replies.PutReply). IfNone a ((call_of s.m ≡ Some (producer.Put (item ∷ []))) × (s.m.batched ≡ false) × (new s n' n_rests n_goes ≡ whole s) × HasPutPart s.e.ring.shape (producer.Put (item ∷ [])) (new s n' n_rests n_goes) s.e.list))
       item_is (none_item s.m.reply _ (with_kind false s.m.reply _ _ _ kind (none (item ∷ []) s n' n_rests n_goes)))
@@ -291,7 +291,7 @@ module _ (s : Step producing Close) (r : Bool) (over_is : (call_of s.m ≡ None 
   pub close_over : r ≡ true → (call_of s.m ≡ None) × HasClosed s.e.ring.shape (whole s) s.e.list
   close_over = over_close (out producing put_laws s)
 
-  module _ (n' : ℕ) (n_rests : call_of s.m ≡ None → n' ≡ 0) (n_goes : call_of s.m ≢ None → n' ≡ s.begun.n + 1) (off : r ≡ false) where
+  module _ (n' : ℕ) (n_rests : call_of s.m ≡ None → n' ≡ 0) (n_goes : (d : Call) → call_of s.m ≡ Some d → n' ≡ s.begun.n + 1) (off : r ≡ false) where
     goes_close : CloseOf → (call_of s.m ≡ Some Close) × (new s n' n_rests n_goes ≡ whole s) × HasPutPart s.e.ring.shape Close (new s n' n_rests n_goes) s.e.list
     goes_close (Refused same rests refused list) = absurd (true≢false (sym (over_is.0 rests) ∙ off))
     goes_close (Goes event grows same part more made stands) = let on = part_on s n' n_rests n_goes same part in (same, on.0, on.1)

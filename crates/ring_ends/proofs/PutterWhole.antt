@@ -1,52 +1,20 @@
 -- A whole call of the producer's end, access by access.
-use Rattle.std.proofs.Common.{IsSome, ◌≡◌, cond, ℕ, Bool, true, false, Option, Some, None, List, ◌∷◌, refl, ap, sym, subst, ◌∙◌}
-use Rattle.bits_core.specs.declared.events.Access.{Access}
+use Rattle.std.proofs.Common.{IsSome, ◌≡◌, cond, ℕ, Bool, true, false, Option, Some, None, List, refl, ap, sym, subst, ◌∙◌}
 use Rattle.bits_core.specs.declared.shapes.Shape.{Shape}
-use Rattle.bits_core.specs.Made.{Made}
-use Rattle.register_core.specs.Row.{RowWrite}
-use Rattle.register_core.specs.ScanState.{ScanState}
-use Rattle.register_core.specs.UnaryState.{due_writes}
-use Rattle.register_core.specs.WordState.{WriterState}
 use Rattle.ring_core.specs.declared.replies.PutReply as items_replies
 use Rattle.ring_core.specs.declared.replies.BatchReply as replies
 use Rattle.ring_core.specs.declared.replies.BatchReply.TheVariants as reply
 use Rattle.ring_core.specs.Puts.{Puts, ArePuts}
 use Rattle.ring_core.specs.ProducerState as producer
-use Rattle.ring_core.specs.declared.producers.Stage.{Stage}
-use Rattle.ring_core.specs.declared.producers.Stage.TheVariants.{Counting}
-use Rattle.ring_core.specs.ProducerState.{ProducerState, Call, Close, IsProducerButScan, IsProducerButWord, call_at, producer_due_at, due_put, call_of}
-use Rattle.ring_core.specs.ProducerCalls.{HasCallMore, IsReplyToCall, ProducerStands, put_reply_to}
+use Rattle.ring_core.specs.ProducerState.{ProducerState, Call, Close, call_of}
+use Rattle.ring_core.specs.ProducerCalls.{HasCallMore, IsReplyToCall, put_reply_to}
 use Rattle.ring_seats.specs.Ring.{RingEnd}
-use Rattle.ring_ends.specs.Ends.{HasPuts, HasPutAll, HasClosed, PutAdds, CloseAdds, PutterState, whole_put}
-use Rattle.ring_ends.specs.Machines.{IsMachine, IsMarked, MachineEnded, CallBegins, producing, longest_at, without_last}
-use Rattle.ring_ends.proofs.MachineWhole.{Ended, More, Refused, Whole, ending, list_there, more_there, over_list, shape_whole, writes_left}
-use Rattle.ring_ends.proofs.PutterCalls.{over_adds, over_closes, over_reply, put_begun, put_laws}
-
--- the call under way at a stage
-pub at_call : (m : ProducerState) (st : Stage) (c : Call) → m.stage ≡ st → call_at st m.items ≡ Some c → call_of m ≡ Some c
-at_call m st c e is = ap (λ (x : Stage). call_at x m.items) e ∙ is
-
--- while the count is written there is a write of it that is due
-pub count_due : (m : ProducerState) (a : Access) → m.stage ≡ Counting → due_put m ≡ Some a → (x : RowWrite) × (rest : List RowWrite) × (due_writes m.row ≡ x ∷ rest)
-count_due m a e due = writes_left m.row a (sym (ap (λ (st : Stage). producer_due_at st m) e) ∙ due)
-
--- another scan, or another word, and no more
-pub more_scan : (p q r : ProducerState) (s : ScanState) → IsProducerButScan p q → r ≡ record q { scan = s } → IsProducerButScan p r
-more_scan p q r s e f = f ∙ ap (λ (x : ProducerState). record x { scan = s }) e ∙ ap (λ (x : ScanState). record p { scan = x }) (sym (ap (λ (x : ProducerState). x.scan) f))
-
-pub more_word : (p q r : ProducerState) (w : WriterState) → IsProducerButWord p q → r ≡ record q { word = w } → IsProducerButWord p r
-more_word p q r w e f = f ∙ ap (λ (x : ProducerState). record x { word = w }) e ∙ ap (λ (x : WriterState). record p { word = x }) (sym (ap (λ (x : ProducerState). x.word) f))
+use Rattle.ring_ends.specs.Ends.{HasPuts, HasPutAll, HasClosed, PutAdds, CloseAdds}
+use Rattle.ring_ends.specs.Machines.{producing}
+use Rattle.ring_ends.proofs.MachineWhole.{Ended, More, Refused, Whole, ending, list_there, more_there, over_list, shape_whole}
+use Rattle.ring_ends.proofs.PutterCalls.{over_adds, over_closes, over_reply, put_laws}
 
 -- ---- a whole call
-
-module _ {O : Type 0} (o : O) (e : RingEnd) (m : ProducerState) (n : ℕ) (s : PutterState O) (view : record { end = e; call = call_of m; batched = m.batched; start = without_last n e.list; oracle = o } ≡ s)
-    (was : IsMachine producing e m (whole_put (call_of m) e.list (without_last n e.list)) × IsMarked n e.list (longest_at m.shape (call_of m))) (idle : s.call ≡ None) (c : Call) (now : ProducerState) (begins : (calls : Puts) (made : List Made) → ProducerStands m calls made → CallBegins producing m now calls made c) where
-  pub idle_there : call_of m ≡ None
-  idle_there = ap (λ (z : PutterState O). z.call) view ∙ idle
-
-  -- a call, and what its accesses came to
-  abbrev pub put_whole : (e' : RingEnd) (m' : ProducerState) {before after : ℕ → Bool} → MachineEnded producing e now e' m' before after → Whole producing c
-  put_whole e' m' {before} {after} ended = record { begun = put_begun o e m n s view was c now begins; idle = idle_there; e = e'; m = m'; old = before; now = after; ended = ended }
 
 module _ {c : Call} (w : Whole producing c) where
   abbrev calls : Puts

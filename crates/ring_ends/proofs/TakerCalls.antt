@@ -1,5 +1,5 @@
 -- The consumer's machine, and a step call of its end.
-use Rattle.std.proofs.Common.{◌≡◌, ◌⊎◌, inl, inr, ⊎_elim, ℕ, zero, suc, ◌+◌, ◌<◌, ◌≤◌, Bool, true, false, true≢false, Option, Some, None, IsTrue, ◌↔◌, List, [], ◌∷◌, ◌++◌, length, refl, ap, sym, subst, ◌∙◌, arith}
+use Rattle.std.proofs.Common.{◌≡◌, ◌⊎◌, inl, inr, ⊎_elim, ℕ, zero, suc, ◌+◌, ◌<◌, ◌≤◌, Bool, true, false, true≢false, Option, Some, None, List, [], ◌∷◌, ◌++◌, length, refl, ap, sym, subst, ◌∙◌, arith}
 use Rattle.std.proofs.Math.Nat.{mul-le-mul_right}
 use Rattle.std.specs.Prelude.{IfSome, IfNone}
 use Rattle.bits_core.specs.declared.events.Side.TheVariants.{C}
@@ -21,9 +21,9 @@ use Rattle.ring_core.specs.ConsumerCalls.{ConsumerHasMoved, ConsumerStands, Cons
 use Rattle.ring_seats.specs.Ring.{RingEnd}
 use Rattle.ring_seats.specs.Steppers.{Grows}
 use Rattle.ring_ends.specs.Ends.{HasTakes, HasTakenOf, HasTakePart, TakeAdds, TakerState, wants_next, whole_take, takes_whole}
-use Rattle.ring_ends.specs.Machines.{IsMarked, MachineStep, MachineAt, IsMachine, CallBegins, consuming, without_last, longest_while}
-use Rattle.ring_ends.proofs.MachineMoves.{Due, MachineLaws}
-use Rattle.ring_ends.proofs.MachineCalls.{Begun, Step, Outcome, Refused, Goes, Over, one_step, out, shape_there, step_invariant, stays, whole_there}
+use Rattle.ring_ends.specs.Machines.{IsMarked, MachineStepped, IsMachine, CallBegins, consuming, without_last, longest_while}
+use Rattle.ring_ends.specs.Moves.{Due, Fed, MachineLaws}
+use Rattle.ring_ends.proofs.MachineCalls.{Begun, Step, Outcome, Refused, Goes, Over, one_step, out, shape_there, stays, whole_there}
 use Rattle.ring_ends.proofs.Steps.{none-some}
 
 -- ---- the machine
@@ -45,11 +45,20 @@ after_so :
     (shape : Shape) (wanted : ℕ) (a b c d : Bool) (calls more : Takes) → a ≡ c → b ≡ d → IsAfterTake shape wanted a b calls more → IsAfterTake shape wanted c d calls more
 after_so shape wanted a b c d calls more e f after = subst (λ (z : Bool × Bool). IsAfterTake shape wanted z.0 z.1 calls more) (λ i. (e i, f i)) after
 
+busy_due : (s : Stage) (m : ConsumerState) (a : Access) → consumer_due_at s m ≡ Some a → takes_at s ≡ true
+busy_due Idle m a is = absurd (none-some a is)
+busy_due Scanning m a is = refl
+busy_due Checking m a is = refl
+busy_due Rescanning m a is = refl
+busy_due Loading m a is = refl
+busy_due Counting m a is = refl
+
 pub take_laws : MachineLaws consuming
 take_laws = record {
   either = λ m. ⊎_elim (λ none. inl none) (λ is. inr (m.wanted, (is, refl))) (either_way (is_taking m));
   never = λ m c none is. true≢false (sym is.0 ∙ none);
   one = λ m c d is on. sym is.1 ∙ on.1;
+  due_busy = λ m a is. (m.wanted, (busy_due m.stage m a is, refl));
   at_rest = λ m calls made st none. rest_at m.stage m calls made none st.made_is;
   follows = λ shape c calls more list is_more begins. (more, is_more.are, begins);
   part = λ m c calls more made list stands is_more begins. record { calls = calls; before = record { are = stands.are; list_is = refl }; more = more; is_more = is_more; part = begins };
@@ -67,22 +76,17 @@ take_laws = record {
 }
 
 -- what the machine tells of its due access
-pub take_due : (m : ConsumerState) (a : Access) → due_take m ≡ Some a → IsOpenRight m.shape C a → ((calls : Takes) (made : List Made) → ConsumerStands m calls made → (is_taking m ≡ true) × TakeGoesOn m.shape m.wanted calls made a) →
+pub take_due :
+    (m : ConsumerState) (a : Access) → due_take m ≡ Some a → IsOpenRight m.shape C a →
+    ((calls : Takes) (made : List Made) → ConsumerStands m calls made → (is_taking m ≡ true) × TakeGoesOn m.shape m.wanted calls made a) →
     ((calls : Takes) (made : List Made) → ConsumerStands m calls made → is_taking m ≡ true → length made < length (take_program m.shape calls) + longest_taking m.shape m.wanted) →
-    (expects : Bool) → IsTrue expects ↔ LastBitIsDue m.shape C (due_take m) → ((calls : Takes) (made : List Made) → ConsumerStands m calls made → IsTrue expects → EndsInZeros m.shape C made) → Due consuming m a
-take_due m a due right goes_on bounded expects one zeros = record {
+    ((calls : Takes) (made : List Made) → ConsumerStands m calls made → LastBitIsDue m.shape C (due_take m) → EndsInZeros m.shape C made) → Due consuming m a
+take_due m a due right goes_on bounded zeros = record {
   is = due;
   right = right;
-  expects = expects;
-  one = one;
-  zeros = zeros;
   next = λ calls made st. let (is, goes) = goes_on calls made st in record { one = m.wanted; is = (is, refl); goes = goes; few = bounded calls made st is };
+  zeros = λ calls made st last. zeros calls made st (subst (LastBitIsDue m.shape C) (sym due) last);
 }
-
--- what a machine that came to where a part of its call is makes of the answer, it makes of that part
-pub take_fed : (part m m' : ConsumerState) → m ≡ part → (a : Access) (v : Bool) → ((calls : Takes) (made : List Made) (b : Access) → ConsumerStands m calls made → due_take m ≡ Some b → ConsumerHasMoved m m' calls (made ++ answered b v ∷ [])) → due_take part ≡ Some a →
-    (calls : Takes) (made : List Made) → ConsumerStands part calls made → ConsumerHasMoved part m' calls (made ++ answered a v ∷ [])
-take_fed part m m' is a v fed due calls made st = subst (λ (p : ConsumerState). ConsumerHasMoved p m' calls (made ++ answered a v ∷ [])) is (fed calls made a (subst (λ (p : ConsumerState). ConsumerStands p calls made) (sym is) st) (ap due_take is ∙ due))
 
 -- no take has many accesses
 few_reads : (shape : Shape) (wanted : ℕ) → wanted ≤ take_batch_of shape → longest_taking shape wanted ≤ 4865
@@ -98,11 +102,12 @@ pub few_taken :
 few_taken shape false wanted n list marked few = omega (arith, marked.1)
 few_taken shape true wanted n list marked few = omega (arith, marked.1, few_reads shape wanted (few refl))
 
--- where the machine keeps how many items the take wants, it has moved as a machine of a side
-pub take_moved :
-    (m m' : ConsumerState) (calls : Takes) (made : List Made) → m'.wanted ≡ m.wanted → ConsumerHasMoved m m' calls made →
-    (more : Takes) × ConsumerStands m' more made × consuming.After m m' calls more
-take_moved m m' calls made kept moved = (moved.0, moved.1, (moved.2, kept))
+-- where the machine keeps how many items the take wants, the answer is fed as one of a side's machine
+pub take_fed :
+    (m m' : ConsumerState) (v : Bool) → m'.shape ≡ m.shape → m'.wanted ≡ m.wanted →
+    ((calls : Takes) (made : List Made) (a : Access) → ConsumerStands m calls made → due_take m ≡ Some a → ConsumerHasMoved m m' calls (made ++ answered a v ∷ [])) →
+    Fed consuming m v m'
+take_fed m m' v shape kept moved = record { shape = shape; kind = refl; moved = λ calls made a st due. (let t = moved calls made a st due in (t.0, t.1, (t.2, kept))) }
 
 -- ---- replies
 
@@ -167,8 +172,8 @@ module _ {O : Type 0} (o : O) (e : RingEnd) (m : ConsumerState) (n : ℕ) (s : T
   }
 
   -- and one step of it
-  abbrev pub take_step : (e' : RingEnd) (m' : ConsumerState) → (is_taking now ≡ false → (m' ≡ now) × (e' ≡ e)) → ((calls : Takes) (made : List Made) → MachineAt consuming e now calls made → is_taking now ≡ true → MachineStep consuming e now e' m' calls) → Step consuming wanted
-  take_step e' m' rests steps = record { begun = take_begun; e = e'; m = m'; rests = rests; steps = λ at is. steps was.0.calls was.0.made at is.0 }
+  abbrev pub take_step : (e' : RingEnd) (m' : ConsumerState) {before after : ℕ → Bool} → MachineStepped consuming e now e' m' before after → Step consuming wanted
+  take_step e' m' {before} {after} s = record { begun = take_begun; e = e'; m = m'; rests = s.rests; steps = λ at is. s.steps was.0.calls was.0.made at wanted is }
 
 -- ---- the clauses of a step
 
@@ -210,18 +215,15 @@ module _ (wanted : ℕ) (s : Step consuming wanted) where
     pub take_some : IfSome r (λ x. (is_taking s.m ≡ false) × HasTakenOf s.e.ring.shape wanted whole s.e.list x)
     take_some = subst (λ (z : Option replies.TakeReply). IfSome z (λ x. (is_taking s.m ≡ false) × HasTakenOf s.e.ring.shape wanted whole s.e.list x)) (sym r_is) (some_of s.m.reply refl (out consuming take_laws s))
 
-  module _ (n' : ℕ) (n_rests : is_taking s.m ≡ false → n' ≡ 0) (n_goes : is_taking s.m ≡ true → n' ≡ s.begun.n + 1) where
+  module _ (n' : ℕ) (n_rests : is_taking s.m ≡ false → n' ≡ 0) (n_goes : (d : ℕ) → (is_taking s.m ≡ true) × (s.m.wanted ≡ d) → n' ≡ s.begun.n + 1) where
     abbrev new : List Event
     new = whole_take (is_taking s.m) s.e.list (without_last n' s.e.list)
-
-    pub take_invariant : IsMachine consuming s.e s.m (whole_take (is_taking s.m) s.e.list (without_last n' s.e.list)) × IsMarked n' s.e.list (longest_while s.m.shape (is_taking s.m) s.m.wanted)
-    take_invariant = step_invariant consuming take_laws s n' n_rests (λ _ is. n_goes is.0)
 
     none_of : (o : Option replies.TakeReply) → s.m.reply ≡ o → TakeOf → IfNone o ((is_taking s.m ≡ true) × (new ≡ whole) × HasTakePart s.e.ring.shape wanted new s.e.list)
     none_of (Some x) is o = tt
     none_of None is (Refused same none refused list) = absurd (none-some reply.Closed (sym is ∙ refused.1))
     none_of None is (Goes event grows same part more made stands) =
-        let stay = stays consuming take_laws s n' n_rests (λ _ is. n_goes is.0) same in
+        let stay = stays consuming take_laws s n' n_rests n_goes same in
         (same.0, stay, subst (λ (l : List Event). HasTakePart s.e.ring.shape wanted l s.e.list) (sym (whole_there consuming take_laws s) ∙ sym stay) part)
     none_of None is (Over event grows none more is_more list made stands) =
         let some = over_reply s.e.ring.shape wanted calls more is_more in

@@ -1,50 +1,17 @@
 -- A whole take of the consumer's end, access by access.
-use Rattle.std.proofs.Common.{◌≡◌, ℕ, Bool, true, false, Some, List, ◌∷◌, refl, ap, sym, subst, ◌∙◌}
-use Rattle.bits_core.specs.declared.events.Access.{Access}
+use Rattle.std.proofs.Common.{◌≡◌, ℕ, Bool, Some, refl, ap, sym, subst, ◌∙◌}
 use Rattle.bits_core.specs.declared.shapes.Shape.{Shape}
-use Rattle.bits_core.specs.Made.{Made}
-use Rattle.register_core.specs.Row.{RowWrite}
-use Rattle.register_core.specs.ScanState.{ScanState}
-use Rattle.register_core.specs.UnaryState.{due_writes}
-use Rattle.register_core.specs.WordState.{ReaderState}
 use Rattle.ring_core.specs.declared.replies.TakeReply as replies
 use Rattle.ring_core.specs.declared.replies.TakeReply.TheVariants as reply
-use Rattle.ring_core.specs.declared.consumers.Stage.{Stage}
-use Rattle.ring_core.specs.declared.consumers.Stage.TheVariants.{Counting}
-use Rattle.ring_core.specs.Takes.{Takes, AreTakes}
-use Rattle.ring_core.specs.ConsumerState.{ConsumerState, IsConsumerButScan, IsConsumerButWord, consumer_due_at, due_take, is_taking, takes_at}
-use Rattle.ring_core.specs.ConsumerCalls.{ConsumerStands, IsReplyToTake, reply_at_end}
+use Rattle.ring_core.specs.Takes.{AreTakes}
+use Rattle.ring_core.specs.ConsumerCalls.{IsReplyToTake, reply_at_end}
 use Rattle.ring_seats.specs.Ring.{RingEnd}
-use Rattle.ring_ends.specs.Ends.{HasTakes, HasTakenOf, TakeAdds, TakerState, whole_take}
-use Rattle.ring_ends.specs.Machines.{IsMachine, IsMarked, MachineEnded, consuming, longest_while, without_last}
-use Rattle.ring_ends.proofs.MachineWhole.{Ended, More, Refused, Whole, ending, list_there, more_there, over_list, shape_whole, writes_left}
-use Rattle.ring_ends.proofs.TakerCalls.{Begins, over_adds, over_reply, take_begun, take_laws}
-
--- a take is under way at a stage
-pub taking_at : (m : ConsumerState) (st : Stage) → m.stage ≡ st → takes_at st ≡ true → is_taking m ≡ true
-taking_at m st e is = ap takes_at e ∙ is
-
--- while the count is written there is a write of it that is due
-pub count_due : (m : ConsumerState) (a : Access) → m.stage ≡ Counting → due_take m ≡ Some a → (x : RowWrite) × (rest : List RowWrite) × (due_writes m.row ≡ x ∷ rest)
-count_due m a e due = writes_left m.row a (sym (ap (λ (st : Stage). consumer_due_at st m) e) ∙ due)
-
--- another scan, or another word, and no more
-pub more_scan : (p q r : ConsumerState) (s : ScanState) → IsConsumerButScan p q → r ≡ record q { scan = s } → IsConsumerButScan p r
-more_scan p q r s e f = f ∙ ap (λ (x : ConsumerState). record x { scan = s }) e ∙ ap (λ (x : ScanState). record p { scan = x }) (sym (ap (λ (x : ConsumerState). x.scan) f))
-
-pub more_word : (p q r : ConsumerState) (w : ReaderState) → IsConsumerButWord p q → r ≡ record q { word = w } → IsConsumerButWord p r
-more_word p q r w e f = f ∙ ap (λ (x : ConsumerState). record x { word = w }) e ∙ ap (λ (x : ReaderState). record p { word = x }) (sym (ap (λ (x : ConsumerState). x.word) f))
+use Rattle.ring_ends.specs.Ends.{HasTakes, HasTakenOf, TakeAdds}
+use Rattle.ring_ends.specs.Machines.{consuming}
+use Rattle.ring_ends.proofs.MachineWhole.{Ended, More, Refused, Whole, ending, list_there, more_there, over_list, shape_whole}
+use Rattle.ring_ends.proofs.TakerCalls.{over_adds, over_reply, take_laws}
 
 -- ---- a whole take
-
-module _ {O : Type 0} (o : O) (e : RingEnd) (m : ConsumerState) (n : ℕ) (s : TakerState O) (view : record { end = e; taking = is_taking m; wanted = m.wanted; start = without_last n e.list; oracle = o } ≡ s)
-    (was : IsMachine consuming e m (whole_take (is_taking m) e.list (without_last n e.list)) × IsMarked n e.list (longest_while m.shape (is_taking m) m.wanted)) (idle : s.taking ≡ false) (wanted : ℕ) (now : ConsumerState) (begins : Begins m now wanted) where
-  pub idle_there : is_taking m ≡ false
-  idle_there = ap (λ (z : TakerState O). z.taking) view ∙ idle
-
-  -- a take, and what its accesses came to
-  abbrev pub take_whole : (e' : RingEnd) (m' : ConsumerState) {before after : ℕ → Bool} → MachineEnded consuming e now e' m' before after → Whole consuming wanted
-  take_whole e' m' {before} {after} ended = record { begun = take_begun o e m n s view was wanted now begins; idle = idle_there; e = e'; m = m'; old = before; now = after; ended = ended }
 
 -- a take was answered, and this is what it added
 pub take_ended : (wanted : ℕ) (w : Whole consuming wanted) → (x : replies.TakeReply) × (w.m.reply ≡ Some x) × HasTakenOf w.e.ring.shape wanted w.begun.seen.list w.e.list x

@@ -2,9 +2,8 @@
 use Rattle.std.proofs.Common.{◌≡◌, ⊎_elim, inl, inr, ℕ, ◌≤◌, Bool, true, false, true≢false, Option, Some, None, List, [], ◌∷◌, ◌++◌, length, take, refl, ap, sym, subst, ◌∙◌, arith}
 use Rattle.std.specs.Prelude.{◌+◌, ◌⊎◌, IfNone, IfSome, drop}
 use Rattle.bits_core.specs.declared.events.Event.{Event}
-use Rattle.bits_core.specs.declared.events.Side.TheVariants.{C}
 use Rattle.bits_core.specs.declared.shapes.Shape.{Shape}
-use Rattle.bits_core.specs.Made.{Made, events_of}
+use Rattle.bits_core.specs.Made.{Made}
 use Rattle.ring_core.specs.declared.replies.TakeReply as replies
 use Rattle.ring_core.specs.declared.replies.TakeReply.TheVariants as reply
 use Rattle.ring_core.specs.declared.replies.TakeBatchReply as batch_replies
@@ -245,7 +244,7 @@ module _ (wanted : ℕ) (s : Step consuming wanted) where
               let b = (step_brought y told).1 in
               subst (λ (n : ℕ). drop n new ≡ drop n into) (sym b.number ∙ ap number_brought (told_of reply_now b.reply b.told y told)) others
 
-  module _ (n' : ℕ) (n_rests : is_taking s.m ≡ false → n' ≡ 0) (n_goes : is_taking s.m ≡ true → n' ≡ s.begun.n + 1) (r : Option batch_replies.TakeBatchReply) (r_is : r ≡ reply_now) where
+  module _ (n' : ℕ) (n_rests : is_taking s.m ≡ false → n' ≡ 0) (n_goes : (d : ℕ) → (is_taking s.m ≡ true) × (s.m.wanted ≡ d) → n' ≡ s.begun.n + 1) (r : Option batch_replies.TakeBatchReply) (r_is : r ≡ reply_now) where
     abbrev new : List Event
     new = whole_take (is_taking s.m) s.e.list (without_last n' s.e.list)
 

@@ -1,3 +1,4 @@
 pub mod Ends
 pub mod Machines
 pub mod Meetings
+pub mod Moves

@@ -3,10 +3,12 @@
 //! they are made, meet and end.
 #![tactic(auto)]
 
+mod calls;
 mod counter_putters;
 mod counter_rings;
 mod counter_takers;
 mod ends;
+mod machines;
 mod meetings;
 mod putters;
 mod rings;

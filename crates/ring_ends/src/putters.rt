@@ -1,5 +1,5 @@
 //! The producer's end.
-ghost use Rattle.std.specs.Prelude.{◌≡◌, ◌≢◌, ◌⊎◌, ℕ, ◌+◌, ◌*◌, ◌^◌, ◌<◌, ◌≤◌, true, false, Some, None, List, [], ◌∷◌, ◌++◌, length, IfSome, IfNone, IsTrue};
+ghost use Rattle.std.specs.Prelude.{◌≡◌, ◌⊎◌, ◌+◌, ◌*◌, ◌^◌, ◌<◌, ◌≤◌, true, false, Some, None, List, [], ◌∷◌, length, IfSome, IfNone};
 ghost use Rattle.bits_core.specs.declared.events.Event.{Event};
 ghost use Rattle.bits_core.specs.Made.{Made};
 ghost use Rattle.bits_core.specs.Shape.{width_of};
@@ -7,17 +7,19 @@ ghost use Rattle.ring_core.specs.declared.replies.PutReply.TheVariants.{Closed};
 ghost use Rattle.ring_core.specs.declared.replies.BatchReply.TheVariants as batch_reply;
 ghost use Rattle.ring_core.specs.Lengths.{longest_put};
 ghost use Rattle.ring_core.specs.Puts.{Puts, IsBatch};
-ghost use Rattle.ring_core.specs.ProducerState.{Call, Put, Close, due_put, call_of};
+ghost use Rattle.ring_core.specs.ProducerState.{Put, Close, call_of};
 ghost use Rattle.ring_core.specs.ProducerCalls.{ProducerStands, longest_of};
 ghost use Rattle.ring_seats.specs.Steppers.{AreAnswered, Grows, IsAskedOnce, IsSameEnd, StandsAs};
 ghost use Rattle.bits_core.specs.declared.events.Side.TheVariants.{P};
 ghost use Rattle.ring_ends.specs.Ends.{HasPut, HasPutAll, HasPutPart, HasClosed, whole_put, puts_whole};
-ghost use Rattle.ring_ends.specs.Machines.{CallBegins, MachineAt, MachineBusy, MachineEnded, MachineReady, MachineStep, MachineWent, producing};
+ghost use Rattle.ring_ends.specs.Machines.{CallBegins, producing};
 
+use crate::calls::{finish, step};
 use crate::ends::PutEnd;
+use crate::machines::SideMachine;
 use crate::rings::Pad;
-use bits_core::{Oracle, Shape};
-use ring_core::{BatchReply, Producer, PutReply};
+use bits_core::{Access, Oracle, Shape};
+use ring_core::{BatchReply, Producer, PutReply, PutScan, PutWord};
 use ring_seats::laws::laws_below;
 use ring_seats::{Flickering, Stepper};
 use std::marker::Model;
@@ -61,150 +63,107 @@ impl<'a, O: Oracle + Drop> Model for Putter<'a, O> {
         IsMarked p.steps p.stepper.list (longest_at p.machine.shape (call_of p.machine)) };
 }
 
-// One step of the call under way.
-fn advance<'a, O: Oracle>(
-    stepper: &mut Stepper<'a, Flickering>,
-    machine: &mut Producer,
-    oracle: &mut O,
-)
-    requires at { (calls : Puts) × (made : List Made) × MachineAt producing stepper.old machine.old calls made }
-    ensures rests { call_of machine.old ≡ None → (machine.new ≡ machine.old) × (stepper.new ≡ stepper.old) }
-    ensures kind { machine.new.batched ≡ machine.old.batched }
-    ensures steps { (calls : Puts) (made : List Made) → MachineAt producing stepper.old machine.old calls made →
-        (c : Call) → call_of machine.old ≡ Some c →
-        MachineStep producing stepper.old machine.old stepper.new machine.new calls }
-    ensures oracle { IsAskedOnce O.answers oracle.old oracle.new }
-    ensures answered { AreAnswered stepper.old stepper.new (O.answers oracle.old) (O.answers oracle.new) }
-{
-    laws_below();
-    let _expects = machine.expects_one();
-    match machine.next() {
-        None => {}
-        Some(access) => match stepper.step(access, oracle) {
-            None => {}
-            Some(answer) => machine.feed(answer),
-        },
-    }
-}
+impl SideMachine for Producer {
+    ghost use Rattle.std.specs.Prelude.{◌≡◌, ◌-◌, length};
+    ghost use Rattle.bits_core.specs.Shape.{modulus_of};
+    ghost use Rattle.register_core.specs.UnaryState.{due_writes};
+    ghost use Rattle.ring_core.specs.declared.producers.Stage.TheVariants.{Scanning, Storing, Counting};
+    ghost use Rattle.ring_core.specs.ProducerState.{IsProducerButScan, IsProducerButWord};
+    ghost use Rattle.ring_ends.specs.Machines.{producing};
 
-// The rest of the scan of the call under way, where one is.
-#[inline(always)]
-fn finish_scan<'a, O: Oracle>(
-    stepper: &mut Stepper<'a, Flickering>,
-    machine: &mut Producer,
-    oracle: &mut O,
-)
-    requires { MachineBusy producing stepper.old machine.old }
-    ensures { MachineWent producing stepper.old machine.old stepper.new machine.new (O.answers oracle.old)
-        (O.answers oracle.new) }
-{
-    laws_below();
-    let Some(mut scan) = machine.scan() else {
-        return;
-    };
-    let ring = stepper.words();
-    'reads: loop {
+    type Scan = PutScan;
+
+    type Word = PutWord;
+
+    ghost kind = { producing };
+
+    ghost state = { λ m. m };
+
+    ghost scanned = { λ s. s };
+
+    ghost worded = { λ w. w };
+
+    ghost IsScanOf = { λ m s. (m.stage ≡ Scanning) × IsProducerButScan m s };
+
+    ghost IsWordOf = { λ m w. (m.stage ≡ Storing) × IsProducerButWord m w };
+
+    ghost IsCounting = { λ m. m.stage ≡ Counting };
+
+    ghost reads_left = { λ s. modulus_of s.shape - s.scan.zeros };
+
+    ghost digits_left = { λ w. w.word.width - w.word.written };
+
+    ghost writes_left = { λ m. length (due_writes m.row) };
+
+    fn laws() {}
+
+    #[inline(always)]
+    fn next(&self) -> Option<Access> {
+        let _expects = self.expects_one();
+        self.next()
+    }
+
+    #[inline(always)]
+    fn feed(&mut self, answer: bool) {
+        self.feed(answer);
+    }
+
+    #[inline(always)]
+    fn scan(&self) -> Option<PutScan> {
+        self.scan()
+    }
+
+    #[inline(always)]
+    fn scan_next(scan: &PutScan) -> Access {
         let _expects = scan.expects_one();
-        let access = scan.next();
-        let answer = stepper.make(&ring, access, oracle);
-        if answer {
-            machine.go_on_with_scan(scan);
-            machine.feed_scan(true);
-            return;
-        }
+        scan.next()
+    }
+
+    #[inline(always)]
+    fn scan_zero(scan: &mut PutScan) {
         scan.zero();
     }
-}
 
-// The rest of the word of the call under way, where one is written.
-#[inline(always)]
-fn write_word<'a, O: Oracle>(
-    stepper: &mut Stepper<'a, Flickering>,
-    machine: &mut Producer,
-    oracle: &mut O,
-)
-    requires { MachineBusy producing stepper.old machine.old }
-    ensures { MachineWent producing stepper.old machine.old stepper.new machine.new (O.answers oracle.old)
-        (O.answers oracle.new) }
-{
-    laws_below();
-    let Some(mut word) = machine.word() else {
-        return;
-    };
-    let ring = stepper.words();
-    'writes: loop {
-        let last = word.is_last();
-        let access = word.next();
-        let answer = stepper.make(&ring, access, oracle);
-        if last {
-            machine.go_on_with_word(word);
-            machine.feed_word(answer);
-            return;
-        }
+    #[inline(always)]
+    fn end_scan(&mut self, scan: PutScan) {
+        self.go_on_with_scan(scan);
+        self.feed_scan(true);
+    }
+
+    #[inline(always)]
+    fn word(&self) -> Option<PutWord> {
+        self.word()
+    }
+
+    #[inline(always)]
+    fn word_next(word: &PutWord) -> Access {
+        word.next()
+    }
+
+    #[inline(always)]
+    fn is_last(word: &PutWord) -> bool {
+        word.is_last()
+    }
+
+    #[inline(always)]
+    fn word_feed(word: &mut PutWord, answer: bool) {
         word.feed(answer);
     }
-}
 
-// The rest of the count of the call under way, where it is written.
-#[inline(always)]
-fn write_count<'a, O: Oracle>(
-    stepper: &mut Stepper<'a, Flickering>,
-    machine: &mut Producer,
-    oracle: &mut O,
-)
-    requires { MachineBusy producing stepper.old machine.old }
-    ensures { MachineWent producing stepper.old machine.old stepper.new machine.new (O.answers oracle.old)
-        (O.answers oracle.new) }
-{
-    laws_below();
-    let ring = stepper.words();
-    'writes: while machine.is_counting() {
-        let Some(access) = machine.next() else {
-            return;
-        };
-        let _expects = machine.expects_one();
-        let answer = stepper.make(&ring, access, oracle);
-        machine.feed_count(answer);
+    #[inline(always)]
+    fn end_word(&mut self, word: PutWord, answer: bool) {
+        self.go_on_with_word(word);
+        self.feed_word(answer);
     }
-}
 
-// The accesses of the call under way, to its end.
-#[inline(always)]
-fn finish<'a, O: Oracle>(
-    stepper: &mut Stepper<'a, Flickering>,
-    machine: &mut Producer,
-    oracle: &mut O,
-)
-    requires { (calls : Puts) × MachineReady producing stepper.old machine.old calls }
-    ensures { MachineEnded producing stepper.old machine.old stepper.new machine.new (O.answers oracle.old)
-        (O.answers oracle.new) }
-{
-    laws_below();
-    'accesses: loop {
-        finish_scan(stepper, machine, oracle);
-        write_word(stepper, machine, oracle);
-        write_count(stepper, machine, oracle);
-        let Some(access) = machine.next() else {
-            return;
-        };
-        let _expects = machine.expects_one();
-        let ring = stepper.words();
-        let answer = stepper.make(&ring, access, oracle);
-        machine.feed(answer);
+    #[inline(always)]
+    fn is_counting(&self) -> bool {
+        self.is_counting()
     }
-}
 
-// How many events of the call under way the list has behind one step more.
-fn steps_behind(steps: u64, machine: &Producer) -> u64
-    requires stands { (calls : Puts) × (made : List Made) × ProducerStands machine.now calls made }
-    requires few { steps < 10000 }
-    ensures rests { call_of machine.now ≡ None → result ≡ 0 }
-    ensures goes { call_of machine.now ≢ None → result ≡ steps + 1 }
-{
-    if machine.next().is_none() {
-        0
-    } else {
-        steps + 1
+    #[inline(always)]
+    fn feed_count(&mut self, answer: bool) {
+        self.feed_count(answer);
     }
 }
 
@@ -276,8 +235,12 @@ impl<'a, O: Oracle + Drop> Putter<'a, O> {
     {
         laws_below();
         begin_put(&mut self.machine, item);
-        advance(&mut self.stepper, &mut self.machine, &mut self.oracle);
-        self.steps = steps_behind(self.steps, &self.machine);
+        step(
+            &mut self.stepper,
+            &mut self.machine,
+            &mut self.steps,
+            &mut self.oracle,
+        );
         self.machine.reply()
     }
 
@@ -303,8 +266,12 @@ impl<'a, O: Oracle + Drop> Putter<'a, O> {
     {
         laws_below();
         begin_put_all(&mut self.machine, items);
-        advance(&mut self.stepper, &mut self.machine, &mut self.oracle);
-        self.steps = steps_behind(self.steps, &self.machine);
+        step(
+            &mut self.stepper,
+            &mut self.machine,
+            &mut self.steps,
+            &mut self.oracle,
+        );
         self.machine.batch_reply()
     }
 
@@ -327,8 +294,12 @@ impl<'a, O: Oracle + Drop> Putter<'a, O> {
     {
         laws_below();
         begin_close(&mut self.machine);
-        advance(&mut self.stepper, &mut self.machine, &mut self.oracle);
-        self.steps = steps_behind(self.steps, &self.machine);
+        step(
+            &mut self.stepper,
+            &mut self.machine,
+            &mut self.steps,
+            &mut self.oracle,
+        );
         self.machine.next().is_none()
     }
 }

@@ -1,5 +1,5 @@
 //! The consumer's end.
-ghost use Rattle.std.specs.Prelude.{◌≡◌, ◌≢◌, ◌⊎◌, ℕ, ◌+◌, ◌*◌, ◌<◌, ◌≤◌, true, false, Some, None, List, [], ◌∷◌, ◌++◌, length, take, drop, IfSome, IfNone};
+ghost use Rattle.std.specs.Prelude.{◌≡◌, ◌⊎◌, ◌+◌, ◌*◌, ◌<◌, ◌≤◌, true, false, Some, List, length, take, drop, IfSome, IfNone};
 ghost use Rattle.bits_core.specs.declared.events.Event.{Event};
 ghost use Rattle.bits_core.specs.Made.{Made};
 ghost use Rattle.ring_core.specs.declared.replies.TakeReply.TheVariants.{Closed};
@@ -7,17 +7,19 @@ ghost use Rattle.ring_core.specs.declared.replies.TakeBatchReply.TheVariants as 
 ghost use Rattle.bits_core.specs.Shape.{take_batch_of};
 ghost use Rattle.ring_core.specs.Lengths.{longest_taking};
 ghost use Rattle.ring_core.specs.Takes.{Takes};
-ghost use Rattle.ring_core.specs.ConsumerState.{due_take, is_taking};
+ghost use Rattle.ring_core.specs.ConsumerState.{is_taking};
 ghost use Rattle.ring_core.specs.ConsumerCalls.{ConsumerStands, take_batch_reply};
 ghost use Rattle.ring_seats.specs.Steppers.{AreAnswered, Grows, IsAskedOnce, IsSameEnd, StandsAs};
 ghost use Rattle.bits_core.specs.declared.events.Side.TheVariants.{C};
 ghost use Rattle.ring_ends.specs.Ends.{HasTakenAll, HasTakenOf, HasTakePart, number_brought, wants_next, whole_take, takes_whole};
-ghost use Rattle.ring_ends.specs.Machines.{CallBegins, MachineAt, MachineBusy, MachineEnded, MachineReady, MachineStep, MachineWent, consuming};
+ghost use Rattle.ring_ends.specs.Machines.{CallBegins, consuming};
 
+use crate::calls::{finish, step};
 use crate::ends::TakeEnd;
+use crate::machines::SideMachine;
 use crate::rings::Pad;
-use bits_core::{Oracle, Shape};
-use ring_core::{Consumer, TakeBatchReply, TakeReply};
+use bits_core::{Access, Oracle, Shape};
+use ring_core::{Consumer, TakeBatchReply, TakeReply, TakeScan, TakeWord};
 use ring_seats::laws::laws_below;
 use ring_seats::{Flickering, Stepper};
 use std::marker::Model;
@@ -61,169 +63,113 @@ impl<'a, O: Oracle + Drop> Model for Taker<'a, O> {
         IsMarked p.steps p.stepper.list (longest_while p.machine.shape (is_taking p.machine) p.machine.wanted) };
 }
 
-// One step of the take under way.
-fn advance<'a, O: Oracle>(
-    stepper: &mut Stepper<'a, Flickering>,
-    machine: &mut Consumer,
-    oracle: &mut O,
-)
-    requires at { (calls : Takes) × (made : List Made) × MachineAt consuming stepper.old machine.old calls made }
-    ensures rests { is_taking machine.old ≡ false → (machine.new ≡ machine.old) × (stepper.new ≡ stepper.old) }
-    ensures steps { (calls : Takes) (made : List Made) → MachineAt consuming stepper.old machine.old calls made →
-        is_taking machine.old ≡ true → MachineStep consuming stepper.old machine.old stepper.new machine.new calls }
-    ensures wanted { machine.new.wanted ≡ machine.old.wanted }
-    ensures oracle { IsAskedOnce O.answers oracle.old oracle.new }
-    ensures answered { AreAnswered stepper.old stepper.new (O.answers oracle.old) (O.answers oracle.new) }
-{
-    laws_below();
-    let _expects = machine.expects_one();
-    match machine.next() {
-        None => {}
-        Some(access) => match stepper.step(access, oracle) {
-            None => {}
-            Some(answer) => machine.feed(answer),
-        },
-    }
-}
+impl SideMachine for Consumer {
+    ghost use Rattle.std.specs.Prelude.{◌≡◌, ◌-◌, true, length};
+    ghost use Rattle.bits_core.specs.Shape.{modulus_of};
+    ghost use Rattle.register_core.specs.UnaryState.{due_writes};
+    ghost use Rattle.ring_core.specs.declared.consumers.Stage.TheVariants.{Loading, Counting};
+    ghost use Rattle.ring_core.specs.ConsumerState.{IsConsumerButScan, IsConsumerButWord, is_taking};
+    ghost use Rattle.ring_ends.specs.Machines.{consuming};
 
-// The rest of a scan of the take under way, where one is.
-#[inline(always)]
-fn finish_scan<'a, O: Oracle>(
-    stepper: &mut Stepper<'a, Flickering>,
-    machine: &mut Consumer,
-    oracle: &mut O,
-)
-    requires { MachineBusy consuming stepper.old machine.old }
-    ensures { MachineWent consuming stepper.old machine.old stepper.new machine.new (O.answers oracle.old)
-        (O.answers oracle.new) }
-{
-    laws_below();
-    let Some(mut scan) = machine.scan() else {
-        return;
-    };
-    let ring = stepper.words();
-    'reads: loop {
+    type Scan = TakeScan;
+
+    type Word = TakeWord;
+
+    ghost kind = { consuming };
+
+    ghost state = { λ m. m };
+
+    ghost scanned = { λ s. s };
+
+    ghost worded = { λ w. w };
+
+    ghost IsScanOf = { λ m s. (is_taking m ≡ true) × IsConsumerButScan m s };
+
+    ghost IsWordOf = { λ m w. (m.stage ≡ Loading) × IsConsumerButWord m w };
+
+    ghost IsCounting = { λ m. m.stage ≡ Counting };
+
+    ghost reads_left = { λ s. modulus_of s.shape - s.scan.zeros };
+
+    ghost digits_left = { λ w. w.word.width - w.word.read };
+
+    ghost writes_left = { λ m. length (due_writes m.row) };
+
+    fn laws() {}
+
+    #[inline(always)]
+    fn next(&self) -> Option<Access> {
+        let _expects = self.expects_one();
+        self.next()
+    }
+
+    #[inline(always)]
+    fn feed(&mut self, answer: bool) {
+        self.feed(answer);
+    }
+
+    #[inline(always)]
+    fn scan(&self) -> Option<TakeScan> {
+        self.scan()
+    }
+
+    #[inline(always)]
+    fn scan_next(scan: &TakeScan) -> Access {
         let _expects = scan.expects_one();
-        let access = scan.next();
-        let answer = stepper.make(&ring, access, oracle);
-        if answer {
-            machine.go_on_with_scan(scan);
-            machine.feed(true);
-            return;
-        }
+        scan.next()
+    }
+
+    #[inline(always)]
+    fn scan_zero(scan: &mut TakeScan) {
         scan.zero();
     }
-}
 
-// The rest of the word of the take under way, where one is read.
-#[inline(always)]
-fn read_word<'a, O: Oracle>(
-    stepper: &mut Stepper<'a, Flickering>,
-    machine: &mut Consumer,
-    oracle: &mut O,
-)
-    requires { MachineBusy consuming stepper.old machine.old }
-    ensures { MachineWent consuming stepper.old machine.old stepper.new machine.new (O.answers oracle.old)
-        (O.answers oracle.new) }
-{
-    laws_below();
-    let Some(mut word) = machine.word() else {
-        return;
-    };
-    let ring = stepper.words();
-    'reads: loop {
-        let last = word.is_last();
-        let access = word.next();
-        let answer = stepper.make(&ring, access, oracle);
-        if last {
-            machine.go_on_with_word(word);
-            machine.feed_word(answer);
-            return;
-        }
+    #[inline(always)]
+    fn end_scan(&mut self, scan: TakeScan) {
+        self.go_on_with_scan(scan);
+        self.feed(true);
+    }
+
+    #[inline(always)]
+    fn word(&self) -> Option<TakeWord> {
+        self.word()
+    }
+
+    #[inline(always)]
+    fn word_next(word: &TakeWord) -> Access {
+        word.next()
+    }
+
+    #[inline(always)]
+    fn is_last(word: &TakeWord) -> bool {
+        word.is_last()
+    }
+
+    #[inline(always)]
+    fn word_feed(word: &mut TakeWord, answer: bool) {
         word.feed(answer);
     }
-}
 
-// The rest of the count of the take under way, where it is written.
-#[inline(always)]
-fn write_count<'a, O: Oracle>(
-    stepper: &mut Stepper<'a, Flickering>,
-    machine: &mut Consumer,
-    oracle: &mut O,
-)
-    requires { MachineBusy consuming stepper.old machine.old }
-    ensures { MachineWent consuming stepper.old machine.old stepper.new machine.new (O.answers oracle.old)
-        (O.answers oracle.new) }
-{
-    laws_below();
-    let ring = stepper.words();
-    'writes: while machine.is_counting() {
-        let Some(access) = machine.next() else {
-            return;
-        };
-        let _expects = machine.expects_one();
-        let answer = stepper.make(&ring, access, oracle);
-        machine.feed_count(answer);
+    #[inline(always)]
+    fn end_word(&mut self, word: TakeWord, answer: bool) {
+        self.go_on_with_word(word);
+        self.feed_word(answer);
     }
-}
 
-// The accesses of the take under way, to its end.
-#[inline(always)]
-fn finish<'a, O: Oracle>(
-    stepper: &mut Stepper<'a, Flickering>,
-    machine: &mut Consumer,
-    oracle: &mut O,
-)
-    requires { (calls : Takes) × MachineReady consuming stepper.old machine.old calls }
-    ensures { MachineEnded consuming stepper.old machine.old stepper.new machine.new (O.answers oracle.old)
-        (O.answers oracle.new) }
-{
-    laws_below();
-    'accesses: loop {
-        finish_scan(stepper, machine, oracle);
-        read_word(stepper, machine, oracle);
-        write_count(stepper, machine, oracle);
-        let Some(access) = machine.next() else {
-            return;
-        };
-        let _expects = machine.expects_one();
-        let ring = stepper.words();
-        let answer = stepper.make(&ring, access, oracle);
-        machine.feed(answer);
+    #[inline(always)]
+    fn is_counting(&self) -> bool {
+        self.is_counting()
     }
-}
 
-// How many events of the take under way the list has behind one step more.
-fn steps_behind(steps: u64, machine: &Consumer) -> u64
-    requires stands { (calls : Takes) × (made : List Made) × ConsumerStands machine.now calls made }
-    requires few { steps < 10000 }
-    ensures rests { is_taking machine.now ≡ false → result ≡ 0 }
-    ensures goes { is_taking machine.now ≡ true → result ≡ steps + 1 }
-{
-    if machine.next().is_none() {
-        0
-    } else {
-        steps + 1
-    }
-}
-
-// Begins a take where none is under way.
-#[inline(always)]
-fn begin_take(machine: &mut Consumer)
-    requires stands { (calls : Takes) × (made : List Made) × ConsumerStands machine.old calls made }
-    ensures few { is_taking machine.old ≡ true → machine.old.wanted ≤ take_batch_of machine.old.shape }
-    ensures begins { (calls : Takes) (made : List Made) → ConsumerStands machine.old calls made →
-        CallBegins consuming machine.old machine.new calls made
-        (wants_next (is_taking machine.old) machine.old.wanted 1) }
-{
-    if machine.next().is_none() {
-        machine.take();
+    #[inline(always)]
+    fn feed_count(&mut self, answer: bool) {
+        self.feed_count(answer);
     }
 }
 
 // Begins a take of at most so many items where none is under way.
 #[inline(always)]
-fn begin_take_all(machine: &mut Consumer, most: u64)
+fn begin_take(machine: &mut Consumer, most: u64)
     requires stands { (calls : Takes) × (made : List Made) × ConsumerStands machine.old calls made }
     requires some { 1 ≤ most }
     requires few { most ≤ take_batch_of machine.old.shape }
@@ -285,9 +231,13 @@ impl<'a, O: Oracle + Drop> Taker<'a, O> {
             (O.answers self.new.oracle) }
     {
         laws_below();
-        begin_take(&mut self.machine);
-        advance(&mut self.stepper, &mut self.machine, &mut self.oracle);
-        self.steps = steps_behind(self.steps, &self.machine);
+        begin_take(&mut self.machine, 1);
+        step(
+            &mut self.stepper,
+            &mut self.machine,
+            &mut self.steps,
+            &mut self.oracle,
+        );
         self.machine.reply()
     }
 
@@ -316,9 +266,13 @@ impl<'a, O: Oracle + Drop> Taker<'a, O> {
             (O.answers self.new.oracle) }
     {
         laws_below();
-        begin_take_all(&mut self.machine, into.len() as u64);
-        advance(&mut self.stepper, &mut self.machine, &mut self.oracle);
-        self.steps = steps_behind(self.steps, &self.machine);
+        begin_take(&mut self.machine, into.len() as u64);
+        step(
+            &mut self.stepper,
+            &mut self.machine,
+            &mut self.steps,
+            &mut self.oracle,
+        );
         bring(&self.machine, into)
     }
 }
@@ -338,13 +292,13 @@ impl<'a, O: Oracle + Drop> TakeEnd for Taker<'a, O> {
     }
 
     fn take(&mut self) -> TakeReply {
-        begin_take(&mut self.machine);
+        begin_take(&mut self.machine, 1);
         finish(&mut self.stepper, &mut self.machine, &mut self.oracle);
         self.machine.reply().unwrap()
     }
 
     fn take_all(&mut self, into: &mut [u64]) -> TakeBatchReply {
-        begin_take_all(&mut self.machine, into.len() as u64);
+        begin_take(&mut self.machine, into.len() as u64);
         finish(&mut self.stepper, &mut self.machine, &mut self.oracle);
         bring(&self.machine, into).unwrap()
     }

@@ -1,54 +1,107 @@
--- How the program ends, by how a command ended.
-use Rattle.std.proofs.Common.{◌≡◌, ℕ, Bool, List, Option, Some, None, Result, Ok, Err, IfErr, IfOk, IfSome, inl, inr}
-use Rattle.std.specs.Prelude.{OnErr}
-use Rattle.std.specs.Io.KnownBytes.{Appends}
-use Rattle.ring_program.specs.Answers.{AnswersCallsBy, AnswersLongBits, EndsBy, EndsCalls, EndsLongBits, IsCallsCause, IsLongBitsCause, Refused, RefusedCalls, RefusedLongBits, status_of, ending_words}
-use Rattle.ring_program.specs.Faults.{Gains, SaysRefusal, refusal_line}
-use Rattle.ring_program.proofs.Gains.{tells_line}
+-- How the program ends on a request, by what came of it.
+use Rattle.std.proofs.Common.{arith, ◌≡◌, ◌≢◌, ◌<◌, ◌∙◌, ◌++◌, ◌⊎◌, ℕ, Bool, true, false, List, Option, Some, None, Result, Ok, Err, IfErr, IfOk, IfSome, ap, append-nil, inl, inr, length, length-append, refl, string_bytes, subst, sym}
+use Rattle.std.proofs.KnownBytes.{Keeps-refl}
+use Rattle.std.specs.Io.KnownBytes.{Consumes, IsAtEnd}
+use Rattle.ring_program.specs.Answers.{Answers, AnswersRun, Declines, Delivers, Ends, EndsOn, IsKeptCause, IsOutOfMemory, IsShortage, IsStatus, IsTrueCause, MayEnd, RefusesScript, RefusesTrace, relay_ending_of, verdict_ending_of}
+use Rattle.ring_program.specs.Faults.{SaysRefusal}
+use Rattle.bits_core.specs.declared.audits.Verdict.{Verdict}
+use Rattle.bits_core.specs.declared.audits.Verdict.TheVariants.{Lawful, Fault}
+use Rattle.ring_program.specs.declared.answers.Answer.{Answer}
 use Rattle.ring_program.specs.declared.answers.Ending.{Ending}
+use Rattle.ring_program.specs.declared.answers.Ending.TheVariants.{Done, FaultFound, LimitReached}
+use Rattle.ring_program.specs.declared.command_line.Question.{Question}
+use Rattle.ring_program.specs.declared.command_line.Question.TheVariants.{Audit, Play}
+use Rattle.ring_program.specs.declared.command_line.Request.{Request}
+use Rattle.ring_program.specs.declared.command_line.Request.TheVariants.{OnInput}
+use Rattle.ring_program.specs.declared.command_line.Request.TheVariants as request
+use Rattle.ring_program.specs.declared.run_line.Run.{Run}
+use Rattle.ring_program.specs.declared.faults.AppFault.{AppFault}
+use Rattle.ring_program.specs.declared.faults.AppFault.TheVariants as app
 use Rattle.ring_program.specs.declared.faults.Refusal.{Refusal}
+use Rattle.ring_program.specs.declared.faults.Refusal.TheVariants as refusal
+use Rattle.ring_program.specs.declared.inputs.TheConstants.{INPUT_LIMIT}
 
--- a text was appended that is an answer with this ending
-abbrev pub IsWritten : (List ℕ → Ending → Type 0) → Option (List ℕ) → Option (List ℕ) → Ending → Type 0
-IsWritten IsAnswer before after ending = (text : List ℕ) × IsAnswer text ending × Appends before after text
+-- what came of a request was delivered
+pub record IsDelivered {A : Type 0} (r : Result (Answer A) Refusal) (before after : Option (List ℕ)) (Tells : List ℕ → Type 0) (status : ℕ) : Type 0 where
+  pub delivered : IfOk r (λ answer. Delivers (string_bytes answer.text) answer.ending before after Tells status)
+  pub declined : IfErr r (λ e. Declines e before after Tells status)
 
--- how what came of a command was concluded: by this status, and standard error was told of it
-pub record Concluded (Tells : List ℕ → Type 0) (r : Result Ending Refusal) (status : ℕ) : Type 0 where
-  pub ok : IfOk r (λ ending. status ≡ status_of ending)
-  pub told : IfOk r (λ ending. Tells (ending_words ending))
-  pub err : OnErr r (status ≡ 1)
-  pub refused : IfErr r (SaysRefusal Tells)
+-- it was an answer to the request, or a refusal with a true cause
+pub ends_on : {A : Type 0} (asked : Request) (input before after : Option (List ℕ)) (Tells : List ℕ → Type 0) (r : Result (Answer A) Refusal) (status : ℕ)
+    → IfSome input (λ bytes. IfOk r (λ answer. Answers asked bytes (string_bytes answer.text) answer.ending))
+    → IfSome input (λ bytes. IfErr r (IsTrueCause asked bytes)) → IsDelivered r before after Tells status
+    → IfSome input (λ bytes. EndsOn asked bytes before after Tells status)
+ends_on asked None before after Tells r status answered refused done = tt
+ends_on asked (Some bytes) before after Tells (Ok answer) status answered refused done = inl (string_bytes answer.text, answer.ending, answered, done.delivered)
+ends_on asked (Some bytes) before after Tells (Err e) status answered refused done = inr (e, refused, done.declined)
 
-pub ends_by : (IsAnswer : List ℕ → Ending → Type 0) (IsReason : Refusal → Type 0) (before after : Option (List ℕ)) (Tells : List ℕ → Type 0) (r : Result Ending Refusal) (status : ℕ)
-    → IfOk r (IsWritten IsAnswer before after) → IfErr r (Refused IsAnswer IsReason before after) → Concluded Tells r status
-    → EndsBy IsAnswer IsReason before after Tells status
-ends_by IsAnswer IsReason before after Tells (Ok ending) status (text, answer, written) refused concluded =
-    inl (record { text = text; ending = ending; answer = answer; ends = concluded.ok; written = written; told = concluded.told })
-ends_by IsAnswer IsReason before after Tells (Err e) status written refused concluded = inr (concluded.err, e, refused, concluded.refused)
+-- the status of an answer that was delivered
+status_of_answer : (asked : Request) (text : List ℕ) (ending : Ending) (before after : Option (List ℕ)) (Tells : List ℕ → Type 0) (status : ℕ) → MayEnd asked ending
+    → Delivers text ending before after Tells status → IsStatus (Some asked) status
+status_of_answer asked text ending before after Tells status may (inl whole) = inr (ending, may, whole.0)
+status_of_answer asked text ending before after Tells status may (inr front) = inl front.0
 
--- of a command that tells a refusal by its line alone
-by_lines : (before after : Option (List ℕ)) (is_told : Bool) (r : Result Ending Refusal) → IfErr r (λ e. Gains before after is_told (refusal_line e)) → IfErr r (SaysRefusal (Gains before after is_told))
-by_lines before after is_told (Ok ending) told = tt
-by_lines before after is_told (Err e) told = tells_line before after is_told e told
+pub status_on : {A : Type 0} (asked : Request) (before after : Option (List ℕ)) (Tells : List ℕ → Type 0) (r : Result (Answer A) Refusal) (status : ℕ)
+    → IfOk r (λ answer. MayEnd asked answer.ending) → IsDelivered r before after Tells status → IsStatus (Some asked) status
+status_on asked before after Tells (Ok answer) status may done = status_of_answer asked (string_bytes answer.text) answer.ending before after Tells status may done.delivered
+status_on asked before after Tells (Err e) status may done = inl done.declined.0
 
-pub concluded : (before after : Option (List ℕ)) (is_told : Bool) (r : Result Ending Refusal) (status : ℕ)
-    → IfOk r (λ ending. status ≡ status_of ending) → IfOk r (λ ending. Gains before after is_told (ending_words ending)) → OnErr r (status ≡ 1)
-    → IfErr r (λ e. Gains before after is_told (refusal_line e)) → Concluded (Gains before after is_told) r status
-concluded before after is_told r status ok told err refused = record { ok = ok; told = told; err = err; refused = by_lines before after is_told r refused }
+-- how an answer ends
+by_verdict : (verdict : Verdict) (ending : Ending) → ending ≡ verdict_ending_of verdict → (ending ≡ Done) ⊎ (ending ≡ FaultFound)
+by_verdict Lawful ending is = inl is
+by_verdict (Fault place kind) ending is = inr is
 
--- the same, where it is known of each input that the reader may have
-pub ends_calls : (stop : Bool) (input before after : Option (List ℕ)) (Tells : List ℕ → Type 0) (r : Result Ending Refusal) (status : ℕ)
-    → IfSome input (λ bytes. IfOk r (IsWritten (AnswersCallsBy stop bytes) before after))
-    → IfSome input (λ bytes. IfErr r (RefusedCalls stop bytes before after))
-    → Concluded Tells r status → IfSome input (λ bytes. EndsCalls stop bytes before after Tells status)
-ends_calls stop None before after Tells r status written refused done = tt
-ends_calls stop (Some bytes) before after Tells r status written refused done =
-    ends_by (AnswersCallsBy stop bytes) (IsCallsCause bytes) before after Tells r status written refused done
+by_closed : (closed : Bool) (ending : Ending) → ending ≡ relay_ending_of closed → (ending ≡ Done) ⊎ (ending ≡ LimitReached)
+by_closed true ending is = inl is
+by_closed false ending is = inr is
 
-pub ends_long_bits : (input before after : Option (List ℕ)) (Tells : List ℕ → Type 0) (r : Result Ending Refusal) (status : ℕ)
-    → IfSome input (λ bytes. IfOk r (IsWritten (AnswersLongBits bytes) before after))
-    → IfSome input (λ bytes. IfErr r (RefusedLongBits bytes before after))
-    → Concluded Tells r status → IfSome input (λ bytes. EndsLongBits bytes before after Tells status)
-ends_long_bits None before after Tells r status written refused done = tt
-ends_long_bits (Some bytes) before after Tells r status written refused done =
-    ends_by (AnswersLongBits bytes) (IsLongBitsCause bytes) before after Tells r status written refused done
+pub question_may_end : {A : Type 0} (question : Question) (input : List ℕ) (r : Result (Answer A) Refusal)
+    → IfOk r (λ answer. Answers (OnInput question) input (string_bytes answer.text) answer.ending) → IfOk r (λ answer. MayEnd (OnInput question) answer.ending)
+question_may_end (Audit what why) input (Ok answer) is = by_verdict is.1.verdict answer.ending is.1.ends
+question_may_end (Play shows) input (Ok answer) is = is.1.ends
+question_may_end question input (Err e) is = tt
+
+pub run_may_end : {A : Type 0} (run : Run) (r : Result (Answer A) Refusal) → IfOk r (λ answer. AnswersRun run (string_bytes answer.text) answer.ending)
+    → IfOk r (λ answer. MayEnd (request.Run run) answer.ending)
+run_may_end run (Ok answer) is = by_closed is.closed answer.ending is.ends
+run_may_end run (Err e) is = tt
+
+-- ---- an input that is kept
+
+-- a fault of the reading is a true cause
+kept_cause : (Refuses : List ℕ → Refusal → Type 0) (input : List ℕ) (fault : AppFault) → fault ≢ app.WriteFailed → fault ≢ app.NotOfRun → (fault ≡ app.TooLarge → INPUT_LIMIT < length input)
+    → IsKeptCause Refuses input (refusal.App fault)
+unfolding IsOutOfMemory IsShortage
+kept_cause Refuses input app.ReadFailed unwritten unrun large = inl (inr refl)
+kept_cause Refuses input app.TooLarge unwritten unrun large = inr (inl (refl, large refl))
+kept_cause Refuses input app.WriteFailed unwritten unrun large = absurd (unwritten refl)
+kept_cause Refuses input app.OutOfMemory unwritten unrun large = inl (inl (inl refl))
+kept_cause Refuses input app.NotOfRun unwritten unrun large = absurd (unrun refl)
+
+-- what was consumed of an input is no longer than the input
+consumed : (input came rest : List ℕ) → INPUT_LIMIT < length came → Consumes (Some input) (Some rest) came → INPUT_LIMIT < length input
+consumed input came rest large same = omega (arith, large, ap length same, length-append came rest)
+
+large_input : (input : List ℕ) (after : Option (List ℕ)) (came : List ℕ) → INPUT_LIMIT < length came → Consumes (Some input) after came → INPUT_LIMIT < length input
+large_input input None came large same = absurd same
+large_input input (Some rest) came large same = consumed input came rest large same
+
+cause : (question : Question) (input : List ℕ) (fault : AppFault) → fault ≢ app.WriteFailed → fault ≢ app.NotOfRun → (fault ≡ app.TooLarge → INPUT_LIMIT < length input)
+    → IsTrueCause (OnInput question) input (refusal.App fault)
+cause (Audit what why) input fault unwritten unrun large = kept_cause RefusesTrace input fault unwritten unrun large
+cause (Play shows) input fault unwritten unrun large = kept_cause RefusesScript input fault unwritten unrun large
+
+-- how the program ends on an input that could not be read
+pub unread : (question : Question) (before after out : Option (List ℕ)) (Tells : List ℕ → Type 0) (fault : AppFault) (status : ℕ) → status ≡ 1 → fault ≢ app.WriteFailed → fault ≢ app.NotOfRun
+    → (fault ≡ app.TooLarge → (came : List ℕ) × (INPUT_LIMIT < length came) × Consumes before after came)
+    → SaysRefusal Tells (refusal.App fault) → Ends (OnInput question) before out out Tells status
+unread question None after out Tells fault status one unwritten unrun large told = tt
+unread question (Some input) after out Tells fault status one unwritten unrun large told =
+    inr (refusal.App fault, cause question input fault unwritten unrun (λ is. large_input input after (large is).0 (large is).1 (large is).2), (one, Keeps-refl out, told))
+
+-- what holds of bytes to which an input was read to its end holds of the input
+pub read_whole : (P : List ℕ → Type 0) (input after : Option (List ℕ)) (bytes : List ℕ) → Consumes input after bytes → IsAtEnd after → P bytes → IfSome input P
+read_whole P None after bytes came end holds = tt
+read_whole P (Some whole) None bytes came end holds = absurd came
+read_whole P (Some whole) (Some rest) bytes came end holds =
+    subst P (sym (came ∙ ap (λ more. bytes ++ more) end ∙ append-nil bytes)) holds

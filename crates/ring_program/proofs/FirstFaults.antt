@@ -11,8 +11,7 @@ use Rattle.queue_calls.specs.Queue.{Capacity}
 use Rattle.queue_calls.specs.Recordings.{IsFaultOf, IsRecording, Line, first_word, line, lines_text, text_of}
 use Rattle.queue_calls.specs.RecordingStates.{HasNoFeed}
 use Rattle.queue_calls.proofs.RecordingLemmas.{feedless}
-use Rattle.ring_program.specs.Answers.{EndsAtFirstFault, IsOneLine}
-use Rattle.ring_program.specs.Readings.{IsFaultless}
+use Rattle.ring_program.specs.Readings.{EndsAtFirstFault, IsFaultless, IsOneLine}
 
 head_is : (x y : ℕ) (xs ys : List ℕ) → x ∷ xs ≡ y ∷ ys → x ≡ y
 head_is x y xs ys e = ap (λ (t : List ℕ). get_or t 0 0) e

@@ -10,7 +10,6 @@ use Rattle.bits_core.specs.declared.shapes.Shape.{Shape}
 use Rattle.bits_core.specs.declared.traces.TheConstants.{EVENT_LIMIT}
 use Rattle.ring_player.specs.Plays.{AreMoves, Plays}
 use Rattle.ring_script.specs.Content.{Content}
-use Rattle.ring_script.specs.Script.{IsScript}
 
 each_of_shape : (shape : Shape) (h : List Event) → ((p : ℕ) (e : Event) → slice_get h p ≡ Some e → belongs shape e.bit ≡ true) → AreOfShape shape h
 each_of_shape shape [] each = All-nil (λ e. belongs shape e.bit ≡ true)
@@ -28,6 +27,6 @@ moves_within script (l ∷ letters) past later (inl (done, moves)) = omega (arit
 moves_within script (l ∷ letters) past later (inr (not_done, (e, es, is, by, moves))) =
     omega (arith, ap length is, moves_within script letters (past ++ e ∷ []) es moves)
 
--- so they are no more than a trace may have
-pub play_within : (input : List ℕ) (script : Content) (h : List Event) → IsScript input script → Plays script script.letters h → length h ≤ EVENT_LIMIT
-play_within input script h is_script plays = omega (arith, is_script.lettered.short, moves_within script script.letters [] h plays.moves)
+-- so they are no more than a trace may have, where the letters are no more
+pub play_within : (script : Content) (h : List Event) → length script.letters ≤ EVENT_LIMIT → Plays script script.letters h → length h ≤ EVENT_LIMIT
+play_within script h short plays = omega (arith, short, moves_within script script.letters [] h plays.moves)

@@ -1,21 +1,15 @@
 -- What is found where recorded calls are read.
-use Rattle.std.proofs.Common.{◌≡◌, ◌∙◌, Bool, true, false, ℕ, List, [], ◌++◌, Option, None, Some, Result, Ok, Err, IfErr, IfSome, append_assoc, ap, inr, refl, sym, take}
-use Rattle.std.proofs.lemmas.List.{append-nil}
-use Rattle.std.specs.Io.KnownBytes.{Appends}
-use Rattle.std.specs.Result.{IsErrAnd}
+use Rattle.std.proofs.Common.{arith, ◌≡◌, ◌≢◌, ◌≤◌, ◌+◌, ◌-◌, ◌^◌, ◌∙◌, Bool, true, false, ℕ, zero, suc, List, [], ◌++◌, Option, None, Some, IfSome, append_assoc, ap, length, length-append, refl, subst, sym, take}
+use Rattle.std.proofs.lemmas.List.{append-nil, length-take-le}
+use Rattle.std.specs.Io.KnownBytes.{Consumes}
 use Rattle.queue_calls.specs.Recordings.{IsFaultOf, IsFindingOf}
 use Rattle.queue_calls.specs.declared.recordings.CallsFinding.{CallsFinding}
 use Rattle.queue_calls.specs.declared.recordings.CallsFinding.TheVariants.{Lawful, OutOfTurn, NotLinearizable}
 use Rattle.ring_program.proofs.FirstFaults.{faultless_ends}
-use Rattle.ring_program.specs.Answers.{AnswersCalls, AnswersCallsBy, EndsAtFirstFault, RefusedCalls, calls_ending_of}
-use Rattle.ring_program.specs.Readings.{IsFaultAhead, IsFaultless, IsFoundBy, IsFoundIn}
+use Rattle.ring_program.specs.Readings.{EndsAtFirstFault, IsFaultAhead, IsFaultless, IsFoundBy, IsFoundIn, calls_ending_of}
 use Rattle.ring_program.specs.Texts.{calls_text_of}
 use Rattle.ring_program.specs.declared.answers.Ending.{Ending}
 use Rattle.ring_program.specs.declared.answers.Ending.TheVariants.{Done, FaultFound}
-use Rattle.ring_program.specs.declared.faults.AppFault.{AppFault}
-use Rattle.ring_program.specs.declared.faults.AppFault.TheVariants as app
-use Rattle.ring_program.specs.declared.faults.Refusal.{Refusal}
-use Rattle.ring_program.specs.declared.faults.Refusal.TheVariants as refusal
 
 -- bytes, and a piece of which some was read, and then a line
 pub around : (bytes piece read line rest more : List ℕ) → piece ≡ (read ++ line) ++ rest → (bytes ++ read) ++ (line ++ (rest ++ more)) ≡ bytes ++ (piece ++ more)
@@ -59,34 +53,27 @@ at_fault true bytes found is (front, rest, parts, (capacity, events, recording, 
   (λ fault. first),
 )
 
--- the answer, by what is found
-answers : (bytes : List ℕ) (is_cut : Bool) (found : CallsFinding) (text : List ℕ) (ending : Ending) → text ≡ calls_text_of is_cut found → ending ≡ calls_ending_of found
-    → IsFoundIn bytes is_cut found → AnswersCalls bytes text ending
-answers bytes is_cut found text ending words ends (capacity, events, recording, is_found, same) = record {
-  capacity = capacity;
-  events = events;
-  recording = recording;
-  found = found;
-  is_found = is_found;
-  words = words ∙ same;
-  ends = ends;
-}
-
-pub answers_by : (stop : Bool) (bytes : List ℕ) (is_cut : Bool) (found : CallsFinding) (text : List ℕ) (ending : Ending) → text ≡ calls_text_of is_cut found → ending ≡ calls_ending_of found
-    → IsFoundBy stop bytes is_cut found → AnswersCallsBy stop bytes text ending
-answers_by false bytes is_cut found text ending words ends is = answers bytes is_cut found text ending words ends is
-answers_by true bytes is_cut found text ending words ends (front, rest, parts, is, whole, first) =
-    (front, rest, parts, answers front is_cut found text ending words ends is, (λ over. whole (sym ends ∙ over)), (λ fault. first (sym ends ∙ fault)))
-
 -- what follows of the bytes of an input, where they are known
 pub of_input : (input : Option (List ℕ)) (P Q : List ℕ → Type 0) → ((bytes : List ℕ) → P bytes → Q bytes) → IfSome input P → IfSome input Q
 of_input None P Q follows holds = tt
 of_input (Some bytes) P Q follows holds = follows bytes holds
 
--- a write failed, and the output gained a front of the text
-pub cut_short : (stop : Bool) (bytes text : List ℕ) (ending : Ending) (before after : Option (List ℕ)) (result : Result Ending Refusal) (fault : AppFault)
-    → IsErrAnd result (λ e. e ≡ refusal.App fault) → fault ≡ app.WriteFailed → (count : ℕ) × Appends before after (take count text) → AnswersCallsBy stop bytes text ending
-    → IfErr result (RefusedCalls stop bytes before after)
-cut_short stop bytes text ending before after (Ok ended) fault is same front answer = tt
-cut_short stop bytes text ending before after (Err e) fault is same front answer =
-    inr (is ∙ ap refusal.App same, record { text = text; ending = ending; answer = answer; count = front.0; written = front.1 })
+-- ---- an input that is read in pieces
+
+-- what holds of the bytes that came, whatever comes behind them, holds of the input
+pub of_front : (before after : Option (List ℕ)) (came : List ℕ) (P : List ℕ → Type 0) → Consumes before after came → ((more : List ℕ) → P (came ++ more)) → IfSome before P
+of_front None after came P same holds = tt
+of_front (Some bytes) None came P same holds = absurd same
+of_front (Some bytes) (Some rest) came P same holds = subst P (sym same) (holds rest)
+
+pub none_more : (count : ℕ) (piece came : List ℕ) → count ≡ 0 → came ++ take count piece ≡ came
+none_more zero piece came same = append-nil came
+none_more (suc count) piece came same = cc
+
+-- a piece that is not empty makes the bytes more
+pub one_more : (turns count : ℕ) (came piece : List ℕ) → turns ≤ length came → count ≢ 0 → count ≤ length piece → turns + 1 ≤ length (came ++ take count piece)
+one_more turns count came piece before some within = omega (arith, before, some, within, length-append came (take count piece), length-take-le count piece within)
+
+-- so many turns have read so many bytes
+pub all_turns : (turns : ℕ) (came more : List ℕ) → turns ≤ length came → 18446744073709551615 ≤ turns → 2 ^ 64 - 1 ≤ length (came ++ more)
+all_turns turns came more read over = omega (arith, read, over, length-append came more)

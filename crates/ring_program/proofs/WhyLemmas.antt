@@ -15,6 +15,9 @@ use Rattle.bits_core.specs.declared.events.Event.{Event}
 use Rattle.bits_core.specs.declared.shapes.Shape.{Shape}
 use Rattle.ring_audit.specs.Audit.{IsFinding, Statement}
 use Rattle.ring_audit.specs.Audit as audit
+use Rattle.ring_program.specs.Answers.{IsJudged}
+use Rattle.ring_program.specs.declared.command_line.Audited.{Audited}
+use Rattle.ring_program.specs.declared.command_line.Audited.TheVariants.{Programs, Bits}
 use Rattle.ring_program.specs.Why.{IsFaultThere, TellsWhy, TellsWhyAt, verdict_in}
 
 -- what holds where a call went well, from what did
@@ -59,7 +62,7 @@ why_there shape h verdict place kind k d more is kind_is there told =
     (get_or h place d, slice_get-get_or h place d within, subst (λ x. TellsWhyAt shape (take place h) (get_or h place d) x more) (sym kind_is) told)
 
 -- the fault that a verdict on the bits tells is there
-pub there_by_verdict : (shape : Shape) (h : List Event) (verdict : Verdict) → IsVerdict shape h verdict → IsFaultThere shape h verdict
+there_by_verdict : (shape : Shape) (h : List Event) (verdict : Verdict) → IsVerdict shape h verdict → IsFaultThere shape h verdict
 there_by_verdict shape h Lawful is = tt
 there_by_verdict shape h (Fault place NotProgram) is = slice_get_within h place is.event is.at_place
 there_by_verdict shape h (Fault place WrongSide) is = is
@@ -67,9 +70,16 @@ there_by_verdict shape h (Fault place OutOfTurn) is = is
 there_by_verdict shape h (Fault place NotPermitted) is = is
 
 -- and the one that a finding tells
-pub there_by_finding : (shape : Shape) (h : List Event) (found : Statement) → IsFinding shape h found → IsFaultThere shape h (verdict_in found)
+there_by_finding : (shape : Shape) (h : List Event) (found : Statement) → IsFinding shape h found → IsFaultThere shape h (verdict_in found)
 there_by_finding shape h (audit.Lawful put taken told) is = tt
 there_by_finding shape h (audit.Fault place NotProgram) is = is.within
 there_by_finding shape h (audit.Fault place WrongSide) is = is.kind_is
 there_by_finding shape h (audit.Fault place OutOfTurn) is = is.kind_is
 there_by_finding shape h (audit.Fault place NotPermitted) is = is.kind_is
+
+-- and so the one in what is found of a trace
+pub there_by_judgement : (what : Audited) (shape : Shape) (h : List Event) (words : List ℕ) (verdict : Verdict) → IsJudged what shape h words verdict
+    → IsFaultThere shape h verdict
+there_by_judgement Bits shape h words verdict judged = there_by_verdict shape h verdict judged.0
+there_by_judgement Programs shape h words verdict (found, is, sentence, linearizable, tells, same) =
+    subst (λ v. IsFaultThere shape h v) (sym same) (there_by_finding shape h found is)

@@ -1,5 +1,5 @@
 -- What the program answers to a request on an input, and how it ends.
-use Rattle.std.specs.Prelude.{◌≡◌, ◌≢◌, ◌⊎◌, ◌<◌, ◌≤◌, ◌+◌, ◌++◌, ℕ, Bool, true, false, List, [], ◌∷◌, Option, Some, None, IfSome, codes, length, take}
+use Rattle.std.specs.Prelude.{◌≡◌, ◌≢◌, ◌⊎◌, ◌<◌, ◌≤◌, ◌+◌, ◌++◌, ℕ, Bool, true, false, List, [], Option, Some, None, IfSome, codes, length, take}
 use Rattle.std.specs.Io.KnownBytes.{Appends, Keeps}
 use Rattle.clap.specs.Kinds.{IsAmong, Kinds}
 use Rattle.clap.specs.declared.error.kind.ErrorKind.{ErrorKind}
@@ -16,11 +16,8 @@ use Rattle.bits_core.specs.Made.{IsPrefix}
 use Rattle.bits_core.specs.declared.traces.TraceFault.{TraceFault}
 use Rattle.bits_core.specs.declared.traces.TraceFault.TheVariants as trace
 use Rattle.near_misses.specs.NearPlays.{IsNearPlay}
-use Rattle.queue_calls.specs.Calls as call
-use Rattle.queue_calls.specs.Queue.{Capacity, exactly}
-use Rattle.queue_calls.specs.Recordings.{IsFaultOf, IsFoundOf, IsRecording, RefusesText}
-use Rattle.queue_calls.specs.declared.recordings.CallsFinding.{CallsFinding}
-use Rattle.queue_calls.specs.declared.recordings.CallsFinding.TheVariants as calls
+use Rattle.queue_calls.specs.Queue.{exactly}
+use Rattle.queue_calls.specs.Recordings.{IsRecording, RefusesText}
 use Rattle.queue_calls.specs.declared.recordings.RecordingFault.{RecordingFault}
 use Rattle.ring_audit.specs.Audit.{IsFinding, SaysLinearizable, SaysSentence, Statement}
 use Rattle.ring_audit.specs.Audit as audit
@@ -37,18 +34,22 @@ use Rattle.ring_script.specs.Script.{IsScript}
 use Rattle.ring_script.specs.declared.faults.ScriptFault.{ScriptFault}
 use Rattle.ring_script.specs.declared.faults.ScriptFault.TheVariants as script
 use Rattle.ring_program.specs.Faults.{SaysRefusal, refusal_line}
+use Rattle.ring_program.specs.Readings.{AnswersCalls}
 use Rattle.ring_program.specs.Reports.{Reports}
 use Rattle.ring_run.specs.Relays.{IsRelayed}
 use Rattle.bits_core.specs.declared.memory.MemoryFault.TheVariants as run
 use Rattle.ring_program.specs.RunRecordings.{RecordsRun, run_counts}
 use Rattle.ring_program.specs.Runs.{run_items}
-use Rattle.ring_program.specs.Texts.{Summary, audit_text_of, calls_text_of, item_read, relay_report_of, relay_text_of, report_text_of, told_text_of, verdict_text_of}
+use Rattle.ring_program.specs.Texts.{Summary, audit_text_of, item_read, relay_report_of, relay_text_of, report_text_of, told_text_of, verdict_text_of}
 use Rattle.ring_program.specs.Why.{TellsWhy, verdict_in}
 use Rattle.ring_program.specs.declared.inputs.TheConstants.{INPUT_LIMIT}
 use Rattle.ring_program.specs.declared.answers.Ending.{Ending}
 use Rattle.ring_program.specs.declared.answers.Ending.TheVariants.{Done, FaultFound, LimitReached}
-use Rattle.ring_program.specs.declared.command_line.Question.{Question}
-use Rattle.ring_program.specs.declared.command_line.Question.TheVariants.{Audit, AuditBits, AuditWhy, AuditBitsWhy, Play, PlayTrace, PlayCalls, WrongTrace, WrongCalls}
+use Rattle.ring_program.specs.declared.command_line.Audited.{Audited}
+use Rattle.ring_program.specs.declared.command_line.Audited.TheVariants.{Programs, Bits}
+use Rattle.ring_program.specs.declared.command_line.PlayText.{PlayText}
+use Rattle.ring_program.specs.declared.command_line.PlayText.TheVariants as shown
+use Rattle.ring_program.specs.declared.command_line.Question.TheVariants.{Audit, Play}
 use Rattle.ring_program.specs.declared.command_line.Request.{Request}
 use Rattle.ring_program.specs.declared.command_line.Request.TheVariants.{OnInput}
 use Rattle.ring_program.specs.declared.command_line.Request.TheVariants as request
@@ -81,159 +82,55 @@ abbrev pub relay_ending_of : Bool → Ending
 relay_ending_of true = Done
 relay_ending_of false = LimitReached
 
--- how an audit with this finding ends
-abbrev pub finding_ending_of : Statement → Ending
-finding_ending_of (audit.Lawful put taken told) = Done
-finding_ending_of (audit.Fault place kind) = FaultFound
+-- What is found of the events of a trace, by these words, and the verdict in it: of its bits, or of them and of the programs of its two
+-- sides. Lists that it tells meet the sentence of the ring, and their calls are linearizable
+abbrev pub IsJudged : Audited → Shape → List Event → (words : List ℕ) → Verdict → Type 0
+IsJudged Bits shape events words verdict = IsVerdict shape events verdict × (words ≡ verdict_text_of verdict)
+IsJudged Programs shape events words verdict =
+    (found : Statement) × IsFinding shape events found × SaysSentence shape events found × SaysLinearizable shape events found
+    × (words ≡ audit_text_of found) × (verdict ≡ verdict_in found)
 
--- how an audit of recorded calls with this finding ends
-abbrev pub calls_ending_of : CallsFinding → Ending
-calls_ending_of (calls.Lawful report) = Done
-calls_ending_of (calls.OutOfTurn line) = FaultFound
-calls_ending_of (calls.NotLinearizable line cause) = FaultFound
+-- the words alone; or with lines behind them that say why the event at fault is
+abbrev pub TellsJudged : (why : Bool) → Shape → List Event → Verdict → (words text : List ℕ) → Type 0
+TellsJudged false shape events verdict words text = text ≡ words
+TellsJudged true shape events verdict words text = (more : List ℕ) × (text ≡ words ++ more) × TellsWhy shape events verdict more
 
--- the input is a recording of calls, and the text and the ending are those of what is found of it; the text says whether the recording
--- says that the later calls are missing
-pub record AnswersCalls (input text : List ℕ) (ending : Ending) : Type 0 where
-  pub capacity : Capacity
-  pub events : List call.Event
-  pub recording : IsRecording input capacity events
-  pub found : CallsFinding
-  pub is_found : IsFoundOf capacity events found
-  pub words : text ≡ calls_text_of recording.is_cut found
-  pub ends : ending ≡ calls_ending_of found
-
--- bytes in which no line feed stands before the last byte
-abbrev pub IsOneLine : List ℕ → Type 0
-IsOneLine bytes = (a b : List ℕ) → bytes ≡ a ++ 10 ∷ b → b ≡ []
-
--- a recording goes no further than its first fault: the lines before its last one have none
-abbrev pub EndsAtFirstFault : List ℕ → Type 0
-EndsAtFirstFault bytes = (before : List ℕ) × (last : List ℕ) × (bytes ≡ before ++ last) × IsFaultOf before None × IsOneLine last
-
--- the same of a front of the input: of all of it where no fault is found, and else up to the line of the first fault
-abbrev pub AnswersFirstFault : List ℕ → List ℕ → Ending → Type 0
-AnswersFirstFault input text ending =
-    (front : List ℕ) × (rest : List ℕ) × (input ≡ front ++ rest) × AnswersCalls front text ending × (ending ≡ Done → rest ≡ [])
-    × (ending ≡ FaultFound → EndsAtFirstFault front)
-
--- by whether the reading stops at the first fault
-abbrev pub AnswersCallsBy : (stop : Bool) → List ℕ → List ℕ → Ending → Type 0
-AnswersCallsBy false input text ending = AnswersCalls input text ending
-AnswersCallsBy true input text ending = AnswersFirstFault input text ending
-
--- the text of a verdict; and that with lines behind it which say why the event at fault is
-abbrev pub WritesVerdict : Shape → List Event → Verdict → List ℕ → Type 0
-WritesVerdict shape events verdict text = text ≡ verdict_text_of verdict
-
-abbrev pub WritesVerdictWhy : Shape → List Event → Verdict → List ℕ → Type 0
-WritesVerdictWhy shape events verdict text = (more : List ℕ) × (text ≡ verdict_text_of verdict ++ more) × TellsWhy shape events verdict more
-
--- the same of a finding
-abbrev pub WritesFinding : Shape → List Event → Statement → List ℕ → Type 0
-WritesFinding shape events found text = text ≡ audit_text_of found
-
-abbrev pub WritesFindingWhy : Shape → List Event → Statement → List ℕ → Type 0
-WritesFindingWhy shape events found text = (more : List ℕ) × (text ≡ audit_text_of found ++ more) × TellsWhy shape events (verdict_in found) more
-
--- the input is a trace, the text tells the verdict on its bits in this way, and the ending is the verdict's
-pub record AuditsBitsBy (Tells : Shape → List Event → Verdict → List ℕ → Type 0) (input text : List ℕ) (ending : Ending) : Type 0 where
+-- the input is a trace, as it is read, and the text and the ending are those of what is found of it
+pub record AuditsTrace (IsRead : List ℕ → Shape → List Event → Type 0) (what : Audited) (why : Bool) (input text : List ℕ) (ending : Ending) : Type 0 where
   pub shape : Shape
   pub events : List Event
+  pub words : List ℕ
   pub verdict : Verdict
-  pub is_trace : IsTrace input shape events
-  pub is_verdict : IsVerdict shape events verdict
-  pub words : Tells shape events verdict text
+  pub is_trace : IsRead input shape events
+  pub is_judged : IsJudged what shape events words verdict
+  pub tells : TellsJudged why shape events verdict words text
   pub ends : ending ≡ verdict_ending_of verdict
 
-abbrev pub AuditsBits : List ℕ → List ℕ → Ending → Type 0
-AuditsBits = AuditsBitsBy WritesVerdict
+-- The text of a play of the script by the letters of its schedule: a report; the trace of its history; or a recording of its calls, by a
+-- queue of the ring's capacity, whose history is linearizable. Of a play by a near miss it is the trace; or a line of the ring's
+-- capacity and then one for each begin and end of a call that is told
+abbrev pub ShowsPlay : PlayText → Content → List ℕ → Type 0
+ShowsPlay shown.Report script text =
+    (history : List Event) × IsPlayOf script script.letters history × EachReadingIsLinearizable script.shape history
+    × (summary : Summary) × Reports script history summary × (text ≡ report_text_of summary)
+ShowsPlay (shown.Trace None) script text =
+    (history : List Event) × IsPlayOf script script.letters history × EachReadingIsLinearizable script.shape history
+    × IsTrace text script.shape history
+ShowsPlay (shown.Calls None) script text =
+    (history : List Event) × IsPlayOf script script.letters history × (told : List (CallEvent ℕ TakenItems))
+    × RecordsPlay script history told × IsRecording text (exactly (capacity_of script.shape)) (call_events script told)
+ShowsPlay (shown.Trace (Some miss)) script text =
+    (history : List Event) × (told : List (CallEvent ℕ ℕ)) × IsNearPlay script script.letters history told
+    × IsTraceText text script.shape history
+ShowsPlay (shown.Calls (Some miss)) script text =
+    (history : List Event) × (told : List (CallEvent ℕ ℕ)) × IsNearPlay script script.letters history told
+    × (text ≡ told_text_of item_read script told)
 
-abbrev pub AuditsBitsWhy : List ℕ → List ℕ → Ending → Type 0
-AuditsBitsWhy = AuditsBitsBy WritesVerdictWhy
-
--- the input is a trace of any length, and the text and the ending are those of the verdict on its bits
-pub record AnswersLongBits (input text : List ℕ) (ending : Ending) : Type 0 where
-  pub shape : Shape
-  pub events : List Event
-  pub verdict : Verdict
-  pub is_trace : IsTraceText input shape events
-  pub is_verdict : IsVerdict shape events verdict
-  pub words : text ≡ verdict_text_of verdict
-  pub ends : ending ≡ verdict_ending_of verdict
-
--- The input is a trace, the text tells the one finding of its bits and of the programs of its two sides in this way, and the ending
--- is the finding's. Lists that it tells meet the sentence of the ring, and their calls are linearizable
-pub record AuditsProgramsBy (Tells : Shape → List Event → Statement → List ℕ → Type 0) (input text : List ℕ) (ending : Ending) : Type 0 where
-  pub shape : Shape
-  pub events : List Event
-  pub found : Statement
-  pub is_trace : IsTrace input shape events
-  pub is_finding : IsFinding shape events found
-  pub sentence : SaysSentence shape events found
-  pub linearizable : SaysLinearizable shape events found
-  pub words : Tells shape events found text
-  pub ends : ending ≡ finding_ending_of found
-
-abbrev pub AuditsPrograms : List ℕ → List ℕ → Ending → Type 0
-AuditsPrograms = AuditsProgramsBy WritesFinding
-
-abbrev pub AuditsProgramsWhy : List ℕ → List ℕ → Ending → Type 0
-AuditsProgramsWhy = AuditsProgramsBy WritesFindingWhy
-
--- the input is a script, and the text is that of a report of its play, by the letters of its schedule, whose calls are linearizable
-pub record PlaysScript (input text : List ℕ) (ending : Ending) : Type 0 where
+-- the input is a script, and the text is that of its play
+pub record PlaysScript (shows : PlayText) (input text : List ℕ) (ending : Ending) : Type 0 where
   pub content : Content
-  pub history : List Event
-  pub summary : Summary
   pub is_script : IsScript input content
-  pub plays : IsPlayOf content content.letters history
-  pub linearizable : EachReadingIsLinearizable content.shape history
-  pub reports : Reports content history summary
-  pub words : text ≡ report_text_of summary
-  pub ends : ending ≡ Done
-
--- the input is a script, and the text is a trace, of the history of its play
-pub record TracesScript (input text : List ℕ) (ending : Ending) : Type 0 where
-  pub content : Content
-  pub history : List Event
-  pub is_script : IsScript input content
-  pub plays : IsPlayOf content content.letters history
-  pub linearizable : EachReadingIsLinearizable content.shape history
-  pub is_trace : IsTrace text content.shape history
-  pub ends : ending ≡ Done
-
--- the input is a script, and the text is a recording of the calls of its play, by a queue of the ring's capacity: a linearizable
--- history
-pub record RecordsScript (input text : List ℕ) (ending : Ending) : Type 0 where
-  pub content : Content
-  pub history : List Event
-  pub told : List (CallEvent ℕ TakenItems)
-  pub is_script : IsScript input content
-  pub plays : IsPlayOf content content.letters history
-  pub records : RecordsPlay content history told
-  pub is_recording : IsRecording text (exactly (capacity_of content.shape)) (call_events content told)
-  pub ends : ending ≡ Done
-
--- the input is a script, and the text is the trace of its play by a near miss
-pub record TracesWrong (input text : List ℕ) (ending : Ending) : Type 0 where
-  pub content : Content
-  pub history : List Event
-  pub told : List (CallEvent ℕ ℕ)
-  pub is_script : IsScript input content
-  pub plays : IsNearPlay content content.letters history told
-  pub is_trace : IsTraceText text content.shape history
-  pub ends : ending ≡ Done
-
--- the input is a script, and the text has a line of the ring's capacity and then a line for each begin and end of a call that is told
--- of its play by a near miss
-pub record RecordsWrong (input text : List ℕ) (ending : Ending) : Type 0 where
-  pub content : Content
-  pub history : List Event
-  pub told : List (CallEvent ℕ ℕ)
-  pub is_script : IsScript input content
-  pub plays : IsNearPlay content content.letters history told
-  pub words : text ≡ told_text_of item_read content told
+  pub tells : ShowsPlay shows content text
   pub ends : ending ≡ Done
 
 -- the text of a run of these items: how many were put and taken, or that and what was counted and timed; or a recording of its calls
@@ -274,29 +171,21 @@ abbrev pub IsRunCause : Run → Refusal → Type 0
 IsRunCause run e = IsOutOfMemory e ⊎ (((e ≡ refusal.App app.NotOfRun) × (run.text ≡ Recording))
     ⊎ ((fault : ShapeFault) × (e ≡ refusal.Shape fault) × IsRefusedBatches run.capacity run.modulus run.width run.batch run.take_batch fault))
 
--- the question, on this input, is answered by this text and this ending
-abbrev pub Answers : Question → List ℕ → List ℕ → Ending → Type 0
-Answers Audit input text ending = AuditsPrograms input text ending
-Answers AuditBits input text ending = AuditsBits input text ending
-Answers AuditWhy input text ending = AuditsProgramsWhy input text ending
-Answers AuditBitsWhy input text ending = AuditsBitsWhy input text ending
-Answers Play input text ending = PlaysScript input text ending
-Answers PlayTrace input text ending = TracesScript input text ending
-Answers PlayCalls input text ending = RecordsScript input text ending
-Answers (WrongTrace miss) input text ending = TracesWrong input text ending
-Answers (WrongCalls miss) input text ending = RecordsWrong input text ending
+-- the request, on this input, is answered by this text and this ending; an input that is kept is not too large
+abbrev pub Answers : Request → List ℕ → List ℕ → Ending → Type 0
+Answers (OnInput (Audit what why)) input text ending = (length input ≤ INPUT_LIMIT) × AuditsTrace IsTrace what why input text ending
+Answers (OnInput (Play shows)) input text ending = (length input ≤ INPUT_LIMIT) × PlaysScript shows input text ending
+Answers (request.Calls stop) input text ending = AnswersCalls stop input text ending
+Answers request.LongBits input text ending = AuditsTrace IsTraceText Bits false input text ending
+Answers (request.Run run) input text ending = AnswersRun run text ending
 
--- how a question that was answered may end: an audit alone may have found a fault
-abbrev pub MayEnd : Question → Ending → Type 0
-MayEnd Audit ending = (ending ≡ Done) ⊎ (ending ≡ FaultFound)
-MayEnd AuditBits ending = (ending ≡ Done) ⊎ (ending ≡ FaultFound)
-MayEnd AuditWhy ending = (ending ≡ Done) ⊎ (ending ≡ FaultFound)
-MayEnd AuditBitsWhy ending = (ending ≡ Done) ⊎ (ending ≡ FaultFound)
-MayEnd Play ending = ending ≡ Done
-MayEnd PlayTrace ending = ending ≡ Done
-MayEnd PlayCalls ending = ending ≡ Done
-MayEnd (WrongTrace miss) ending = ending ≡ Done
-MayEnd (WrongCalls miss) ending = ending ≡ Done
+-- how a request that was answered may end: an audit alone may have found a fault, and a run alone have reached a limit
+abbrev pub MayEnd : Request → Ending → Type 0
+MayEnd (OnInput (Audit what why)) ending = (ending ≡ Done) ⊎ (ending ≡ FaultFound)
+MayEnd (OnInput (Play shows)) ending = ending ≡ Done
+MayEnd (request.Calls stop) ending = (ending ≡ Done) ⊎ (ending ≡ FaultFound)
+MayEnd request.LongBits ending = (ending ≡ Done) ⊎ (ending ≡ FaultFound)
+MayEnd (request.Run run) ending = (ending ≡ Done) ⊎ (ending ≡ LimitReached)
 
 -- the input is no trace, for this cause
 abbrev pub RefusesTrace : List ℕ → Refusal → Type 0
@@ -306,18 +195,6 @@ RefusesTrace input e = (fault : TraceFault) × (e ≡ refusal.Trace fault) × Is
 abbrev pub RefusesScript : List ℕ → Refusal → Type 0
 RefusesScript input e = (fault : ScriptFault) × (e ≡ refusal.Script fault) × IsScriptFault input fault
 
--- the question refuses the input, for this cause
-abbrev pub Refuses : Question → List ℕ → Refusal → Type 0
-Refuses Audit input e = RefusesTrace input e
-Refuses AuditBits input e = RefusesTrace input e
-Refuses AuditWhy input e = RefusesTrace input e
-Refuses AuditBitsWhy input e = RefusesTrace input e
-Refuses Play input e = RefusesScript input e
-Refuses PlayTrace input e = RefusesScript input e
-Refuses PlayCalls input e = RefusesScript input e
-Refuses (WrongTrace miss) input e = RefusesScript input e
-Refuses (WrongCalls miss) input e = RefusesScript input e
-
 -- more bytes came than an input may have
 abbrev pub IsTooLarge : List ℕ → Refusal → Type 0
 IsTooLarge input e = (e ≡ refusal.App app.TooLarge) × (INPUT_LIMIT < length input)
@@ -326,9 +203,9 @@ IsTooLarge input e = (e ≡ refusal.App app.TooLarge) × (INPUT_LIMIT < length i
 unfoldable pub IsShortage : Refusal → Type 0
 IsShortage e = IsOutOfMemory e ⊎ (e ≡ refusal.App app.ReadFailed)
 
--- a true cause of a refusal, of a question on an input; only of an input that is not too large the text is refused
-abbrev pub IsTrueCause : Question → List ℕ → Refusal → Type 0
-IsTrueCause question input e = IsShortage e ⊎ (IsTooLarge input e ⊎ ((length input ≤ INPUT_LIMIT) × Refuses question input e))
+-- a true cause of a refusal of an input that is kept; only one that is not too large is refused for its text
+abbrev pub IsKeptCause : (List ℕ → Refusal → Type 0) → List ℕ → Refusal → Type 0
+IsKeptCause Refuses input e = IsShortage e ⊎ (IsTooLarge input e ⊎ ((length input ≤ INPUT_LIMIT) × Refuses input e))
 
 -- a true cause of a refusal of recorded calls: memory ran out, or a read failed, or the input is no recording
 unfoldable pub IsCallsCause : List ℕ → Refusal → Type 0
@@ -340,73 +217,37 @@ unfoldable pub IsLongBitsCause : List ℕ → Refusal → Type 0
 IsLongBitsCause input e = (e ≡ refusal.App app.OutOfMemory) ⊎ ((e ≡ refusal.App app.ReadFailed)
     ⊎ ((fault : TraceFault) × (e ≡ refusal.Trace fault) × RefusesTraceText input fault))
 
--- what is answered to a question on an input that is not too large
-abbrev pub AnswersWithin : Question → List ℕ → List ℕ → Ending → Type 0
-AnswersWithin question input text ending = (length input ≤ INPUT_LIMIT) × Answers question input text ending
+-- a true cause of a refusal of the request, on this input
+abbrev pub IsTrueCause : Request → List ℕ → Refusal → Type 0
+IsTrueCause (OnInput (Audit what why)) input e = IsKeptCause RefusesTrace input e
+IsTrueCause (OnInput (Play shows)) input e = IsKeptCause RefusesScript input e
+IsTrueCause (request.Calls stop) input e = IsCallsCause input e
+IsTrueCause request.LongBits input e = IsLongBitsCause input e
+IsTrueCause (request.Run run) input e = IsRunCause run e
 
--- ---- how the program ends, by what may be answered, what is a true cause of a refusal, and what it is that standard error is told a text
+-- ---- how the program ends, by what the output was and is, what it is that standard error is told a text, and the exit status
 
--- an answer was given: the output gained the whole text, the status is the answer's, and standard error was told of its ending
-pub record WasAnswered (IsAnswer : List ℕ → Ending → Type 0) (before after : Option (List ℕ)) (Tells : List ℕ → Type 0) (status : ℕ) : Type 0 where
-  pub text : List ℕ
-  pub ending : Ending
-  pub answer : IsAnswer text ending
-  pub ends : status ≡ status_of ending
-  pub written : Appends before after text
-  pub told : Tells (ending_words ending)
+-- a text was written: all of it, with the status of this ending, of which standard error was told; or a write failed behind a front of
+-- it, and standard error was told that
+abbrev pub Delivers : List ℕ → Ending → Option (List ℕ) → Option (List ℕ) → (List ℕ → Type 0) → ℕ → Type 0
+Delivers text ending before after Tells status =
+    ((status ≡ status_of ending) × Appends before after text × Tells (ending_words ending))
+    ⊎ ((status ≡ 1) × Tells (refusal_line (refusal.App app.WriteFailed)) × (count : ℕ) × Appends before after (take count text))
 
--- the output gained a front of the text of an answer
-pub record CutShort (IsAnswer : List ℕ → Ending → Type 0) (before after : Option (List ℕ)) : Type 0 where
-  pub text : List ℕ
-  pub ending : Ending
-  pub answer : IsAnswer text ending
-  pub count : ℕ
-  pub written : Appends before after (take count text)
+-- nothing was written, and standard error was told the words of a refusal, which are those of this very cause
+abbrev pub Declines : Refusal → Option (List ℕ) → Option (List ℕ) → (List ℕ → Type 0) → ℕ → Type 0
+Declines e before after Tells status = (status ≡ 1) × Keeps before after × SaysRefusal Tells e
 
--- a refusal: for a true cause, and the output gained nothing; or a write failed, after the output had gained a front of the text
-abbrev pub Refused : (List ℕ → Ending → Type 0) → (Refusal → Type 0) → Option (List ℕ) → Option (List ℕ) → Refusal → Type 0
-Refused IsAnswer IsReason before after e = (IsReason e × Keeps before after)
-    ⊎ ((e ≡ refusal.App app.WriteFailed) × CutShort IsAnswer before after)
+-- an answer to the request on this input was delivered, or the request was refused for a true cause
+abbrev pub EndsOn : Request → List ℕ → Option (List ℕ) → Option (List ℕ) → (List ℕ → Type 0) → ℕ → Type 0
+EndsOn asked input before after Tells status =
+    ((text : List ℕ) × (ending : Ending) × Answers asked input text ending × Delivers text ending before after Tells status)
+    ⊎ ((e : Refusal) × IsTrueCause asked input e × Declines e before after Tells status)
 
--- an answer was given, or there was a refusal, and standard error was told its words, which are those of this very cause
-abbrev pub EndsBy : (List ℕ → Ending → Type 0) → (Refusal → Type 0) → Option (List ℕ) → Option (List ℕ) → (List ℕ → Type 0) → ℕ → Type 0
-EndsBy IsAnswer IsReason before after Tells status = WasAnswered IsAnswer before after Tells status
-    ⊎ ((status ≡ 1) × (e : Refusal) × Refused IsAnswer IsReason before after e × SaysRefusal Tells e)
-
--- how the program ends on a question of this input
-abbrev pub RefusedOn : Question → List ℕ → Option (List ℕ) → Option (List ℕ) → Refusal → Type 0
-RefusedOn question input = Refused (AnswersWithin question input) (IsTrueCause question input)
-
-abbrev pub EndsOn : Question → List ℕ → Option (List ℕ) → Option (List ℕ) → (List ℕ → Type 0) → ℕ → Type 0
-EndsOn question input = EndsBy (AnswersWithin question input) (IsTrueCause question input)
-
--- how it ends on a run, which has no input
-abbrev pub RefusedRun : Run → Option (List ℕ) → Option (List ℕ) → Refusal → Type 0
-RefusedRun run = Refused (AnswersRun run) (IsRunCause run)
-
-abbrev pub EndsRun : Run → Option (List ℕ) → Option (List ℕ) → (List ℕ → Type 0) → ℕ → Type 0
-EndsRun run = EndsBy (AnswersRun run) (IsRunCause run)
-
--- how it ends on recorded calls
-abbrev pub RefusedCalls : (stop : Bool) → List ℕ → Option (List ℕ) → Option (List ℕ) → Refusal → Type 0
-RefusedCalls stop input = Refused (AnswersCallsBy stop input) (IsCallsCause input)
-
-abbrev pub EndsCalls : (stop : Bool) → List ℕ → Option (List ℕ) → Option (List ℕ) → (List ℕ → Type 0) → ℕ → Type 0
-EndsCalls stop input = EndsBy (AnswersCallsBy stop input) (IsCallsCause input)
-
--- how it ends on a trace of any length
-abbrev pub RefusedLongBits : List ℕ → Option (List ℕ) → Option (List ℕ) → Refusal → Type 0
-RefusedLongBits input = Refused (AnswersLongBits input) (IsLongBitsCause input)
-
-abbrev pub EndsLongBits : List ℕ → Option (List ℕ) → Option (List ℕ) → (List ℕ → Type 0) → ℕ → Type 0
-EndsLongBits input = EndsBy (AnswersLongBits input) (IsLongBitsCause input)
-
--- how it ends on a request, where the reader tells that this is its input
+-- the same, where the reader tells that this is its input; a run has none
 abbrev pub Ends : Request → Option (List ℕ) → Option (List ℕ) → Option (List ℕ) → (List ℕ → Type 0) → ℕ → Type 0
-Ends (OnInput question) input before after Tells status = IfSome input (λ bytes. EndsOn question bytes before after Tells status)
-Ends (request.Calls stop) input before after Tells status = IfSome input (λ bytes. EndsCalls stop bytes before after Tells status)
-Ends request.LongBits input before after Tells status = IfSome input (λ bytes. EndsLongBits bytes before after Tells status)
-Ends (request.Run run) input before after Tells status = EndsRun run before after Tells status
+Ends (request.Run run) input before after Tells status = EndsOn (request.Run run) [] before after Tells status
+Ends asked input before after Tells status = IfSome input (λ bytes. EndsOn asked bytes before after Tells status)
 
 -- help or the version was asked for
 abbrev pub IsHelp : ErrorKind → Type 0
@@ -416,10 +257,9 @@ IsHelp k = (k ≡ kind.DisplayHelp) ⊎ (k ≡ kind.DisplayVersion)
 abbrev pub NoMemory : Option (List ℕ) → Option (List ℕ) → (List ℕ → Type 0) → ℕ → Type 0
 NoMemory before after Tells status = (status ≡ 1) × Keeps before after × Tells (refusal_line (refusal.App app.OutOfMemory))
 
--- a text was written: all of it, with status 0, or a front of it, with status 1, and standard error was told that the output failed
+-- some text was delivered, and the program is done
 abbrev pub WasWritten : Option (List ℕ) → Option (List ℕ) → (List ℕ → Type 0) → ℕ → Type 0
-WasWritten before after Tells status = (text : List ℕ) × (((status ≡ 0) × Appends before after text)
-    ⊎ ((status ≡ 1) × Tells (refusal_line (refusal.App app.WriteFailed)) × (count : ℕ) × Appends before after (take count text)))
+WasWritten before after Tells status = (text : List ℕ) × Delivers text Done before after Tells status
 
 -- how the program ends where the command line gave an error of this kind
 abbrev pub Explains : ErrorKind → Option (List ℕ) → Option (List ℕ) → (List ℕ → Type 0) → ℕ → Type 0
@@ -446,34 +286,13 @@ abbrev pub EndsUnasked : Kinds → Option (List ℕ) → Option (List ℕ) → (
 EndsUnasked kinds before after Tells status = NoMemory before after Tells status
     ⊎ (HelpGiven kinds before after Tells status ⊎ Mistaken kinds before after status)
 
--- the exit statuses of a question, whatever the reader and the writers do
-abbrev pub IsStatusOn : Question → ℕ → Type 0
-IsStatusOn Audit status = (status ≡ 0) ⊎ ((status ≡ 1) ⊎ (status ≡ 3))
-IsStatusOn AuditBits status = (status ≡ 0) ⊎ ((status ≡ 1) ⊎ (status ≡ 3))
-IsStatusOn AuditWhy status = (status ≡ 0) ⊎ ((status ≡ 1) ⊎ (status ≡ 3))
-IsStatusOn AuditBitsWhy status = (status ≡ 0) ⊎ ((status ≡ 1) ⊎ (status ≡ 3))
-IsStatusOn Play status = (status ≡ 0) ⊎ (status ≡ 1)
-IsStatusOn PlayTrace status = (status ≡ 0) ⊎ (status ≡ 1)
-IsStatusOn PlayCalls status = (status ≡ 0) ⊎ (status ≡ 1)
-IsStatusOn (WrongTrace miss) status = (status ≡ 0) ⊎ (status ≡ 1)
-IsStatusOn (WrongCalls miss) status = (status ≡ 0) ⊎ (status ≡ 1)
-
--- of a request
-abbrev pub IsStatusOf : Request → ℕ → Type 0
-IsStatusOf (OnInput question) status = IsStatusOn question status
-IsStatusOf (request.Calls stop) status = (status ≡ 0) ⊎ ((status ≡ 1) ⊎ (status ≡ 3))
-IsStatusOf request.LongBits status = (status ≡ 0) ⊎ ((status ≡ 1) ⊎ (status ≡ 3))
-IsStatusOf (request.Run run) status = (status ≡ 0) ⊎ (status ≡ 1)
-
--- and of words that ask for this request or for nothing
+-- the exit statuses of words that ask for this request or for nothing, whatever the reader and the writers do
 abbrev pub IsStatus : Option Request → ℕ → Type 0
-IsStatus (Some asked) status = IsStatusOf asked status
+IsStatus (Some asked) status = (status ≡ 1) ⊎ ((ending : Ending) × MayEnd asked ending × (status ≡ status_of ending))
 IsStatus None status = (status ≡ 0) ⊎ ((status ≡ 1) ⊎ (status ≡ 2))
 
 -- the words ask nothing of an input
 abbrev pub AsksNoInput : Option Request → Type 0
-AsksNoInput (Some (OnInput question)) = ⊥
-AsksNoInput (Some (request.Calls stop)) = ⊥
-AsksNoInput (Some request.LongBits) = ⊥
-AsksNoInput (Some (request.Run run)) = Unit {0}
 AsksNoInput None = Unit {0}
+AsksNoInput (Some (request.Run run)) = Unit {0}
+AsksNoInput (Some asked) = ⊥

@@ -1,5 +1,5 @@
 -- What the words of the command line ask for.
-use Rattle.std.specs.Prelude.{◌≡◌, ℕ, Bool, true, false, List, [], ◌∷◌, Option, Some, None, codes, if◌then◌else◌, option_and_then, option_map}
+use Rattle.std.specs.Prelude.{◌≡◌, ℕ, Bool, true, false, List, [], ◌∷◌, Option, Some, None, codes, if◌then◌else◌, nat_eq, option_and_then, option_map}
 use Rattle.std.specs.Option.{option_map_or, unwrap_or}
 use Rattle.std.specs.Str.{bytes_eq}
 use Rattle.clap.specs.Words.{App, Kinds, Row, Rule, Text, app_of, fault_of, first_of, new_app, new_rule, subcommand_of, with_rule, with_subcommand}
@@ -11,7 +11,10 @@ use Rattle.clap.specs.declared.builder.value_parser.ValueParser.TheVariants.{Uns
 use Rattle.std.specs.Str.Parse.{digits_value, without_leading_plus}
 use Rattle.near_misses.specs.Misses.{miss_named}
 use Rattle.near_misses.specs.declared.misses.NearMiss.{NearMiss}
-use Rattle.ring_program.specs.declared.command_line.Question.TheVariants.{Audit, AuditBits, AuditWhy, AuditBitsWhy, Play, PlayTrace, PlayCalls, WrongTrace, WrongCalls}
+use Rattle.ring_program.specs.declared.command_line.Audited.TheVariants.{Programs, Bits}
+use Rattle.ring_program.specs.declared.command_line.PlayText.TheVariants.{Trace, Calls}
+use Rattle.ring_program.specs.declared.command_line.PlayText.TheVariants as play
+use Rattle.ring_program.specs.declared.command_line.Question.TheVariants.{Audit, Play}
 use Rattle.ring_program.specs.declared.command_line.Request.{Request}
 use Rattle.ring_program.specs.declared.command_line.Request.TheVariants.{OnInput}
 use Rattle.ring_program.specs.declared.command_line.Request.TheVariants as request
@@ -106,12 +109,10 @@ is_flag_given id rows = option_map_or (λ t. bytes_eq t (codes "true")) (first_o
 -- an audit is of bits or of calls, and not of both; of bits alone it may be long, and of calls it may stop at the first fault; where it
 -- keeps the trace it may say why
 abbrev pub audit_request : (bits long calls stop why : Bool) → Option Request
-audit_request true false false false false = Some (OnInput AuditBits)
-audit_request true false false false true = Some (OnInput AuditBitsWhy)
 audit_request true true false false false = Some request.LongBits
 audit_request false false true stop false = Some (request.Calls stop)
-audit_request false false false false false = Some (OnInput Audit)
-audit_request false false false false true = Some (OnInput AuditWhy)
+audit_request true false false false why = Some (OnInput (Audit Bits why))
+audit_request false false false false why = Some (OnInput (Audit Programs why))
 audit_request _ _ _ _ _ = None
 
 abbrev pub audit_request_of : List Row → Option Request
@@ -119,23 +120,17 @@ audit_request_of rows =
     audit_request (is_flag_given (codes "bits") rows) (is_flag_given (codes "long") rows) (is_flag_given (codes "calls") rows)
     (is_flag_given (codes "stop") rows) (is_flag_given (codes "why") rows)
 
--- a play prints a trace or its calls, and not both
-abbrev pub play_request : Bool → Bool → Option Request
-play_request true true = None
-play_request true false = Some (OnInput PlayTrace)
-play_request false true = Some (OnInput PlayCalls)
-play_request false false = Some (OnInput Play)
-
--- a play by a near miss prints one of the two
-abbrev pub wrong_request : Bool → Bool → NearMiss → Option Request
-wrong_request true false miss = Some (OnInput (WrongTrace miss))
-wrong_request false true miss = Some (OnInput (WrongCalls miss))
-wrong_request _ _ miss = None
+-- a play prints a trace or its calls, and not both; a play by a near miss prints one of the two
+abbrev pub play_asked : (trace calls : Bool) → Option NearMiss → Option Request
+play_asked true false miss = Some (OnInput (Play (Trace miss)))
+play_asked false true miss = Some (OnInput (Play (Calls miss)))
+play_asked false false None = Some (OnInput (Play play.Report))
+play_asked _ _ _ = None
 
 -- by the name of a near miss, where one is given
 abbrev pub play_by : Option Text → Bool → Bool → Option Request
-play_by None trace calls = play_request trace calls
-play_by (Some name) trace calls = option_and_then (wrong_request trace calls) (miss_named name)
+play_by None trace calls = play_asked trace calls None
+play_by (Some name) trace calls = option_and_then (λ miss. play_asked trace calls (Some miss)) (miss_named name)
 
 abbrev pub play_request_of : List Row → Option Request
 play_request_of rows = play_by (first_of (codes "wrong") rows) (is_flag_given (codes "trace") rows) (is_flag_given (codes "calls") rows)
@@ -204,32 +199,18 @@ where_taken (kind ∷ kinds) request = None
 unfoldable pub request_of : List Text → Option Request
 request_of words = where_taken (fault_of application words) (request_in (subcommand_of application words))
 
--- ---- examples of words, behind the program's name
+-- ---- a line of words
 
-abbrev pub run_words : List ℕ → List Text → List Text
-run_words count more =
-    codes "run" ∷ codes "--capacity" ∷ codes "1" ∷ codes "--modulus" ∷ codes "3" ∷ codes "--width" ∷ codes "6" ∷ codes "--count" ∷ count
-    ∷ codes "--limit" ∷ codes "9" ∷ more
+-- a letter before these words
+abbrev pub letter_before : ℕ → List Text → List Text
+letter_before letter [] = (letter ∷ []) ∷ []
+letter_before letter (word ∷ words) = (letter ∷ word) ∷ words
 
-abbrev pub short_run : List Text
-short_run = run_words (codes "64") []
+-- the words of a line, which spaces part
+abbrev pub split_words : List ℕ → List Text
+split_words [] = [] ∷ []
+split_words (letter ∷ more) = if nat_eq letter 32 then [] ∷ split_words more else letter_before letter (split_words more)
 
-abbrev pub report_run : List Text
-report_run = run_words (codes "64") (codes "--report" ∷ [])
-
-abbrev pub record_run : List Text
-record_run = run_words (codes "64") (codes "--record" ∷ [])
-
-abbrev pub report_and_record : List Text
-report_and_record = run_words (codes "64") (codes "--report" ∷ codes "--record" ∷ [])
-
-abbrev pub big_run : List Text
-big_run = run_words (codes "1000001") []
-
-abbrev pub torus_run : List Text
-torus_run = run_words (codes "64") (codes "--ring" ∷ codes "torus" ∷ [])
-
-abbrev pub long_run : List Text
-long_run =
-    codes "run" ∷ codes "--ring" ∷ codes "counter" ∷ codes "--batch=3" ∷ codes "--take-batch" ∷ codes "2" ∷ codes "--takes" ∷ codes "8" ∷ codes "--capacity" ∷ codes "3" ∷ codes "--modulus=7" ∷ codes "--width" ∷ codes "6"
-    ∷ codes "--count=64" ∷ codes "--limit" ∷ codes "9" ∷ []
+-- the words of this line, behind the program's name, ask for this, or for nothing
+abbrev pub Asks : List ℕ → Option Request → Type 0
+Asks line request = (name : Text) → request_of (name ∷ split_words line) ≡ request

@@ -1,13 +1,28 @@
 -- What is found where recorded calls are read.
-use Rattle.std.specs.Prelude.{◌≡◌, Bool, true, false, ℕ, List, [], ◌++◌, None}
+use Rattle.std.specs.Prelude.{◌≡◌, Bool, true, false, ℕ, List, [], ◌∷◌, ◌++◌, None}
 use Rattle.queue_calls.specs.Calls.{Event}
 use Rattle.queue_calls.specs.Queue.{Capacity}
 use Rattle.queue_calls.specs.RecordingStates.{HasNoFeed}
 use Rattle.queue_calls.specs.Recordings.{IsFaultOf, IsFindingOf, IsFoundOf, IsRecording}
 use Rattle.queue_calls.specs.declared.recordings.CallsFinding.{CallsFinding}
-use Rattle.ring_program.specs.Answers.{EndsAtFirstFault, calls_ending_of}
+use Rattle.queue_calls.specs.declared.recordings.CallsFinding.TheVariants.{Lawful, OutOfTurn, NotLinearizable}
 use Rattle.ring_program.specs.Texts.{calls_text_of}
+use Rattle.ring_program.specs.declared.answers.Ending.{Ending}
 use Rattle.ring_program.specs.declared.answers.Ending.TheVariants.{Done, FaultFound}
+
+-- how an audit of recorded calls with this finding ends
+abbrev pub calls_ending_of : CallsFinding → Ending
+calls_ending_of (Lawful report) = Done
+calls_ending_of (OutOfTurn line) = FaultFound
+calls_ending_of (NotLinearizable line cause) = FaultFound
+
+-- bytes in which no line feed stands before the last byte
+abbrev pub IsOneLine : List ℕ → Type 0
+IsOneLine bytes = (a b : List ℕ) → bytes ≡ a ++ 10 ∷ b → b ≡ []
+
+-- a recording goes no further than its first fault: the lines before its last one have none
+abbrev pub EndsAtFirstFault : List ℕ → Type 0
+EndsAtFirstFault bytes = (before : List ℕ) × (last : List ℕ) × (bytes ≡ before ++ last) × IsFaultOf before None × IsOneLine last
 
 -- what is found of a recording; its text, where it is told as cut or not, is the one that tells whether it is
 abbrev pub IsFoundIn : List ℕ → (is_cut : Bool) → CallsFinding → Type 0
@@ -25,6 +40,14 @@ IsFoundAhead input is_cut found =
 abbrev pub IsFoundBy : (stop : Bool) → List ℕ → (is_cut : Bool) → CallsFinding → Type 0
 IsFoundBy false input is_cut found = IsFoundIn input is_cut found
 IsFoundBy true input is_cut found = IsFoundAhead input is_cut found
+
+-- the text and the ending are those of what is found; the text says whether the recording says that the later calls are missing
+abbrev pub AnswersCalls : (stop : Bool) → List ℕ → List ℕ → Ending → Type 0
+AnswersCalls stop input text ending =
+    (is_cut : Bool) × (found : CallsFinding) × IsFoundBy stop input is_cut found × (text ≡ calls_text_of is_cut found)
+    × (ending ≡ calls_ending_of found)
+
+-- ---- while it is read
 
 -- the first fault is found of a front of the input
 abbrev pub IsFaultAhead : List ℕ → CallsFinding → Type 0

@@ -2,7 +2,7 @@
 ghost use Rattle.std.specs.Prelude.{◌≡◌, ◌⊎◌, ℕ, true, IfErr, IfOk, IfSome, OnErr, OnOk, take};
 ghost use Rattle.std.specs.Fmt.InlineText.{inline_text};
 ghost use Rattle.std.specs.Io.KnownBytes.{Appends};
-ghost use Rattle.ring_program.specs.Answers.{ending_words, status_of};
+ghost use Rattle.ring_program.specs.Answers.{Delivers, ending_words, status_of};
 ghost use Rattle.ring_program.specs.Faults.{Gains, refusal_line};
 
 use crate::faults::{AppFault, Refusal};
@@ -152,8 +152,8 @@ fn tell_ending<E: Write>(ending: Ending, err: &mut E) -> bool
     }
 }
 
-/// How the program ends on an answer, with what the standard error is told.
-pub fn finish<E: Write>(ending: Ending, err: &mut E) -> Exit
+// How the program ends on an answer, with what the standard error is told.
+fn finish<E: Write>(ending: Ending, err: &mut E) -> Exit
     ensures status { result.status ≡ status_of ending }
     ensures told { Gains (E.contents err.old) (E.contents err.new) result.is_told (ending_words ending) }
     ensures quiet { (result.status ≡ 1) ⊎ ((err.new ≡ err.old) × (result.is_told ≡ true)) }
@@ -165,18 +165,14 @@ pub fn finish<E: Write>(ending: Ending, err: &mut E) -> Exit
     }
 }
 
-/// How the program ends on what came of a command, with what the standard error is told.
-pub fn conclude<E: Write>(ended: Result<Ending, Refusal>, err: &mut E) -> Exit
-    ensures ok { IfOk ended (λ ending. result.status ≡ status_of ending) }
-    ensures told { IfOk ended (λ ending. Gains (E.contents err.old) (E.contents err.new) result.is_told
-        (ending_words ending)) }
-    ensures err { OnErr ended (result.status ≡ 1) }
-    ensures refused { IfErr ended (λ e. Gains (E.contents err.old) (E.contents err.new) result.is_told
-        (refusal_line e)) }
+/// Writes a text, whole, and tells the standard error how the program ends.
+pub fn give<O: Write, E: Write>(text: &[u8], ending: Ending, out: &mut O, err: &mut E) -> Exit
+    ensures delivered { Delivers text.now ending (O.contents out.old) (O.contents out.new)
+        (Gains (E.contents err.old) (E.contents err.new) result.is_told) result.status }
     ensures quiet { (result.status ≡ 1) ⊎ ((err.new ≡ err.old) × (result.is_told ≡ true)) }
 {
-    match ended {
-        Ok(ending) => finish(ending, err),
-        Err(refusal) => refuse(refusal, err),
+    match write_whole(out, text) {
+        Ok(()) => finish(ending, err),
+        Err(fault) => refuse(Refusal::App(fault), err),
     }
 }

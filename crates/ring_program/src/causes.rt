@@ -156,6 +156,8 @@ pub enum Source<'a> {
     Input(&'a [u8]),
     /// The bad line of recorded calls, which are not kept.
     Line(TextLine<'a>),
+    /// Nothing: it is not kept, or there was none.
+    Unkept,
 }
 
 /// What is wrong in the text that was refused so. `None` where the refusal says it all, where it is not the text

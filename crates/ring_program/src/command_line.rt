@@ -1,9 +1,9 @@
 //! The command line.
-ghost use Rattle.std.specs.Prelude.{◌≡◌, ◌⊎◌, ◌∷◌, ℕ, List, Some, codes, true, false, [], IfOk, IfErr, OnOk, None, map, option_map};
+ghost use Rattle.std.specs.Prelude.{◌≡◌, ◌⊎◌, ◌∷◌, ◌++◌, ℕ, List, Some, codes, true, false, [], IfOk, IfErr, OnOk, None, map, option_map};
 ghost use Rattle.clap.specs.Words.{HasKind, app_of, fault_of, found_of, kind_of, rows_of, subcommand_of, subcommand_rows_of};
 ghost use Rattle.ring_program.specs.declared.run_line.RingKind.TheVariants as kind;
 ghost use Rattle.near_misses.specs.declared.misses.NearMiss.TheVariants as miss;
-ghost use Rattle.ring_program.specs.CommandLine.{HasOption, IsCommand, application, audit_command, audit_request_of, big_run, long_run, play_command, play_request, play_request_of, program_alone, record_run, report_and_record, report_run, request_in, request_of, run_of_numbers, short_run, torus_run, wrong_request, wrong_rule};
+ghost use Rattle.ring_program.specs.CommandLine.{Asks, HasOption, IsCommand, application, audit_command, audit_request_of, play_asked, play_command, play_request_of, program_alone, request_in, request_of, run_of_numbers, wrong_rule};
 
 use crate::options::{is_given, new_command, value_option, with_flag};
 use crate::run_line::{Run, RunText, run_command, run_found};
@@ -135,36 +135,42 @@ Exit status:
   2  the command line is wrong
   3  the audit found a fault";
 
-/// What the words ask of an input.
+/// What of a trace an audit looks at.
+#[derive(Clone, Copy)]
+pub enum Audited {
+    /// The bits, and the programs of the two sides.
+    Programs,
+    /// `--bits`: the bits alone.
+    Bits,
+}
+
+/// What the text of a play tells.
+#[derive(Clone, Copy)]
+pub enum PlayText {
+    /// How many events and items there were.
+    Report,
+    /// `--trace`: the whole history; of a play by a near miss, where `--wrong` names one.
+    Trace(Option<NearMiss>),
+    /// `--calls`: the calls, in the same way.
+    Calls(Option<NearMiss>),
+}
+
+/// What the words ask of an input that is kept.
 #[derive(Clone, Copy)]
 pub enum Question {
-    /// `audit`
-    Audit,
-    /// `audit --bits`
-    AuditBits,
-    /// `audit --why`
-    AuditWhy,
-    /// `audit --bits --why`
-    AuditBitsWhy,
-    /// `play`
-    Play,
-    /// `play --trace`
-    PlayTrace,
-    /// `play --calls`
-    PlayCalls,
-    /// `play --wrong NAME --trace`
-    WrongTrace(NearMiss),
-    /// `play --wrong NAME --calls`
-    WrongCalls(NearMiss),
+    /// `audit`, of a trace; with `--why` it tells of a fault what was due.
+    Audit { what: Audited, why: bool },
+    /// `play`, of a script.
+    Play(PlayText),
 }
 
 /// What the words ask for.
 #[derive(Clone, Copy)]
 pub enum Request {
-    /// To read an input, and to answer of it.
+    /// To read an input whole, and to answer of it.
     OnInput(Question),
     /// `audit --calls`, which reads its input in pieces; with `--stop` up to the first fault.
-    Calls(bool),
+    Calls { stop: bool },
     /// `audit --bits --long`, which reads its input in pieces.
     LongBits,
     /// `run`, which reads no input.
@@ -235,8 +241,8 @@ fn program<'a>(alloc: Global) -> Result<Command<'a>, AllocError>
 // The matches of the words, where the program takes them.
 fn parse<'a>(alloc: Global, words: &'a [&'a str]) -> Result<ArgMatches<'a>, Error>
     ensures taken { OnOk result (fault_of application (map (λ w. w.now) words.entry.now) ≡ []) }
-    ensures found { IfOk result (λ matches. subcommand_rows_of matches ≡ subcommand_of application
-        (map (λ w. w.now) words.entry.now)) }
+    ensures found { IfOk result (λ matches.
+        subcommand_rows_of matches ≡ subcommand_of application (map (λ w. w.now) words.entry.now)) }
     ensures kinds { IfErr result (HasKind (fault_of application (map (λ w. w.now) words.entry.now))) }
 {
     let command = program(alloc)?;
@@ -245,8 +251,8 @@ fn parse<'a>(alloc: Global, words: &'a [&'a str]) -> Result<ArgMatches<'a>, Erro
 
 // The command that was named, with its own matches.
 fn named<'m, 'a>(matches: &'m ArgMatches<'a>) -> Option<(&'a str, &'m ArgMatches<'a>)>
-    ensures { option_map (λ found. (found.0.now, rows_of (found_of found.1.now))) result ≡ subcommand_rows_of
-        matches.now }
+    ensures { option_map (λ found. (found.0.now, rows_of (found_of found.1.now))) result
+        ≡ subcommand_rows_of matches.now }
 {
     matches.subcommand()
 }
@@ -259,35 +265,30 @@ fn audit_request(matches: &ArgMatches<'_>) -> Option<Request>
     let long = is_given(matches, "long");
     let calls = is_given(matches, "calls");
     let stop = is_given(matches, "stop");
-    match (bits, long, calls, stop, is_given(matches, "why")) {
-        (true, false, false, false, false) => Some(Request::OnInput(Question::AuditBits)),
-        (true, false, false, false, true) => Some(Request::OnInput(Question::AuditBitsWhy)),
+    let why = is_given(matches, "why");
+    match (bits, long, calls, stop, why) {
         (true, true, false, false, false) => Some(Request::LongBits),
-        (false, false, true, stop, false) => Some(Request::Calls(stop)),
-        (false, false, false, false, false) => Some(Request::OnInput(Question::Audit)),
-        (false, false, false, false, true) => Some(Request::OnInput(Question::AuditWhy)),
+        (false, false, true, stop, false) => Some(Request::Calls { stop }),
+        (true, false, false, false, why) => Some(Request::OnInput(Question::Audit {
+            what: Audited::Bits,
+            why,
+        })),
+        (false, false, false, false, why) => Some(Request::OnInput(Question::Audit {
+            what: Audited::Programs,
+            why,
+        })),
         _ => None,
     }
 }
 
 // What `play` is asked for, by a near miss or by none; nothing where the flags do not go together.
-fn asked_of_play(trace: bool, calls: bool) -> Option<Request>
-    ensures { result ≡ play_request trace calls }
+fn play_asked(trace: bool, calls: bool, miss: Option<NearMiss>) -> Option<Request>
+    ensures { result ≡ play_asked trace calls miss }
 {
-    match (trace, calls) {
-        (true, true) => None,
-        (true, false) => Some(Request::OnInput(Question::PlayTrace)),
-        (false, true) => Some(Request::OnInput(Question::PlayCalls)),
-        (false, false) => Some(Request::OnInput(Question::Play)),
-    }
-}
-
-fn asked_of_miss(trace: bool, calls: bool, miss: NearMiss) -> Option<Request>
-    ensures { result ≡ wrong_request trace calls miss }
-{
-    match (trace, calls) {
-        (true, false) => Some(Request::OnInput(Question::WrongTrace(miss))),
-        (false, true) => Some(Request::OnInput(Question::WrongCalls(miss))),
+    match (trace, calls, miss) {
+        (true, false, miss) => Some(Request::OnInput(Question::Play(PlayText::Trace(miss)))),
+        (false, true, miss) => Some(Request::OnInput(Question::Play(PlayText::Calls(miss)))),
+        (false, false, None) => Some(Request::OnInput(Question::Play(PlayText::Report))),
         _ => None,
     }
 }
@@ -299,8 +300,8 @@ fn play_request(matches: &ArgMatches<'_>) -> Option<Request>
     let trace = is_given(matches, "trace");
     let calls = is_given(matches, "calls");
     match matches.get_str("wrong") {
-        None => asked_of_play(trace, calls),
-        Some(name) => asked_of_miss(trace, calls, NearMiss::named(name)?),
+        None => play_asked(trace, calls, None),
+        Some(name) => play_asked(trace, calls, Some(NearMiss::named(name)?)),
     }
 }
 
@@ -324,8 +325,8 @@ fn request_found(matches: &ArgMatches<'_>) -> Option<Request>
 pub fn read_words<'a>(alloc: Global, words: &'a [&'a str]) -> Result<Option<Request>, Error>
     ensures asked { IfOk result (λ request. request ≡ request_of (map (λ w. w.now) words.entry.now)) }
     ensures taken { OnOk result (fault_of application (map (λ w. w.now) words.entry.now) ≡ []) }
-    ensures refused { IfErr result (λ e. (kind_of e ≡ ErrorKind.OutOfMemory) ⊎
-        (request_of (map (λ w. w.now) words.entry.now) ≡ None)) }
+    ensures refused { IfErr result (λ e. (kind_of e ≡ ErrorKind.OutOfMemory)
+        ⊎ (request_of (map (λ w. w.now) words.entry.now) ≡ None)) }
     ensures kinds { IfErr result (HasKind (fault_of application (map (λ w. w.now) words.entry.now))) }
 {
     match parse(alloc, words) {
@@ -335,68 +336,48 @@ pub fn read_words<'a>(alloc: Global, words: &'a [&'a str]) -> Result<Option<Requ
 }
 
 /// The command lines of the program, by its name and their words.
+#[tactic(auto, unfolding(clap::proofs::OnLiterals::clap_on_literals, crate::specs::CommandLine::application, crate::specs::CommandLine::request_of))]
 pub fn command_lines()
-    ensures audit { (name : List ℕ) → request_of (name ∷ codes "audit" ∷ []) ≡ Some (Request.OnInput Question.Audit) }
-    ensures audit_bits { (name : List ℕ) →
-        request_of (name ∷ codes "audit" ∷ codes "--bits" ∷ []) ≡ Some (Request.OnInput Question.AuditBits) }
-    ensures audit_calls { (name : List ℕ) →
-        request_of (name ∷ codes "audit" ∷ codes "--calls" ∷ []) ≡ Some (Request.Calls false) }
-    ensures calls_stop { (name : List ℕ) →
-        request_of (name ∷ codes "audit" ∷ codes "--calls" ∷ codes "--stop" ∷ []) ≡ Some (Request.Calls true) }
-    ensures stop_alone { (name : List ℕ) → request_of (name ∷ codes "audit" ∷ codes "--stop" ∷ []) ≡ None }
-    ensures bits_stop { (name : List ℕ) →
-        request_of (name ∷ codes "audit" ∷ codes "--bits" ∷ codes "--stop" ∷ []) ≡ None }
-    ensures stop_why { (name : List ℕ) →
-        request_of (name ∷ codes "audit" ∷ codes "--calls" ∷ codes "--stop" ∷ codes "--why" ∷ []) ≡ None }
-    ensures audit_both { (name : List ℕ) →
-        request_of (name ∷ codes "audit" ∷ codes "--bits" ∷ codes "--calls" ∷ []) ≡ None }
-    ensures audit_long { (name : List ℕ) →
-        request_of (name ∷ codes "audit" ∷ codes "--bits" ∷ codes "--long" ∷ []) ≡ Some Request.LongBits }
-    ensures long_alone { (name : List ℕ) → request_of (name ∷ codes "audit" ∷ codes "--long" ∷ []) ≡ None }
-    ensures long_calls { (name : List ℕ) →
-        request_of (name ∷ codes "audit" ∷ codes "--calls" ∷ codes "--long" ∷ []) ≡ None }
-    ensures audit_why { (name : List ℕ) →
-        request_of (name ∷ codes "audit" ∷ codes "--why" ∷ []) ≡ Some (Request.OnInput Question.AuditWhy) }
-    ensures audit_bits_why { (name : List ℕ) →
-        request_of (name ∷ codes "audit" ∷ codes "--bits" ∷ codes "--why" ∷ []) ≡ Some
-        (Request.OnInput Question.AuditBitsWhy) }
-    ensures long_why { (name : List ℕ) →
-        request_of (name ∷ codes "audit" ∷ codes "--bits" ∷ codes "--long" ∷ codes "--why" ∷ []) ≡ None }
-    ensures calls_why { (name : List ℕ) →
-        request_of (name ∷ codes "audit" ∷ codes "--calls" ∷ codes "--why" ∷ []) ≡ None }
-    ensures twice { (name : List ℕ) → request_of (name ∷ codes "audit" ∷ codes "--bits" ∷ codes "--bits" ∷ []) ≡ None }
-    ensures play { (name : List ℕ) → request_of (name ∷ codes "play" ∷ []) ≡ Some (Request.OnInput Question.Play) }
-    ensures play_trace { (name : List ℕ) →
-        request_of (name ∷ codes "play" ∷ codes "--trace" ∷ []) ≡ Some (Request.OnInput Question.PlayTrace) }
-    ensures play_calls { (name : List ℕ) →
-        request_of (name ∷ codes "play" ∷ codes "--calls" ∷ []) ≡ Some (Request.OnInput Question.PlayCalls) }
-    ensures play_both { (name : List ℕ) →
-        request_of (name ∷ codes "play" ∷ codes "--trace" ∷ codes "--calls" ∷ []) ≡ None }
-    ensures wrong_trace { (name : List ℕ) →
-        request_of (name ∷ codes "play" ∷ codes "--wrong" ∷ codes "small-modulus" ∷ codes "--trace" ∷ []) ≡ Some
-        (Request.OnInput (Question.WrongTrace miss.SmallModulus)) }
-    ensures wrong_calls { (name : List ℕ) →
-        request_of (name ∷ codes "play" ∷ codes "--wrong=count-before-cell" ∷ codes "--calls" ∷ []) ≡ Some
-        (Request.OnInput (Question.WrongCalls miss.CountBeforeCell)) }
-    ensures wrong_report { (name : List ℕ) →
-        request_of (name ∷ codes "play" ∷ codes "--wrong" ∷ codes "clears-first" ∷ []) ≡ None }
-    ensures wrong_name { (name : List ℕ) →
-        request_of (name ∷ codes "play" ∷ codes "--wrong" ∷ codes "right" ∷ codes "--calls" ∷ []) ≡ None }
-    ensures run { (name : List ℕ) →
-        request_of (name ∷ short_run) ≡ Some (Request.Run (run_of_numbers kind.Flicker 1 3 6 1 1 64 9 9
-        RunText.Totals)) }
-    ensures run_with_all { (name : List ℕ) →
-        request_of (name ∷ long_run) ≡ Some (Request.Run (run_of_numbers kind.Counter 3 7 6 3 2 64 9 8
-        RunText.Totals)) }
-    ensures run_with_report { (name : List ℕ) →
-        request_of (name ∷ report_run) ≡ Some (Request.Run (run_of_numbers kind.Flicker 1 3 6 1 1 64 9 9
-        RunText.Report)) }
-    ensures run_with_record { (name : List ℕ) →
-        request_of (name ∷ record_run) ≡ Some (Request.Run (run_of_numbers kind.Flicker 1 3 6 1 1 64 9 9
-        RunText.Recording)) }
-    ensures run_with_both { (name : List ℕ) → request_of (name ∷ report_and_record) ≡ None }
-    ensures lacking { (name : List ℕ) → request_of (name ∷ codes "run" ∷ []) ≡ None }
-    ensures too_many { (name : List ℕ) → request_of (name ∷ big_run) ≡ None }
-    ensures torus { (name : List ℕ) → request_of (name ∷ torus_run) ≡ None }
+    ensures audit { Asks (codes "audit") (Some (Request.OnInput (Question.Audit Audited.Programs false))) }
+    ensures audit_bits { Asks (codes "audit --bits") (Some (Request.OnInput (Question.Audit Audited.Bits false))) }
+    ensures audit_calls { Asks (codes "audit --calls") (Some (Request.Calls false)) }
+    ensures calls_stop { Asks (codes "audit --calls --stop") (Some (Request.Calls true)) }
+    ensures stop_alone { Asks (codes "audit --stop") None }
+    ensures bits_stop { Asks (codes "audit --bits --stop") None }
+    ensures stop_why { Asks (codes "audit --calls --stop --why") None }
+    ensures audit_both { Asks (codes "audit --bits --calls") None }
+    ensures audit_long { Asks (codes "audit --bits --long") (Some Request.LongBits) }
+    ensures long_alone { Asks (codes "audit --long") None }
+    ensures long_calls { Asks (codes "audit --calls --long") None }
+    ensures audit_why { Asks (codes "audit --why") (Some (Request.OnInput (Question.Audit Audited.Programs true))) }
+    ensures audit_bits_why { Asks (codes "audit --bits --why")
+        (Some (Request.OnInput (Question.Audit Audited.Bits true))) }
+    ensures long_why { Asks (codes "audit --bits --long --why") None }
+    ensures calls_why { Asks (codes "audit --calls --why") None }
+    ensures twice { Asks (codes "audit --bits --bits") None }
+    ensures play { Asks (codes "play") (Some (Request.OnInput (Question.Play PlayText.Report))) }
+    ensures play_trace { Asks (codes "play --trace") (Some (Request.OnInput (Question.Play (PlayText.Trace None)))) }
+    ensures play_calls { Asks (codes "play --calls") (Some (Request.OnInput (Question.Play (PlayText.Calls None)))) }
+    ensures play_both { Asks (codes "play --trace --calls") None }
+    ensures wrong_trace { Asks (codes "play --wrong small-modulus --trace")
+        (Some (Request.OnInput (Question.Play (PlayText.Trace (Some miss.SmallModulus))))) }
+    ensures wrong_calls { Asks (codes "play --wrong=count-before-cell --calls")
+        (Some (Request.OnInput (Question.Play (PlayText.Calls (Some miss.CountBeforeCell))))) }
+    ensures wrong_report { Asks (codes "play --wrong clears-first") None }
+    ensures wrong_name { Asks (codes "play --wrong right --calls") None }
+    ensures run { Asks (codes "run --capacity 1 --modulus 3 --width 6 --count 64 --limit 9")
+        (Some (Request.Run (run_of_numbers kind.Flicker 1 3 6 1 1 64 9 9 RunText.Totals))) }
+    ensures run_with_all { Asks (codes "run --ring counter --batch=3 --take-batch 2 --takes 8"
+        ++ codes " --capacity 3 --modulus=7 --width 6 --count=64 --limit 9")
+        (Some (Request.Run (run_of_numbers kind.Counter 3 7 6 3 2 64 9 8 RunText.Totals))) }
+    ensures run_with_report { Asks (codes "run --capacity 1 --modulus 3 --width 6 --count 64 --limit 9 --report")
+        (Some (Request.Run (run_of_numbers kind.Flicker 1 3 6 1 1 64 9 9 RunText.Report))) }
+    ensures run_with_record { Asks (codes "run --capacity 1 --modulus 3 --width 6 --count 64 --limit 9 --record")
+        (Some (Request.Run (run_of_numbers kind.Flicker 1 3 6 1 1 64 9 9 RunText.Recording))) }
+    ensures run_with_both { Asks (codes "run --capacity 1 --modulus 3 --width 6 --count 64 --limit 9 --report --record")
+        None }
+    ensures lacking { Asks (codes "run") None }
+    ensures too_many { Asks (codes "run --capacity 1 --modulus 3 --width 6 --count 1000001 --limit 9") None }
+    ensures torus { Asks (codes "run --capacity 1 --modulus 3 --width 6 --count 64 --limit 9 --ring torus") None }
     ensures nothing { (name : List ℕ) → request_of (name ∷ []) ≡ None }
 {}

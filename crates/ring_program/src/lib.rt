@@ -3,6 +3,7 @@
 #![tactic(auto)]
 
 mod answers;
+mod audits;
 mod call_writing;
 mod causes;
 mod command_line;
@@ -12,6 +13,7 @@ mod lines;
 mod long_bits;
 mod mistakes;
 mod options;
+mod plays;
 mod program;
 mod recordings;
 mod reports;

@@ -1,34 +1,26 @@
 //! The program over a reader and two writers.
-ghost use Rattle.std.specs.Prelude.{◌≡◌, ◌≢◌, ◌≤◌, ◌⊎◌, [], List, ℕ, None, true, IfOk, IfErr, IfSome, IfNone, OnOk, OnErr, length, map, string_bytes, take};
-ghost use Rattle.std.specs.Io.KnownBytes.{Appends, Keeps};
+ghost use Rattle.std.specs.Prelude.{◌≡◌, ◌≤◌, ◌⊎◌, [], List, ℕ, Some, true, IfOk, IfErr, IfSome, IfNone, length, map, string_bytes};
 ghost use Rattle.clap.specs.Words.{fault_of, kind_of};
-ghost use Rattle.ring_program.specs.Answers.{Answers, AnswersWithin, AsksNoInput, AuditsBits, AuditsBitsWhy, AuditsPrograms, AuditsProgramsWhy, Ends, EndsCalls, EndsOn, EndsUnasked, Explains, IsTrueCause, IsOutOfMemory, IsShortage, IsStatus, IsStatusOn, MayEnd, PlaysScript, RecordsScript, RecordsWrong, RefusedOn, Refuses, RefusesScript, RefusesTrace, TracesScript, TracesWrong, WasWritten, ending_words, finding_ending_of, status_of, verdict_ending_of};
+ghost use Rattle.ring_program.specs.Answers.{Answers, AsksNoInput, Declines, Delivers, Ends, EndsUnasked, Explains, IsStatus, IsTrueCause};
 ghost use Rattle.ring_program.specs.Faults.{Gains, IsInText, SaysRefusal};
-ghost use Rattle.ring_audit.specs.Audit.{statement};
 ghost use Rattle.ring_program.specs.declared.inputs.TheConstants.{INPUT_LIMIT};
 ghost use Rattle.ring_program.specs.CommandLine.{application, request_of};
 
-use crate::answers::{Answer, Ending, Exit, finish, refuse, tell, write_whole};
+use crate::answers::{Answer, Ending, Exit, give, refuse, tell};
+use crate::audits::audit_answer;
 use crate::causes::{Source, cause_of};
 use crate::command_line::{Question, Request, read_words};
 use crate::faults::{AppFault, Refusal};
 use crate::inputs::load;
-use crate::long_bits::answer_long_bits;
+use crate::long_bits::long_bits_answer;
 use crate::mistakes::{tell_mistake, unnamed};
-use crate::recordings::calls_out;
-use crate::reports::report_text;
-use crate::runs::answer_run;
-use crate::tellings::{calls_text, told_text};
-use crate::texts::{audit_text, verdict_text};
+use crate::plays::play_answer;
+use crate::recordings::calls_answer;
+use crate::runs::run_answer;
 use crate::trace_lines::TextLine;
-use crate::why::{push_why, verdict_of};
-use bits_core::{Verdict, audit_bits, read_trace, write_trace};
 use clap::Error;
 use clap::error::ErrorKind;
-use near_misses::{NearMiss, play_near};
 use queue_calls::Recording;
-use ring_audit::{Finding, audit};
-use ring_player::{Script, play, play_calls};
 use std::alloc::{AllocGlobal, Allocator, Global};
 use std::fmt::InlineText;
 use std::io::{Read, Write};
@@ -38,190 +30,6 @@ use std::time::Clock;
 /// The most bytes of the line that says what is wrong in a text; none has as many.
 const CAUSE_LINE: usize = 512;
 
-/// How an audit with this verdict ends.
-pub fn verdict_ending(verdict: Verdict) -> Ending
-    ensures { result ≡ verdict_ending_of verdict }
-{
-    match verdict {
-        Verdict::Lawful => Ending::Done,
-        Verdict::Fault { .. } => Ending::FaultFound,
-    }
-}
-
-// How an audit with this finding ends.
-fn finding_ending<A: Allocator>(finding: &Finding<A>) -> Ending
-    ensures { result ≡ finding_ending_of (statement finding.now) }
-{
-    match finding {
-        Finding::Lawful { .. } => Ending::Done,
-        Finding::Fault { .. } => Ending::FaultFound,
-    }
-}
-
-// The answer of `audit` on an input.
-#[tactic(auto, unfolding(crate::specs::Answers::IsOutOfMemory))]
-fn audit_answer<A: Allocator + Copy>(alloc: A, input: &[u8]) -> Result<Answer<A>, Refusal>
-    ensures answered { IfOk result (λ answer. AuditsPrograms input.now (string_bytes answer.text) answer.ending) }
-    ensures refused { IfErr result (λ e. IsOutOfMemory e ⊎ RefusesTrace input.now e) }
-    ensures unwritten { IfErr result (λ e. e ≢ Refusal.App AppFault.WriteFailed) }
-{
-    let (shape, events) = read_trace(alloc, input)?;
-    let finding = audit(alloc, &shape, events.as_slice())?;
-    let text = audit_text(alloc, &finding)?;
-    let ending = finding_ending(&finding);
-    Ok(Answer { text, ending })
-}
-
-// The answer of `audit --bits` on an input.
-#[tactic(auto, unfolding(crate::specs::Answers::IsOutOfMemory))]
-fn audit_bits_answer<A: Allocator + Copy>(alloc: A, input: &[u8]) -> Result<Answer<A>, Refusal>
-    ensures answered { IfOk result (λ answer. AuditsBits input.now (string_bytes answer.text) answer.ending) }
-    ensures refused { IfErr result (λ e. IsOutOfMemory e ⊎ RefusesTrace input.now e) }
-    ensures unwritten { IfErr result (λ e. e ≢ Refusal.App AppFault.WriteFailed) }
-{
-    let (shape, events) = read_trace(alloc, input)?;
-    let verdict = audit_bits(&shape, events.as_slice());
-    let text = verdict_text(alloc, &verdict)?;
-    Ok(Answer {
-        text,
-        ending: verdict_ending(verdict),
-    })
-}
-
-// The answer of `audit --why` on an input.
-#[tactic(auto, unfolding(crate::specs::Answers::IsOutOfMemory))]
-fn audit_why_answer<A: Allocator + Copy>(alloc: A, input: &[u8]) -> Result<Answer<A>, Refusal>
-    ensures answered { IfOk result (λ answer. AuditsProgramsWhy input.now (string_bytes answer.text) answer.ending) }
-    ensures refused { IfErr result (λ e. IsOutOfMemory e ⊎ RefusesTrace input.now e) }
-    ensures unwritten { IfErr result (λ e. e ≢ Refusal.App AppFault.WriteFailed) }
-{
-    let (shape, events) = read_trace(alloc, input)?;
-    let finding = audit(alloc, &shape, events.as_slice())?;
-    let mut text = audit_text(alloc, &finding)?;
-    push_why(&mut text, &shape, events.as_slice(), verdict_of(&finding))?;
-    let ending = finding_ending(&finding);
-    Ok(Answer { text, ending })
-}
-
-// The answer of `audit --bits --why` on an input.
-#[tactic(auto, unfolding(crate::specs::Answers::IsOutOfMemory))]
-fn audit_bits_why_answer<A: Allocator + Copy>(alloc: A, input: &[u8]) -> Result<Answer<A>, Refusal>
-    ensures answered { IfOk result (λ answer. AuditsBitsWhy input.now (string_bytes answer.text) answer.ending) }
-    ensures refused { IfErr result (λ e. IsOutOfMemory e ⊎ RefusesTrace input.now e) }
-    ensures unwritten { IfErr result (λ e. e ≢ Refusal.App AppFault.WriteFailed) }
-{
-    let (shape, events) = read_trace(alloc, input)?;
-    let verdict = audit_bits(&shape, events.as_slice());
-    let mut text = verdict_text(alloc, &verdict)?;
-    push_why(&mut text, &shape, events.as_slice(), verdict)?;
-    Ok(Answer {
-        text,
-        ending: verdict_ending(verdict),
-    })
-}
-
-// The answer of `play` on an input.
-#[tactic(auto, unfolding(crate::specs::Answers::IsOutOfMemory))]
-fn play_answer<A: Allocator + Copy>(
-    alloc: A,
-    json: Global,
-    input: &[u8],
-) -> Result<Answer<A>, Refusal>
-    ensures answered { IfOk result (λ answer. PlaysScript input.now (string_bytes answer.text) answer.ending) }
-    ensures refused { IfErr result (λ e. IsOutOfMemory e ⊎ RefusesScript input.now e) }
-    ensures unwritten { IfErr result (λ e. e ≢ Refusal.App AppFault.WriteFailed) }
-{
-    let script = Script::read_in(alloc, json, input)?;
-    let report = play(alloc, &script)?;
-    let text = report_text(alloc, &report)?;
-    Ok(Answer {
-        text,
-        ending: Ending::Done,
-    })
-}
-
-// The answer of `play --trace` on an input.
-#[tactic(auto, unfolding(crate::specs::Answers::IsOutOfMemory))]
-fn trace_answer<A: Allocator + Copy>(
-    alloc: A,
-    json: Global,
-    input: &[u8],
-) -> Result<Answer<A>, Refusal>
-    ensures answered { IfOk result (λ answer. TracesScript input.now (string_bytes answer.text) answer.ending) }
-    ensures refused { IfErr result (λ e. IsOutOfMemory e ⊎ RefusesScript input.now e) }
-    ensures unwritten { IfErr result (λ e. e ≢ Refusal.App AppFault.WriteFailed) }
-{
-    let script = Script::read_in(alloc, json, input)?;
-    let report = play(alloc, &script)?;
-    let text = write_trace(alloc, &script.shape(), report.history.as_slice())?;
-    Ok(Answer {
-        text,
-        ending: Ending::Done,
-    })
-}
-
-// The answer of `play --calls` on an input.
-#[tactic(auto, unfolding(crate::specs::Answers::IsOutOfMemory))]
-fn telling_answer<A: Allocator + Copy>(
-    alloc: A,
-    json: Global,
-    input: &[u8],
-) -> Result<Answer<A>, Refusal>
-    ensures answered { IfOk result (λ answer. RecordsScript input.now (string_bytes answer.text) answer.ending) }
-    ensures refused { IfErr result (λ e. IsOutOfMemory e ⊎ RefusesScript input.now e) }
-    ensures unwritten { IfErr result (λ e. e ≢ Refusal.App AppFault.WriteFailed) }
-{
-    let script = Script::read_in(alloc, json, input)?;
-    let told = play_calls(alloc, &script)?;
-    let text = calls_text(alloc, &script, told.as_slice())?;
-    Ok(Answer {
-        text,
-        ending: Ending::Done,
-    })
-}
-
-// The answer of `play --wrong NAME --trace` on an input.
-#[tactic(auto, unfolding(crate::specs::Answers::IsOutOfMemory))]
-fn wrong_trace_answer<A: Allocator + Copy>(
-    alloc: A,
-    json: Global,
-    miss: NearMiss,
-    input: &[u8],
-) -> Result<Answer<A>, Refusal>
-    ensures answered { IfOk result (λ answer. TracesWrong input.now (string_bytes answer.text) answer.ending) }
-    ensures refused { IfErr result (λ e. IsOutOfMemory e ⊎ RefusesScript input.now e) }
-    ensures unwritten { IfErr result (λ e. e ≢ Refusal.App AppFault.WriteFailed) }
-{
-    let script = Script::read_in(alloc, json, input)?;
-    let play = play_near(alloc, miss, &script)?;
-    let text = write_trace(alloc, &script.shape(), play.history.as_slice())?;
-    Ok(Answer {
-        text,
-        ending: Ending::Done,
-    })
-}
-
-// The answer of `play --wrong NAME --calls` on an input.
-#[tactic(auto, unfolding(crate::specs::Answers::IsOutOfMemory))]
-fn wrong_calls_answer<A: Allocator + Copy>(
-    alloc: A,
-    json: Global,
-    miss: NearMiss,
-    input: &[u8],
-) -> Result<Answer<A>, Refusal>
-    ensures answered { IfOk result (λ answer. RecordsWrong input.now (string_bytes answer.text) answer.ending) }
-    ensures refused { IfErr result (λ e. IsOutOfMemory e ⊎ RefusesScript input.now e) }
-    ensures unwritten { IfErr result (λ e. e ≢ Refusal.App AppFault.WriteFailed) }
-{
-    let script = Script::read_in(alloc, json, input)?;
-    let play = play_near(alloc, miss, &script)?;
-    let text = told_text(alloc, &script, play.told.as_slice())?;
-    Ok(Answer {
-        text,
-        ending: Ending::Done,
-    })
-}
-
 // The answer to a question on an input.
 fn answer_to<A: Allocator + Copy>(
     alloc: A,
@@ -229,51 +37,21 @@ fn answer_to<A: Allocator + Copy>(
     question: Question,
     input: &[u8],
 ) -> Result<Answer<A>, Refusal>
-    ensures answered { IfOk result (λ answer. Answers question input.now (string_bytes answer.text) answer.ending) }
-    ensures ends { IfOk result (λ answer. MayEnd question answer.ending) }
-    ensures refused { IfErr result (λ e. IsOutOfMemory e ⊎ Refuses question input.now e) }
-    ensures unwritten { IfErr result (λ e. e ≢ Refusal.App AppFault.WriteFailed) }
+    requires within { length input.now ≤ INPUT_LIMIT }
+    ensures answered { IfOk result (λ answer.
+        Answers (Request.OnInput question) input.now (string_bytes answer.text) answer.ending) }
+    ensures refused { IfErr result (IsTrueCause (Request.OnInput question) input.now) }
 {
     match question {
-        Question::Audit => audit_answer(alloc, input),
-        Question::AuditBits => audit_bits_answer(alloc, input),
-        Question::AuditWhy => audit_why_answer(alloc, input),
-        Question::AuditBitsWhy => audit_bits_why_answer(alloc, input),
-        Question::Play => play_answer(alloc, json, input),
-        Question::PlayTrace => trace_answer(alloc, json, input),
-        Question::PlayCalls => telling_answer(alloc, json, input),
-        Question::WrongTrace(miss) => wrong_trace_answer(alloc, json, miss, input),
-        Question::WrongCalls(miss) => wrong_calls_answer(alloc, json, miss, input),
+        Question::Audit { what, why } => audit_answer(alloc, what, why, input),
+        Question::Play(shows) => play_answer(alloc, json, shows, input),
     }
-}
-
-/// Answers the question on the whole input, and writes the answer after it is complete.
-#[tactic(auto, unfolding(crate::specs::Answers::IsShortage))]
-pub fn respond<A: Allocator + Copy, O: Write>(
-    alloc: A,
-    json: Global,
-    question: Question,
-    input: &[u8],
-    out: &mut O,
-) -> Result<Ending, Refusal>
-    requires within { length input.now ≤ INPUT_LIMIT }
-    ensures answered { IfOk result (λ ending. (text : List ℕ) × AnswersWithin question input.now text ending ×
-        Appends (O.contents out.old) (O.contents out.new) text) }
-    ensures ends { IfOk result (MayEnd question) }
-    // The cause is true, and a refusal leaves the output as it was, unless a write failed.
-    ensures refused { IfErr result (RefusedOn question input.now (O.contents out.old) (O.contents out.new)) }
-    ensures silent { IfErr result (λ e. e ≢ Refusal.App AppFault.WriteFailed →
-        Keeps (O.contents out.old) (O.contents out.new)) }
-{
-    let answer = answer_to(alloc, json, question, input)?;
-    write_whole(out, answer.text.as_bytes())?;
-    Ok(answer.ending)
 }
 
 // Says what is wrong in a text that was refused, where there is something to say, and tells whether that was told.
 fn tell_cause<E: Write>(json: Global, source: Source<'_>, refusal: Refusal, err: &mut E) -> bool
-    ensures { (more : List ℕ) × ((more ≡ []) ⊎ IsInText refusal) ×
-        Gains (E.contents err.old) (E.contents err.new) result more }
+    ensures { (more : List ℕ) × ((more ≡ []) ⊎ IsInText refusal)
+        × Gains (E.contents err.old) (E.contents err.new) result more }
 {
     match cause_of(json, source, refusal) {
         Some(cause) => {
@@ -284,7 +62,7 @@ fn tell_cause<E: Write>(json: Global, source: Source<'_>, refusal: Refusal, err:
     }
 }
 
-// Says why a question on an input is refused, and what is wrong in its text.
+// Says why a request is refused, and what is wrong in the text that it was to read.
 fn refuse_on<E: Write>(json: Global, source: Source<'_>, refusal: Refusal, err: &mut E) -> Exit
     ensures status { result.status ≡ 1 }
     ensures told { SaysRefusal (Gains (E.contents err.old) (E.contents err.new) result.is_told) refusal }
@@ -299,47 +77,29 @@ fn refuse_on<E: Write>(json: Global, source: Source<'_>, refusal: Refusal, err: 
     }
 }
 
-// How the program ends on what came of a question on an input, with what the standard error is told.
-fn conclude_on<E: Write>(
+/// Writes an answer, whole, and tells the standard error how the program ends; or why the request is refused.
+pub fn deliver<A: Allocator, O: Write, E: Write>(
     json: Global,
     source: Source<'_>,
-    ended: Result<Ending, Refusal>,
+    answered: Result<Answer<A>, Refusal>,
+    out: &mut O,
     err: &mut E,
 ) -> Exit
-    ensures ok { IfOk ended (λ ending. result.status ≡ status_of ending) }
-    ensures told { IfOk ended (λ ending. Gains (E.contents err.old) (E.contents err.new) result.is_told
-        (ending_words ending)) }
-    ensures err { OnErr ended (result.status ≡ 1) }
-    ensures refused { IfErr ended (SaysRefusal (Gains (E.contents err.old) (E.contents err.new) result.is_told)) }
+    ensures delivered { IfOk answered (λ answer.
+        Delivers (string_bytes answer.text) answer.ending (O.contents out.old) (O.contents out.new)
+        (Gains (E.contents err.old) (E.contents err.new) result.is_told) result.status) }
+    ensures declined { IfErr answered (λ e. Declines e (O.contents out.old) (O.contents out.new)
+        (Gains (E.contents err.old) (E.contents err.new) result.is_told) result.status) }
     ensures quiet { (result.status ≡ 1) ⊎ ((err.new ≡ err.old) × (result.is_told ≡ true)) }
 {
-    match ended {
-        Ok(ending) => finish(ending, err),
+    match answered {
+        Ok(answer) => give(answer.text.as_bytes(), answer.ending, out, err),
         Err(refusal) => refuse_on(json, source, refusal, err),
     }
 }
 
-// The program on a question of the whole input.
-fn answer_input<A: Allocator + Copy, O: Write, E: Write>(
-    alloc: A,
-    json: Global,
-    question: Question,
-    input: &[u8],
-    out: &mut O,
-    err: &mut E,
-) -> Exit
-    requires within { length input.now ≤ INPUT_LIMIT }
-    ensures asked { EndsOn question input.now (O.contents out.old) (O.contents out.new)
-        (Gains (E.contents err.old) (E.contents err.new) result.is_told) result.status }
-    ensures quiet { (result.status ≡ 1) ⊎ ((result.status ≡ 2) ⊎ ((err.new ≡ err.old) × (result.is_told ≡ true))) }
-    ensures statuses { IsStatusOn question result.status }
-{
-    let ended = respond(alloc, json, question, input, out);
-    conclude_on(json, Source::Input(input), ended, err)
-}
-
-// The program on a question.
-fn answer_question<A: Allocator + Copy, I: Read, O: Write, E: Write>(
+// Reads the whole input, and answers the question on it.
+fn answer_input<A: Allocator + Copy, I: Read, O: Write, E: Write>(
     alloc: A,
     json: Global,
     question: Question,
@@ -347,19 +107,21 @@ fn answer_question<A: Allocator + Copy, I: Read, O: Write, E: Write>(
     out: &mut O,
     err: &mut E,
 ) -> Exit
-    ensures asked { IfSome (I.remaining input.old) (λ bytes.
-        EndsOn question bytes (O.contents out.old) (O.contents out.new)
-        (Gains (E.contents err.old) (E.contents err.new) result.is_told) result.status) }
-    ensures quiet { (result.status ≡ 1) ⊎ ((result.status ≡ 2) ⊎ ((err.new ≡ err.old) × (result.is_told ≡ true))) }
-    ensures statuses { IsStatusOn question result.status }
+    ensures asked { Ends (Request.OnInput question) (I.remaining input.old) (O.contents out.old) (O.contents out.new)
+        (Gains (E.contents err.old) (E.contents err.new) result.is_told) result.status }
+    ensures quiet { (result.status ≡ 1) ⊎ ((err.new ≡ err.old) × (result.is_told ≡ true)) }
+    ensures statuses { IsStatus (Some (Request.OnInput question)) result.status }
 {
     match load(alloc, input) {
-        Ok(bytes) => answer_input(alloc, json, question, bytes.as_slice(), out, err),
+        Ok(bytes) => {
+            let answered = answer_to(alloc, json, question, bytes.as_slice());
+            deliver(json, Source::Input(bytes.as_slice()), answered, out, err)
+        }
         Err(fault) => refuse(Refusal::App(fault), err),
     }
 }
 
-// The program on recorded calls.
+// Reads recorded calls in pieces, and answers of them.
 fn answer_calls<A: Allocator + Copy, I: Read, O: Write, E: Write>(
     alloc: A,
     json: Global,
@@ -368,31 +130,49 @@ fn answer_calls<A: Allocator + Copy, I: Read, O: Write, E: Write>(
     out: &mut O,
     err: &mut E,
 ) -> Exit
-    ensures asked { IfSome (I.remaining input.old) (λ bytes.
-        EndsCalls stop bytes (O.contents out.old) (O.contents out.new)
-        (Gains (E.contents err.old) (E.contents err.new) result.is_told) result.status) }
-    ensures quiet { (result.status ≡ 1) ⊎ ((result.status ≡ 2) ⊎ ((err.new ≡ err.old) × (result.is_told ≡ true))) }
-    ensures statuses { (result.status ≡ 0) ⊎ ((result.status ≡ 1) ⊎ (result.status ≡ 3)) }
+    ensures asked { Ends (Request.Calls stop) (I.remaining input.old) (O.contents out.old) (O.contents out.new)
+        (Gains (E.contents err.old) (E.contents err.new) result.is_told) result.status }
+    ensures quiet { (result.status ≡ 1) ⊎ ((err.new ≡ err.old) × (result.is_told ≡ true)) }
+    ensures statuses { IsStatus (Some (Request.Calls stop)) result.status }
 {
     let mut recording = Recording::new(alloc);
     let mut at_end = false;
-    let ended = calls_out(alloc, &mut recording, &mut at_end, stop, input, out);
+    let answered = calls_answer(alloc, &mut recording, &mut at_end, stop, input);
     let line = TextLine {
         text: recording.line(),
         has_feed: !at_end,
     };
-    conclude_on(json, Source::Line(line), ended, err)
+    deliver(json, Source::Line(line), answered, out, err)
 }
 
-// Writes help that was asked for.
-fn give_help<O: Write, E: Write>(text: &[u8], out: &mut O, err: &mut E) -> Exit
-    ensures given { WasWritten (O.contents out.old) (O.contents out.new)
+/// The program on a request: answers it, and writes the answer after it is complete.
+pub fn respond<R: AllocGlobal + Threads + Clock, A: Allocator + Copy, I: Read, O: Write, E: Write>(
+    rt: &R,
+    alloc: A,
+    request: Request,
+    input: &mut I,
+    out: &mut O,
+    err: &mut E,
+) -> Exit
+    // The cause of a refusal is true, and it leaves the output as it was, unless a write failed.
+    ensures asked { Ends request (I.remaining input.old) (O.contents out.old) (O.contents out.new)
         (Gains (E.contents err.old) (E.contents err.new) result.is_told) result.status }
+    ensures unread { AsksNoInput (Some request) → input.new ≡ input.old }
     ensures quiet { (result.status ≡ 1) ⊎ ((err.new ≡ err.old) × (result.is_told ≡ true)) }
+    ensures statuses { IsStatus (Some request) result.status }
 {
-    match write_whole(out, text) {
-        Ok(()) => finish(Ending::Done, err),
-        Err(fault) => refuse(Refusal::App(fault), err),
+    let json = rt.alloc();
+    match request {
+        Request::OnInput(question) => answer_input(alloc, json, question, input, out, err),
+        Request::Calls { stop } => answer_calls(alloc, json, stop, input, out, err),
+        Request::LongBits => {
+            let answered = long_bits_answer(alloc, input);
+            deliver(json, Source::Unkept, answered, out, err)
+        }
+        Request::Run(run) => {
+            let answered = run_answer(rt, alloc, run);
+            deliver(json, Source::Unkept, answered, out, err)
+        }
     }
 }
 
@@ -420,18 +200,19 @@ fn explain<A: Allocator, O: Write, E: Write>(
     let Ok(text) = error.to_string(alloc) else {
         return refuse(Refusal::App(AppFault::OutOfMemory), err);
     };
-    give_help(text.as_bytes(), out, err)
+    give(text.as_bytes(), Ending::Done, out, err)
 }
 
 /// The whole program: `words` are its name and its arguments, and the answer is the exit status, with whether `err` took all
 /// that it was to be told.
 ///
 /// It reads the command line, then the whole input, then works, and writes the answer on `out` once
-/// it is complete; recorded calls and a trace of any length are read in pieces, and not kept; a run has no input, and none is read for it. Status 0 says that it is done, and 3 that
-/// the audit found a fault. With status 1 it refuses and says why on `err`; then nothing was written on
-/// `out`, unless a write failed, or a run reached a limit, whose text is written all the same. With status 2
-/// the command line is wrong. Where the words ask for help or the version, that is written on `out`, and
-/// nothing is read. A fault of `err` itself changes no status: it ends what is told, and the answer says so.
+/// it is complete; recorded calls and a trace of any length are read in pieces, and not kept; a run has no
+/// input, and none is read for it. Status 0 says that it is done, and 3 that the audit found a fault. With
+/// status 1 it refuses and says why on `err`; then nothing was written on `out`, unless a write failed, or a
+/// run reached a limit, whose text is written all the same. With status 2 the command line is wrong. Where
+/// the words ask for help or the version, that is written on `out`, and nothing is read. A fault of `err`
+/// itself changes no status: it ends what is told, and the answer says so.
 ///
 /// In use: `main` of `lamport_ring` hands it the words and the streams of the process.
 pub fn execute<
@@ -456,17 +237,9 @@ pub fn execute<
     // Whatever the reader and the writers do.
     ensures statuses { IsStatus (request_of (map (λ w. w.now) words.entry.now)) result.status }
 {
-    let request = match read_words(rt.alloc(), words) {
-        Ok(Some(request)) => request,
-        Ok(None) => return unnamed(words, err),
-        Err(error) => return explain(alloc, words, &error, out, err),
-    };
-    match request {
-        Request::OnInput(question) => {
-            answer_question(alloc, rt.alloc(), question, input, out, err)
-        }
-        Request::Calls(stop) => answer_calls(alloc, rt.alloc(), stop, input, out, err),
-        Request::LongBits => answer_long_bits(alloc, input, out, err),
-        Request::Run(run) => answer_run(rt, alloc, run, out, err),
+    match read_words(rt.alloc(), words) {
+        Ok(Some(request)) => respond(rt, alloc, request, input, out, err),
+        Ok(None) => unnamed(words, err),
+        Err(error) => explain(alloc, words, &error, out, err),
     }
 }

@@ -1,20 +1,20 @@
 //! The audit of recorded calls.
 ghost use Rattle.std.specs.Prelude.{◌≡◌, ◌≢◌, ◌⊎◌, ◌<◌, ◌++◌, List, [], ◌∷◌, ℕ, IfOk, IfErr, IfSome, MatchOption, length, string_bytes, true};
-ghost use Rattle.std.specs.Io.KnownBytes.{Appends};
 ghost use Rattle.call_causes.specs.Causes.{cause_words};
 ghost use Rattle.queue_calls.specs.RecordingStates.{HasNoFeed, HasRead};
 ghost use Rattle.queue_calls.specs.Recordings.{RefusesText};
-ghost use Rattle.ring_program.specs.Answers.{AnswersCallsBy, IsCallsCause, IsOneLine, RefusedCalls, calls_ending_of};
-ghost use Rattle.ring_program.specs.Readings.{IsFaultAhead, IsFaultless, IsFoundBy, IsFoundIn};
+ghost use Rattle.ring_program.specs.Answers.{Answers, IsCallsCause, IsTrueCause, MayEnd};
+ghost use Rattle.ring_program.specs.declared.command_line.Request.TheVariants as Request;
+ghost use Rattle.ring_program.specs.Readings.{IsFaultAhead, IsFaultless, IsFoundBy, IsFoundIn, IsOneLine, calls_ending_of};
 ghost use Rattle.ring_program.specs.Texts.{calls_report_text_of, calls_text_of, cut_line};
 
-use crate::answers::{Answer, Ending, write_whole};
+use crate::answers::{Answer, Ending};
 use crate::faults::{AppFault, Refusal};
 use crate::lines::{push_count, push_list, told_words};
 use memchr::memchr;
 use queue_calls::{CallsFinding, CallsReport, Recording, RecordingFault};
 use std::alloc::Allocator;
-use std::io::{Read, Write};
+use std::io::Read;
 
 // How many bytes are read at once.
 const PIECE: usize = 65_536;
@@ -128,7 +128,6 @@ fn read_calls<A: Allocator + Copy, I: Read>(
     ensures found { IfSome (I.remaining input.old) (λ bytes.
         IfOk result (λ found. IsFoundBy stop bytes found.is_cut found.finding)) }
     ensures refused { IfSome (I.remaining input.old) (λ bytes. IfErr result (IsCallsCause bytes)) }
-    ensures unwritten { IfErr result (λ e. e ≢ Refusal.App AppFault.WriteFailed) }
 {
     let mut piece = [0u8; PIECE];
     for _ in 0..u64::MAX {
@@ -222,9 +221,9 @@ fn calls_ending(finding: &CallsFinding) -> Ending
     }
 }
 
-// The answer of `audit --calls`.
+/// The answer of `audit --calls`, by a recording of which nothing was read. It notes where it comes to the end of the input.
 #[tactic(auto, unfolding(crate::specs::Answers::IsCallsCause))]
-fn calls_answer<A: Allocator + Copy, I: Read>(
+pub fn calls_answer<A: Allocator + Copy, I: Read>(
     alloc: A,
     recording: &mut Recording<A>,
     at_end: &mut bool,
@@ -232,37 +231,13 @@ fn calls_answer<A: Allocator + Copy, I: Read>(
     input: &mut I,
 ) -> Result<Answer<A>, Refusal>
     requires begins { HasRead (λ q. q.items) (λ q. q.items) (λ v. v.items) recording.old [] }
-    ensures answered { IfSome (I.remaining input.old) (λ bytes.
-        IfOk result (λ answer. AnswersCallsBy stop bytes (string_bytes answer.text) answer.ending)) }
-    ensures refused { IfSome (I.remaining input.old) (λ bytes. IfErr result (IsCallsCause bytes)) }
-    ensures unwritten { IfErr result (λ e. e ≢ Refusal.App AppFault.WriteFailed) }
-    ensures ends { IfOk result (λ answer. (answer.ending ≡ Ending.Done) ⊎ (answer.ending ≡ Ending.FaultFound)) }
+    ensures answered { IfSome (I.remaining input.old) (λ bytes. IfOk result (λ answer.
+        Answers (Request.Calls stop) bytes (string_bytes answer.text) answer.ending)) }
+    ensures refused { IfSome (I.remaining input.old) (λ bytes. IfErr result (IsTrueCause (Request.Calls stop) bytes)) }
+    ensures ends { IfOk result (λ answer. MayEnd (Request.Calls stop) answer.ending) }
 {
     let found = read_calls(recording, at_end, stop, input)?;
     let text = calls_text(alloc, found.is_cut, &found.finding)?;
     let ending = calls_ending(&found.finding);
     Ok(Answer { text, ending })
-}
-
-/// Audits the recorded calls, by a recording of which nothing was read, and writes the answer after it is complete. It notes where it
-/// comes to the end of the input.
-pub fn calls_out<A: Allocator + Copy, I: Read, O: Write>(
-    alloc: A,
-    recording: &mut Recording<A>,
-    at_end: &mut bool,
-    stop: bool,
-    input: &mut I,
-    out: &mut O,
-) -> Result<Ending, Refusal>
-    requires begins { HasRead (λ q. q.items) (λ q. q.items) (λ v. v.items) recording.old [] }
-    ensures answered { IfSome (I.remaining input.old) (λ bytes.
-        IfOk result (λ ending. (text : List ℕ) × AnswersCallsBy stop bytes text ending ×
-        Appends (O.contents out.old) (O.contents out.new) text)) }
-    ensures refused { IfSome (I.remaining input.old) (λ bytes.
-        IfErr result (RefusedCalls stop bytes (O.contents out.old) (O.contents out.new))) }
-    ensures ends { IfOk result (λ ending. (ending ≡ Ending.Done) ⊎ (ending ≡ Ending.FaultFound)) }
-{
-    let answer = calls_answer(alloc, recording, at_end, stop, input)?;
-    write_whole(out, answer.text.as_bytes())?;
-    Ok(answer.ending)
 }

@@ -1,17 +1,15 @@
 //! The answer of `run`: items relayed through a ring by two threads.
 ghost use Rattle.std.specs.Prelude.{◌≡◌, ◌≢◌, ◌⊎◌, ◌+◌, ◌++◌, ◌≤◌, ◌<◌, ◌^◌, IfErr, IfOk, OnOk, List, ℕ, if◌then◌else◌, length, option_and_then, option_map, string_bytes, take, true};
 ghost use Rattle.std.specs.Duration.{as_nanos};
-ghost use Rattle.std.specs.Io.KnownBytes.{Appends};
 ghost use Rattle.bits_core.specs.Made.{IsPrefix};
 ghost use Rattle.bits_core.specs.Shape.{AllFit, capacity_of};
 ghost use Rattle.ring_run.specs.Relays.{IsRelayed};
-ghost use Rattle.ring_program.specs.Answers.{AnswersRun, EndsRun, IsOutOfMemory, IsRunCause, RefusedRun, TellsRun, relay_ending_of};
-ghost use Rattle.ring_program.specs.Faults.{Gains};
+ghost use Rattle.ring_program.specs.Answers.{AnswersRun, IsOutOfMemory, IsRunCause, TellsRun, relay_ending_of};
 ghost use Rattle.ring_program.specs.Runs.{run_item, run_items, slots_of};
 ghost use Rattle.ring_program.specs.Texts.{closed_line, pace_line, pace_of, relay_report_of, relay_text_of};
 ghost use Rattle.ring_program.specs.declared.run_line.TheConstants.{ITEM_LIMIT};
 
-use crate::answers::{Answer, Ending, Exit, conclude, write_whole};
+use crate::answers::{Answer, Ending};
 use crate::faults::{AppFault, Refusal};
 use crate::lines::push_count;
 use crate::run_line::{RingKind, Run, RunText};
@@ -22,7 +20,6 @@ use ring_run::{
 };
 use std::alloc::Allocator;
 use std::io;
-use std::io::Write;
 use std::thread::Threads;
 use std::time::{Clock, Duration, Instant};
 
@@ -257,16 +254,15 @@ fn relay_run<R: Threads, A: Allocator + Copy>(
     }
 }
 
-// The answer of a run.
+/// The answer of a run.
 #[tactic(auto, unfolding(crate::specs::Answers::IsOutOfMemory))]
-fn run_answer<R: Threads + Clock, A: Allocator + Copy>(
+pub fn run_answer<R: Threads + Clock, A: Allocator + Copy>(
     rt: &R,
     alloc: A,
     run: Run,
 ) -> Result<Answer<A>, Refusal>
     ensures answered { IfOk result (λ answer. AnswersRun run (string_bytes answer.text) answer.ending) }
     ensures refused { IfErr result (IsRunCause run) }
-    ensures unwritten { IfErr result (λ e. e ≢ Refusal.App AppFault.WriteFailed) }
 {
     let shape = Shape::with_batches(
         run.capacity,
@@ -286,37 +282,4 @@ fn run_answer<R: Threads + Clock, A: Allocator + Copy>(
     let text = run_text(alloc, run.text, &shape, offered, &recorder, &outcome, time)?;
     let ending = relay_ending(outcome.closed);
     Ok(Answer { text, ending })
-}
-
-// Runs, and writes the answer after it is complete.
-fn run_out<R: Threads + Clock, A: Allocator + Copy, O: Write>(
-    rt: &R,
-    alloc: A,
-    run: Run,
-    out: &mut O,
-) -> Result<Ending, Refusal>
-    ensures answered { IfOk result (λ ending. (text : List ℕ) × AnswersRun run text ending ×
-        Appends (O.contents out.old) (O.contents out.new) text) }
-    ensures refused { IfErr result (RefusedRun run (O.contents out.old) (O.contents out.new)) }
-{
-    let answer = run_answer(rt, alloc, run)?;
-    write_whole(out, answer.text.as_bytes())?;
-    Ok(answer.ending)
-}
-
-/// The program on a run.
-pub fn answer_run<R: Threads + Clock, A: Allocator + Copy, O: Write, E: Write>(
-    rt: &R,
-    alloc: A,
-    run: Run,
-    out: &mut O,
-    err: &mut E,
-) -> Exit
-    ensures asked { EndsRun run (O.contents out.old) (O.contents out.new)
-        (Gains (E.contents err.old) (E.contents err.new) result.is_told) result.status }
-    ensures quiet { (result.status ≡ 1) ⊎ ((result.status ≡ 2) ⊎ ((err.new ≡ err.old) × (result.is_told ≡ true))) }
-    ensures statuses { (result.status ≡ 0) ⊎ (result.status ≡ 1) }
-{
-    let ended = run_out(rt, alloc, run, out);
-    conclude(ended, err)
 }

@@ -32,7 +32,7 @@ use Rattle.ring_run.proofs.Lists.{by_case, events_of-append, length-events_of, l
 
 -- ---- how many items calls store and take that have ended
 
-by_true : (b : Bool) (xs ys : List ℕ) → b ≡ true → length ((if b then xs else []) ++ ys) ≡ length xs + length ys
+pub by_true : (b : Bool) (xs ys : List ℕ) → b ≡ true → length ((if b then xs else []) ++ ys) ≡ length xs + length ys
 by_true true xs ys e = length-append xs ys
 by_true false xs ys e = absurd (cc)
 
@@ -44,7 +44,7 @@ pub past_is : (n : ℕ) (items : List ℕ) → number_past n items ≡ n + lengt
 past_is n [] = omega arith
 past_is n (x ∷ items) = omega (arith, past_is (suc n) items)
 
-within_le : (a b : ℕ) → a ≤ b → nat_le a b ≡ true
+pub within_le : (a b : ℕ) → a ≤ b → nat_le a b ≡ true
 within_le a b l = grind (arith, nat_tests)
 
 -- puts that have all ended have stored all their items
@@ -88,14 +88,14 @@ own_mine s e h by = rw by refl
 own_theirs : (s : Side) (e : Event) (h : List Event) → is_by s e ≡ false → subhistory s (e ∷ h) ≡ subhistory s h
 own_theirs s e h by = rw by refl
 
-pub own_append : (s : Side) (h more : List Event) → subhistory s (h ++ more) ≡ subhistory s h ++ subhistory s more
+own_append : (s : Side) (h more : List Event) → subhistory s (h ++ more) ≡ subhistory s h ++ subhistory s more
 own_append s [] more = refl
 own_append s (e ∷ h) more = by_case (is_by s e)
     (λ by. own_mine s e (h ++ more) by ∙ ap (λ l. e ∷ l) (own_append s h more) ∙ sym (ap (λ l. l ++ subhistory s more) (own_mine s e h by)))
     (λ by. own_theirs s e (h ++ more) by ∙ own_append s h more ∙ sym (ap (λ l. l ++ subhistory s more) (own_theirs s e h by)))
 
 -- before a place of a beginning of the history a side has no more events than in that, and behind it no fewer
-pub inside : (s : Side) (known more : List Event) (place : ℕ) → place ≤ length known → clock s (known ++ more) place ≤ length (subhistory s known)
+inside : (s : Side) (known more : List Event) (place : ℕ) → place ≤ length known → clock s (known ++ more) place ≤ length (subhistory s known)
 inside s known more zero l = omega arith
 inside s [] more (suc n) l = absurd (omega (arith, l))
 inside s (e ∷ known) more (suc n) l =
@@ -104,7 +104,7 @@ inside s (e ∷ known) more (suc n) l =
     (λ by. omega (arith, rest, ap length (own_mine s e (take n (known ++ more)) by), ap length (own_mine s e known by)))
     (λ by. omega (arith, rest, ap length (own_theirs s e (take n (known ++ more)) by), ap length (own_theirs s e known by)))
 
-pub behind : (s : Side) (known more : List Event) (place : ℕ) → length known ≤ place → length (subhistory s known) ≤ clock s (known ++ more) place
+behind : (s : Side) (known more : List Event) (place : ℕ) → length known ≤ place → length (subhistory s known) ≤ clock s (known ++ more) place
 behind s [] more place l = omega arith
 behind s (e ∷ known) more zero l = absurd (omega (arith, l))
 behind s (e ∷ known) more (suc n) l =
@@ -114,7 +114,7 @@ behind s (e ∷ known) more (suc n) l =
     (λ by. omega (arith, rest, ap length (own_theirs s e (take n (known ++ more)) by), ap length (own_theirs s e known by)))
 
 -- an own event of a side that is not among those of the known history stands behind it
-pub later_than : (s : Side) (known more h : List Event) (start place : ℕ) → known ++ more ≡ h → clock s h (suc place) ≡ suc start → length (subhistory s known) ≤ start → length known ≤ place
+later_than : (s : Side) (known more h : List Event) (start place : ℕ) → known ++ more ≡ h → clock s h (suc place) ≡ suc start → length (subhistory s known) ≤ start → length known ≤ place
 later_than s known more h start place is number_past long = go (dec_lt place (length known))
   where
     go : Dec (place < length known) → length known ≤ place
@@ -122,6 +122,27 @@ later_than s known more h start place is number_past long = go (dec_lt place (le
         let few : clock s (known ++ more) (suc place) ≤ length (subhistory s known) = inside s known more (suc place) (omega (arith, l)) in
         absurd (omega (arith, few, ap (λ l. clock s l (suc place)) is, number_past, long))
     go (no l) = omega (arith, l)
+
+-- ---- a call whose events stand behind a history that its side knows
+
+module _ {shape : Shape} {known : List Event} (x : Side) {after : List Event} (st : Stands shape x after known) where
+  -- it began behind what is known
+  pub later : {before : List Event} (start place : ℕ) → IsPrefix (subhistory x known) before → length before ≡ start → IsPlaceOf x st.history start place → length known ≤ place
+  later {before} start place begins long at = later_than x known st.begins.0 st.history start place st.begins.1 at.past (omega (arith, long, ap length begins.1, length-append (subhistory x known) begins.0))
+
+  -- and what is known of a side's calls begins them
+  pub own_known : (y : Side) → IsPrefix (subhistory y known) (subhistory y st.history)
+  own_known y = (subhistory y st.begins.0, sym (own_append y known st.begins.0) ∙ ap (subhistory y) st.begins.1)
+
+  pub known_first :
+      (y : Side) {whole program : List Event} → subhistory y known ≡ whole → IsPrefix (subhistory y st.history) program → IsPrefix whole program
+  known_first y {whole} is follows =
+      let mine = own_known y in
+      let both : List Event = mine.0 ++ follows.0 in
+      (both, ap (λ l. l ++ both) (sym is) ∙ sym (append_assoc (subhistory y known) mine.0 follows.0) ∙ ap (λ l. l ++ follows.0) mine.1 ∙ follows.1)
+
+  pub behind_known : (y : Side) (place : ℕ) → length known ≤ place → length (subhistory y known) ≤ clock y st.history place
+  behind_known y place l = subst (λ h. length (subhistory y known) ≤ clock y h place) st.begins.1 (behind y known st.begins.0 place l)
 
 there : (xs : List Made) (x : Made) (ys : List Made) → slice_get (xs ++ x ∷ ys) (length xs) ≡ Some x
 there [] x ys = refl
@@ -138,12 +159,6 @@ module _ (law : InEveryRun EmptyIsFresh) (first : PutsAreFirst) (made : MadeIsAc
 
   abbrev more : Takes
   more = and_take calls (Empty seen)
-
-  abbrev rest : List Event
-  rest = st.begins.0
-
-  h_is : known ++ rest ≡ h
-  h_is = st.begins.1
 
   run : IsRun shape h st.ring.puts more
   run = record {
@@ -176,32 +191,21 @@ module _ (law : InEveryRun EmptyIsFresh) (first : PutsAreFirst) (made : MadeIsAc
       ap length was.list_is ∙ length-events_of C (take_program shape calls) ∙
       ap (λ (l : List Made). 2 * length l) (ap (λ (e : End). take_phrases shape first_count calls.takes ++ end_phrase e) is_open ∙ append-nil (take_phrases shape first_count calls.takes))
 
-  -- it began behind what is known
-  later : length known ≤ place
-  later = later_than C known rest h start place h_is fresh.1.past (omega (arith, before_long, ap length begins.1, length-append (subhistory C known) begins.0))
-
-  own_known : IsPrefix (subhistory P known) (subhistory P h)
-  own_known = (subhistory P rest, sym (own_append P known rest) ∙ ap (subhistory P) h_is)
+  known_before : length known ≤ place
+  known_before = later C st start place begins before_long fresh.1
 
   are_first : ((more : List Put) × (st.ring.puts.puts ≡ puts.puts ++ more)) × (puts.closes ≡ true → puts ≡ st.ring.puts)
-  are_first =
-      let follows = st.ring.run.puts_follow in
-      let both : List Event = own_known.0 ++ follows.events.0 in
-      first shape puts st.ring.puts whole.are follows.are
-      (both, ap (λ l. l ++ both) (sym whole.list_is) ∙ sym (append_assoc (subhistory P known) own_known.0 follows.events.0) ∙ ap (λ l. l ++ follows.events.0) own_known.1 ∙ follows.events.1)
+  are_first = let follows = st.ring.run.puts_follow in first shape puts st.ring.puts whole.are follows.are (known_first C st P whole.list_is follows.events)
 
   known_long : length (subhistory P known) ≡ 2 * (length (put_phrases shape first_count puts.puts) + length (close_phrase puts.closes))
   known_long =
       omega (arith, ap length whole.list_is, length-events_of P (put_program shape puts), length-append (put_phrases shape first_count puts.puts) (close_phrase puts.closes))
 
-  behind_known : (place' : ℕ) → length known ≤ place' → length (subhistory P known) ≤ clock P h place'
-  behind_known place' l = subst (λ l. length (subhistory P known) ≤ clock P l place') h_is (behind P known rest place' l)
-
   -- the items of the known puts were taken before it
   pub items : length (all_put puts.puts) ≤ length (all_taken calls.takes)
   items =
       let ended : length (all_put puts.puts) ≤ length (items_ended shape first_count (puts.puts ++ are_first.0.0) (clock P h place)) =
-      ended_least shape first_count puts.puts are_first.0.0 (clock P h place) (omega (arith, known_long, behind_known place later)) in
+      ended_least shape first_count puts.puts are_first.0.0 (clock P h place) (omega (arith, known_long, behind_known C st P place known_before)) in
       let same : puts_ended shape st.ring.puts (clock P h place) ≡ length (items_ended shape first_count (puts.puts ++ are_first.0.0) (clock P h place)) =
       ap (λ l. length (items_ended shape first_count l (clock P h place))) are_first.0.1 in
       omega (arith, ended, same, fresh.2, ended_most shape first_count more.takes (clock C h place), ap length (none_more calls.takes seen))
@@ -213,13 +217,14 @@ module _ (law : InEveryRun EmptyIsFresh) (first : PutsAreFirst) (made : MadeIsAc
       let phrases : List Made = put_phrases shape first_count puts.puts in
       let program : put_program shape st.ring.puts ≡ phrases ++ Write X true ∷ [] = ap (put_program shape) (sym (are_first.1 closes)) ∙ ap (λ b. phrases ++ close_phrase b) closes in
       let long : length (subhistory P known) ≡ 2 * (length phrases + 1) = known_long ∙ ap (λ b. 2 * (length phrases + length (close_phrase b))) closes in
-      let more_own : length (subhistory P known) ≤ length (subhistory P h) = omega (arith, ap length own_known.1, length-append (subhistory P known) own_known.0) in
+      let mine = own_known C st P in
+      let more_own : length (subhistory P known) ≤ length (subhistory P h) = omega (arith, ap length mine.1, length-append (subhistory P known) mine.0) in
       let (stop, at) = made P h (put_program shape st.ring.puts) st.ring.run.puts_follow.events (length phrases) (Write X true)
       (ap (λ l. slice_get l (length phrases)) program ∙ there phrases (Write X true) []) (omega (arith, long, more_own)) in
       let ended = (at.ended (omega (arith, long, more_own))).0 in
       let not_before : ¬ (stop < place) = fresh.3 true (place_of P h (2 * length phrases)) stop at.access in
-      let begun : length known ≤ stop = omega (arith, not_before, later) in
-      absurd (omega (arith, long, behind_known stop begun, ended.before)))
+      let begun : length known ≤ stop = omega (arith, not_before, known_before) in
+      absurd (omega (arith, long, behind_known C st P stop begun, ended.before)))
       (λ no_close. no_close)
 
 -- ---- the law

@@ -1,7 +1,6 @@
 -- What a put that finds the ring full says of the takes that its putter knows.
-use Rattle.std.proofs.Common.{◌≡◌, ℕ, suc, ◌+◌, ◌-◌, ◌*◌, ◌≤◌, Bool, true, false, Some, List, [], ◌∷◌, ◌++◌, length, refl, ap, sym, subst, ◌∙◌, arith, append-nil, append_assoc, length-append}
-use Rattle.std.specs.Prelude.{nat_le, if◌then◌else◌}
-use Rattle.std.proofs.lemmas.Bool.Decides.{nat_tests}
+use Rattle.std.proofs.Common.{◌≡◌, ℕ, ◌+◌, ◌-◌, ◌*◌, ◌≤◌, Bool, true, false, Some, List, [], ◌∷◌, ◌++◌, length, refl, ap, sym, subst, ◌∙◌, arith, append-nil, append_assoc, length-append}
+use Rattle.std.specs.Prelude.{nat_le}
 use Rattle.bits_core.specs.declared.events.Side.TheVariants.{P, C}
 use Rattle.bits_core.specs.declared.events.Event.{Event}
 use Rattle.bits_core.specs.declared.shapes.Shape.{Shape}
@@ -24,7 +23,7 @@ use Rattle.ring_seats.specs.Rule.{Stands}
 use Rattle.ring_ends.specs.Ends.{HasPuts, HasTakes, PutAdds, HasPutAll}
 use Rattle.ring_run.specs.Laws.{FullAfterMeeting, ItemFullAfterMeeting, PutsAdd}
 use Rattle.ring_run.proofs.Lists.{events_of-append, length-events_of}
-use Rattle.ring_run.proofs.Emptied.{past_is, own_append, behind, later_than}
+use Rattle.ring_run.proofs.Emptied.{behind_known, by_true, known_first, later, past_is, within_le}
 
 -- ---- how many items are stored, and how many are taken by takes that have ended
 
@@ -32,13 +31,6 @@ stored_is : (n : ℕ) (puts : List Put) → stored_in n puts ≡ n + length (all
 stored_is n [] = omega arith
 stored_is n (Full seen ∷ puts) = stored_is n puts
 stored_is n (Stored seen items ∷ puts) = omega (arith, stored_is (number_past n items) puts, past_is n items, length-append items (all_put puts))
-
-is_within : (a b : ℕ) → a ≤ b → nat_le a b ≡ true
-is_within a b le = grind (arith, nat_tests)
-
-so_longer : (b : Bool) (items rest : List ℕ) → b ≡ true → length ((if b then items else []) ++ rest) ≡ length items + length rest
-so_longer true items rest e = length-append items rest
-so_longer false items rest e = absurd (cc)
 
 -- whole takes have ended, also where more follow
 all_ended :
@@ -51,14 +43,14 @@ all_ended shape c (Item seen items ∷ xs) more t le =
     let long = length-append first (take_phrases shape next xs) in
     let rest : List ℕ = items_taken shape next (xs ++ more) (t - events_in first) in
     let ended : length (all_taken xs) ≤ length rest = all_ended shape next xs more (t - events_in first) (omega (arith, le, long)) in
-    omega (arith, ended, length-append items (all_taken xs), so_longer (nat_le (events_in first) t) items rest (is_within (events_in first) t (omega (arith, le, long))))
+    omega (arith, ended, length-append items (all_taken xs), by_true (nat_le (events_in first) t) items rest (within_le (events_in first) t (omega (arith, le, long))))
 all_ended shape c (ItemAfterClose seen again items ∷ xs) more t le =
     let first : List Made = take_phrase shape c (ItemAfterClose seen again items) in
     let next : Count = count_after shape c (ItemAfterClose seen again items) in
     let long = length-append first (take_phrases shape next xs) in
     let rest : List ℕ = items_taken shape next (xs ++ more) (t - events_in first) in
     let ended : length (all_taken xs) ≤ length rest = all_ended shape next xs more (t - events_in first) (omega (arith, le, long)) in
-    omega (arith, ended, length-append items (all_taken xs), so_longer (nat_le (events_in first) t) items rest (is_within (events_in first) t (omega (arith, le, long))))
+    omega (arith, ended, length-append items (all_taken xs), by_true (nat_le (events_in first) t) items rest (within_le (events_in first) t (omega (arith, le, long))))
 all_ended shape c (Empty seen ∷ xs) more t le =
     let first : List Made = take_phrase shape c (Empty seen) in
     let next : Count = count_after shape c (Empty seen) in
@@ -76,12 +68,6 @@ module _ (law : InEveryRun FullIsFresh) (first : TakesAreFirst)
 
   abbrev more : Puts
   more = and_put calls (Full seen)
-
-  abbrev rest : List Event
-  rest = st.begins.0
-
-  h_is : known ++ rest ≡ h
-  h_is = st.begins.1
 
   run : IsRun shape h more st.ring.takes
   run = record {
@@ -113,19 +99,11 @@ module _ (law : InEveryRun FullIsFresh) (first : TakesAreFirst)
       ap length was.list_is ∙ length-events_of P (put_program shape calls) ∙
       ap (λ (l : List Made). 2 * length l) (ap (λ (b : Bool). put_phrases shape first_count calls.puts ++ close_phrase b) is_open ∙ append-nil (put_phrases shape first_count calls.puts))
 
-  -- it began behind what is known
-  later : length known ≤ place
-  later = later_than P known rest h start place h_is fresh.1.past (omega (arith, before_long, ap length begins.1, length-append (subhistory P known) begins.0))
-
-  own_known : IsPrefix (subhistory C known) (subhistory C h)
-  own_known = (subhistory C rest, sym (own_append C known rest) ∙ ap (subhistory C) h_is)
+  known_before : length known ≤ place
+  known_before = later P st start place begins before_long fresh.1
 
   are_first : (others : List Take) × (st.ring.takes.takes ≡ takes.takes ++ others)
-  are_first =
-      let follows = st.ring.run.takes_follow in
-      let both : List Event = own_known.0 ++ follows.events.0 in
-      (first shape takes st.ring.takes whole.are follows.are
-      (both, ap (λ l. l ++ both) (sym whole.list_is) ∙ sym (append_assoc (subhistory C known) own_known.0 follows.events.0) ∙ ap (λ l. l ++ follows.events.0) own_known.1 ∙ follows.events.1)).0
+  are_first = let follows = st.ring.run.takes_follow in (first shape takes st.ring.takes whole.are follows.are (known_first P st C whole.list_is follows.events)).0
 
   known_long : length (subhistory C known) ≡ 2 * (length (take_phrases shape first_count takes.takes) + length (end_phrase takes.end))
   known_long = omega (arith, ap length whole.list_is, length-events_of C (take_program shape takes), length-append (take_phrases shape first_count takes.takes) (end_phrase takes.end))
@@ -134,7 +112,7 @@ module _ (law : InEveryRun FullIsFresh) (first : TakesAreFirst)
   pub filled : length (all_taken takes.takes) + capacity_of shape ≤ length (all_put calls.puts)
   filled =
       let t : ℕ = clock C h place in
-      let late : length (subhistory C known) ≤ t = subst (λ l. length (subhistory C known) ≤ clock C l place) h_is (behind C known rest place later) in
+      let late : length (subhistory C known) ≤ t = behind_known P st C place known_before in
       let ended : length (all_taken takes.takes) ≤ length (items_taken shape first_count (takes.takes ++ are_first.0) t) = all_ended shape first_count takes.takes are_first.0 t (omega (arith, late, known_long)) in
       omega (arith, ended, ap (λ l. length (items_taken shape first_count l t)) are_first.1, fresh.2, stored_is 0 calls.puts)
 

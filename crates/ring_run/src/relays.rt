@@ -373,8 +373,12 @@ fn relay_through<
     requires idle { E.idle putter × F.idle taker }
     requires fresh { ((E.end putter).list ≡ []) × ((F.end taker).list ≡ []) }
     requires fit { AllFit (E.end putter).ring.shape items.now }
-    ensures { IsRelayed (E.end putter).ring.shape items.now limits.puts limits.takes result.put result.calls result.full
+    ensures counted { IsRelayed (E.end putter).ring.shape items.now limits.puts limits.takes result.put result.calls
+        result.full
         result.taken.items result.takes result.empty result.closed }
+    ensures prefix { IsPrefix result.taken.items (take result.put items.now) }
+    ensures all { result.closed ≡ true → (result.put ≡ length items.now) × (result.taken.items ≡ items.now) }
+    ensures within { result.put ≤ length result.taken.items + capacity_of (E.end putter).ring.shape }
 {
     ring_law();
     whole_calls_count();
@@ -419,8 +423,6 @@ pub fn relay_flicker<
     ensures all { IfOk result (λ r. r.closed ≡ true → (r.put ≡ length items.now) × (r.taken.items ≡ items.now)) }
     ensures within { IfOk result (λ r. r.put ≤ length r.taken.items + capacity_of shape) }
 {
-    ring_law();
-    whole_calls_count();
     let (ring, start) = FlickerRing::new(alloc, shape)?;
     let taken = room_for(alloc, items, limits)?;
     let (putter, taker) = ring.ends(start, oracle_p, oracle_c);
@@ -452,8 +454,6 @@ pub fn relay_counter<R: Threads, A: Allocator + Copy, G: Gate + Sync>(
     ensures all { IfOk result (λ r. r.closed ≡ true → (r.put ≡ length items.now) × (r.taken.items ≡ items.now)) }
     ensures within { IfOk result (λ r. r.put ≤ length r.taken.items + capacity_of shape) }
 {
-    ring_law();
-    whole_calls_count();
     let (ring, start) = CounterRing::new(alloc, shape)?;
     let taken = room_for(alloc, items, limits)?;
     let (putter, taker) = ring.ends(start);

@@ -1,5 +1,5 @@
 -- A whole access of an end: two steps of its seat.
-use Rattle.std.proofs.Common.{◌≡◌, ℕ, Bool, Option, None, List, [], ◌∷◌, ◌++◌, refl, ap, sym, subst, ◌∙◌}
+use Rattle.std.proofs.Common.{◌≡◌, ℕ, Bool, true, false, Option, None, List, [], ◌∷◌, ◌++◌, refl, ap, sym, subst, ◌∙◌}
 use Rattle.atomic_table.specs.Table.{Me}
 use Rattle.bits_core.specs.declared.events.Side.{Side}
 use Rattle.bits_core.specs.declared.events.Bit.{Bit}
@@ -8,7 +8,8 @@ use Rattle.bits_core.specs.declared.events.Act.TheVariants.{ReadBegin, ReadEnd, 
 use Rattle.bits_core.specs.declared.events.Access.{Access}
 use Rattle.bits_core.specs.declared.events.Access.TheVariants.{Read, Write}
 use Rattle.bits_core.specs.declared.events.Event.{Event}
-use Rattle.bits_core.specs.Bits.{begun_access}
+use Rattle.bits_core.specs.Bits.{begun_access, other}
+use Rattle.bits_core.specs.declared.shapes.Shape.{Shape}
 use Rattle.bits_core.specs.History.{open_access}
 use Rattle.ring_seats.specs.Ring.{Ring, RingEnd}
 use Rattle.ring_seats.specs.declared.views.View.{View}
@@ -21,6 +22,17 @@ use Rattle.ring_seats.proofs.Moves.{list_of-mine, may_step-more, opened_by}
 -- an end by its ring, its side and what its seat knows
 abbrev pub end_at : Ring → Side → View → RingEnd
 end_at ring x v = record { ring = ring; side = x; list = list_of x v; known = v.known; loads = v.loads }
+
+-- what holds of an end that is of this side holds of its seat
+pub of_side :
+    (x : Side) (ring : Ring) (y : Side) (v : View) {e : RingEnd} → end_at ring y v ≡ e → e.side ≡ x → may_step y v ≡ true → may_step (other y) v ≡ false →
+    (F : Shape → List Event → Type 0) → F e.ring.shape e.list → (may_step x v ≡ true) × (may_step (other x) v ≡ false) × F ring.shape (list_of x v)
+of_side x ring y v {e} is side may may_not F has =
+    let here : y ≡ x = ap (λ (z : RingEnd). z.side) is ∙ side in (
+      subst (λ (s : Side). may_step s v ≡ true) here may,
+      subst (λ (s : Side). may_step (other s) v ≡ false) here may_not,
+      subst (λ (s : Side). F ring.shape (list_of s v)) here (subst (λ (z : RingEnd). F z.ring.shape z.list) (sym is) has),
+    )
 
 pub grows : (ring : Ring) (x : Side) (e : Event) (got : ℕ) (v w : View) → w ≡ and_event x e got v → Stands ring.shape x (list_of x w) w.known → Grows (end_at ring x v) (end_at ring x w) e
 grows ring x e got v w is stands = record {

@@ -127,6 +127,34 @@ row_spared x bits made f s is i = spared_bits (row_bit x) made bits s i ∙ is i
 pub row_both : (x : Side) (bits : Bit → Bool) (xs ys : List Made) (f : ℕ → Bool) → RowIs x (after (after bits xs) ys) f → RowIs x (after bits (xs ++ ys)) f
 row_both x bits xs ys f is i = after-append xs ys bits (row_bit x i) ∙ is i
 
+-- ---- a side's list goes on
+
+module _ (x : Side) (list : List Event) (prog : List Made) (list_is : list ≡ events_of x prog) where
+  list_on : (a : List Made) → list ++ events_of x a ≡ events_of x (prog ++ a)
+  list_on a = ap (λ (l : List Event). l ++ events_of x a) list_is ∙ sym (events_of-append x prog a)
+
+  -- what was made begins a program that has it
+  pub begins : (a rest program : List Made) → program ≡ prog ++ (a ++ rest) → IsPrefix (list ++ events_of x a) (events_of x program)
+  begins a rest program e = (
+    events_of x rest,
+    ap (λ (l : List Event). l ++ events_of x rest) (list_on a) ∙ (sym (events_of-append x (prog ++ a) rest) ∙ ap (events_of x) (append_assoc prog a rest ∙ sym e)),
+  )
+
+  -- and where nothing is left it is that program's
+  pub makes : (a program : List Made) (now : List Event) → program ≡ prog ++ a → now ≡ list ++ events_of x a → now ≡ events_of x program
+  makes a program now e is = is ∙ (list_on a ∙ ap (events_of x) (sym e))
+
+-- behind accesses that spare its own count a side counts items
+module _ (shape : Shape) (x : Side) (list now : List Event) (a : List Made) (c : Count) (is : now ≡ list ++ events_of x a) (spares : Spares (row_bit x) a) (row : RowIs x (value_left list) c.bits)
+    (items : List ℕ) (new : ℕ) (next : new ≡ number_past c.number items % modulus_of shape) where
+  row_now : RowIs x (value_left now) c.bits
+  row_now i = ap (λ (l : List Event). value_left l (row_bit x i)) is ∙ (left_by-made x a list (row_bit x i) ∙ row_spared x (value_left list) a c.bits spares row i)
+
+  pub counted : now ++ events_of x (unary_over x now new) ≡ list ++ events_of x (a ++ batch_phrase shape x c items)
+  counted =
+      (λ i. is i ++ events_of x (writes_in (row_bit x) (unary_phrase (λ (k : ℕ). row_now k i) (next i)))) ∙
+      (append_assoc list (events_of x a) (events_of x (batch_phrase shape x c items)) ∙ ap (λ (l : List Event). list ++ l) (sym (events_of-append x a (batch_phrase shape x c items))))
+
 module _ (shape : Shape) where
   row_put : (bits : Bit → Bool) (c : Count) (x : Put) → RowIs P bits c.bits → RowIs P (after bits (put_phrase shape c x)) (stored_after shape c x).bits
   row_put bits c (Stored seen items) is =
@@ -165,29 +193,15 @@ module _ (laws : LawsBelow) (shape : Shape) (list : List Event) (calls : Puts) (
   more : (x : Put) → IsPut shape c_of.number x → HasPutMore shape calls x
   more x is = laws.one_put shape calls x has.are opened is
 
-  joined : (a rest : List Made) → (list ++ events_of P a) ++ events_of P rest ≡ events_of P (prog ++ (a ++ rest))
-  joined a rest =
-      ap (λ (l : List Event). (l ++ events_of P a) ++ events_of P rest) has.list_is ∙
-      (ap (λ (l : List Event). l ++ events_of P rest) (sym (events_of-append P prog a)) ∙
-      (sym (events_of-append P (prog ++ a) rest) ∙ ap (events_of P) (append_assoc prog a rest)))
-
   -- what was made goes on to a put
   goes : (x : Put) (a rest : List Made) → IsPut shape c_of.number x → put_phrase shape c_of x ≡ a ++ rest → Follows shape P (list ++ events_of P a)
-  goes x a rest is phrase = (
-    and_put calls x,
-    (more x is).are,
-    (
-      events_of P rest,
-      joined a rest ∙ ap (events_of P) (ap (λ (l : List Made). prog ++ l) (sym phrase) ∙ sym (more x is).program_is),
-    ),
-  )
+  goes x a rest is phrase =
+      (and_put calls x, (more x is).are, begins P list prog has.list_is a rest (put_program shape (and_put calls x)) ((more x is).program_is ∙ ap (λ (l : List Made). prog ++ l) phrase))
 
   -- a whole put
   whole : (x : Put) (now : List Event) → IsPut shape c_of.number x → now ≡ list ++ events_of P (put_phrase shape c_of x) → HasPuts shape now (and_put calls x)
-  whole x now is e = record {
-    are = (more x is).are;
-    list_is = e ∙ (ap (λ (l : List Event). l ++ events_of P (put_phrase shape c_of x)) has.list_is ∙ (sym (events_of-append P prog (put_phrase shape c_of x)) ∙ ap (events_of P) (sym (more x is).program_is)));
-  }
+  whole x now is e =
+      record { are = (more x is).are; list_is = makes P list prog has.list_is (put_phrase shape c_of x) (put_program shape (and_put calls x)) now (more x is).program_is e }
 
   abbrev scan_of : ℕ → List Made
   scan_of seen = scan_phrase (row_read_by P) seen
@@ -227,19 +241,9 @@ module _ (laws : LawsBelow) (shape : Shape) (list : List Event) (calls : Puts) (
       list2_is : list2 ≡ list ++ events_of P before
       list2_is = second ∙ two list1 first
 
-      row_now : RowIs P (value_left list2) c_of.bits
-      row_now i =
-          ap (λ (l : List Event). value_left l (row_bit P i)) list2_is ∙
-          (left_by-made P before list (row_bit P i) ∙
-          row_spared P (value_left list) before c_of.bits (spares-append (row_bit P) (scan_of seen) words (scan_spares (row_bit P) (row_read_by P) seen) (words_spare shape c_of.number items)) (putter_row shape list calls has) i)
-
-      count_is : unary_over P list2 new ≡ batch_phrase shape P c_of items
-      count_is i = writes_in (row_bit P) (unary_phrase (λ (k : ℕ). row_now k i) (next i))
-
       phrase_is : list2 ++ events_of P (unary_over P list2 new) ≡ list ++ events_of P (put_phrase shape c_of (Stored seen items))
-      phrase_is =
-          (λ i. list2_is i ++ events_of P (count_is i)) ∙
-          (append_assoc list (events_of P before) (events_of P (batch_phrase shape P c_of items)) ∙ ap (λ (l : List Event). list ++ l) (sym (events_of-append P before (batch_phrase shape P c_of items))))
+      phrase_is = counted shape P list list2 before c_of list2_is (spares-append (row_bit P) (scan_of seen) words (scan_spares (row_bit P) (row_read_by P) seen) (words_spare shape c_of.number items))
+          (putter_row shape list calls has) items new next
 
       pub can_count : Follows shape P (list2 ++ events_of P (unary_over P list2 new))
       can_count = subst (Follows shape P) (sym phrase_is) (goes (Stored seen items) (put_phrase shape c_of (Stored seen items)) [] is (sym (append-nil (put_phrase shape c_of (Stored seen items)))))
@@ -249,8 +253,7 @@ module _ (laws : LawsBelow) (shape : Shape) (list : List Event) (calls : Puts) (
 
   -- the close
   closed_list : list ++ events_of P (Write X true ∷ []) ≡ events_of P (put_program shape (and_close calls))
-  closed_list =
-      ap (λ (l : List Event). l ++ events_of P (Write X true ∷ [])) has.list_is ∙ (sym (events_of-append P prog (Write X true ∷ [])) ∙ ap (events_of P) (sym (laws.one_close shape calls opened)))
+  closed_list = makes P list prog has.list_is (Write X true ∷ []) (put_program shape (and_close calls)) (list ++ events_of P (Write X true ∷ [])) (laws.one_close shape calls opened) refl
 
   pub to_close : Follows shape P (list ++ events_of P (Write X true ∷ []))
   to_close = (and_close calls, has.are, ([], append-nil (list ++ events_of P (Write X true ∷ [])) ∙ closed_list))

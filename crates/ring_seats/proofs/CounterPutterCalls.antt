@@ -19,7 +19,7 @@ use Rattle.ring_seats.specs.Steppers.{IsSameEnd, StandsAs}
 use Rattle.ring_seats.specs.Rule.{Stands}
 use Rattle.ring_seats.specs.Calls.{HasPuts}
 use Rattle.ring_seats.specs.Counters.{GrowsBy, unary_over}
-use Rattle.ring_seats.specs.CounterEnds.{PutterList, put_of, PutMade, PutKept}
+use Rattle.ring_seats.specs.CounterEnds.{CountedList, PutterList, put_of, PutMade, PutKept}
 use Rattle.ring_seats.proofs.Blocks.{follows_shorter, events_of-append}
 use Rattle.ring_seats.proofs.CounterPuts.{length-first, first_all, first_fit, past_is, words_same, words_more, words_begin, can_scan, full_is, can_store, can_count, stored_is}
 
@@ -213,26 +213,32 @@ stands_still n k size is = is ∙ (sym (mod-mod k size) ∙ (ap (λ (j : ℕ). j
     plus : n ≡ n + 0
     plus = omega arith
 
+-- so many items more
+pub counted_on :
+    (x : Side) (Has Has' : Shape → List Event → Type 0) (number number' : Shape → ℕ) (a b : RingEnd) (count cell more : ℕ) → CountedList x Has number a count cell → IsSameEnd a b → StandsAs x b →
+    Has' b.ring.shape b.list → number' b.ring.shape ≡ number b.ring.shape + more → (next next' : ℕ) → next ≡ (count + more) % modulus_of a.ring.shape → next' ≡ (cell + more) % capacity_of a.ring.shape →
+    CountedList x Has' number' b next next'
+counted_on x Has Has' number number' a b count cell more p same stands has counts next next' is is' = record {
+  side_is = same.side ∙ p.side_is;
+  stands = stands;
+  has = has;
+  count_is = at_size (λ s. modulus_of s) next count is p.count_is;
+  cell_is = at_size (λ s. capacity_of s) next' cell is' p.cell_is;
+}
+  where
+    at_size : (size : Shape → ℕ) (new old : ℕ) → new ≡ (old + more) % size a.ring.shape → old ≡ number a.ring.shape % size a.ring.shape → new ≡ number' b.ring.shape % size b.ring.shape
+    at_size size new old e was =
+        e ∙ (ap (λ (k : ℕ). (k + more) % size a.ring.shape) was ∙ (mod-add-mod (number a.ring.shape) (size a.ring.shape) more ∙
+        (ap (λ (s : Shape). (number s + more) % size s) (sym (same_shape a b same)) ∙ ap (λ (k : ℕ). k % size b.ring.shape) (sym counts))))
+
 pub kept : (a b : RingEnd) (count cell : ℕ) (items : List ℕ) (calls : Puts) (most : ℕ) → PutterList a count cell calls → PutMade a b calls items most → (next next' : ℕ)
     → next ≡ (count + most) % modulus_of a.ring.shape → next' ≡ (cell + most) % capacity_of a.ring.shape → PutKept a b next next' calls items most
 kept a b count cell items calls most p m next next' is is' =
-    let shape_is : a.ring.shape ≡ b.ring.shape = sym (same_shape a b m.same) in
-    record {
+    let after = and_put calls (put_of most m.seen items) in record {
       made = m;
-      at = record {
-        side_is = m.same.side ∙ p.side_is;
-        stands = m.stands;
-        has = m.has;
-        count_is = at_size (λ s. modulus_of s) next count is p.count_is shape_is;
-        cell_is = at_size (λ s. capacity_of s) next' cell is' p.cell_is shape_is;
-      };
+      at = counted_on P (λ (s : Shape) (l : List Event). HasPuts s l calls) (λ (s : Shape) (l : List Event). HasPuts s l after) (λ (s : Shape). (count_of s calls).number) (λ (s : Shape). (count_of s after).number)
+          a b count cell most p m.same m.stands m.has m.number next next' is is';
     }
-  where
-    at_size : (size : Shape → ℕ) (new old : ℕ) → new ≡ (old + most) % size a.ring.shape → old ≡ (count_of a.ring.shape calls).number % size a.ring.shape → a.ring.shape ≡ b.ring.shape
-        → new ≡ (count_of b.ring.shape (and_put calls (put_of most m.seen items))).number % size b.ring.shape
-    at_size size new old e was same =
-        e ∙ (ap (λ (k : ℕ). (k + most) % size a.ring.shape) was ∙ (mod-add-mod (count_of a.ring.shape calls).number (size a.ring.shape) most ∙
-        ((λ i. ((count_of (same i) calls).number + most) % size (same i)) ∙ ap (λ (k : ℕ). k % size b.ring.shape) (sym m.number))))
 
 -- the same, of a put that found the ring full
 pub kept_full : (a b : RingEnd) (count cell : ℕ) (items : List ℕ) (calls : Puts) → PutterList a count cell calls → PutMade a b calls items 0 → PutKept a b count cell calls items 0

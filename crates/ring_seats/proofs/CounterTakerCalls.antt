@@ -22,13 +22,12 @@ use Rattle.ring_seats.specs.Below.{LawsBelow}
 use Rattle.ring_seats.specs.Ring.{RingEnd}
 use Rattle.ring_seats.specs.Programs.{Follows}
 use Rattle.ring_seats.specs.Steppers.{IsSameEnd, StandsAs}
-use Rattle.ring_seats.specs.Rule.{Stands}
 use Rattle.ring_seats.specs.Calls.{HasTakes, closed_reply}
 use Rattle.ring_seats.specs.Counters.{GrowsBy, unary_over}
 use Rattle.ring_seats.specs.CounterEnds.{TakerList, TakeMade, TakeKept, HasFound, LookMade, HasLooked}
 use Rattle.ring_seats.proofs.Blocks.{follows_shorter, events_of-append}
 use Rattle.ring_seats.proofs.CounterPuts.{past_is}
-use Rattle.ring_seats.proofs.CounterPutterCalls.{same_shape, same_end, stands_as, stands_still}
+use Rattle.ring_seats.proofs.CounterPutterCalls.{counted_on, same_shape, same_end, stands_as, stands_still}
 use Rattle.ring_seats.proofs.CounterTakes.{take_of, take_of-takes, take_of-items, take_of-replies, reads_same, take_more, whole_take, whole_end, can_scan, can_ask, can_rescan, can_read, can_count, is_take, taken_is}
 
 -- ---- a take that is over
@@ -317,21 +316,9 @@ pub kept_take :
     TakeKept a b next next' calls wanted r items
 kept_take a b count cell calls wanted r items p m next next' is is' = record {
   made = m;
-  at = record {
-    side_is = m.same.side ∙ p.side_is;
-    stands = m.stands;
-    has = m.has;
-    count_is = at_size (λ s. modulus_of s) next count is p.count_is;
-    cell_is = at_size (λ s. capacity_of s) next' cell is' p.cell_is;
-  };
+  at = counted_on C (λ (s : Shape) (l : List Event). HasTakes s l calls) (λ (s : Shape) (l : List Event). HasTakes s l m.more) (λ (s : Shape). (count_taken s calls).number) (λ (s : Shape). (count_taken s m.more).number)
+      a b count cell (length items) p m.same m.stands m.has m.number next next' is is';
 }
-  where
-    at_size :
-        (size : Shape → ℕ) (new old : ℕ) → new ≡ (old + length items) % size a.ring.shape → old ≡ (count_taken a.ring.shape calls).number % size a.ring.shape →
-        new ≡ (count_taken b.ring.shape m.more).number % size b.ring.shape
-    at_size size new old e was =
-        e ∙ (ap (λ (k : ℕ). (k + length items) % size a.ring.shape) was ∙ (mod-add-mod (count_taken a.ring.shape calls).number (size a.ring.shape) (length items) ∙
-        (ap (λ (s : Shape). ((count_taken s calls).number + length items) % size s) (sym (same_shape a b m.same)) ∙ ap (λ (n : ℕ). n % size b.ring.shape) (sym m.number))))
 
 -- the same, of a take that brought nothing
 pub kept_none :

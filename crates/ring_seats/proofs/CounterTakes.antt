@@ -11,8 +11,7 @@ use Rattle.bits_core.specs.declared.events.Event.{Event}
 use Rattle.bits_core.specs.Shape.{capacity_of, modulus_of, width_of}
 use Rattle.bits_core.specs.Bits.{first_value}
 use Rattle.bits_core.specs.Made.{Made, Read, events_of}
-use Rattle.register_core.specs.Row.{row_bit, writes_in}
-use Rattle.register_core.specs.Unary.{unary_phrase}
+use Rattle.register_core.specs.Row.{row_bit}
 use Rattle.register_core.specs.Word.{digit, digit_reads, word_read}
 use Rattle.register_core.specs.ScanState.{scan_phrase, row_read_by}
 use Rattle.ring_core.specs.Counts.{distance, ShowsItem, number_past, Count, first_count, count_bits, batch_phrase}
@@ -24,9 +23,9 @@ use Rattle.ring_seats.specs.Below.{LawsBelow}
 use Rattle.ring_seats.specs.Programs.{Follows}
 use Rattle.ring_seats.specs.Calls.{HasTakes}
 use Rattle.ring_seats.specs.Counters.{value_left, unary_over}
-use Rattle.ring_seats.proofs.Blocks.{after, left_by-made, events_of-append}
+use Rattle.ring_seats.proofs.Blocks.{after, left_by-made}
 use Rattle.ring_seats.proofs.LastWrites.{Spares, spares-append, row_written, row_tells}
-use Rattle.ring_seats.proofs.CounterPuts.{RowIs, scan_spares, first_row, row_spared, row_both}
+use Rattle.ring_seats.proofs.CounterPuts.{RowIs, begins, counted, makes, scan_spares, first_row, row_spared, row_both}
 
 -- ---- a take that found items
 
@@ -151,38 +150,24 @@ module _ (laws : LawsBelow) (shape : Shape) (list : List Event) (calls : Takes) 
   end_more : (seen again : ℕ) → SeesNone shape k_of seen → SeesNone shape k_of again → HasEndMore shape calls seen again
   end_more seen again none none' = laws.one_end shape calls seen again has.are opened none none'
 
-  more : (a : List Made) → list ++ events_of C a ≡ events_of C (prog ++ a)
-  more a = ap (λ (l : List Event). l ++ events_of C a) has.list_is ∙ sym (events_of-append C prog a)
-
-  joined : (a rest : List Made) → (list ++ events_of C a) ++ events_of C rest ≡ events_of C (prog ++ (a ++ rest))
-  joined a rest = ap (λ (l : List Event). l ++ events_of C rest) (more a) ∙ (sym (events_of-append C (prog ++ a) rest) ∙ ap (events_of C) (append_assoc prog a rest))
-
   -- what was made goes on to a take, or to the one that is told
   goes : (x : Take) (a rest : List Made) → IsTake shape k_of x → take_phrase shape c_of x ≡ a ++ rest → Follows shape C (list ++ events_of C a)
-  goes x a rest is phrase = (
-    and_take calls x,
-    (take_more x is).are,
-    (
-      events_of C rest,
-      joined a rest ∙ ap (events_of C) (ap (λ (l : List Made). prog ++ l) (sym phrase) ∙ sym (take_more x is).program_is),
-    ),
-  )
+  goes x a rest is phrase =
+      (and_take calls x, (take_more x is).are, begins C list prog has.list_is a rest (take_program shape (and_take calls x)) ((take_more x is).program_is ∙ ap (λ (l : List Made). prog ++ l) phrase))
 
   tells_so : (seen again : ℕ) (a rest : List Made) → SeesNone shape k_of seen → SeesNone shape k_of again → end_phrase (Closed seen again) ≡ a ++ rest → Follows shape C (list ++ events_of C a)
-  tells_so seen again a rest none none' phrase = (
-    and_end calls seen again,
-    (end_more seen again none none').are,
-    (
-      events_of C rest,
-      joined a rest ∙ ap (events_of C) (ap (λ (l : List Made). prog ++ l) (sym phrase) ∙ sym (end_more seen again none none').program_is),
-    ),
-  )
+  tells_so seen again a rest none none' phrase =
+      let m = end_more seen again none none' in
+      (and_end calls seen again, m.are, begins C list prog has.list_is a rest (take_program shape (and_end calls seen again)) (m.program_is ∙ ap (λ (l : List Made). prog ++ l) phrase))
 
   pub whole_take : (x : Take) (now : List Event) → IsTake shape (count_taken shape calls).number x → now ≡ list ++ events_of C (take_phrase shape (count_taken shape calls) x) → HasTakes shape now (and_take calls x)
-  whole_take x now is e = record { are = (take_more x is).are; list_is = e ∙ (more (take_phrase shape c_of x) ∙ ap (events_of C) (sym (take_more x is).program_is)) }
+  whole_take x now is e =
+      record { are = (take_more x is).are; list_is = makes C list prog has.list_is (take_phrase shape c_of x) (take_program shape (and_take calls x)) now (take_more x is).program_is e }
 
   pub whole_end : (seen again : ℕ) (now : List Event) → SeesNone shape (count_taken shape calls).number seen → SeesNone shape (count_taken shape calls).number again → now ≡ list ++ events_of C (end_phrase (Closed seen again)) → HasTakes shape now (and_end calls seen again)
-  whole_end seen again now none none' e = record { are = (end_more seen again none none').are; list_is = e ∙ (more (end_phrase (Closed seen again)) ∙ ap (events_of C) (sym (end_more seen again none none').program_is)) }
+  whole_end seen again now none none' e =
+      let m = end_more seen again none none' in
+      record { are = m.are; list_is = makes C list prog has.list_is (end_phrase (Closed seen again)) (take_program shape (and_end calls seen again)) now m.program_is e }
 
   -- one item may be taken where the count shows some
   one_shown : (c : ℕ) → c < modulus_of shape → ShowsItem shape c (k_of % modulus_of shape) → SeesItems shape k_of c 1
@@ -228,19 +213,10 @@ module _ (laws : LawsBelow) (shape : Shape) (list : List Event) (calls : Takes) 
         (take_of-phrase shape c_of look items ∙ sym (append_assoc (finding_phrase look) words (batch_phrase shape C c_of items)))
 
     module _ (now : List Event) (e : now ≡ list ++ events_of C (finding_phrase look ++ words_read shape (count_taken shape calls).number items)) (new : ℕ) (next : new ≡ number_past (count_taken shape calls).number items % modulus_of shape) where
-      row_now : RowIs C (value_left now) c_of.bits
-      row_now i =
-          ap (λ (l : List Event). value_left l (row_bit C i)) e ∙
-          (left_by-made C made list (row_bit C i) ∙
-          row_spared C (value_left list) made c_of.bits
-          (spares-append (row_bit C) (finding_phrase look) words (look_spares look) (reads_spare shape k_of items)) (taker_row shape list calls has) i)
-
       phrase_is : now ++ events_of C (unary_over C now new) ≡ list ++ events_of C (take_phrase shape c_of (take_of look items))
       phrase_is =
-          (λ i. e i ++ events_of C (writes_in (row_bit C) (unary_phrase (λ (n : ℕ). row_now n i) (next i)))) ∙
-          (append_assoc list (events_of C made) (events_of C (batch_phrase shape C c_of items)) ∙
-          (ap (λ (l : List Event). list ++ l) (sym (events_of-append C made (batch_phrase shape C c_of items))) ∙
-          ap (λ (l : List Made). list ++ events_of C l) (append_assoc (finding_phrase look) words (batch_phrase shape C c_of items) ∙ sym (take_of-phrase shape c_of look items))))
+          counted shape C list now made c_of e (spares-append (row_bit C) (finding_phrase look) words (look_spares look) (reads_spare shape k_of items)) (taker_row shape list calls has) items new next ∙
+          ap (λ (l : List Made). list ++ events_of C l) (append_assoc (finding_phrase look) words (batch_phrase shape C c_of items) ∙ sym (take_of-phrase shape c_of look items))
 
       pub can_count : Follows shape C (now ++ events_of C (unary_over C now new))
       can_count = subst (Follows shape C) (sym phrase_is) (goes (take_of look items) (take_phrase shape c_of (take_of look items)) [] is_take.0 (sym (append-nil (take_phrase shape c_of (take_of look items)))))

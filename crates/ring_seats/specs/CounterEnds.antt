@@ -1,6 +1,9 @@
 -- What the two ends of a counter ring remember of their calls, and what a call of theirs comes to.
 use Rattle.std.specs.Prelude.{◌≡◌, ℕ, zero, suc, ◌+◌, ◌%◌, ◌≤◌, Bool, Some, List, [], ◌++◌, length, take}
+use Rattle.bits_core.specs.declared.events.Event.{Event}
+use Rattle.bits_core.specs.declared.events.Side.{Side}
 use Rattle.bits_core.specs.declared.events.Side.TheVariants.{P, C}
+use Rattle.bits_core.specs.declared.shapes.Shape.{Shape}
 use Rattle.bits_core.specs.Shape.{capacity_of, modulus_of, take_batch_of}
 use Rattle.bits_core.specs.Made.{events_of}
 use Rattle.ring_core.specs.Puts as puts
@@ -18,15 +21,18 @@ use Rattle.ring_seats.specs.Ring.{RingEnd}
 use Rattle.ring_seats.specs.Steppers.{IsSameEnd, StandsAs}
 use Rattle.ring_seats.specs.Calls.{HasPuts, HasTakes, IsTakeReply, closed_reply}
 
+-- the end's list is that of whole calls, which leave so many items counted by a shape, and the count and the cell are theirs
+pub record CountedList (x : Side) (Has : Shape → List Event → Type 0) (number : Shape → ℕ) (e : RingEnd) (count cell : ℕ) : Type 0 where
+  pub side_is : e.side ≡ x
+  pub stands : StandsAs x e
+  pub has : Has e.ring.shape e.list
+  pub count_is : count ≡ number e.ring.shape % modulus_of e.ring.shape
+  pub cell_is : cell ≡ number e.ring.shape % capacity_of e.ring.shape
+
 -- ---- the producer's end
 
--- the end's list is that of these whole calls, and the count and the cell are theirs
-pub record PutterList (e : RingEnd) (count cell : ℕ) (calls : Puts) : Type 0 where
-  pub side_is : e.side ≡ P
-  pub stands : StandsAs P e
-  pub has : HasPuts e.ring.shape e.list calls
-  pub count_is : count ≡ (count_of e.ring.shape calls).number % modulus_of e.ring.shape
-  pub cell_is : cell ≡ (count_of e.ring.shape calls).number % capacity_of e.ring.shape
+abbrev pub PutterList : RingEnd → (count cell : ℕ) → Puts → Type 0
+PutterList e count cell calls = CountedList P (λ (s : Shape) (list : List Event). HasPuts s list calls) (λ (s : Shape). (count_of s calls).number) e count cell
 
 abbrev pub IsPutterList : RingEnd → ℕ → ℕ → Bool → Type 0
 IsPutterList e count cell closed = (calls : Puts) × PutterList e count cell calls × (closed ≡ calls.closes)
@@ -53,13 +59,8 @@ pub record PutKept (a b : RingEnd) (count cell : ℕ) (calls : Puts) (items : Li
 
 -- ---- the consumer's end
 
--- the end's list is that of these whole calls, and the count and the cell are theirs
-pub record TakerList (e : RingEnd) (count cell : ℕ) (calls : Takes) : Type 0 where
-  pub side_is : e.side ≡ C
-  pub stands : StandsAs C e
-  pub has : HasTakes e.ring.shape e.list calls
-  pub count_is : count ≡ (takes.count_taken e.ring.shape calls).number % modulus_of e.ring.shape
-  pub cell_is : cell ≡ (takes.count_taken e.ring.shape calls).number % capacity_of e.ring.shape
+abbrev pub TakerList : RingEnd → (count cell : ℕ) → Takes → Type 0
+TakerList e count cell calls = CountedList C (λ (s : Shape) (list : List Event). HasTakes s list calls) (λ (s : Shape). (takes.count_taken s calls).number) e count cell
 
 abbrev pub IsTakerList : RingEnd → ℕ → ℕ → Bool → Type 0
 IsTakerList e count cell told = (calls : Takes) × TakerList e count cell calls × (told ≡ ends_closed calls.end)

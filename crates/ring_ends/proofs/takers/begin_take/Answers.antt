@@ -15,11 +15,11 @@ returns-then-is_none c = record {
       let m = c.args.machine.now in
       let over : c.next.result ≡ None = search rules in
       let rests = (c.next.ensures.rest calls made at over).0 in
-      let one : wants_next (is_taking m) m.wanted 1 ≡ 1 = ap (λ t. wants_next t m.wanted 1) rests in
+      let one : wants_next (is_taking m) m.wanted c.args.most ≡ c.args.most = ap (λ t. wants_next t m.wanted c.args.most) rests in
       let none : due_take m ≡ None = sym c.next.ensures.due ∙ over in (
-        c.take.ensures.shape,
-        c.take.ensures.stands calls made at,
-        split m.told (λ new. ((((c.take.ensures.begun new).0, (c.take.ensures.begun new).1 ∙ sym one)), inr (none, rests)))
-            (λ told. let e = c.take.ensures.refused told in (ap is_taking e ∙ rests, rests, none, (sym at.told_is ∙ told, ap (λ (x : ConsumerState). x.reply) e))),
+        c.take_all.ensures.shape,
+        c.take_all.ensures.stands calls made at,
+        split m.told (λ new. ((((c.take_all.ensures.begun new).0, (c.take_all.ensures.begun new).1 ∙ sym one)), inr (none, rests)))
+            (λ told. let e = c.take_all.ensures.refused told in (ap is_taking e ∙ rests, rests, none, (sym at.told_is ∙ told, ap (λ (x : ConsumerState). x.reply) e))),
       );
 }

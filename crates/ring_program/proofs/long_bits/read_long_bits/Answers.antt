@@ -1,7 +1,6 @@
-use Rattle.std.proofs.Common.{rules, arith, ◌≡◌, ◌≢◌, ◌≤◌, ◌+◌, ◌-◌, ◌^◌, length-append, ℕ, zero, suc, List, [], ◌++◌, Option, Some, None, Result, Ok, Err, IfErr, IfSome, inr, subst, sym, refl, take, length, append_assoc}
+use Rattle.std.proofs.Common.{rules, ◌≡◌, ℕ, List, [], Result, Ok, Err, IfErr, inr, subst, sym, refl, append_assoc}
 use Rattle.std.specs.Result.{IsErrAnd}
 use Rattle.std.proofs.KnownBytes.{Consumes-nil, Consumes-trans, Consumes-whole}
-use Rattle.std.proofs.lemmas.List.{append-nil, length-take-le}
 use Rattle.std.specs.Io.KnownBytes.{Consumes}
 use Rattle.bits_core.specs.Trace.{RefusesTraceText}
 use Rattle.bits_core.specs.declared.audits.Verdict.{Verdict}
@@ -9,31 +8,14 @@ use Rattle.bits_core.specs.declared.traces.TraceFault.{TraceFault}
 use Rattle.ring_program.specs.Answers.{IsLongBitsCause}
 use Rattle.ring_program.specs.declared.faults.Refusal.{Refusal}
 use Rattle.ring_program.specs.declared.faults.Refusal.TheVariants as refusal
+use Rattle.ring_program.proofs.ReadingLemmas.{all_turns, none_more, of_front, one_more}
 use Rattle.ring_program.proofs.long_bits.read_long_bits.Goals as goal
-
--- what holds of the bytes that came, whatever comes behind them, holds of the input
-of_front : (before after : Option (List ℕ)) (came : List ℕ) (P : List ℕ → Type 0) → Consumes before after came → ((more : List ℕ) → P (came ++ more)) → IfSome before P
-of_front None after came P same holds = tt
-of_front (Some bytes) None came P same holds = absurd same
-of_front (Some bytes) (Some rest) came P same holds = subst P (sym same) (holds rest)
-
-none_more : (count : ℕ) (piece came : List ℕ) → count ≡ 0 → came ++ take count piece ≡ came
-none_more zero piece came same = append-nil came
-none_more (suc count) piece came same = cc
 
 -- a fault of the text, of these bytes
 told : (result : Result Verdict Refusal) (fault : TraceFault) (bytes : List ℕ) → IsErrAnd result (λ e. e ≡ refusal.Trace fault) → RefusesTraceText bytes fault → IfErr result (IsLongBitsCause bytes)
 unfolding IsLongBitsCause
 told (Ok verdict) fault bytes is refuses = tt
 told (Err e) fault bytes is refuses = inr (inr (fault, is, refuses))
-
--- a piece that is not empty makes the bytes more
-one_more : (turns count : ℕ) (came piece : List ℕ) → turns ≤ length came → count ≢ 0 → count ≤ length piece → turns + 1 ≤ length (came ++ take count piece)
-one_more turns count came piece before some within = omega (arith, before, some, within, length-append came (take count piece), length-take-le count piece within)
-
--- so many turns have read so many bytes
-all_turns : (turns : ℕ) (came more : List ℕ) → turns ≤ length came → 18446744073709551615 ≤ turns → 2 ^ 64 - 1 ≤ length (came ++ more)
-all_turns turns came more read over = omega (arith, read, over, length-append came more)
 
 pub loop-init : goal.loop-init
 loop-init g c = ([], Consumes-nil _, c.new-audit.ensures, search rules)

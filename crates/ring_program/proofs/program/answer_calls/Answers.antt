@@ -1,8 +1,18 @@
-use Rattle.ring_program.proofs.Endings.{ends_calls}
+use Rattle.ring_program.proofs.Endings.{ends_on, status_on}
+use Rattle.ring_program.specs.Faults.{Gains}
+use Rattle.ring_program.specs.declared.command_line.Request.TheVariants.{Calls}
 use Rattle.ring_program.proofs.program.answer_calls.Goals as goal
 
 pub returns-clause-asked : goal.returns-clause-asked
 returns-clause-asked g c =
-    let done = c.conclude_on.ensures in
-    ends_calls c.args.stop _ _ _ _ c.calls_out-ended.result c.conclude_on.result.status c.calls_out-ended.ensures.answered c.calls_out-ended.ensures.refused
-    (record { ok = done.ok; told = done.told; err = done.err; refused = done.refused })
+    let calls = c.calls_answer-answered in
+    ends_on (Calls c.args.stop) _ _ _ (Gains (g.E.Write.contents c.args.err.now) (g.E.Write.contents c.deliver.new.err) c.deliver.result.is_told)
+    calls.result c.deliver.result.status calls.ensures.answered calls.ensures.refused
+    (record { delivered = c.deliver.ensures.delivered; declined = c.deliver.ensures.declined })
+
+pub returns-clause-statuses : goal.returns-clause-statuses
+returns-clause-statuses g c =
+    let calls = c.calls_answer-answered in
+    status_on (Calls c.args.stop) _ _ (Gains (g.E.Write.contents c.args.err.now) (g.E.Write.contents c.deliver.new.err) c.deliver.result.is_told)
+    calls.result c.deliver.result.status calls.ensures.ends
+    (record { delivered = c.deliver.ensures.delivered; declined = c.deliver.ensures.declined })

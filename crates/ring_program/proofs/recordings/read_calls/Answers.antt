@@ -1,50 +1,25 @@
-use Rattle.std.proofs.Common.{rules, arith, false, ◌≡◌, ◌≢◌, ◌≤◌, ◌+◌, ◌-◌, ◌^◌, length-append, ℕ, zero, suc, List, [], ◌++◌, Option, Some, None, Result, Ok, Err, IfErr, IfSome, inl, inr, subst, sym, refl, take, length, append_assoc}
+use Rattle.std.proofs.Common.{rules, false, ◌≡◌, ◌≢◌, ℕ, List, [], Option, Some, None, Result, Ok, Err, IfErr, IfSome, inl, inr, subst, sym, refl, append_assoc}
 use Rattle.std.specs.Result.{IsErrAnd}
 use Rattle.std.specs.Prelude.{MatchOption}
 use Rattle.std.proofs.lemmas.Option.{none-some, same_Some}
 use Rattle.std.proofs.KnownBytes.{Consumes-nil, Consumes-trans, Consumes-whole}
-use Rattle.std.proofs.lemmas.List.{append-nil, length-take-le}
 use Rattle.std.specs.Io.KnownBytes.{Consumes}
 use Rattle.queue_calls.specs.Recordings.{RefusesText}
 use Rattle.queue_calls.specs.declared.recordings.RecordingFault.{RecordingFault}
 use Rattle.ring_program.specs.Answers.{IsCallsCause}
 use Rattle.ring_program.specs.Readings.{IsFoundBy}
-use Rattle.ring_program.specs.declared.faults.AppFault.TheVariants as app
 use Rattle.ring_program.specs.declared.faults.Refusal.{Refusal}
 use Rattle.ring_program.specs.declared.faults.Refusal.TheVariants as refusal
 use Rattle.ring_program.specs.declared.recordings.CallsFound.{CallsFound}
 use Rattle.ring_program.proofs.FirstFaults.{nothing_is_faultless}
-use Rattle.ring_program.proofs.ReadingLemmas.{at_end, at_fault}
+use Rattle.ring_program.proofs.ReadingLemmas.{all_turns, at_end, at_fault, none_more, of_front, one_more}
 use Rattle.ring_program.proofs.recordings.read_calls.Goals as goal
-
--- what holds of the bytes that came, whatever comes behind them, holds of the input
-of_front : (before after : Option (List ℕ)) (came : List ℕ) (P : List ℕ → Type 0) → Consumes before after came → ((more : List ℕ) → P (came ++ more)) → IfSome before P
-of_front None after came P same holds = tt
-of_front (Some bytes) None came P same holds = absurd same
-of_front (Some bytes) (Some rest) came P same holds = subst P (sym same) (holds rest)
-
-none_more : (count : ℕ) (piece came : List ℕ) → count ≡ 0 → came ++ take count piece ≡ came
-none_more zero piece came same = append-nil came
-none_more (suc count) piece came same = cc
 
 -- a fault of the text, of these bytes
 told : (result : Result CallsFound Refusal) (fault : RecordingFault) (bytes : List ℕ) → IsErrAnd result (λ e. e ≡ refusal.Calls fault) → RefusesText fault bytes → IfErr result (IsCallsCause bytes)
 unfolding IsCallsCause
 told (Ok finding) fault bytes is refuses = tt
 told (Err e) fault bytes is refuses = inr (inr (fault, is, refuses))
-
--- a piece that is not empty makes the bytes more
-one_more : (turns count : ℕ) (came piece : List ℕ) → turns ≤ length came → count ≢ 0 → count ≤ length piece → turns + 1 ≤ length (came ++ take count piece)
-one_more turns count came piece before some within = omega (arith, before, some, within, length-append came (take count piece), length-take-le count piece within)
-
--- so many turns have read so many bytes
-all_turns : (turns : ℕ) (came more : List ℕ) → turns ≤ length came → 18446744073709551615 ≤ turns → 2 ^ 64 - 1 ≤ length (came ++ more)
-all_turns turns came more read over = omega (arith, read, over, length-append came more)
-
--- a fault of the text is no fault of the output
-not_written : (result : Result CallsFound Refusal) (fault : RecordingFault) → IsErrAnd result (λ e. e ≡ refusal.Calls fault) → IfErr result (λ e. e ≢ refusal.App app.WriteFailed)
-not_written (Ok finding) fault is = tt
-not_written (Err e) fault is = λ written. cc
 
 of_any : (input : Option (List ℕ)) (P : List ℕ → Type 0) → ((bytes : List ℕ) → P bytes) → IfSome input P
 of_any None P holds = tt
@@ -108,9 +83,3 @@ returns-clause-refused g c =
 pub returns-in-Err-clause-refused : goal.returns-in-Err-clause-refused
 unfolding IsCallsCause
 returns-in-Err-clause-refused g c = of_any _ _ (λ bytes. inr (inl refl))
-
-pub returns-in_err-found_at_end-clause-unwritten : goal.returns-in_err-found_at_end-clause-unwritten
-returns-in_err-found_at_end-clause-unwritten g c = not_written c.from_residual.result c.in_err-found_at_end.field-0.0 c.from_residual.ensures.1
-
-pub returns-in_err-finding-clause-unwritten : goal.returns-in_err-finding-clause-unwritten
-returns-in_err-finding-clause-unwritten g c = not_written c.from_residual-in_err-finding.result c.in_err-finding.field-0.0 c.from_residual-in_err-finding.ensures.1

@@ -1,6 +1,6 @@
 use Rattle.std.proofs.Common.{◌≡◌, ap, ◌∙◌, sym}
 use Rattle.ring_seats.specs.Ring.{Ring}
-use Rattle.ring_run.proofs.Relayed.{relayed, none_past}
+use Rattle.ring_run.proofs.Relayed.{relayed, relayed_all, relayed_prefix, relayed_within, none_past}
 use Rattle.ring_run.proofs.relays.relay_through.Goals as goal
 
 pub unreachable-requires : goal.unreachable-requires
@@ -20,4 +20,12 @@ returns g c =
     let shape = (g.E.PutEnd.end c.args.putter).ring.shape in
     let p_is : p.ring.shape ≡ shape = ap (λ (r : Ring). r.shape) f.same.0.ring in
     let t_is : t.ring.shape ≡ shape = ap (λ (r : Ring). r.shape) (f.same.1.ring ∙ sym c.requires.ring) in
-    relayed shape c.args.items.now c.args.limits.puts c.args.limits.takes o.put o.calls o.full o.taken.items o.takes o.empty o.closed p t p_is t_is c.finish-finished.result.history c.finish-finished.ensures.meets c.finish-finished.ensures.linearizable f.puts f.takes
+    let counted = relayed shape c.args.items.now c.args.limits.puts c.args.limits.takes o.put o.calls o.full o.taken.items o.takes o.empty o.closed p t p_is t_is c.finish-finished.result.history c.finish-finished.ensures.meets c.finish-finished.ensures.linearizable f.puts f.takes in
+    let law = c.ring_law.ensures in
+    let count = c.whole_calls_count.ensures in
+    record {
+      counted = counted;
+      prefix = relayed_prefix law.within law.prefix law.closed count.puts count.takes shape c.args.items.now c.args.limits.puts c.args.limits.takes o.put o.calls o.full o.taken.items o.takes o.empty o.closed counted;
+      all = relayed_all law.within law.prefix law.closed count.puts count.takes shape c.args.items.now c.args.limits.puts c.args.limits.takes o.put o.calls o.full o.taken.items o.takes o.empty o.closed counted;
+      within = relayed_within law.within law.prefix law.closed count.puts count.takes shape c.args.items.now c.args.limits.puts c.args.limits.takes o.put o.calls o.full o.taken.items o.takes o.empty o.closed counted;
+    }

@@ -1,48 +1,30 @@
 use Rattle.ring_core.specs.ProducerState.{Close}
 use Rattle.ring_ends.specs.Machines.{producing}
 use Rattle.ring_seats.specs.Steppers.{AreAnswered, IsAskedOnce}
-use Rattle.ring_ends.proofs.MachineCalls.{Step, same_step, step_few, step_lawful, step_stands}
-use Rattle.ring_ends.proofs.PutterCalls.{close_goes, close_one, close_over, is_over, put_invariant, put_laws, put_seen, put_step}
+use Rattle.ring_ends.proofs.MachineCalls.{Step, same_step, step_few, step_invariant, step_lawful, step_stands}
+use Rattle.ring_ends.proofs.PutterCalls.{close_goes, close_one, close_over, is_over, put_laws, put_seen, put_step}
 use Rattle.ring_ends.proofs.putters.Putter.step_close.Given.{Over}
-use Rattle.ring_ends.proofs.putters.Putter.step_close.Goals.{After-advance}
+use Rattle.ring_ends.proofs.putters.Putter.step_close.Goals.{After-step}
 use Rattle.ring_ends.proofs.putters.Putter.step_close.Goals as goal
 
 -- the call and the step
-abbrev step : (g : Over) (c : After-advance g) → Step producing Close
-step g c = put_step c.self.inside.oracle c.self.inside.stepper c.self.inside.machine c.self.inside.steps c.args.self.now c.self.view_is c.self.invariant Close c.begin_close.new.machine c.begin_close.ensures.begins c.advance.new.stepper c.advance.new.machine c.advance.ensures.rests c.advance.ensures.steps
-
-pub steps_behind-self-inside-requires-clause-stands : goal.steps_behind-self-inside-requires-clause-stands
-steps_behind-self-inside-requires-clause-stands g c = step_stands producing put_laws (step g (goal.at.steps_behind-self-inside-requires-clause-stands g c).After-advance)
+abbrev step : (g : Over) (c : After-step g) → Step producing Close
+step g c = put_step c.self.inside.oracle c.self.inside.stepper c.self.inside.machine c.self.inside.steps c.args.self.now c.self.view_is c.self.invariant Close c.begin_close.new.machine c.begin_close.ensures.begins c.step.new.stepper c.step.new.machine c.step.ensures.stepped
 
 pub invariant_of-self : goal.invariant_of-self
-invariant_of-self g c = put_invariant (step g (goal.at.invariant_of-self g c).After-advance) c.steps_behind-self-inside.result c.steps_behind-self-inside.ensures.rests c.steps_behind-self-inside.ensures.goes
+invariant_of-self g c = step_invariant producing put_laws (step g (goal.at.invariant_of-self g c).After-step) c.step.new.steps c.step.ensures.none c.step.ensures.more
 
-pub returns-clause-same : goal.returns-clause-same
-returns-clause-same g c = same_step producing put_laws (step g (goal.at.returns-clause-same g c).After-advance)
-
-pub returns-clause-lawful : goal.returns-clause-lawful
-returns-clause-lawful g c = step_lawful producing put_laws (step g (goal.at.returns-clause-lawful g c).After-advance)
-
-pub returns-clause-one : goal.returns-clause-one
-returns-clause-one g c =
-    let s = step_stands producing put_laws (step g (goal.at.returns-clause-one g c).After-advance) in
-    close_one (step g (goal.at.returns-clause-one g c).After-advance) c.is_none.result (is_over c.advance.new.machine s.0 s.1 s.2 c.next.result c.next.ensures.due (λ none. (c.next.ensures.rest s.0 s.1 s.2 none).0) c.is_none.result c.is_none.ensures)
-
-pub returns-clause-goes_on : goal.returns-clause-goes_on
-returns-clause-goes_on g c =
-    let s = step_stands producing put_laws (step g (goal.at.returns-clause-goes_on g c).After-advance) in
-    close_goes (step g (goal.at.returns-clause-goes_on g c).After-advance) c.is_none.result (is_over c.advance.new.machine s.0 s.1 s.2 c.next.result c.next.ensures.due (λ none. (c.next.ensures.rest s.0 s.1 s.2 none).0) c.is_none.result c.is_none.ensures) c.steps_behind-self-inside.result c.steps_behind-self-inside.ensures.rests c.steps_behind-self-inside.ensures.goes
-
-pub returns-clause-over : goal.returns-clause-over
-returns-clause-over g c =
-    let s = step_stands producing put_laws (step g (goal.at.returns-clause-over g c).After-advance) in
-    close_over (step g (goal.at.returns-clause-over g c).After-advance) c.is_none.result (is_over c.advance.new.machine s.0 s.1 s.2 c.next.result c.next.ensures.due (λ none. (c.next.ensures.rest s.0 s.1 s.2 none).0) c.is_none.result c.is_none.ensures)
-
-pub returns-clause-few : goal.returns-clause-few
-returns-clause-few g c = step_few producing put_laws (step g (goal.at.returns-clause-few g c).After-advance)
-
-pub returns-clause-oracle : goal.returns-clause-oracle
-returns-clause-oracle g c = put_seen c.self.view_is (λ _ x. IsAskedOnce g.O.Oracle.answers x c.advance.new.oracle) c.advance.ensures.oracle
-
-pub returns-clause-answered : goal.returns-clause-answered
-returns-clause-answered g c = put_seen c.self.view_is (λ e x. AreAnswered e c.advance.new.stepper (g.O.Oracle.answers x) (g.O.Oracle.answers c.advance.new.oracle)) c.advance.ensures.answered
+pub returns : goal.returns
+returns g c =
+    let s = step g (goal.at.returns g c).After-step in
+    let (calls, made, stands) = step_stands producing put_laws s in
+    let over = is_over c.step.new.machine calls made stands c.next.result c.next.ensures.due (λ none. (c.next.ensures.rest calls made stands none).0) c.is_none.result c.is_none.ensures in record {
+      same = same_step producing put_laws s;
+      lawful = step_lawful producing put_laws s;
+      one = close_one s c.is_none.result over;
+      goes_on = close_goes s c.is_none.result over c.step.new.steps c.step.ensures.none c.step.ensures.more;
+      over = close_over s c.is_none.result over;
+      few = step_few producing put_laws s;
+      oracle = put_seen c.self.view_is (λ _ x. IsAskedOnce g.O.Oracle.answers x c.step.new.oracle) c.step.ensures.oracle;
+      answered = put_seen c.self.view_is (λ e x. AreAnswered e c.step.new.stepper (g.O.Oracle.answers x) (g.O.Oracle.answers c.step.new.oracle)) c.step.ensures.stepped.answered;
+    }

@@ -3,9 +3,8 @@ use Rattle.std.specs.Prelude.{IfSome}
 use Rattle.ring_ends.specs.Ends.{HasTakenAll, number_brought, wants_next}
 use Rattle.ring_seats.specs.Steppers.{AreAnswered}
 use Rattle.ring_ends.specs.Machines.{consuming}
-use Rattle.ring_ends.proofs.MachineWhole.{Whole, idle_after, lawful_whole, ready, same_whole, whole_invariant}
-use Rattle.ring_ends.proofs.TakerCalls.{begins_seen, take_begun, take_laws, take_seen}
-use Rattle.ring_ends.proofs.TakerWhole.{idle_there, take_whole}
+use Rattle.ring_ends.proofs.MachineWhole.{Whole, idle_after, lawful_whole, ready, same_whole, whole_invariant, whole_of}
+use Rattle.ring_ends.proofs.TakerCalls.{begins_seen, take_begun, take_laws, take_seen, taking_seen}
 use Rattle.ring_ends.proofs.TakesAll.{Brought, brought_within, some_so, take_brought, told_of}
 use Rattle.ring_ends.proofs.takers.TakerTakeEnd.take_all.Given.{Over}
 use Rattle.ring_ends.proofs.takers.TakerTakeEnd.take_all.Goals.{After-finish}
@@ -13,10 +12,12 @@ use Rattle.ring_ends.proofs.takers.TakerTakeEnd.take_all.Goals as goal
 
 -- the take, and what its accesses came to
 abbrev done : (g : Over) (c : After-finish g) → Whole consuming (length c.args.into.now)
-done g c = take_whole c.self.inside.oracle c.self.inside.stepper c.self.inside.machine c.self.inside.steps c.args.self.now c.self.view_is c.self.invariant c.requires.idle (length c.args.into.now) c.begin_take_all.new.machine (begins_seen c.self.view_is c.self.inside.machine c.begin_take_all.new.machine (length c.args.into.now) (length c.args.into.now) (ap (λ t. wants_next t c.args.self.now.wanted (length c.args.into.now)) c.requires.idle) c.begin_take_all.ensures.begins) c.finish.new.stepper c.finish.new.machine c.finish.ensures
+done g c = whole_of consuming (take_begun c.self.inside.oracle c.self.inside.stepper c.self.inside.machine c.self.inside.steps c.args.self.now c.self.view_is c.self.invariant (length c.args.into.now) c.begin_take.new.machine (begins_seen c.self.view_is c.self.inside.machine c.begin_take.new.machine (length c.args.into.now) (length c.args.into.now) (ap (λ t. wants_next t c.args.self.now.wanted (length c.args.into.now)) c.requires.idle) c.begin_take.ensures.begins))
+    (taking_seen c.self.view_is ∙ c.requires.idle) c.finish.new.stepper c.finish.new.machine c.finish.ensures
 
 pub finish-requires : goal.finish-requires
-finish-requires g c = ready consuming take_laws (take_begun c.self.inside.oracle c.self.inside.stepper c.self.inside.machine c.self.inside.steps c.args.self.now c.self.view_is c.self.invariant (length c.args.into.now) c.begin_take_all.new.machine (begins_seen c.self.view_is c.self.inside.machine c.begin_take_all.new.machine (length c.args.into.now) (length c.args.into.now) (ap (λ t. wants_next t c.args.self.now.wanted (length c.args.into.now)) c.requires.idle) c.begin_take_all.ensures.begins)) (idle_there c.self.inside.oracle c.self.inside.stepper c.self.inside.machine c.self.inside.steps c.args.self.now c.self.view_is c.self.invariant c.requires.idle (length c.args.into.now) c.begin_take_all.new.machine (begins_seen c.self.view_is c.self.inside.machine c.begin_take_all.new.machine (length c.args.into.now) (length c.args.into.now) (ap (λ t. wants_next t c.args.self.now.wanted (length c.args.into.now)) c.requires.idle) c.begin_take_all.ensures.begins))
+finish-requires g c = ready consuming take_laws (take_begun c.self.inside.oracle c.self.inside.stepper c.self.inside.machine c.self.inside.steps c.args.self.now c.self.view_is c.self.invariant (length c.args.into.now) c.begin_take.new.machine (begins_seen c.self.view_is c.self.inside.machine c.begin_take.new.machine (length c.args.into.now) (length c.args.into.now) (ap (λ t. wants_next t c.args.self.now.wanted (length c.args.into.now)) c.requires.idle) c.begin_take.ensures.begins))
+    (taking_seen c.self.view_is ∙ c.requires.idle)
 
 pub invariant_of-self : goal.invariant_of-self
 invariant_of-self g c = whole_invariant consuming take_laws (done g (goal.at.invariant_of-self g c).After-finish)
@@ -31,30 +32,20 @@ bring-requires g c = let b = brought g (goal.at.bring-requires g c).After-finish
 pub unwrap-requires : goal.unwrap-requires
 unwrap-requires g c = let b = brought g (goal.at.unwrap-requires g c).After-finish in subst IsSome (sym (c.bring.ensures.told ∙ b.told)) refl
 
-pub returns-clause-same : goal.returns-clause-same
-returns-clause-same g c = same_whole consuming take_laws (done g (goal.at.returns-clause-same g c).After-finish)
-
-pub returns-clause-lawful : goal.returns-clause-lawful
-returns-clause-lawful g c = lawful_whole consuming take_laws (done g (goal.at.returns-clause-lawful g c).After-finish)
-
-pub returns-clause-idle : goal.returns-clause-idle
-returns-clause-idle g c = idle_after consuming take_laws (done g (goal.at.returns-clause-idle g c).After-finish)
-
-pub returns-clause-phrase : goal.returns-clause-phrase
-returns-clause-phrase g c =
-    let b = brought g (goal.at.returns-clause-phrase g c).After-finish in
-    let is = told_of c.bring.result b.reply (c.bring.ensures.told ∙ b.told) c.unwrap.result c.unwrap.ensures in
-    subst (λ y. HasTakenAll c.finish.new.stepper.ring.shape (length c.args.into.now) c.args.self.now.end.list c.finish.new.stepper.list y c.bring.new.into) is
-    (b.phrase c.bring.new.into (some_so c.bring.result b.reply (c.bring.ensures.told ∙ b.told) c.bring.ensures.first))
-
-pub returns-clause-within : goal.returns-clause-within
-returns-clause-within g c = brought_within (brought g (goal.at.returns-clause-within g c).After-finish) c.unwrap.result (sym c.bring.ensures.told ∙ c.unwrap.ensures)
-
-pub returns-clause-others : goal.returns-clause-others
-returns-clause-others g c =
-    let b = brought g (goal.at.returns-clause-others g c).After-finish in
-    let is = told_of c.bring.result b.reply (c.bring.ensures.told ∙ b.told) c.unwrap.result c.unwrap.ensures in
-    subst (λ n. drop n c.bring.new.into ≡ drop n c.args.into.now) (sym b.number ∙ ap number_brought is) (some_so c.bring.result b.reply (c.bring.ensures.told ∙ b.told) c.bring.ensures.others)
-
-pub returns-clause-answered : goal.returns-clause-answered
-returns-clause-answered g c = take_seen c.self.view_is (λ e x. AreAnswered e c.finish.new.stepper (g.O.Oracle.answers x) (g.O.Oracle.answers c.finish.new.oracle)) c.finish.ensures.answered
+pub returns : goal.returns
+returns g c =
+    let w = done g (goal.at.returns g c).After-finish in
+    let b = brought g (goal.at.returns g c).After-finish in
+    let told = c.bring.ensures.told ∙ b.told in
+    let is = told_of c.bring.result b.reply told c.unwrap.result c.unwrap.ensures in
+    record {
+      idle = idle_after consuming take_laws w;
+      same = same_whole consuming take_laws w;
+      lawful = lawful_whole consuming take_laws w;
+      phrase = subst (λ y. HasTakenAll c.finish.new.stepper.ring.shape (length c.args.into.now) c.args.self.now.end.list c.finish.new.stepper.list y c.bring.new.into) is
+          (b.phrase c.bring.new.into (some_so c.bring.result b.reply told c.bring.ensures.first));
+      within = brought_within b c.unwrap.result (sym c.bring.ensures.told ∙ c.unwrap.ensures);
+      long = c.bring.ensures.long;
+      others = subst (λ n. drop n c.bring.new.into ≡ drop n c.args.into.now) (sym b.number ∙ ap number_brought is) (some_so c.bring.result b.reply told c.bring.ensures.others);
+      answered = take_seen c.self.view_is (λ e x. AreAnswered e c.finish.new.stepper (g.O.Oracle.answers x) (g.O.Oracle.answers c.finish.new.oracle)) c.finish.ensures.answered;
+    }
