@@ -5,10 +5,10 @@ use crate::expects::{
 use bits_core::Kind;
 use ring_program::AppFault;
 
-const INVERSION: &str =
+pub const INVERSION: &str =
     "shape 1 3 1\nP write s0 0\nC read s0\nC got s0 1\nC read s0\nC got s0 0\nP wrote s0\nC read s0\nC got s0 0\n";
 
-const STALE: &str = "shape 1 3 1\nC read s0\nC got s0 0\n";
+pub const STALE: &str = "shape 1 3 1\nC read s0\nC got s0 0\n";
 
 static VERDICTS: [(&str, u8, &str); 11] = [
     // a stale read without cause
