@@ -9,7 +9,7 @@ use crate::marks::Mark;
 use crate::plays::{ANSWER_ROOM, Asked, Played, RUN_ROOM, fields, put_lawful, told_fault};
 use bits_core::{Filled, Side};
 use near_misses::{NearCall, NearFault, NearMiss, play_near_first};
-use ring_script::{Run, ScriptFault, ScriptRef};
+use ring_script::{LetterRun, ScriptFault, ScriptRef};
 
 /// A begin or an end of a call, as numbers.
 #[repr(C)]
@@ -173,7 +173,7 @@ pub extern "C" fn page_play_near(
         return;
     };
     let fields = fields(asked, items, schedule, oracle);
-    let blank = Run {
+    let blank = LetterRun {
         side: Side::P,
         count: 0,
     };

@@ -12,7 +12,7 @@ use crate::marks::{Mark, bit_number, put_marks};
 use bits_core::laws::{fault_breaks, flicker_is_by_interval, one_verdict};
 use bits_core::{Event, Filled, Seen, Shape, Side, audit_bits_into};
 use ring_player::{PlayFault, play_first};
-use ring_script::{Fields, ITEM_LIMIT, Run, ScriptFault, ScriptRef};
+use ring_script::{Fields, ITEM_LIMIT, LetterRun, ScriptFault, ScriptRef};
 
 /// The most runs that the schedule of a script has on the page, and the most answers of its oracle.
 pub const RUN_ROOM: usize = 1_000;
@@ -203,7 +203,7 @@ pub extern "C" fn page_play(
         taken.new told.new }
 {
     let fields = fields(asked, items, schedule, oracle);
-    let blank = Run {
+    let blank = LetterRun {
         side: Side::P,
         count: 0,
     };

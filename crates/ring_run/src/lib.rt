@@ -16,5 +16,6 @@ pub use ring_ends::{
     PutEnd, Putter, RingOf, RunFault, Start, StartIn, TakeEnd, Taker,
 };
 pub use ring_seats::{
-    CounterRule, Counting, FlickerRule, Flickering, Keeping, Kind, LastWords, Loads, RuleOf, View,
+    CounterRule, Counting, FlickerRule, Flickering, Keeping, LastWords, Loads, RuleOf, View,
+    WordKind,
 };

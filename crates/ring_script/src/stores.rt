@@ -5,7 +5,7 @@ use bits_core::Store;
 use std::alloc::AllocError;
 
 // Adds an item at the end, where room is made for it.
-pub(crate) fn push<T: Drop, S: Store<T>>(store: &mut S, item: T) -> Result<(), AllocError>
+pub(crate) fn push<T: Copy, S: Store<T>>(store: &mut S, item: T) -> Result<(), AllocError>
     ensures items { OnOk result (S.items store.new ≡ S.items store.old ++ item ∷ []) }
     ensures full { OnErr result (S.room store.old ≤ length (S.items store.old)) }
     ensures kept { S.room store.new ≡ S.room store.old }

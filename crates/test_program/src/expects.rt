@@ -83,15 +83,29 @@ pub fn expect_run_on<R: Read>(
     expect_of(rt, ended.is(status, out, err), words);
 }
 
+/// The words of a command line, between which a space stands.
+pub fn words_of(rt: &(impl Abort + AllocGlobal), line: &'static str) -> Vec<&'static str> {
+    let mut words = Vec::new(rt.alloc());
+    for word in line.split(' ') {
+        if words.push(word).is_err() {
+            expect_of(rt, false, &[word]);
+        }
+    }
+    words
+}
+
 /// Each run with these words and more has this status and these texts. It reads nothing.
 pub fn expect_runs(
     rt: &(impl Abort + AllocGlobal + Threads + Clock),
-    front: &[&'static str],
-    rows: &[(&'static [&'static str], u8, &'static str, &'static str)],
+    front: &'static str,
+    rows: &[(&'static str, u8, &'static str, &'static str)],
 ) {
     for (more, status, out, err) in rows {
-        let mut words = front.to_vec(rt.alloc()).expect(rt, "memory for words");
-        words.extend_from_slice(more).expect(rt, "memory for words");
+        let mut words = words_of(rt, front);
+        let more = words_of(rt, more);
+        words
+            .extend_from_slice(more.as_slice())
+            .expect(rt, "memory for words");
         let mut input = b"unread".as_slice();
         expect_run_on(rt, words.as_slice(), &mut input, *status, out, err);
         assert!(rt; input == b"unread".as_slice());
@@ -171,20 +185,16 @@ fn tells_number(line: &str, word: &str, may_be_unknown: bool) -> bool {
 /// The run has this status and this text in front, and behind it a line with a number for each of these words.
 pub fn expect_reported_runs(
     rt: &(impl Abort + AllocGlobal + Threads + Clock),
-    rows: &[(
-        &'static [&'static str],
-        u8,
-        &'static str,
-        &'static [&'static str],
-    )],
+    rows: &[(&'static str, u8, &'static str, &'static [&'static str])],
 ) {
-    for (words, status, front, counts) in rows {
-        let ended = run_in(rt, rt.alloc(), words, &mut b"".as_slice());
+    for (line, status, front, counts) in rows {
+        let words = words_of(rt, line);
+        let ended = run_in(rt, rt.alloc(), words.as_slice(), &mut b"".as_slice());
         let text = text_in(rt, ended.out.as_slice());
         let has_counts = text
             .strip_prefix(*front)
             .is_some_and(|rest| tells(rest, counts));
-        expect_of(rt, ended.status == *status && has_counts, words);
+        expect_of(rt, ended.status == *status && has_counts, words.as_slice());
     }
 }
 
@@ -305,30 +315,32 @@ fn expect_refusal_text(rt: &(impl Abort + AllocGlobal), refusal: &Refusal, words
 /// standard error alone.
 pub fn expect_statuses(
     rt: &(impl Abort + AllocGlobal + Threads + Clock),
-    rows: &[(&'static [&'static str], u8)],
+    rows: &[(&'static str, u8)],
 ) {
-    for (words, status) in rows {
-        let ended = run_in(rt, rt.alloc(), words, &mut b"".as_slice());
-        expect_of(rt, ended.status == *status, words);
-        expect_of(rt, ended.out.is_empty() == (*status == 2), words);
-        expect_of(rt, ended.err.is_empty() == (*status == 0), words);
+    for (line, status) in rows {
+        let words = words_of(rt, line);
+        let ended = run_in(rt, rt.alloc(), words.as_slice(), &mut b"".as_slice());
+        expect_of(rt, ended.status == *status, words.as_slice());
+        expect_of(rt, ended.out.is_empty() == (*status == 2), words.as_slice());
+        expect_of(rt, ended.err.is_empty() == (*status == 0), words.as_slice());
     }
 }
 
 /// Each command line ends with the status, and its one text has this piece.
 pub fn expect_words(
     rt: &(impl Abort + AllocGlobal + Threads + Clock),
-    rows: &[(&'static [&'static str], u8, &'static str)],
+    rows: &[(&'static str, u8, &'static str)],
 ) {
-    for (words, status, piece) in rows {
-        let ended = run_in(rt, rt.alloc(), words, &mut b"".as_slice());
-        expect_of(rt, ended.status == *status, words);
+    for (line, status, piece) in rows {
+        let words = words_of(rt, line);
+        let ended = run_in(rt, rt.alloc(), words.as_slice(), &mut b"".as_slice());
+        expect_of(rt, ended.status == *status, words.as_slice());
         let is_there = if *status == 0 {
             text_in(rt, ended.out.as_slice()).contains(*piece)
         } else {
             text_in(rt, ended.err.as_slice()).contains(*piece)
         };
-        expect_of(rt, is_there, words);
+        expect_of(rt, is_there, words.as_slice());
     }
 }
 

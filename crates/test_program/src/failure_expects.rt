@@ -12,16 +12,6 @@ use std::process::Abort;
 use std::thread::Threads;
 use std::time::Clock;
 
-pub const BITS: &[&str] = &["lamport_ring", "audit", "--bits"];
-
-pub const AUDIT: &[&str] = &["lamport_ring", "audit"];
-
-pub const PLAY: &[&str] = &["lamport_ring", "play"];
-
-pub const TRACE: &[&str] = &["lamport_ring", "play", "--trace"];
-
-pub const CALLS: &[&str] = &["lamport_ring", "play", "--calls"];
-
 /// A run on a reader that fails after so many reads ends with this status and these texts.
 pub fn expect_read(
     rt: &(impl Abort + AllocGlobal + Threads + Clock),

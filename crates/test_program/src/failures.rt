@@ -1,48 +1,20 @@
-use crate::expects::AUDIT_CALLS;
+use crate::expects::{AUDIT, AUDIT_CALLS, BITS, CALLS, PLAY, TRACE};
 use crate::failure_expects::{
-    AUDIT, BITS, CALLS, Growing, PLAY, TRACE, Told, Unheard, expect_failed_reads,
-    expect_failed_writes, expect_read, expect_refused_finding, expect_refused_growths,
-    expect_refused_load, expect_refused_or_right, expect_refused_report, expect_refused_text,
-    expect_refused_trace, expect_told_at_each_growth, expect_unflushed, expect_unheard,
-    expect_written,
+    Growing, Told, Unheard, expect_failed_reads, expect_failed_writes, expect_read,
+    expect_refused_finding, expect_refused_growths, expect_refused_load, expect_refused_or_right,
+    expect_refused_report, expect_refused_text, expect_refused_trace, expect_told_at_each_growth,
+    expect_unflushed, expect_unheard, expect_written,
 };
 use crate::fakes::{HaltingReader, HaltingWriter};
+use crate::plays::{PLAIN_REPORT, PLAIN_TRACE};
+use crate::words::{INVERSION, STALE};
 use bits_core::{Kind, Verdict};
 use std::io::ErrorKind;
-
-const INVERSION: &str =
-    "shape 1 3 1\nP write s0 0\nC read s0\nC got s0 1\nC read s0\nC got s0 0\nP wrote s0\nC read s0\nC got s0 0\n";
-
-const STALE: &str = "shape 1 3 1\nC read s0\nC got s0 0\n";
 
 const PLAIN: &str =
     "{\"capacity\":1,\"modulus\":3,\"width\":1,\"items\":[1],\"takes\":1,\"close\":false,\"schedule\":\"P8C10\",\"oracle\":\"1\"}";
 
-const PLAIN_REPORT: &str = "events 18\nput 1\ntaken 1\ntold no\nfull 0\nempty 0\nflicker 0\n";
-
 const PLAIN_CALLS: &str = "queue 1\nP put 1\nP stored\nC take\nC item 1\n";
-
-const PLAIN_TRACE: &str = "\
-shape 1 3 1
-P read r0
-P got r0 1
-P write c0.0 1
-P wrote c0.0
-P write s1 1
-P wrote s1
-P write s0 0
-P wrote s0
-C read s0
-C got s0 0
-C read s1
-C got s1 1
-C read c0.0
-C got c0.0 1
-C write r1 1
-C wrote r1
-C write r0 0
-C wrote r0
-";
 
 // A run whose outcome does not hang on how its threads take turns: no call is made.
 const HELD: &[&str] = &[

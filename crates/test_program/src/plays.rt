@@ -10,9 +10,9 @@ use ring_run::RunFault;
 const PLAIN: &str =
     "{\"capacity\":1,\"modulus\":3,\"width\":1,\"items\":[1],\"takes\":1,\"close\":false,\"schedule\":\"P8C10\",\"oracle\":\"\"}";
 
-const PLAIN_REPORT: &str = "events 18\nput 1\ntaken 1\ntold no\nfull 0\nempty 0\nflicker 0\n";
+pub const PLAIN_REPORT: &str = "events 18\nput 1\ntaken 1\ntold no\nfull 0\nempty 0\nflicker 0\n";
 
-const PLAIN_TRACE: &str = "\
+pub const PLAIN_TRACE: &str = "\
 shape 1 3 1
 P read r0
 P got r0 1

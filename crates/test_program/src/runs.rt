@@ -1,108 +1,83 @@
 use crate::expects::{
     Reported, expect_relay_reports, expect_relay_text, expect_reported_runs, expect_runs,
 };
-use crate::run_words::RUN;
 
-static SMALL: [&str; 8] = [
-    "lamport_ring",
-    "run",
-    "--capacity",
-    "1",
-    "--modulus",
-    "3",
-    "--width",
-    "6",
-];
+const SMALL: &str = "lamport_ring run --capacity 1 --modulus 3 --width 6";
 
 // What follows the options of the shape, the status, the output and the standard error.
-static RUNS: [(&[&str], u8, &str, &str); 12] = [
+static RUNS: [(&str, u8, &str, &str); 12] = [
     (
-        &["--count", "64", "--limit", "1000000000"],
+        "--count 64 --limit 1000000000",
         0,
         "put 64\ntaken 64\nclosed yes\n",
         "",
     ),
     (
-        &[
-            "--count",
-            "64",
-            "--limit",
-            "1000000000",
-            "--ring",
-            "flicker",
-        ],
+        "--count 64 --limit 1000000000 --ring flicker",
         0,
         "put 64\ntaken 64\nclosed yes\n",
         "",
     ),
     (
-        &[
-            "--count",
-            "64",
-            "--limit",
-            "18446744073709551615",
-            "--ring=counter",
-        ],
+        "--count 64 --limit 18446744073709551615 --ring=counter",
         0,
         "put 64\ntaken 64\nclosed yes\n",
         "",
     ),
     (
-        &[
-            "--count", "2", "--limit", "5", "--takes", "0", "--ring", "counter",
-        ],
+        "--count 2 --limit 5 --takes 0 --ring counter",
         1,
         "put 1\ntaken 0\nclosed no\n",
         "refused: limit reached\n",
     ),
     // no put and no take
     (
-        &["--count", "3", "--limit", "0"],
+        "--count 3 --limit 0",
         1,
         "put 0\ntaken 0\nclosed no\n",
         "refused: limit reached\n",
     ),
     // the putter closes, and the taker makes no call
     (
-        &["--count", "0", "--limit", "0"],
+        "--count 0 --limit 0",
         1,
         "put 0\ntaken 0\nclosed no\n",
         "refused: limit reached\n",
     ),
     // one item is put, and the ring stays full
     (
-        &["--count", "2", "--limit", "5", "--takes", "0"],
+        "--count 2 --limit 5 --takes 0",
         1,
         "put 1\ntaken 0\nclosed no\n",
         "refused: limit reached\n",
     ),
     // no item, and takes until the close is seen
     (
-        &["--count", "0", "--limit", "0", "--takes", "1000000000"],
+        "--count 0 --limit 0 --takes 1000000000",
         0,
         "put 0\ntaken 0\nclosed yes\n",
         "",
     ),
     (
-        &["--count", "1", "--limit", "1", "--batch", "0"],
+        "--count 1 --limit 1 --batch 0",
         1,
         "",
         "refused: batch must be from 1 to capacity\n",
     ),
     (
-        &["--count", "1", "--limit", "1", "--batch=2"],
+        "--count 1 --limit 1 --batch=2",
         1,
         "",
         "refused: batch must be from 1 to capacity\n",
     ),
     (
-        &["--count", "1", "--limit", "1", "--take-batch=2"],
+        "--count 1 --limit 1 --take-batch=2",
         1,
         "",
         "refused: take batch must be from 1 to capacity\n",
     ),
     (
-        &["--count", "1", "--limit", "1", "--take-batch", "0"],
+        "--count 1 --limit 1 --take-batch 0",
         1,
         "",
         "refused: take batch must be from 1 to capacity\n",
@@ -111,68 +86,40 @@ static RUNS: [(&[&str], u8, &str, &str); 12] = [
 
 #[test]
 fn relays_items_through_two_threads(rt: HostRuntime) {
-    expect_runs(&rt, &SMALL, &RUNS);
+    expect_runs(&rt, SMALL, &RUNS);
 }
 
-static BATCHED: [&str; 10] = [
-    "lamport_ring",
-    "run",
-    "--capacity",
-    "3",
-    "--modulus",
-    "7",
-    "--width",
-    "6",
-    "--batch",
-    "3",
-];
+const BATCHED: &str = "lamport_ring run --capacity 3 --modulus 7 --width 6 --batch 3";
 
-static BATCHED_RUNS: [(&[&str], u8, &str, &str); 5] = [
+static BATCHED_RUNS: [(&str, u8, &str, &str); 5] = [
     (
-        &["--count", "64", "--limit", "1000000000"],
+        "--count 64 --limit 1000000000",
         0,
         "put 64\ntaken 64\nclosed yes\n",
         "",
     ),
     (
-        &[
-            "--count",
-            "64",
-            "--limit",
-            "18446744073709551615",
-            "--ring",
-            "counter",
-        ],
+        "--count 64 --limit 18446744073709551615 --ring counter",
         0,
         "put 64\ntaken 64\nclosed yes\n",
         "",
     ),
     // takes of several, on both rings
     (
-        &["--count=64", "--limit=1000000000", "--take-batch=3"],
+        "--count=64 --limit=1000000000 --take-batch=3",
         0,
         "put 64\ntaken 64\nclosed yes\n",
         "",
     ),
     (
-        &[
-            "--count=64",
-            "--limit=1000000000",
-            "--take-batch=2",
-            "--ring=counter",
-        ],
+        "--count=64 --limit=1000000000 --take-batch=2 --ring=counter",
         0,
         "put 64\ntaken 64\nclosed yes\n",
         "",
     ),
     // a limit of takes counts the items that they bring
     (
-        &[
-            "--count=3",
-            "--limit=1000000000",
-            "--takes=0",
-            "--take-batch=3",
-        ],
+        "--count=3 --limit=1000000000 --takes=0 --take-batch=3",
         1,
         "put 3\ntaken 0\nclosed no\n",
         "refused: limit reached\n",
@@ -181,23 +128,14 @@ static BATCHED_RUNS: [(&[&str], u8, &str, &str); 5] = [
 
 #[test]
 fn relays_batches(rt: HostRuntime) {
-    expect_runs(&rt, &BATCHED, &BATCHED_RUNS);
+    expect_runs(&rt, BATCHED, &BATCHED_RUNS);
 }
 
 // The widest items, of which each is its number.
-static WIDE: [&str; 8] = [
-    "lamport_ring",
-    "run",
-    "--capacity",
-    "2",
-    "--modulus",
-    "4",
-    "--width",
-    "64",
-];
+const WIDE: &str = "lamport_ring run --capacity 2 --modulus 4 --width 64";
 
-static WIDE_RUNS: [(&[&str], u8, &str, &str); 1] = [(
-    &["--count", "20", "--limit", "1000000000"],
+static WIDE_RUNS: [(&str, u8, &str, &str); 1] = [(
+    "--count 20 --limit 1000000000",
     0,
     "put 20\ntaken 20\nclosed yes\n",
     "",
@@ -205,7 +143,7 @@ static WIDE_RUNS: [(&[&str], u8, &str, &str); 1] = [(
 
 #[test]
 fn relays_the_widest_items(rt: HostRuntime) {
-    expect_runs(&rt, &WIDE, &WIDE_RUNS);
+    expect_runs(&rt, WIDE, &WIDE_RUNS);
 }
 
 #[test]
@@ -292,52 +230,22 @@ fn reports_of_relays_have_their_text(rt: HostRuntime) {
 
 const COUNTS: &[&str] = &["calls", "full", "empty", "items a second"];
 
-static REPORTED: [(&[&str], u8, &str, &[&str]); 3] = [
+static REPORTED: [(&str, u8, &str, &[&str]); 3] = [
     (
-        &[
-            "lamport_ring",
-            RUN,
-            "--capacity=3",
-            "--modulus=7",
-            "--width=6",
-            "--batch=3",
-            "--count=64",
-            "--limit=1000000000",
-            "--report",
-        ],
+        "lamport_ring run --capacity=3 --modulus=7 --width=6 --batch=3 --count=64 --limit=1000000000 --report",
         0,
         "put 64\ntaken 64\nclosed yes\n",
         COUNTS,
     ),
     (
-        &[
-            "lamport_ring",
-            RUN,
-            "--report",
-            "--ring=counter",
-            "--capacity=3",
-            "--modulus=5",
-            "--width=6",
-            "--count=64",
-            "--limit=1000000000",
-        ],
+        "lamport_ring run --report --ring=counter --capacity=3 --modulus=5 --width=6 --count=64 --limit=1000000000",
         0,
         "put 64\ntaken 64\nclosed yes\n",
         COUNTS,
     ),
     // one item is put, the other four puts find the ring full, and no take is made
     (
-        &[
-            "lamport_ring",
-            RUN,
-            "--report",
-            "--capacity=1",
-            "--modulus=3",
-            "--width=6",
-            "--count=2",
-            "--limit=5",
-            "--takes=0",
-        ],
+        "lamport_ring run --report --capacity=1 --modulus=3 --width=6 --count=2 --limit=5 --takes=0",
         1,
         "put 1\ntaken 0\nclosed no\ncalls 5\nfull 4\nempty 0\n",
         &["items a second"],

@@ -1,14 +1,14 @@
 use crate::expects::{
-    BITS, LONG, expect_faults, expect_run_on, expect_statuses, expect_texts, expect_verdicts,
-    expect_words,
+    BITS, LONG, expect_faults, expect_of, expect_run_on, expect_statuses, expect_texts,
+    expect_verdicts, expect_words, run_in,
 };
 use bits_core::Kind;
 use ring_program::AppFault;
 
-const INVERSION: &str =
+pub const INVERSION: &str =
     "shape 1 3 1\nP write s0 0\nC read s0\nC got s0 1\nC read s0\nC got s0 0\nP wrote s0\nC read s0\nC got s0 0\n";
 
-const STALE: &str = "shape 1 3 1\nC read s0\nC got s0 0\n";
+pub const STALE: &str = "shape 1 3 1\nC read s0\nC got s0 0\n";
 
 static VERDICTS: [(&str, u8, &str); 11] = [
     // a stale read without cause
@@ -67,51 +67,54 @@ fn tells_the_verdict_of_a_trace_of_any_length(rt: HostRuntime) {
 }
 
 // What the words ask for decides the status.
-static STATUSES: [(&[&str], u8); 32] = [
-    (&["lamport_ring", "audit", "--long"], 2),
-    (&["lamport_ring", "audit", "--calls", "--long"], 2),
-    (&["lamport_ring", "audit", "--bits", "--calls", "--long"], 2),
-    (&["lamport_ring", "audit", "--bits", "--bits"], 2),
-    (&["lamport_ring", "audit", "--stop"], 2),
-    (&["lamport_ring", "audit", "--bits", "--stop"], 2),
-    (&["lamport_ring", "audit", "--calls", "--stop", "--why"], 2),
-    (&["lamport_ring", "audit", "--calls", "--stop=true"], 2),
-    (&["lamport_ring", "audit", "--bits=true"], 2),
-    (&["lamport_ring", "audit", "x"], 2),
-    (&["lamport_ring", "audit", "--trace"], 2),
-    (&["lamport_ring", "audit", "--version"], 2),
-    (&["lamport_ring", "play", "--bits"], 2),
-    (&["lamport_ring", "play", "--trace", "--trace"], 2),
-    (&["lamport_ring", "play", "--trace=true"], 2),
-    (&["lamport_ring", "play", "--calls", "--calls"], 2),
-    (&["lamport_ring", "play", "--calls=true"], 2),
-    (&["lamport_ring", "play", "--trace", "--calls"], 2),
-    (&["lamport_ring", "play", "--calls", "--trace"], 2),
-    (&["lamport_ring", "play", "x.json"], 2),
-    (&["lamport_ring", "go"], 2),
-    (&["lamport_ring"], 2),
-    (&[], 2),
-    (&["lamport_ring", "--help"], 0),
-    (&["lamport_ring", "-h"], 0),
-    (&["lamport_ring", "help"], 0),
-    (&["lamport_ring", "help", "audit"], 0),
-    (&["lamport_ring", "audit", "-h"], 0),
-    (&["lamport_ring", "help", "play"], 0),
-    (&["lamport_ring", "play", "-h"], 0),
-    (&["lamport_ring", "--version"], 0),
-    (&["lamport_ring", "-V"], 0),
+static STATUSES: [(&str, u8); 31] = [
+    ("lamport_ring audit --long", 2),
+    ("lamport_ring audit --calls --long", 2),
+    ("lamport_ring audit --bits --calls --long", 2),
+    ("lamport_ring audit --bits --bits", 2),
+    ("lamport_ring audit --stop", 2),
+    ("lamport_ring audit --bits --stop", 2),
+    ("lamport_ring audit --calls --stop --why", 2),
+    ("lamport_ring audit --calls --stop=true", 2),
+    ("lamport_ring audit --bits=true", 2),
+    ("lamport_ring audit x", 2),
+    ("lamport_ring audit --trace", 2),
+    ("lamport_ring audit --version", 2),
+    ("lamport_ring play --bits", 2),
+    ("lamport_ring play --trace --trace", 2),
+    ("lamport_ring play --trace=true", 2),
+    ("lamport_ring play --calls --calls", 2),
+    ("lamport_ring play --calls=true", 2),
+    ("lamport_ring play --trace --calls", 2),
+    ("lamport_ring play --calls --trace", 2),
+    ("lamport_ring play x.json", 2),
+    ("lamport_ring go", 2),
+    ("lamport_ring", 2),
+    ("lamport_ring --help", 0),
+    ("lamport_ring -h", 0),
+    ("lamport_ring help", 0),
+    ("lamport_ring help audit", 0),
+    ("lamport_ring audit -h", 0),
+    ("lamport_ring help play", 0),
+    ("lamport_ring play -h", 0),
+    ("lamport_ring --version", 0),
+    ("lamport_ring -V", 0),
 ];
 
 #[test]
 fn reads_the_command_line(rt: HostRuntime) {
     expect_statuses(&rt, &STATUSES);
+    // not even the program's name
+    let ended = run_in(&rt, rt.alloc(), &[], &mut b"".as_slice());
+    let is_told = ended.out.is_empty() && !ended.err.is_empty();
+    expect_of(&rt, ended.status == 2 && is_told, &[]);
 }
 
-const HELP: &[&str] = &["lamport_ring", "--help"];
+const HELP: &str = "lamport_ring --help";
 
-const AUDIT_HELP: &[&str] = &["lamport_ring", "audit", "--help"];
+const AUDIT_HELP: &str = "lamport_ring audit --help";
 
-const PLAY_HELP: &[&str] = &["lamport_ring", "play", "--help"];
+const PLAY_HELP: &str = "lamport_ring play --help";
 
 const EXAMPLE: &str = "  lamport_ring audit --bits < examples/new_old_inversion.trace\n";
 
@@ -122,7 +125,7 @@ const PLAY_EXAMPLE: &str = "  lamport_ring play < examples/plain_path.json\n";
 const CALLS_EXAMPLE: &str =
     "  lamport_ring play --calls < examples/plain_path.json | lamport_ring audit --calls\n";
 
-static WORDS: [(&[&str], u8, &str); 31] = [
+static WORDS: [(&str, u8, &str); 31] = [
     (HELP, 0, EXAMPLE),
     (HELP, 0, PLAY_EXAMPLE),
     (HELP, 0, AUDIT_EXAMPLE),
@@ -160,12 +163,12 @@ static WORDS: [(&[&str], u8, &str); 31] = [
     (AUDIT_HELP, 0, "  3  the audit found a fault\n"),
     // the name of a file: its trace has to come on standard input
     (
-        &["lamport_ring", "audit", "x.trace"],
+        "lamport_ring audit x.trace",
         2,
         "error: unexpected argument 'x.trace' found\n\nUsage: lamport_ring audit [--bits] [--why] < TRACE\n",
     ),
     (
-        &["lamport_ring", "go"],
+        "lamport_ring go",
         2,
         "error: unrecognized subcommand 'go'\n",
     ),
@@ -191,27 +194,27 @@ static WORDS: [(&[&str], u8, &str); 31] = [
     (PLAY_HELP, 0, "  2  the command line is wrong\n"),
     // the name of a file: its script has to come on standard input
     (
-        &["lamport_ring", "play", "x.json"],
+        "lamport_ring play x.json",
         2,
         "error: unexpected argument 'x.json' found\n\nUsage: lamport_ring play [--trace|--calls] < SCRIPT\n",
     ),
     (
-        &["lamport_ring", "play", "--trace", "--calls"],
+        "lamport_ring play --trace --calls",
         2,
         "error: a play prints a trace or its calls: --trace and --calls do not go together\n",
     ),
     (
-        &["lamport_ring", "audit", "--bits", "--calls"],
+        "lamport_ring audit --bits --calls",
         2,
         "error: an audit is of bits or of calls: --bits and --calls do not go together\n",
     ),
     (
-        &["lamport_ring", "audit", "--long"],
+        "lamport_ring audit --long",
         2,
         "error: a trace of any length is audited for its bits alone: --long goes with --bits\n",
     ),
-    (&["lamport_ring"], 2, "Usage: lamport_ring <COMMAND>\n"),
-    (&["lamport_ring", "-V"], 0, "lamport_ring 0.1.0\n"),
+    ("lamport_ring", 2, "Usage: lamport_ring <COMMAND>\n"),
+    ("lamport_ring -V", 0, "lamport_ring 0.1.0\n"),
 ];
 
 #[test]

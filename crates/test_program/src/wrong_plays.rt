@@ -1,4 +1,4 @@
-use crate::expects::{expect_run_on, expect_runs};
+use crate::expects::{expect_run_on, expect_runs, words_of};
 
 const PLAIN: &str =
     "{\"capacity\":1,\"modulus\":3,\"width\":1,\"items\":[1],\"takes\":1,\"close\":false,\"schedule\":\"P5C10\",\"oracle\":\"\"}";
@@ -8,12 +8,12 @@ const TRACE: &str =
 
 const CALLS: &str = "queue 1\nP put 1\nC take\nC item 0\n";
 
-const WRONG: &[&str] = &["lamport_ring", "play", "--wrong", "count-before-cell"];
+const WRONG: &str = "lamport_ring play --wrong count-before-cell";
 
 #[test]
 fn plays_a_script_by_a_near_miss(rt: HostRuntime) {
     for (option, out) in [("--trace", TRACE), ("--calls", CALLS)] {
-        let mut words = WRONG.to_vec(rt.alloc()).expect(&rt, "memory for words");
+        let mut words = words_of(&rt, WRONG);
         words.push(option).expect(&rt, "memory for words");
         let mut bytes = PLAIN.as_bytes();
         expect_run_on(&rt, words.as_slice(), &mut bytes, 0, out, "");
@@ -21,57 +21,57 @@ fn plays_a_script_by_a_near_miss(rt: HostRuntime) {
 }
 
 // Words behind the program's name that do not go together.
-static CLASHES: [(&[&str], u8, &str, &str); 9] = [
+static CLASHES: [(&str, u8, &str, &str); 9] = [
     (
-        &["play", "--wrong", "torus", "--calls"],
+        "play --wrong torus --calls",
         2,
         "",
         "error: no near miss is called 'torus': there are count-before-cell, no-second-scan, small-modulus, clears-first and clears-upwards\n\nFor more information, try '--help'.\n",
     ),
     (
-        &["play", "--wrong=small-modulus"],
+        "play --wrong=small-modulus",
         2,
         "",
         "error: a play by a near miss prints its trace or its calls: --wrong goes with --trace or with --calls\n\nFor more information, try '--help'.\n",
     ),
     (
-        &["play", "--wrong", "small-modulus", "--calls", "--trace"],
+        "play --wrong small-modulus --calls --trace",
         2,
         "",
         "error: a play by a near miss prints its trace or its calls: --wrong goes with --trace or with --calls\n\nFor more information, try '--help'.\n",
     ),
     (
-        &["audit", "--why", "--calls"],
+        "audit --why --calls",
         2,
         "",
         "error: --why goes with a trace that is kept, so neither with --long nor with --calls\n\nFor more information, try '--help'.\n",
     ),
     (
-        &["audit", "--bits", "--long", "--why"],
+        "audit --bits --long --why",
         2,
         "",
         "error: --why goes with a trace that is kept, so neither with --long nor with --calls\n\nFor more information, try '--help'.\n",
     ),
     (
-        &["audit", "--calls", "--stop", "--why"],
+        "audit --calls --stop --why",
         2,
         "",
         "error: --why goes with a trace that is kept, so neither with --long nor with --calls\n\nFor more information, try '--help'.\n",
     ),
     (
-        &["audit", "--stop"],
+        "audit --stop",
         2,
         "",
         "error: an audit of recorded calls may stop at the first fault: --stop goes with --calls\n\nFor more information, try '--help'.\n",
     ),
     (
-        &["audit", "--stop", "--bits", "--why"],
+        "audit --stop --bits --why",
         2,
         "",
         "error: an audit of recorded calls may stop at the first fault: --stop goes with --calls\n\nFor more information, try '--help'.\n",
     ),
     (
-        &["play", "--trace", "--calls"],
+        "play --trace --calls",
         2,
         "",
         "error: a play prints a trace or its calls: --trace and --calls do not go together\n\nFor more information, try '--help'.\n",
@@ -80,5 +80,5 @@ static CLASHES: [(&[&str], u8, &str, &str); 9] = [
 
 #[test]
 fn refuses_words_that_do_not_go_together(rt: HostRuntime) {
-    expect_runs(&rt, &["lamport_ring"], &CLASHES);
+    expect_runs(&rt, "lamport_ring", &CLASHES);
 }

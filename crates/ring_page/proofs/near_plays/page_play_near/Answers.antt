@@ -2,7 +2,7 @@ use Rattle.std.proofs.Common.{false, inl, inr, refl}
 use Rattle.std.proofs.lemmas.List.{length-replicate}
 use Rattle.ring_script.specs.Borrowed.{content_of}
 use Rattle.bits_core.specs.declared.events.Side.TheVariants.{P}
-use Rattle.ring_script.specs.declared.schedules.LetterRun.{Run}
+use Rattle.ring_script.specs.declared.schedules.LetterRun.{LetterRun}
 use Rattle.ring_script.specs.declared.faults.ScriptFault.TheVariants.{OutOfMemory}
 use Rattle.ring_page.proofs.Rooms.{near_told_of_fields, short_or_fault}
 use Rattle.ring_page.proofs.near_plays.page_play_near.Goals as goal
@@ -30,7 +30,7 @@ returns-in-Err-OutOfMemory c =
 
 pub returns-in-Err : goal.returns-in-Err
 returns-in-Err c =
-    let blank : Run = record { side = P; count = 0 } in
+    let blank : LetterRun = record { side = P; count = 0 } in
     let (fault, tells, is) = c.near_refused-in-Err.ensures in
     near_told_of_fields _ _ _ _ _ _ _ _ c.in-Some.ensures c.fields-fields.ensures (inr (
       fault,

@@ -2,7 +2,7 @@ use Rattle.std.proofs.Common.{false, inl, inr, refl}
 use Rattle.std.proofs.lemmas.List.{length-replicate}
 use Rattle.ring_script.specs.Borrowed.{content_of}
 use Rattle.bits_core.specs.declared.events.Side.TheVariants.{P}
-use Rattle.ring_script.specs.declared.schedules.LetterRun.{Run}
+use Rattle.ring_script.specs.declared.schedules.LetterRun.{LetterRun}
 use Rattle.ring_script.specs.declared.faults.ScriptFault.TheVariants.{OutOfMemory}
 use Rattle.ring_page.proofs.Rooms.{short_or_fault, told_of_fields}
 use Rattle.ring_page.proofs.plays.page_play.Goals as goal
@@ -23,7 +23,7 @@ returns-in-Err-OutOfMemory c = told_of_fields _ _ _ _ _ _ _ c.fields-fields.ensu
 }))
 
 pub returns-in-Err : goal.returns-in-Err
-returns-in-Err c = let blank : Run = record { side = P; count = 0 } in told_of_fields _ _ _ _ _ _ _ c.fields-fields.ensures (inr (record {
+returns-in-Err c = let blank : LetterRun = record { side = P; count = 0 } in told_of_fields _ _ _ _ _ _ _ c.fields-fields.ensures (inr (record {
   why = c.in-Err.fault;
   cause = short_or_fault _ _ _ _ _ _ (length-replicate 1000 blank) (length-replicate 10000 false) c.in-Err.ensures.refused;
   tells = c.told_fault-in-Err.ensures;
