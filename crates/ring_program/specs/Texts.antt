@@ -68,7 +68,7 @@ audit_text_of (Fault place kind) = fault_line place kind
 -- ---- the text of a finding of recorded calls
 
 -- what a recording of a linearizable history has reached
-abbrev pub calls_report_text_of : calls_report.Report → List ℕ
+abbrev pub calls_report_text_of : calls_report.CallsReport → List ℕ
 calls_report_text_of r = lawful_line ++ (count_line (codes "calls") r.calls ++ (count_line (codes "stored") r.stored
     ++ (count_line (codes "taken") r.taken ++ (count_line (codes "full") r.full ++ (count_line (codes "empty") r.empty
     ++ (count_line (codes "nothing") r.nothing ++ (told_line r.told ++ (list_line (codes "inside") (r.surely_inside ∷ r.perhaps_inside ∷ [])
