@@ -1,6 +1,7 @@
 -- How the program ends on a request, by what came of it.
 use Rattle.std.proofs.Common.{arith, ◌≡◌, ◌≢◌, ◌<◌, ◌∙◌, ◌++◌, ◌⊎◌, ℕ, Bool, true, false, List, Option, Some, None, Result, Ok, Err, IfErr, IfOk, IfSome, ap, append-nil, inl, inr, length, length-append, refl, string_bytes, subst, sym}
 use Rattle.std.proofs.KnownBytes.{Keeps-refl}
+use Rattle.std.specs.Prelude.{MatchResult}
 use Rattle.std.specs.Io.KnownBytes.{Consumes, IsAtEnd}
 use Rattle.ring_program.specs.Answers.{Answers, AnswersRun, Declines, Delivers, Ends, EndsOn, IsKeptCause, IsOutOfMemory, IsShortage, IsStatus, IsTrueCause, MayEnd, RefusesScript, RefusesTrace, relay_ending_of, verdict_ending_of}
 use Rattle.ring_program.specs.Faults.{SaysRefusal}
@@ -22,9 +23,9 @@ use Rattle.ring_program.specs.declared.faults.Refusal.TheVariants as refusal
 use Rattle.ring_program.specs.declared.inputs.TheConstants.{INPUT_LIMIT}
 
 -- what came of a request was delivered
-pub record IsDelivered {A : Type 0} (r : Result (Answer A) Refusal) (before after : Option (List ℕ)) (Tells : List ℕ → Type 0) (status : ℕ) : Type 0 where
-  pub delivered : IfOk r (λ answer. Delivers (string_bytes answer.text) answer.ending before after Tells status)
-  pub declined : IfErr r (λ e. Declines e before after Tells status)
+abbrev IsDelivered : {A : Type 0} → Result (Answer A) Refusal → (before after : Option (List ℕ)) (Tells : List ℕ → Type 0) (status : ℕ) → Type 0
+IsDelivered r before after Tells status =
+    MatchResult r (λ answer. Delivers (string_bytes answer.text) answer.ending before after Tells status) (λ e. Declines e before after Tells status)
 
 -- it was an answer to the request, or a refusal with a true cause
 pub ends_on : {A : Type 0} (asked : Request) (input before after : Option (List ℕ)) (Tells : List ℕ → Type 0) (r : Result (Answer A) Refusal) (status : ℕ)
@@ -32,8 +33,8 @@ pub ends_on : {A : Type 0} (asked : Request) (input before after : Option (List 
     → IfSome input (λ bytes. IfErr r (IsTrueCause asked bytes)) → IsDelivered r before after Tells status
     → IfSome input (λ bytes. EndsOn asked bytes before after Tells status)
 ends_on asked None before after Tells r status answered refused done = tt
-ends_on asked (Some bytes) before after Tells (Ok answer) status answered refused done = inl (string_bytes answer.text, answer.ending, answered, done.delivered)
-ends_on asked (Some bytes) before after Tells (Err e) status answered refused done = inr (e, refused, done.declined)
+ends_on asked (Some bytes) before after Tells (Ok answer) status answered refused done = inl (string_bytes answer.text, answer.ending, answered, done)
+ends_on asked (Some bytes) before after Tells (Err e) status answered refused done = inr (e, refused, done)
 
 -- the status of an answer that was delivered
 status_of_answer : (asked : Request) (text : List ℕ) (ending : Ending) (before after : Option (List ℕ)) (Tells : List ℕ → Type 0) (status : ℕ) → MayEnd asked ending
@@ -43,8 +44,8 @@ status_of_answer asked text ending before after Tells status may (inr front) = i
 
 pub status_on : {A : Type 0} (asked : Request) (before after : Option (List ℕ)) (Tells : List ℕ → Type 0) (r : Result (Answer A) Refusal) (status : ℕ)
     → IfOk r (λ answer. MayEnd asked answer.ending) → IsDelivered r before after Tells status → IsStatus (Some asked) status
-status_on asked before after Tells (Ok answer) status may done = status_of_answer asked (string_bytes answer.text) answer.ending before after Tells status may done.delivered
-status_on asked before after Tells (Err e) status may done = inl done.declined.0
+status_on asked before after Tells (Ok answer) status may done = status_of_answer asked (string_bytes answer.text) answer.ending before after Tells status may done
+status_on asked before after Tells (Err e) status may done = inl done.0
 
 -- how an answer ends
 by_verdict : (verdict : Verdict) (ending : Ending) → ending ≡ verdict_ending_of verdict → (ending ≡ Done) ⊎ (ending ≡ FaultFound)

@@ -20,7 +20,6 @@ use Rattle.queue_calls.specs.Queue.{exactly}
 use Rattle.queue_calls.specs.Recordings.{IsRecording, RefusesText}
 use Rattle.queue_calls.specs.declared.recordings.RecordingFault.{RecordingFault}
 use Rattle.ring_audit.specs.Audit.{IsFinding, SaysLinearizable, SaysSentence, Statement}
-use Rattle.ring_audit.specs.Audit as audit
 use Rattle.ring_audit.specs.declared.faults.AuditFault.TheVariants as finding
 use Rattle.ring_core.specs.Linear.{EachReadingIsLinearizable}
 use Rattle.ring_player.specs.Headline.{IsPlayOf}

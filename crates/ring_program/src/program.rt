@@ -1,5 +1,5 @@
 //! The program over a reader and two writers.
-ghost use Rattle.std.specs.Prelude.{◌≡◌, ◌≤◌, ◌⊎◌, [], List, ℕ, Some, true, IfOk, IfErr, IfSome, IfNone, length, map, string_bytes};
+ghost use Rattle.std.specs.Prelude.{◌≡◌, ◌≤◌, ◌⊎◌, [], List, ℕ, Some, true, IfOk, IfErr, IfSome, IfNone, MatchResult, length, map, string_bytes};
 ghost use Rattle.clap.specs.Words.{fault_of, kind_of};
 ghost use Rattle.ring_program.specs.Answers.{Answers, AsksNoInput, Declines, Delivers, Ends, EndsUnasked, Explains, IsStatus, IsTrueCause};
 ghost use Rattle.ring_program.specs.Faults.{Gains, IsInText, SaysRefusal};
@@ -85,10 +85,10 @@ pub fn deliver<A: Allocator, O: Write, E: Write>(
     out: &mut O,
     err: &mut E,
 ) -> Exit
-    ensures delivered { IfOk answered (λ answer.
-        Delivers (string_bytes answer.text) answer.ending (O.contents out.old) (O.contents out.new)
-        (Gains (E.contents err.old) (E.contents err.new) result.is_told) result.status) }
-    ensures declined { IfErr answered (λ e. Declines e (O.contents out.old) (O.contents out.new)
+    ensures delivered { MatchResult answered
+        (λ answer. Delivers (string_bytes answer.text) answer.ending (O.contents out.old) (O.contents out.new)
+        (Gains (E.contents err.old) (E.contents err.new) result.is_told) result.status)
+        (λ e. Declines e (O.contents out.old) (O.contents out.new)
         (Gains (E.contents err.old) (E.contents err.new) result.is_told) result.status) }
     ensures quiet { (result.status ≡ 1) ⊎ ((err.new ≡ err.old) × (result.is_told ≡ true)) }
 {

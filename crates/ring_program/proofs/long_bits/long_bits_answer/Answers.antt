@@ -1,4 +1,4 @@
-use Rattle.std.proofs.Common.{List, ℕ, refl, string_bytes}
+use Rattle.std.proofs.Common.{List, refl, string_bytes}
 use Rattle.bits_core.specs.Audit.{IsVerdict}
 use Rattle.bits_core.specs.Trace.{IsTraceText}
 use Rattle.bits_core.specs.declared.events.Event.{Event}

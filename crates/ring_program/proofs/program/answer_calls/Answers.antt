@@ -7,12 +7,10 @@ pub returns-clause-asked : goal.returns-clause-asked
 returns-clause-asked g c =
     let calls = c.calls_answer-answered in
     ends_on (Calls c.args.stop) _ _ _ (Gains (g.E.Write.contents c.args.err.now) (g.E.Write.contents c.deliver.new.err) c.deliver.result.is_told)
-    calls.result c.deliver.result.status calls.ensures.answered calls.ensures.refused
-    (record { delivered = c.deliver.ensures.delivered; declined = c.deliver.ensures.declined })
+    calls.result c.deliver.result.status calls.ensures.answered calls.ensures.refused c.deliver.ensures.delivered
 
 pub returns-clause-statuses : goal.returns-clause-statuses
 returns-clause-statuses g c =
     let calls = c.calls_answer-answered in
     status_on (Calls c.args.stop) _ _ (Gains (g.E.Write.contents c.args.err.now) (g.E.Write.contents c.deliver.new.err) c.deliver.result.is_told)
-    calls.result c.deliver.result.status calls.ensures.ends
-    (record { delivered = c.deliver.ensures.delivered; declined = c.deliver.ensures.declined })
+    calls.result c.deliver.result.status calls.ensures.ends c.deliver.ensures.delivered

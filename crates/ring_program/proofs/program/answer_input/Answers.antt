@@ -16,7 +16,7 @@ returns-in-Ok-clause-asked g c =
     let Tells = Gains (g.E.Write.contents c.args.err.now) (g.E.Write.contents c.deliver.new.err) c.deliver.result.is_told in
     read_whole (λ bytes. EndsOn asked bytes before after Tells c.deliver.result.status) _ _ c.in-Ok.bytes.items c.in-Ok.ensures.whole c.in-Ok.ensures.to_the_end
     (ends_on asked (Some c.in-Ok.bytes.items) before after Tells answered.result c.deliver.result.status (rw c.as_slice.ensures.value at answered.ensures.answered)
-    (rw c.as_slice.ensures.value at answered.ensures.refused) (record { delivered = c.deliver.ensures.delivered; declined = c.deliver.ensures.declined }))
+    (rw c.as_slice.ensures.value at answered.ensures.refused) c.deliver.ensures.delivered)
 
 pub returns-in-Err-clause-asked : goal.returns-in-Err-clause-asked
 returns-in-Err-clause-asked g c =
@@ -29,5 +29,4 @@ pub returns-in-Ok-clause-statuses : goal.returns-in-Ok-clause-statuses
 returns-in-Ok-clause-statuses g c =
     let answered = c.answer_to-answered in
     status_on (OnInput c.args.question) _ _ (Gains (g.E.Write.contents c.args.err.now) (g.E.Write.contents c.deliver.new.err) c.deliver.result.is_told)
-    answered.result c.deliver.result.status (question_may_end c.args.question _ answered.result answered.ensures.answered)
-    (record { delivered = c.deliver.ensures.delivered; declined = c.deliver.ensures.declined })
+    answered.result c.deliver.result.status (question_may_end c.args.question _ answered.result answered.ensures.answered) c.deliver.ensures.delivered
