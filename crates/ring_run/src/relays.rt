@@ -297,8 +297,8 @@ fn relay_through<
     requires idle { E.idle putter × F.idle taker }
     requires fresh { ((E.end putter).list ≡ []) × ((F.end taker).list ≡ []) }
     requires fit { AllFit (E.end putter).ring.shape items.now }
-    ensures counted { IsRelayed (E.end putter).ring.shape items.now limits.puts limits.takes result.put result.calls result.full
-        result.taken.items result.takes result.empty result.closed }
+    ensures counted { IsRelayed (E.end putter).ring.shape items.now limits.puts limits.takes result.put result.calls
+        result.full result.taken.items result.takes result.empty result.closed }
     ensures prefix { IsBeginning result.taken.items (take result.put items.now) }
     ensures all { result.closed ≡ true → (result.put ≡ length items.now) × (result.taken.items ≡ items.now) }
     ensures within { result.put ≤ length result.taken.items + capacity_of (E.end putter).ring.shape }
