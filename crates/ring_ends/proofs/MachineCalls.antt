@@ -151,6 +151,24 @@ pub record Begun (k : Machine) (c : k.Call) : Type 0 where
   pub now : k.State
   pub begins : CallBegins k m now was.0.calls was.0.made c
 
+-- it is begun at an end that is seen so
+abbrev pub begun_seen :
+    (k : Machine) (e : RingEnd) (m : k.State) (n : ℕ) (seen : RingEnd) (whole : List Event) → e ≡ seen → k.whole m e.list (without_last n e.list) ≡ whole →
+    IsMachine k e m (k.whole m e.list (without_last n e.list)) × IsMarked n e.list (k.most m) → (c : k.Call) (now : k.State) →
+    ((calls : k.Calls) (made : List Made) → k.Stands m calls made → CallBegins k m now calls made c) → Begun k c
+begun_seen k e m n seen whole end_is whole_is was c now begins = record {
+  seen = seen;
+  whole = whole;
+  e = e;
+  m = m;
+  n = n;
+  end_is = end_is;
+  whole_is = whole_is;
+  was = was;
+  now = now;
+  begins = begins was.0.calls was.0.made was.0.at.stands;
+}
+
 -- what a step makes of it
 pub record Step (k : Machine) (c : k.Call) : Type 0 where
   pub begun : Begun k c
@@ -158,6 +176,10 @@ pub record Step (k : Machine) (c : k.Call) : Type 0 where
   pub m : k.State
   pub rests : k.Rests begun.now → (m ≡ begun.now) × (e ≡ begun.e)
   pub steps : MachineAt k begun.e begun.now begun.was.0.calls begun.was.0.made → k.Busy begun.now c → MachineStep k begun.e begun.now e m begun.was.0.calls
+
+abbrev pub step_of :
+    (k : Machine) {c : k.Call} (b : Begun k c) (e : RingEnd) (m : k.State) {old now : ℕ → Bool} → MachineStepped k b.e b.now e m old now → Step k c
+step_of k {c} b e m {old} {now} s = record { begun = b; e = e; m = m; rests = s.rests; steps = λ at is. s.steps b.was.0.calls b.was.0.made at c is }
 
 module _ (k : Machine) (ks : MachineLaws k) {c : k.Call} (s : Step k c) where
   abbrev b : Begun k c

@@ -22,9 +22,9 @@ use Rattle.ring_core.specs.ProducerCalls.{ProducerStands, PutGoesOn, longest_of,
 use Rattle.ring_seats.specs.Ring.{RingEnd}
 use Rattle.ring_seats.specs.Steppers.{Grows}
 use Rattle.ring_ends.specs.Ends.{HasPuts, HasPut, HasPutAll, HasPutPart, HasClosed, PutAdds, CloseAdds, PutterState, whole_put, puts_whole}
-use Rattle.ring_ends.specs.Machines.{IsMarked, MachineStepped, IsMachine, CallBegins, producing, without_last, longest_at}
+use Rattle.ring_ends.specs.Machines.{IsMarked, IsMachine, CallBegins, producing, without_last, longest_at}
 use Rattle.ring_ends.specs.Moves.{Due, MachineLaws}
-use Rattle.ring_ends.proofs.MachineCalls.{Begun, Step, Outcome, Refused, Goes, Over, one_step, out, shape_there, stays, whole_there}
+use Rattle.ring_ends.proofs.MachineCalls.{Begun, begun_seen, Step, Outcome, Refused, Goes, Over, one_step, out, shape_there, stays, whole_there}
 use Rattle.ring_ends.proofs.Steps.{none-some}
 
 -- ---- the machine
@@ -167,26 +167,12 @@ put_shape {O} e = ap (λ (z : PutterState O). z.end.ring.shape) e
 pub call_seen : {O : Type 0} {a s : PutterState O} → a ≡ s → a.call ≡ s.call
 call_seen {O} e = ap (λ (z : PutterState O). z.call) e
 
-module _ {O : Type 0} (o : O) (e : RingEnd) (m : ProducerState) (n : ℕ) (s : PutterState O) (view : record { end = e; call = call_of m; batched = m.batched; start = without_last n e.list; oracle = o } ≡ s)
-    (was : IsMachine producing e m (whole_put (call_of m) e.list (without_last n e.list)) × IsMarked n e.list (longest_at m.shape (call_of m))) (c : Call) (now : ProducerState) (begins : (calls : Puts) (made : List Made) → ProducerStands m calls made → CallBegins producing m now calls made c) where
-  -- a call that is begun, or goes on
-  abbrev pub put_begun : Begun producing c
-  put_begun = record {
-    seen = s.end;
-    whole = puts_whole s;
-    e = e;
-    m = m;
-    n = n;
-    end_is = ap (λ (z : PutterState O). z.end) view;
-    whole_is = ap (λ (z : PutterState O). puts_whole z) view;
-    was = was;
-    now = now;
-    begins = begins was.0.calls was.0.made was.0.at.stands;
-  }
-
-  -- and one step of it
-  abbrev pub put_step : (e' : RingEnd) (m' : ProducerState) {before after : ℕ → Bool} → MachineStepped producing e now e' m' before after → Step producing c
-  put_step e' m' {before} {after} s = record { begun = put_begun; e = e'; m = m'; rests = s.rests; steps = λ at is. s.steps was.0.calls was.0.made at c is }
+-- a call that is begun, or goes on
+abbrev pub put_begun :
+    {O : Type 0} (o : O) (e : RingEnd) (m : ProducerState) (n : ℕ) (s : PutterState O) → record { end = e; call = call_of m; batched = m.batched; start = without_last n e.list; oracle = o } ≡ s →
+    IsMachine producing e m (whole_put (call_of m) e.list (without_last n e.list)) × IsMarked n e.list (longest_at m.shape (call_of m)) → (c : Call) (now : ProducerState) →
+    ((calls : Puts) (made : List Made) → ProducerStands m calls made → CallBegins producing m now calls made c) → Begun producing c
+put_begun {O} o e m n s view = begun_seen producing e m n s.end (puts_whole s) (ap (λ (z : PutterState O). z.end) view) (ap (λ (z : PutterState O). puts_whole z) view)
 
 -- ---- the clauses of a step
 

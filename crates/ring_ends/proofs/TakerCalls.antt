@@ -21,9 +21,9 @@ use Rattle.ring_core.specs.ConsumerCalls.{ConsumerHasMoved, ConsumerStands, Cons
 use Rattle.ring_seats.specs.Ring.{RingEnd}
 use Rattle.ring_seats.specs.Steppers.{Grows}
 use Rattle.ring_ends.specs.Ends.{HasTakes, HasTakenOf, HasTakePart, TakeAdds, TakerState, wants_next, whole_take, takes_whole}
-use Rattle.ring_ends.specs.Machines.{IsMarked, MachineStepped, IsMachine, CallBegins, consuming, without_last, longest_while}
+use Rattle.ring_ends.specs.Machines.{IsMarked, IsMachine, CallBegins, consuming, without_last, longest_while}
 use Rattle.ring_ends.specs.Moves.{Due, Fed, MachineLaws}
-use Rattle.ring_ends.proofs.MachineCalls.{Begun, Step, Outcome, Refused, Goes, Over, one_step, out, shape_there, stays, whole_there}
+use Rattle.ring_ends.proofs.MachineCalls.{Begun, begun_seen, Step, Outcome, Refused, Goes, Over, one_step, out, shape_there, stays, whole_there}
 use Rattle.ring_ends.proofs.Steps.{none-some}
 
 -- ---- the machine
@@ -153,27 +153,12 @@ pub wants_same : (taking : Bool) (wanted most : ℕ) → (taking ≡ true → wa
 wants_same false wanted most same = refl
 wants_same true wanted most same = same refl
 
-module _ {O : Type 0} (o : O) (e : RingEnd) (m : ConsumerState) (n : ℕ) (s : TakerState O) (view : record { end = e; taking = is_taking m; wanted = m.wanted; start = without_last n e.list; oracle = o } ≡ s)
-    (was : IsMachine consuming e m (whole_take (is_taking m) e.list (without_last n e.list)) × IsMarked n e.list (longest_while m.shape (is_taking m) m.wanted)) (wanted : ℕ) (now : ConsumerState)
-    (begins : Begins m now wanted) where
-  -- a take that is begun, or goes on
-  abbrev pub take_begun : Begun consuming wanted
-  take_begun = record {
-    seen = s.end;
-    whole = takes_whole s;
-    e = e;
-    m = m;
-    n = n;
-    end_is = ap (λ (z : TakerState O). z.end) view;
-    whole_is = ap (λ (z : TakerState O). takes_whole z) view;
-    was = was;
-    now = now;
-    begins = begins was.0.calls was.0.made was.0.at.stands;
-  }
-
-  -- and one step of it
-  abbrev pub take_step : (e' : RingEnd) (m' : ConsumerState) {before after : ℕ → Bool} → MachineStepped consuming e now e' m' before after → Step consuming wanted
-  take_step e' m' {before} {after} s = record { begun = take_begun; e = e'; m = m'; rests = s.rests; steps = λ at is. s.steps was.0.calls was.0.made at wanted is }
+-- a take that is begun, or goes on
+abbrev pub take_begun :
+    {O : Type 0} (o : O) (e : RingEnd) (m : ConsumerState) (n : ℕ) (s : TakerState O) → record { end = e; taking = is_taking m; wanted = m.wanted; start = without_last n e.list; oracle = o } ≡ s →
+    IsMachine consuming e m (whole_take (is_taking m) e.list (without_last n e.list)) × IsMarked n e.list (longest_while m.shape (is_taking m) m.wanted) → (wanted : ℕ) (now : ConsumerState) →
+    Begins m now wanted → Begun consuming wanted
+take_begun {O} o e m n s view = begun_seen consuming e m n s.end (takes_whole s) (ap (λ (z : TakerState O). z.end) view) (ap (λ (z : TakerState O). takes_whole z) view)
 
 -- ---- the clauses of a step
 

@@ -151,10 +151,13 @@ pub record MachineStep (k : Machine) (a : RingEnd) (m : k.State) (b : RingEnd) (
   pub part : (c : k.Call) → k.Busy m' c → k.Part b.ring.shape c (events_of k.side (k.program (k.shape_of m) calls)) b.list
 
 -- what a machine and its end come to by one step of the call under way; where none is, nothing was made
-pub record MachineStepped (k : Machine) (a : RingEnd) (m : k.State) (b : RingEnd) (m' : k.State) (old now : ℕ → Bool) : Type 0 where
+pub record MachineStepped (k : Machine) (a : RingEnd) (m : k.State) (b : RingEnd) (m' : k.State)
+    (old now : ℕ → Bool) : Type 0 where
   pub kind : k.is_batch m' ≡ k.is_batch m
   pub rests : k.Rests m → (m' ≡ m) × (b ≡ a)
-  pub steps : (calls : k.Calls) (made : List Made) → MachineAt k a m calls made → (c : k.Call) → k.Busy m c → MachineStep k a m b m' calls
+  pub steps :
+      (calls : k.Calls) (made : List Made) → MachineAt k a m calls made → (c : k.Call) → k.Busy m c →
+      MachineStep k a m b m' calls
   pub answered : AreAnswered a b old now
 
 -- no access of the call under way, if there is one, was made yet

@@ -9,42 +9,51 @@ use Rattle.ring_core.specs.Calls.{LastBitIsDue, EndsInZeros}
 use Rattle.ring_seats.specs.Programs.{Follows}
 use Rattle.ring_ends.specs.Machines.{Machine}
 
--- What holds of a side's machine. A call is under way, or none is, and not two; one is where an access is due. At rest its accesses
--- are those of its calls, and none is due. One call more is one of the side's program, and a part of it is one. While a call is under
--- way it stays the same; once it is over it is one of the calls.
+-- What holds of a side's machine. A call is under way, or none is, and not two; one is where an access is due. At rest
+-- its accesses are those of its calls, and none is due. One call more is one of the side's program, and a part of it is
+-- one. While a call is under way it stays the same; once it is over it is one of the calls.
 pub record MachineLaws (k : Machine) : Type 0 where
   pub either : (m : k.State) → k.Rests m ⊎ ((c : k.Call) × k.Busy m c)
   pub never : (m : k.State) (c : k.Call) → k.Rests m → k.Busy m c → ⊥
   pub one : (m : k.State) (c d : k.Call) → k.Busy m c → k.Busy m d → c ≡ d
   pub due_busy : (m : k.State) (a : Access) → k.due m ≡ Some a → (c : k.Call) × k.Busy m c
-  pub at_rest : (m : k.State) (calls : k.Calls) (made : List Made) → k.Stands m calls made → k.Rests m → (made ≡ k.program (k.shape_of m) calls) × (k.due m ≡ None)
+  pub at_rest :
+      (m : k.State) (calls : k.Calls) (made : List Made) → k.Stands m calls made → k.Rests m →
+      (made ≡ k.program (k.shape_of m) calls) × (k.due m ≡ None)
   pub follows :
       (shape : Shape) (c : k.Call) (calls more : k.Calls) (list : List Event) → k.More shape c calls more →
       IsPrefix list (events_of k.side (k.program shape more)) → Follows shape k.side list
   pub part :
-      (m : k.State) (c : k.Call) (calls more : k.Calls) (made : List Made) (list : List Event) → k.Stands m calls made → k.More (k.shape_of m) c calls more →
+      (m : k.State) (c : k.Call) (calls more : k.Calls) (made : List Made) (list : List Event) →
+      k.Stands m calls made → k.More (k.shape_of m) c calls more →
       IsPrefix list (events_of k.side (k.program (k.shape_of m) more)) →
       k.Part (k.shape_of m) c (events_of k.side (k.program (k.shape_of m) calls)) list
   pub stays : (m : k.State) (c : k.Call) (calls : k.Calls) → k.Busy m c → k.After m m calls calls
-  pub goes : (m m' : k.State) (c d : k.Call) (calls more : k.Calls) → k.Busy m c → k.Busy m' d → k.After m m' calls more → (d ≡ c) × (more ≡ calls)
-  pub over : (m m' : k.State) (c : k.Call) (calls more : k.Calls) → k.Busy m c → k.Rests m' → k.After m m' calls more → k.More (k.shape_of m) c calls more
+  pub goes :
+      (m m' : k.State) (c d : k.Call) (calls more : k.Calls) → k.Busy m c → k.Busy m' d → k.After m m' calls more →
+      (d ≡ c) × (more ≡ calls)
+  pub over :
+      (m m' : k.State) (c : k.Call) (calls more : k.Calls) → k.Busy m c → k.Rests m' → k.After m m' calls more →
+      k.More (k.shape_of m) c calls more
   pub whole_rests : (m : k.State) (list start : List Event) → k.Rests m → k.whole m list start ≡ list
   pub whole_busy : (m : k.State) (c : k.Call) (list start : List Event) → k.Busy m c → k.whole m list start ≡ start
   pub most_rests : (m : k.State) → k.Rests m → k.most m ≡ 0
   pub most_busy : (m : k.State) (c : k.Call) → k.Busy m c → k.most m ≡ k.longest (k.shape_of m) c
 
--- Behind these calls, with these accesses made, the call under way goes on with the access, which has not as many accesses yet as it
--- may have: whatever it is answered, but for a 0 of the last bit of the count, the accesses made and it begin one call more.
+-- Behind these calls, with these accesses made, the call under way goes on with the access: whatever it is answered, but
+-- for a 0 of the last bit of the count, the accesses made and it begin one call more. The call has fewer accesses yet than
+-- it may have.
 pub record Next (k : Machine) (m : k.State) (calls : k.Calls) (made : List Made) (a : Access) : Type 0 where
   pub one : k.Call
   pub is : k.Busy m one
   pub goes :
       (answer : Bool) → (LastBitIsDue (k.shape_of m) k.side (Some a) → answer ≡ true) →
-      (more : k.Calls) × k.More (k.shape_of m) one calls more × IsPrefix (made ++ answered a answer ∷ []) (k.program (k.shape_of m) more)
+      (more : k.Calls) × k.More (k.shape_of m) one calls more ×
+      IsPrefix (made ++ answered a answer ∷ []) (k.program (k.shape_of m) more)
   pub few : length made < length (k.program (k.shape_of m) calls) + k.longest (k.shape_of m) one
 
--- the access is due: a bit of the shape takes it, the call under way goes on with it, and where it is of the last bit of the other
--- side's count, the accesses made end in zeros
+-- the access is due: a bit of the shape takes it, the call under way goes on with it, and where it is of the last bit of
+-- the other side's count, the accesses made end in zeros
 pub record Due (k : Machine) (m : k.State) (a : Access) : Type 0 where
   pub is : k.due m ≡ Some a
   pub right : IsOpenRight (k.shape_of m) k.side a
@@ -60,7 +69,8 @@ TellsNext k m (Some a) = Due k m a
 
 -- an answer to the due access may be fed: not a 0 of the last bit of the other side's count
 abbrev pub MayFeed : (k : Machine) → k.State → Bool → Type 0
-MayFeed k m answer = ((a : Access) × (k.due m ≡ Some a)) × (LastBitIsDue (k.shape_of m) k.side (k.due m) → answer ≡ true)
+MayFeed k m answer =
+    ((a : Access) × (k.due m ≡ Some a)) × (LastBitIsDue (k.shape_of m) k.side (k.due m) → answer ≡ true)
 
 -- the due access was made and answered so: the machine stands behind it, with the same calls or one more
 pub record Fed (k : Machine) (m : k.State) (answer : Bool) (m' : k.State) : Type 0 where

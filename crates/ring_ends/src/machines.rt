@@ -36,16 +36,20 @@ pub(crate) trait SideMachine {
 
     ghost writes_left: { Self → ℕ };
 
+    // What holds of the machine.
     fn laws()
         ensures { MachineLaws kind };
 
+    // The access that is due, or that no call is under way.
     fn next(&self) -> Option<Access>
         ensures { TellsNext kind (state self.now) result };
 
+    // The due access was made and answered so.
     fn feed(&mut self, answer: bool)
         requires { MayFeed kind (state self.old) answer }
         ensures { Fed kind (state self.old) answer (state self.new) };
 
+    // The scan of the call under way by itself, where one is.
     fn scan(&self) -> Option<Self::Scan>
         ensures { IfSome result (λ s. (scanned s ≡ state self.now) × IsScanOf self.now s) };
 
@@ -61,12 +65,13 @@ pub(crate) trait SideMachine {
         ensures of { (m : Self) → IsScanOf m scan.old → IsScanOf m scan.new }
         ensures left { reads_left scan.new < reads_left scan.old };
 
-    // A 1 was read.
+    // A 1 was read: the scan is over, and the machine goes on behind it.
     fn end_scan(&mut self, scan: Self::Scan)
         requires feeds { MayFeed kind (scanned scan) true }
         requires of { IsScanOf self.old scan }
         ensures { Fed kind (scanned scan) true (state self.new) };
 
+    // The word of the call under way by itself, where one is written or read.
     fn word(&self) -> Option<Self::Word>
         ensures { IfSome result (λ w. (worded w ≡ state self.now) × IsWordOf self.now w) };
 
@@ -83,10 +88,12 @@ pub(crate) trait SideMachine {
         ensures of { (m : Self) → IsWordOf m word.old → IsWordOf m word.new }
         ensures left { digits_left word.new < digits_left word.old };
 
+    // The word's last access was made and answered so, and the machine goes on behind it.
     fn end_word(&mut self, word: Self::Word, answer: bool)
         requires { IsWordOf self.old word }
         ensures { Fed kind (worded word) answer (state self.new) };
 
+    // Whether the count is being written.
     fn is_counting(&self) -> bool
         ensures { IsTrue result ↔ IsCounting self.now };
 

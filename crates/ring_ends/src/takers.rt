@@ -95,6 +95,7 @@ impl SideMachine for Consumer {
 
     ghost writes_left = { λ m. length (due_writes m.row) };
 
+    #[inline(always)]
     fn laws() {}
 
     #[inline(always)]

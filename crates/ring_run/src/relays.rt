@@ -374,8 +374,7 @@ fn relay_through<
     requires fresh { ((E.end putter).list ≡ []) × ((F.end taker).list ≡ []) }
     requires fit { AllFit (E.end putter).ring.shape items.now }
     ensures counted { IsRelayed (E.end putter).ring.shape items.now limits.puts limits.takes result.put result.calls
-        result.full
-        result.taken.items result.takes result.empty result.closed }
+        result.full result.taken.items result.takes result.empty result.closed }
     ensures prefix { IsPrefix result.taken.items (take result.put items.now) }
     ensures all { result.closed ≡ true → (result.put ≡ length items.now) × (result.taken.items ≡ items.now) }
     ensures within { result.put ≤ length result.taken.items + capacity_of (E.end putter).ring.shape }

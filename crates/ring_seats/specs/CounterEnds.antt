@@ -21,8 +21,9 @@ use Rattle.ring_seats.specs.Ring.{RingEnd}
 use Rattle.ring_seats.specs.Steppers.{IsSameEnd, StandsAs}
 use Rattle.ring_seats.specs.Calls.{HasPuts, HasTakes, IsTakeReply, closed_reply}
 
--- the end's list is that of whole calls, which leave so many items counted by a shape, and the count and the cell are theirs
-pub record CountedList (x : Side) (Has : Shape → List Event → Type 0) (number : Shape → ℕ) (e : RingEnd) (count cell : ℕ) : Type 0 where
+-- the end's list is that of whole calls, which count so many items, and the count and the cell are theirs
+pub record CountedList (x : Side) (Has : Shape → List Event → Type 0) (number : Shape → ℕ)
+    (e : RingEnd) (count cell : ℕ) : Type 0 where
   pub side_is : e.side ≡ x
   pub stands : StandsAs x e
   pub has : Has e.ring.shape e.list
@@ -32,7 +33,9 @@ pub record CountedList (x : Side) (Has : Shape → List Event → Type 0) (numbe
 -- ---- the producer's end
 
 abbrev pub PutterList : RingEnd → (count cell : ℕ) → Puts → Type 0
-PutterList e count cell calls = CountedList P (λ (s : Shape) (list : List Event). HasPuts s list calls) (λ (s : Shape). (count_of s calls).number) e count cell
+PutterList e count cell calls =
+    CountedList P (λ (s : Shape) (list : List Event). HasPuts s list calls) (λ (s : Shape). (count_of s calls).number)
+    e count cell
 
 abbrev pub IsPutterList : RingEnd → ℕ → ℕ → Bool → Type 0
 IsPutterList e count cell closed = (calls : Puts) × PutterList e count cell calls × (closed ≡ calls.closes)
@@ -60,7 +63,9 @@ pub record PutKept (a b : RingEnd) (count cell : ℕ) (calls : Puts) (items : Li
 -- ---- the consumer's end
 
 abbrev pub TakerList : RingEnd → (count cell : ℕ) → Takes → Type 0
-TakerList e count cell calls = CountedList C (λ (s : Shape) (list : List Event). HasTakes s list calls) (λ (s : Shape). (takes.count_taken s calls).number) e count cell
+TakerList e count cell calls =
+    CountedList C (λ (s : Shape) (list : List Event). HasTakes s list calls)
+    (λ (s : Shape). (takes.count_taken s calls).number) e count cell
 
 abbrev pub IsTakerList : RingEnd → ℕ → ℕ → Bool → Type 0
 IsTakerList e count cell told = (calls : Takes) × TakerList e count cell calls × (told ≡ ends_closed calls.end)

@@ -3,15 +3,16 @@ use Rattle.ring_core.specs.ConsumerState.{is_taking}
 use Rattle.ring_ends.specs.Ends.{wants_next}
 use Rattle.ring_ends.specs.Machines.{consuming}
 use Rattle.ring_seats.specs.Steppers.{AreAnswered, IsAskedOnce}
-use Rattle.ring_ends.proofs.MachineCalls.{Step, same_step, step_few, step_invariant, step_lawful}
-use Rattle.ring_ends.proofs.TakerCalls.{begins_seen, few_taken, take_laws, take_none, take_one, take_seen, take_some, take_step, take_wanted}
+use Rattle.ring_ends.proofs.MachineCalls.{Step, same_step, step_few, step_invariant, step_lawful, step_of}
+use Rattle.ring_ends.proofs.TakerCalls.{begins_seen, few_taken, take_laws, take_none, take_one, take_seen, take_some, take_begun, take_wanted}
 use Rattle.ring_ends.proofs.takers.Taker.step_take.Given.{Over}
 use Rattle.ring_ends.proofs.takers.Taker.step_take.Goals.{After-step}
 use Rattle.ring_ends.proofs.takers.Taker.step_take.Goals as goal
 
 -- the take and the step
 abbrev step : (g : Over) (c : After-step g) → Step consuming (wants_next c.args.self.now.taking c.args.self.now.wanted 1)
-step g c = take_step c.self.inside.oracle c.self.inside.stepper c.self.inside.machine c.self.inside.steps c.args.self.now c.self.view_is c.self.invariant (wants_next c.args.self.now.taking c.args.self.now.wanted 1) c.begin_take.new.machine (begins_seen c.self.view_is c.self.inside.machine c.begin_take.new.machine 1 _ refl c.begin_take.ensures.begins) c.step.new.stepper c.step.new.machine c.step.ensures.stepped
+step g c = step_of consuming (take_begun c.self.inside.oracle c.self.inside.stepper c.self.inside.machine c.self.inside.steps c.args.self.now c.self.view_is c.self.invariant (wants_next c.args.self.now.taking c.args.self.now.wanted 1) c.begin_take.new.machine (begins_seen c.self.view_is c.self.inside.machine c.begin_take.new.machine 1 _ refl c.begin_take.ensures.begins))
+    c.step.new.stepper c.step.new.machine c.step.ensures.stepped
 
 pub step-requires-clause-few : goal.step-requires-clause-few
 step-requires-clause-few g c =

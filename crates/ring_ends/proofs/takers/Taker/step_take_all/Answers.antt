@@ -2,8 +2,8 @@ use Rattle.std.proofs.Common.{◌≡◌, length}
 use Rattle.ring_core.specs.ConsumerState.{is_taking}
 use Rattle.ring_ends.specs.Machines.{consuming}
 use Rattle.ring_seats.specs.Steppers.{AreAnswered, IsAskedOnce}
-use Rattle.ring_ends.proofs.MachineCalls.{Step, same_step, step_few, step_invariant, step_lawful}
-use Rattle.ring_ends.proofs.TakerCalls.{begins_seen, few_taken, take_laws, take_seen, take_step, wants_same}
+use Rattle.ring_ends.proofs.MachineCalls.{Step, same_step, step_few, step_invariant, step_lawful, step_of}
+use Rattle.ring_ends.proofs.TakerCalls.{begins_seen, few_taken, take_laws, take_seen, take_begun, wants_same}
 use Rattle.ring_ends.proofs.TakesAll.{step_none, step_one, step_others, step_room, step_some, step_within}
 use Rattle.ring_ends.proofs.takers.Taker.step_take_all.Given.{Over}
 use Rattle.ring_ends.proofs.takers.Taker.step_take_all.Goals.{After-step}
@@ -11,7 +11,8 @@ use Rattle.ring_ends.proofs.takers.Taker.step_take_all.Goals as goal
 
 -- the take and the step
 abbrev step : (g : Over) (c : After-step g) → Step consuming (length c.args.into.now)
-step g c = take_step c.self.inside.oracle c.self.inside.stepper c.self.inside.machine c.self.inside.steps c.args.self.now c.self.view_is c.self.invariant (length c.args.into.now) c.begin_take.new.machine (begins_seen c.self.view_is c.self.inside.machine c.begin_take.new.machine (length c.args.into.now) (length c.args.into.now) (wants_same c.args.self.now.taking c.args.self.now.wanted (length c.args.into.now) c.requires.wanted) c.begin_take.ensures.begins) c.step.new.stepper c.step.new.machine c.step.ensures.stepped
+step g c = step_of consuming (take_begun c.self.inside.oracle c.self.inside.stepper c.self.inside.machine c.self.inside.steps c.args.self.now c.self.view_is c.self.invariant (length c.args.into.now) c.begin_take.new.machine (begins_seen c.self.view_is c.self.inside.machine c.begin_take.new.machine (length c.args.into.now) (length c.args.into.now) (wants_same c.args.self.now.taking c.args.self.now.wanted (length c.args.into.now) c.requires.wanted) c.begin_take.ensures.begins))
+    c.step.new.stepper c.step.new.machine c.step.ensures.stepped
 
 pub step-requires-clause-few : goal.step-requires-clause-few
 step-requires-clause-few g c =
