@@ -100,8 +100,8 @@ fn found_at_end<A: Allocator + Copy>(recording: &Recording<A>) -> Result<Found, 
     })
 }
 
-// Reads the input in pieces, to its end, or where it is to stop there, to the first fault; and tells what is found. It notes where
-// it comes to the end.
+// Reads the input in pieces, to its end, or where it is to stop there, to the first fault; and tells what is found. It
+// notes where it comes to the end.
 #[tactic(auto, unfolding(crate::specs::Answers::IsCallsCause))]
 fn read_calls<A: Allocator + Copy, I: Read>(
     recording: &mut Recording<A>,
@@ -110,7 +110,8 @@ fn read_calls<A: Allocator + Copy, I: Read>(
     input: &mut I,
 ) -> Result<Found, Refusal>
     requires begins { HasRead (λ q. q.items) (λ q. q.items) (λ v. v.items) recording.old [] }
-    ensures found { IfSome (I.remaining input.old) (λ bytes. IfOk result (λ found. IsFoundBy stop bytes found.is_cut found.finding)) }
+    ensures found { IfSome (I.remaining input.old) (λ bytes. IfOk result (λ found.
+        IsFoundBy stop bytes found.is_cut found.finding)) }
     ensures refused { IfSome (I.remaining input.old) (λ bytes. IfErr result (IsCallsCause bytes)) }
 {
     let mut piece = [0u8; PIECE];
@@ -201,7 +202,8 @@ fn calls_ending(finding: &CallsFinding) -> Ending
     }
 }
 
-/// The answer of `audit --calls`, by a recording of which nothing was read. It notes where it comes to the end of the input.
+/// The answer of `audit --calls`, by a recording of which nothing was read. It notes where it comes to the end of the
+/// input.
 #[tactic(auto, unfolding(crate::specs::Answers::IsCallsCause))]
 pub fn calls_answer<A: Allocator + Copy, I: Read>(
     alloc: A,
