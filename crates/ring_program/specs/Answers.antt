@@ -81,18 +81,19 @@ abbrev pub relay_ending_of : Bool → Ending
 relay_ending_of true = Done
 relay_ending_of false = LimitReached
 
--- What is found of the events of a trace, by these words, and the verdict in it: of its bits, or of them and of the programs of its two
--- sides. Lists that it tells meet the sentence of the ring, and their calls are linearizable
+-- What is found of the events of a trace, by these words, and the verdict in it: of its bits, or of them and of the
+-- programs of its two sides. Lists that it tells meet the sentence of the ring, and their calls are linearizable
 abbrev pub IsJudged : Audited → Shape → List Event → (words : List ℕ) → Verdict → Type 0
 IsJudged Bits shape events words verdict = IsVerdict shape events verdict × (words ≡ verdict_text_of verdict)
 IsJudged Programs shape events words verdict =
-    (found : Statement) × IsFinding shape events found × SaysSentence shape events found × SaysLinearizable shape events found
-    × (words ≡ audit_text_of found) × (verdict ≡ verdict_in found)
+    (found : Statement) × IsFinding shape events found × SaysSentence shape events found
+    × SaysLinearizable shape events found × (words ≡ audit_text_of found) × (verdict ≡ verdict_in found)
 
 -- the words alone; or with lines behind them that say why the event at fault is
 abbrev pub TellsJudged : (why : Bool) → Shape → List Event → Verdict → (words text : List ℕ) → Type 0
 TellsJudged false shape events verdict words text = text ≡ words
-TellsJudged true shape events verdict words text = (more : List ℕ) × (text ≡ words ++ more) × TellsWhy shape events verdict more
+TellsJudged true shape events verdict words text =
+    (more : List ℕ) × (text ≡ words ++ more) × TellsWhy shape events verdict more
 
 -- the input is a trace, as it is read, and the text and the ending are those of what is found of it
 pub record AuditsTrace (IsRead : List ℕ → Shape → List Event → Type 0) (what : Audited) (why : Bool) (input text : List ℕ) (ending : Ending) : Type 0 where
@@ -105,9 +106,9 @@ pub record AuditsTrace (IsRead : List ℕ → Shape → List Event → Type 0) (
   pub tells : TellsJudged why shape events verdict words text
   pub ends : ending ≡ verdict_ending_of verdict
 
--- The text of a play of the script by the letters of its schedule: a report; the trace of its history; or a recording of its calls, by a
--- queue of the ring's capacity, whose history is linearizable. Of a play by a near miss it is the trace; or a line of the ring's
--- capacity and then one for each begin and end of a call that is told
+-- The text of a play of the script by the letters of its schedule: a report; the trace of its history; or a recording of
+-- its calls, by a queue of the ring's capacity, whose history is linearizable. Of a play by a near miss it is the trace;
+-- or a line of the ring's capacity and then one for each begin and end of a call that is told
 abbrev pub ShowsPlay : PlayText → Content → List ℕ → Type 0
 ShowsPlay shown.Report script text =
     (history : List Event) × IsPlayOf script script.letters history × EachReadingIsLinearizable script.shape history
@@ -172,7 +173,8 @@ IsRunCause run e = IsOutOfMemory e ⊎ (((e ≡ refusal.App app.NotOfRun) × (ru
 
 -- the request, on this input, is answered by this text and this ending; an input that is kept is not too large
 abbrev pub Answers : Request → List ℕ → List ℕ → Ending → Type 0
-Answers (OnInput (Audit what why)) input text ending = (length input ≤ INPUT_LIMIT) × AuditsTrace IsTrace what why input text ending
+Answers (OnInput (Audit what why)) input text ending =
+    (length input ≤ INPUT_LIMIT) × AuditsTrace IsTrace what why input text ending
 Answers (OnInput (Play shows)) input text ending = (length input ≤ INPUT_LIMIT) × PlaysScript shows input text ending
 Answers (request.Calls stop) input text ending = AnswersCalls stop input text ending
 Answers request.LongBits input text ending = AuditsTrace IsTraceText Bits false input text ending
@@ -224,14 +226,15 @@ IsTrueCause (request.Calls stop) input e = IsCallsCause input e
 IsTrueCause request.LongBits input e = IsLongBitsCause input e
 IsTrueCause (request.Run run) input e = IsRunCause run e
 
--- ---- how the program ends, by what the output was and is, what it is that standard error is told a text, and the exit status
+-- ---- how the program ends, by what the output was and is, what it is that standard error is told a text, and the status
 
--- a text was written: all of it, with the status of this ending, of which standard error was told; or a write failed behind a front of
--- it, and standard error was told that
+-- a text was written: all of it, with the status of this ending, of which standard error was told; or a write failed
+-- behind a front of it, and standard error was told that
 abbrev pub Delivers : List ℕ → Ending → Option (List ℕ) → Option (List ℕ) → (List ℕ → Type 0) → ℕ → Type 0
 Delivers text ending before after Tells status =
     ((status ≡ status_of ending) × Appends before after text × Tells (ending_words ending))
-    ⊎ ((status ≡ 1) × Tells (refusal_line (refusal.App app.WriteFailed)) × (count : ℕ) × Appends before after (take count text))
+    ⊎ ((status ≡ 1) × Tells (refusal_line (refusal.App app.WriteFailed))
+    × (count : ℕ) × Appends before after (take count text))
 
 -- nothing was written, and standard error was told the words of a refusal, which are those of this very cause
 abbrev pub Declines : Refusal → Option (List ℕ) → Option (List ℕ) → (List ℕ → Type 0) → ℕ → Type 0
@@ -240,7 +243,8 @@ Declines e before after Tells status = (status ≡ 1) × Keeps before after × S
 -- an answer to the request on this input was delivered, or the request was refused for a true cause
 abbrev pub EndsOn : Request → List ℕ → Option (List ℕ) → Option (List ℕ) → (List ℕ → Type 0) → ℕ → Type 0
 EndsOn asked input before after Tells status =
-    ((text : List ℕ) × (ending : Ending) × Answers asked input text ending × Delivers text ending before after Tells status)
+    ((text : List ℕ) × (ending : Ending) × Answers asked input text ending
+    × Delivers text ending before after Tells status)
     ⊎ ((e : Refusal) × IsTrueCause asked input e × Declines e before after Tells status)
 
 -- the same, where the reader tells that this is its input; a run has none

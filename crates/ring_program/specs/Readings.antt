@@ -41,7 +41,8 @@ abbrev pub IsFoundBy : (stop : Bool) → List ℕ → (is_cut : Bool) → CallsF
 IsFoundBy false input is_cut found = IsFoundIn input is_cut found
 IsFoundBy true input is_cut found = IsFoundAhead input is_cut found
 
--- the text and the ending are those of what is found; the text says whether the recording says that the later calls are missing
+-- the text and the ending are those of what is found; the text says whether the recording says that the later calls are
+-- missing
 abbrev pub AnswersCalls : (stop : Bool) → List ℕ → List ℕ → Ending → Type 0
 AnswersCalls stop input text ending =
     (is_cut : Bool) × (found : CallsFinding) × IsFoundBy stop input is_cut found × (text ≡ calls_text_of is_cut found)
