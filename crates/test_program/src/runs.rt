@@ -2,54 +2,48 @@ use crate::expects::{
     Reported, expect_relay_reports, expect_relay_text, expect_reported_runs, expect_runs,
 };
 
+const ALL: &str = "put 64\ntaken 64\nclosed yes\n";
+
+const LIMIT: &str = "refused: limit reached\n";
+
 const SMALL: &str = "lamport_ring run --capacity 1 --modulus 3 --width 6";
 
 // What follows the options of the shape, the status, the output and the standard error.
 static RUNS: [(&str, u8, &str, &str); 12] = [
-    (
-        "--count 64 --limit 1000000000",
-        0,
-        "put 64\ntaken 64\nclosed yes\n",
-        "",
-    ),
-    (
-        "--count 64 --limit 1000000000 --ring flicker",
-        0,
-        "put 64\ntaken 64\nclosed yes\n",
-        "",
-    ),
+    ("--count 64 --limit 1000000000", 0, ALL, ""),
+    ("--count 64 --limit 1000000000 --ring flicker", 0, ALL, ""),
     (
         "--count 64 --limit 18446744073709551615 --ring=counter",
         0,
-        "put 64\ntaken 64\nclosed yes\n",
+        ALL,
         "",
     ),
     (
         "--count 2 --limit 5 --takes 0 --ring counter",
         1,
         "put 1\ntaken 0\nclosed no\n",
-        "refused: limit reached\n",
+        LIMIT,
     ),
     // no put and no take
     (
         "--count 3 --limit 0",
         1,
         "put 0\ntaken 0\nclosed no\n",
-        "refused: limit reached\n",
+        LIMIT,
     ),
     // the putter closes, and the taker makes no call
     (
         "--count 0 --limit 0",
         1,
         "put 0\ntaken 0\nclosed no\n",
-        "refused: limit reached\n",
+        LIMIT,
     ),
     // one item is put, and the ring stays full
     (
         "--count 2 --limit 5 --takes 0",
         1,
         "put 1\ntaken 0\nclosed no\n",
-        "refused: limit reached\n",
+        LIMIT,
     ),
     // no item, and takes until the close is seen
     (
@@ -92,29 +86,19 @@ fn relays_items_through_two_threads(rt: HostRuntime) {
 const BATCHED: &str = "lamport_ring run --capacity 3 --modulus 7 --width 6 --batch 3";
 
 static BATCHED_RUNS: [(&str, u8, &str, &str); 5] = [
-    (
-        "--count 64 --limit 1000000000",
-        0,
-        "put 64\ntaken 64\nclosed yes\n",
-        "",
-    ),
+    ("--count 64 --limit 1000000000", 0, ALL, ""),
     (
         "--count 64 --limit 18446744073709551615 --ring counter",
         0,
-        "put 64\ntaken 64\nclosed yes\n",
+        ALL,
         "",
     ),
     // takes of several, on both rings
-    (
-        "--count=64 --limit=1000000000 --take-batch=3",
-        0,
-        "put 64\ntaken 64\nclosed yes\n",
-        "",
-    ),
+    ("--count=64 --limit=1000000000 --take-batch=3", 0, ALL, ""),
     (
         "--count=64 --limit=1000000000 --take-batch=2 --ring=counter",
         0,
-        "put 64\ntaken 64\nclosed yes\n",
+        ALL,
         "",
     ),
     // a limit of takes counts the items that they bring
@@ -122,7 +106,7 @@ static BATCHED_RUNS: [(&str, u8, &str, &str); 5] = [
         "--count=3 --limit=1000000000 --takes=0 --take-batch=3",
         1,
         "put 3\ntaken 0\nclosed no\n",
-        "refused: limit reached\n",
+        LIMIT,
     ),
 ];
 
@@ -234,13 +218,13 @@ static REPORTED: [(&str, u8, &str, &[&str]); 3] = [
     (
         "lamport_ring run --capacity=3 --modulus=7 --width=6 --batch=3 --count=64 --limit=1000000000 --report",
         0,
-        "put 64\ntaken 64\nclosed yes\n",
+        ALL,
         COUNTS,
     ),
     (
         "lamport_ring run --report --ring=counter --capacity=3 --modulus=5 --width=6 --count=64 --limit=1000000000",
         0,
-        "put 64\ntaken 64\nclosed yes\n",
+        ALL,
         COUNTS,
     ),
     // one item is put, the other four puts find the ring full, and no take is made
