@@ -31,7 +31,7 @@ play_within script letters h is put taken put_is taken_is =
     let p = is.plays.played.puts in
     let t = is.plays.played.takes in
     let puts : FollowsPuts script.shape h p.0 = record { are = p.1.are; events = p.2 } in
-    let takes : FollowsTakes script.shape h t.0 = record { are = t.1.are; events = t.2 } in
+    let takes : FollowsTakes script.shape h t.0 = record { are = t.1.0; events = t.2 } in
     let prefix = (is.headline p.0 t.0 puts takes).prefix (length h) in
     let of_put = ap (items_put script.shape first_count p.0.puts) (clock_at_end P h) ∙ sym (put_is p.0 puts) in
     let of_taken = ap (items_taken script.shape first_count t.0.takes) (clock_at_end C h) ∙ sym (taken_is t.0 takes) in
