@@ -2,7 +2,7 @@
 use Rattle.std.proofs.Common.{◌≡◌, ℕ, suc, Some, List, ◌<◌, ◌≤◌, sym, length, take, refl, ap₂, subst, inl, inr, arith, get_or}
 use Rattle.std.proofs.lemmas.Bool.{cases_order}
 use Rattle.std.specs.Prelude.{slice_get}
-use Rattle.std.proofs.lemmas.Option.{slice_get-get_or}
+use Rattle.std.proofs.lemmas.Option.{slice_get-get_or, slice_get_within}
 use Rattle.std.proofs.lemmas.List.{take-take}
 use Rattle.bits_core.specs.declared.events.Event.{Event}
 use Rattle.bits_core.specs.declared.shapes.Shape.{Shape}
@@ -13,7 +13,7 @@ use Rattle.bits_core.specs.declared.audits.Verdict.TheVariants.{Lawful, Fault}
 use Rattle.bits_core.specs.Audit.{IsFault, IsFirstFault, IsFaultAfter, IsVerdict}
 use Rattle.bits_core.specs.Steps.{MayFollow, EachMayFollow}
 use Rattle.bits_core.specs.Lawful.{TakesTurn, IsLawfulEvent, IsLawful}
-use Rattle.bits_core.specs.Laws.{FaultBreaks}
+use Rattle.bits_core.specs.Laws.{FaultBreaks, FaultIsFirst}
 use Rattle.bits_core.proofs.Places.{slice_get-take, slice_get-from_take}
 use Rattle.bits_core.proofs.OverlapLemmas.{IsByDoers, IsByDoers-below}
 use Rattle.bits_core.proofs.LawfulLemmas.{same_event, IsByDoers-steps, IsLawfulEvent-from, IsLawfulEvent-to, IsLawful-from, IsLawful-to, TakesTurn-from, TakesTurn-to, AnswersSafely-to}
@@ -49,6 +49,12 @@ IsFirstFault-at shape h i d kind within steps fault =
           let past : take p (take i h) ≡ take p h = take-take p i h (omega arith) in
           IsLawfulEvent-from shape h p e (IsByDoers-below h p i (omega arith) sides) k (subst (λ t. MayFollow shape t e) past (steps.each p e (slice_get-take h i p e k below)));
     }
+
+pub fault_is_first : FaultIsFirst
+fault_is_first shape h place e kind at lawful fault =
+    let within : place < length h = slice_get_within h place e at in
+    let same : get_or h place e ≡ e = same_event h place (get_or h place e) e (slice_get-get_or h place e within) at in
+    IsFirstFault-at shape h place e kind within (IsLawful-to shape (take place h) lawful) (subst (λ d. IsFaultAfter shape (take place h) d kind) (sym same) fault)
 
 -- ---- one verdict
 

@@ -10,7 +10,7 @@ use Rattle.bits_core.specs.declared.shapes.Shape.{Shape}
 use Rattle.bits_core.specs.declared.traces.TheConstants.{EVENT_LIMIT}
 use Rattle.bits_core.specs.declared.traces.TraceFault.{TraceFault}
 use Rattle.bits_core.specs.declared.traces.TraceFault.TheVariants.{TooLong}
-use Rattle.bits_core.specs.Audit.{IsFirstFault, IsVerdict}
+use Rattle.bits_core.specs.Audit.{IsFaultAfter, IsFirstFault, IsVerdict}
 use Rattle.bits_core.specs.Trace.{IsTrace, IsTraceFault, IsTraceText, RefusesTraceText}
 use Rattle.bits_core.specs.Bits.{reader, writer, is_by, begun_by, write_of}
 use Rattle.bits_core.specs.History.{before_last, open_access, open_write, held, held_at_begin, is_overlapped}
@@ -65,6 +65,11 @@ OneVerdict = (shape : Shape) (h : List Event) (v w : Verdict) → IsVerdict shap
 -- the events before the first fault are lawful, and with it they are not
 abbrev pub FaultBreaks : Type 0
 FaultBreaks = (shape : Shape) (h : List Event) (place : ℕ) (kind : Kind) → IsFirstFault shape h place kind → IsLawful shape (take place h) × (IsLawful shape (take (suc place) h) → ⊥)
+
+-- an event that may not follow the events before it, which are lawful, is the first fault
+abbrev pub FaultIsFirst : Type 0
+FaultIsFirst = (shape : Shape) (h : List Event) (place : ℕ) (e : Event) (kind : Kind) → slice_get h place ≡ Some e → IsLawful shape (take place h) → IsFaultAfter shape (take place h) e kind →
+    IsFirstFault shape h place kind
 
 -- whether a write of a bit overlaps an access is decidable
 abbrev pub OverlapIsDecidable : Type 0

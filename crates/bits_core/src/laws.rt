@@ -7,9 +7,9 @@
 //! - Of intervals: `open_is_by_interval`, `held_is_by_interval`, `overlap_is_by_interval`, `flicker_is_by_interval`. For who
 //!   states something of a history and not of its working words.
 //! - Of a side's own events and accesses: `subhistory_has_place`, `clock_counts_places`, `made_is_access`, `access_is_made`, `made_leave_none_open`. For who has a machine that makes them.
-//! - Of verdicts and of text: `one_verdict`, `fault_breaks`, `one_reading` to `refused_is_no_text`. For who reads a verdict, or
+//! - Of verdicts and of text: `one_verdict`, `fault_breaks`, `fault_is_first`, `one_reading` to `refused_is_no_text`. For who reads a verdict, or
 //!   a trace.
-ghost use Rattle.bits_core.specs.Laws.{AccessIsMade, BeforeLastChanges, BeginningIsLawful, ClockCountsPlaces, EmptyIsLawful, FaultBreaks, FaultyIsNoTrace, FlickerIsByInterval, HeldAtBeginChanges, HeldChanges, HeldIsByInterval, LawfulByOneMore, MadeIsAccess, MadeLeaveNoneOpen, OneFault, OneReading, OneTextReading, OneVerdict, OpenChanges, OpenFromOwn, OpenIsByInterval, OpenWriteChanges, OverlapChanges, OverlapIsByInterval, OverlapIsDecidable, SubhistoryChanges, SubhistoryHasOnePlace, SubhistoryHasPlace, QuietIsHeld, RefusedIsNoText, TraceIsText, TraceOrFault};
+ghost use Rattle.bits_core.specs.Laws.{AccessIsMade, BeforeLastChanges, BeginningIsLawful, ClockCountsPlaces, EmptyIsLawful, FaultBreaks, FaultIsFirst, FaultyIsNoTrace, FlickerIsByInterval, HeldAtBeginChanges, HeldChanges, HeldIsByInterval, LawfulByOneMore, MadeIsAccess, MadeLeaveNoneOpen, OneFault, OneReading, OneTextReading, OneVerdict, OpenChanges, OpenFromOwn, OpenIsByInterval, OpenWriteChanges, OverlapChanges, OverlapIsByInterval, OverlapIsDecidable, SubhistoryChanges, SubhistoryHasOnePlace, SubhistoryHasPlace, QuietIsHeld, RefusedIsNoText, TraceIsText, TraceOrFault};
 
 /// The history with no event is lawful.
 pub fn empty_is_lawful()
@@ -79,6 +79,11 @@ pub fn one_verdict()
 /// The events before the first fault of a history are lawful, and with it they are not.
 pub fn fault_breaks()
     ensures { FaultBreaks }
+{}
+
+/// An event that may not follow the events before it, which are lawful, is the first fault of a history.
+pub fn fault_is_first()
+    ensures { FaultIsFirst }
 {}
 
 /// A text is that of one shape and one list of events.

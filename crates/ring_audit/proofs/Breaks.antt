@@ -1,23 +1,20 @@
 -- The first place up to and with which a history is not of the programs.
-use Rattle.std.proofs.Common.{◌≡◌, ◌↔◌, ℕ, zero, suc, ◌+◌, ◌≤◌, ◌<◌, Bool, IsTrue, List, [], ◌∷◌, ◌++◌, length, take, drop, get_or, refl, sym, ap, subst, ◌∙◌, arith, append_assoc}
-use Rattle.std.proofs.Math.Seq.{take-length}
+use Rattle.std.proofs.Common.{◌≡◌, ◌↔◌, ℕ, suc, ◌+◌, ◌<◌, Bool, IsTrue, List, [], ◌∷◌, ◌++◌, length, take, drop, get_or, refl, sym, ap, subst, ◌∙◌, arith, append_assoc}
 use Rattle.std.proofs.lemmas.Option.{slice_get_within}
 use Rattle.std.proofs.lemmas.List.Elements.{filter-append}
-use Rattle.std.proofs.lemmas.List.{take-append-drop, take_more, take-take, take_at}
+use Rattle.std.proofs.lemmas.List.{take-append-drop, take_more, take_at}
 use Rattle.bits_core.specs.declared.events.Side.TheVariants.{P, C}
 use Rattle.bits_core.specs.declared.events.Event.{Event}
 use Rattle.bits_core.specs.declared.audits.Kind.{Kind}
 use Rattle.bits_core.specs.declared.audits.Kind.TheVariants.{WrongSide, OutOfTurn, NotPermitted, NotProgram}
 use Rattle.bits_core.specs.declared.shapes.Shape.{Shape}
-use Rattle.bits_core.specs.declared.audits.Verdict.{Verdict}
-use Rattle.bits_core.specs.declared.audits.Verdict.TheVariants as bits
-use Rattle.bits_core.specs.Audit.{IsFirstFault, IsVerdict}
+use Rattle.bits_core.specs.Audit.{IsFirstFault}
 use Rattle.bits_core.specs.Laws.{BeginningIsLawful, FaultBreaks}
 use Rattle.bits_core.specs.Lawful.{IsLawful}
 use Rattle.bits_core.specs.declared.events.Side.{Side}
 use Rattle.bits_core.specs.Bits.{is_by}
 use Rattle.bits_core.specs.Made.{subhistory, IsPrefix}
-use Rattle.ring_audit.specs.Audit.{IsOfPrograms, IsFound, IsKindAt, IsFirstBreak, Statement, Lawful, Fault, IsFinding, lawful_until, tells_lawful}
+use Rattle.ring_audit.specs.Audit.{IsOfPrograms, IsFound, IsKindAt, IsFirstBreak, Statement, Lawful, Fault, IsFinding, tells_lawful}
 use Rattle.ring_audit.specs.PutReading.{PutsStand, WerePut}
 use Rattle.ring_audit.specs.TakeReading.{TakesStand, WereTaken}
 use Rattle.ring_audit.specs.Reading.{Reading, ReadingStands, BothFollow}
@@ -35,18 +32,16 @@ lawful_take law shape h n lawful = law shape (take n h) (drop n h) (subst (IsLaw
 
 -- where the event behind the first i is not of the programs
 pub break_of_program :
-    BeginningIsLawful → (of shape : Shape) (h part : List Event) (n i : ℕ) (d : Event) → of ≡ shape → part ≡ take n h → IsLawful shape part → i < length part → length part ≤ length h → i < n →
-    BothFollow of (take i part) → (BothFollow of (take i part ++ get_or part i d ∷ []) → ⊥) → IsFirstBreak shape h i NotProgram
-break_of_program law of shape h part n i d same part_is lawful within few below follow breaks =
-    let before : take i part ≡ take i h = ap (take i) part_is ∙ take-take i n h (omega (arith, below)) in
-    let after : take (suc i) part ≡ take (suc i) h = ap (take (suc i)) part_is ∙ take-take (suc i) n h (omega (arith, below)) in
+    (of shape : Shape) (h : List Event) (i : ℕ) (d : Event) → of ≡ shape → i < length h → IsLawful shape (take i h) → IsLawful shape (take i h ++ get_or h i d ∷ []) →
+    BothFollow of (take i h) → (BothFollow of (take i h ++ get_or h i d ∷ []) → ⊥) → IsFirstBreak shape h i NotProgram
+break_of_program of shape h i d same within before with_it follow breaks =
     let one : suc i ≡ i + 1 = omega arith in
-    let more : take (suc i) part ≡ take i part ++ get_or part i d ∷ [] = ap (λ k. take k part) one ∙ take_more part i d within in
+    let more : take (suc i) h ≡ take i h ++ get_or h i d ∷ [] = ap (λ k. take k h) one ∙ take_more h i d within in
     record {
-      within = omega (arith, within, few);
-      before = subst (IsOfPrograms shape) before (of_programs shape (take i part) (lawful_take law shape part i lawful) (subst (λ s. BothFollow s (take i part)) same follow));
-      breaks = λ runs. breaks (subst (λ s. BothFollow s (take i part ++ get_or part i d ∷ [])) (sym same) (subst (BothFollow shape) (sym after ∙ more) (both_follow shape (take (suc i) h) runs)));
-      kind_is = subst (IsLawful shape) after (lawful_take law shape part (suc i) lawful);
+      within = within;
+      before = of_programs shape (take i h) before (subst (λ s. BothFollow s (take i h)) same follow);
+      breaks = λ runs. breaks (subst (λ s. BothFollow s (take i h ++ get_or h i d ∷ [])) (sym same) (subst (BothFollow shape) more (both_follow shape (take (suc i) h) runs)));
+      kind_is = subst (IsLawful shape) (sym more) with_it;
     }
 
 kind_at : (shape : Shape) (h : List Event) (place : ℕ) (kind : Kind) → IsFirstFault shape h place kind → IsKindAt shape h place kind
@@ -94,19 +89,6 @@ found shape r told put puts_so takes_so kept h lawful st =
       taken_is = t.taken;
       told_is = t.told_is;
     }
-
--- ---- the part that is lawful
-
-pub lawful_part :
-    FaultBreaks → (shape : Shape) (h : List Event) (verdict : Verdict) (n : ℕ) → IsVerdict shape h verdict → n ≡ lawful_until (length h) verdict → IsLawful shape (take n h)
-lawful_part law shape h bits.Lawful n is e = subst (IsLawful shape) (sym (ap (λ k. take k h) e ∙ take-length h)) is
-lawful_part law shape h (bits.Fault place kind) n is e = subst (IsLawful shape) (ap (λ k. take k h) (sym e)) (law shape h place kind is).0
-
-pub length_part : (h : List Event) (n : ℕ) → n ≤ length h → length (take n h) ≡ n
-length_part [] zero l = refl
-length_part [] (suc n) l = absurd (omega (arith, l))
-length_part (e ∷ h) zero l = refl
-length_part (e ∷ h) (suc n) l = ap suc (length_part h n (omega (arith, l)))
 
 -- ---- exactly
 

@@ -24,7 +24,7 @@ use Rattle.ring_audit.specs.Sides.{EndsSo, AreOfPuts, AreOfTakes}
 use Rattle.ring_audit.specs.PutReading.{PutReading, PutsStand}
 use Rattle.ring_audit.specs.TakeReading.{TakeReading, TakesStand}
 use Rattle.ring_audit.specs.Reading.{BothFollow}
-use Rattle.ring_audit.specs.Dues.{GoesOnBehind, IsDueOf, IsNoneOf, act_rank, ComesBefore, ComeInOrder, AreInOrder}
+use Rattle.ring_audit.specs.Dues.{BothStand, GoesOnBehind, IsDueOf, IsNoneOf, act_rank, ComesBefore, ComeInOrder, AreInOrder}
 use Rattle.ring_audit.specs.declared.choices.Dues.{Dues}
 use Rattle.ring_audit.proofs.Beginnings.{begins_so}
 use Rattle.ring_audit.proofs.Breaks.{begins_take}
@@ -287,3 +287,11 @@ pub decides :
     IsTrue on ↔ GoesOnBehind shape h e
 decides of shape h e true same goes never = (λ t. subst (λ s. GoesOnBehind s h e) same (goes refl), λ on. refl)
 decides of shape h e false same goes never = (λ t. absurd (cc), λ on. absurd (never refl (subst (λ s. GoesOnBehind s h e) (sym same) on)))
+
+-- what readers that stand after the events tell, by their own shape
+pub dues_behind :
+    (of shape : Shape) (h : List Event) (s : Side) (puts : PutReading) (takes : TakeReading) (told : Dues) → of ≡ shape → BothStand shape puts takes h →
+    ((g : List Event) → BothStand of puts takes g → (e : Event) → IsDueOf told e ↔ ((e.side ≡ s) × GoesOnBehind of g e)) → (e : Event) →
+    IsDueOf told e ↔ ((e.side ≡ s) × GoesOnBehind shape h e)
+dues_behind of shape h s puts takes told same stands due e =
+    subst (λ z. IsDueOf told e ↔ ((e.side ≡ s) × GoesOnBehind z h e)) same (due h (subst (λ z. BothStand z puts takes h) (sym same) stands) e)

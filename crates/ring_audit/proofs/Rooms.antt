@@ -8,7 +8,7 @@ use Rattle.bits_core.specs.Shape.{batch_of}
 use Rattle.bits_core.specs.declared.events.Side.{Side}
 use Rattle.bits_core.specs.declared.events.Side.TheVariants.{P, C}
 use Rattle.bits_core.specs.Bits.{is_by}
-use Rattle.bits_core.specs.Laws.{BeginningIsLawful, SubhistoryChanges}
+use Rattle.bits_core.specs.Laws.{SubhistoryChanges}
 use Rattle.bits_core.specs.Lawful.{IsLawful}
 use Rattle.ring_core.specs.Puts.{Put}
 use Rattle.bits_core.specs.Made.{Made, subhistory}
@@ -22,7 +22,6 @@ use Rattle.ring_audit.specs.declared.takes.TakeStep.TheVariants as c
 use Rattle.ring_audit.specs.PutReading.{PutReading, PutsStand, HasReadPut, MadeWhile}
 use Rattle.ring_audit.specs.TakeReading.{TakeReading, HasReadTake}
 use Rattle.ring_audit.specs.Reading.{ReadingStands, NeedsRoom, reading}
-use Rattle.ring_audit.proofs.Breaks.{lawful_take}
 use Rattle.ring_audit.proofs.Readings.{put_stores, take_takes}
 use Rattle.ring_audit.proofs.TakeEnds.{few_taken}
 
@@ -89,38 +88,29 @@ few_at Closed shape r puts items stored made (rests, is) = omega (arith, ap leng
 pub few_stored : (shape : Shape) (r : PutReading) (es : List Event) (items stored : List ℕ) → PutsStand shape r es items stored → length stored ≤ batch_of shape
 few_stored shape r es items stored st = few_at r.stage shape r st.puts items stored st.made st.made_is
 
--- one event more of the part that is looked at
-pub one_more :
-    (h part : List Event) (n i : ℕ) (d : Event) → part ≡ take n h → i < length part → i < n → (take (suc i) part ≡ take i part ++ get_or part i d ∷ []) × (take (suc i) part ≡ take (suc i) h)
-one_more h part n i d part_is within below =
-    let one : suc i ≡ i + 1 = omega arith in
-    (ap (λ k. take k part) one ∙ take_more part i d within, ap (take (suc i)) part_is ∙ take-take (suc i) n h (omega (arith, below)))
-
 -- the counted ones are those that stand in front
 pub counted_are : (shape : Shape) (puts : PutReading) (takes : TakeReading) (counted : ℕ) (put taken : List ℕ) (h : List Event) (st : ReadingStands shape (reading puts takes counted put taken) h) →
     take counted put ≡ st.items
 counted_are shape puts takes counted put taken h st = ap (λ n. take n put) st.counted_is ∙ ap (take (length st.items)) st.put_is ∙ take_at st.items st.stored (length st.items) refl
 
 pub too_few_slots :
-    BeginningIsLawful → (of shape : Shape) (h part : List Event) (n i : ℕ) (d : Event) (puts : PutReading) (takes : TakeReading) (counted put_room taken_room : ℕ) (told : Bool) →
-    of ≡ shape → part ≡ take n h → i < length part → i < n → IsLawful shape part →
-    NeedsRoom of puts takes counted put_room taken_room (take i part ++ get_or part i d ∷ []) →
+    (of shape : Shape) (h : List Event) (i : ℕ) (d : Event) (puts : PutReading) (takes : TakeReading) (counted put_room taken_room : ℕ) (told : Bool) →
+    of ≡ shape → i < length h → IsLawful shape (take i h ++ get_or h i d ∷ []) →
+    NeedsRoom of puts takes counted put_room taken_room (take i h ++ get_or h i d ∷ []) →
     ((g : List Event) (put taken : List ℕ) → IsLawful of g → ReadingStands of (reading puts takes counted put taken) g → IsFound of g (take counted put) taken told) →
     HasTooFewSlots shape h put_room taken_room
-too_few_slots law of shape h part n i d puts takes counted put_room taken_room told same part_is within below lawful needs found =
-    let (more, after) = one_more h part n i d part_is within below in
-    let g : List Event = take i part ++ get_or part i d ∷ [] in
-    let lawful_so : IsLawful of g = subst (λ s. IsLawful s g) (sym same) (subst (IsLawful shape) more (lawful_take law shape part (suc i) lawful)) in
-    let are : IsFound of g (take counted needs.put) needs.taken told = found g needs.put needs.taken lawful_so needs.stands in
+too_few_slots of shape h i d puts takes counted put_room taken_room told same within lawful needs found =
+    let g : List Event = take i h ++ get_or h i d ∷ [] in
+    let are : IsFound of g (take counted needs.put) needs.taken told = found g needs.put needs.taken (subst (λ s. IsLawful s g) (sym same) lawful) needs.stands in
     let items_are : take counted needs.put ≡ needs.stands.items = counted_are of puts takes counted needs.put needs.taken g needs.stands in
     let few : length needs.stands.stored ≤ batch_of of = few_stored of puts _ needs.stands.items needs.stands.stored needs.stands.puts_stand in
     let long : length needs.put ≡ length needs.stands.items + length needs.stands.stored = ap length needs.stands.put_is ∙ length-append needs.stands.items needs.stands.stored in
     record {
-      until = suc i;
+      until = i + 1;
       put = take counted needs.put;
       taken = needs.taken;
       told = told;
-      found = subst (λ k. IsFound shape k (take counted needs.put) needs.taken told) (sym more ∙ after) (subst (λ s. IsFound s g (take counted needs.put) needs.taken told) same are);
+      found = subst (λ k. IsFound shape k (take counted needs.put) needs.taken told) (sym (take_more h i d within)) (subst (λ s. IsFound s g (take counted needs.put) needs.taken told) same are);
       short = elim needs.short [
         | inl put_short ↦ inl (omega (arith, put_short, long, few, ap batch_of same, ap length items_are))
         | inr taken_short ↦ inr taken_short

@@ -3,8 +3,6 @@ use Rattle.std.specs.Prelude.{◌≡◌, ℕ, suc, ◌+◌, ◌<◌, ◌≤◌, 
 use Rattle.bits_core.specs.declared.events.Event.{Event}
 use Rattle.bits_core.specs.declared.audits.Kind.{Kind}
 use Rattle.bits_core.specs.declared.audits.Kind.TheVariants.{WrongSide, OutOfTurn, NotPermitted, NotProgram}
-use Rattle.bits_core.specs.declared.audits.Verdict.{Verdict}
-use Rattle.bits_core.specs.declared.audits.Verdict.TheVariants as bits
 use Rattle.bits_core.specs.declared.shapes.Shape.{Shape}
 use Rattle.bits_core.specs.Shape.{batch_of}
 use Rattle.bits_core.specs.Audit.{IsFirstFault}
@@ -109,8 +107,3 @@ SaysSentence shape h (Fault place kind) = Unit {0}
 abbrev pub SaysLinearizable : Shape → List Event → Statement → Type 0
 SaysLinearizable shape h (Lawful put taken told) = EachReadingIsLinearizable shape h
 SaysLinearizable shape h (Fault place kind) = Unit {0}
-
--- how many events there are before the first fault of the bits
-abbrev pub lawful_until : ℕ → Verdict → ℕ
-lawful_until n bits.Lawful = n
-lawful_until n (bits.Fault place kind) = place

@@ -1,15 +1,14 @@
 //! The audit of a history: of its bits and of the programs of its two sides.
 ghost use Rattle.std.specs.Prelude.{◌≡◌, ◌↔◌, ◌⊎◌, ◌++◌, ◌∷◌, [], ℕ, ◌+◌, List, Bool, true, false, IfOk, OnErr, OnOk, IsTrue, ◌<◌, ◌≤◌, length, take};
 ghost use Rattle.bits_core.specs.Lawful.{IsLawful};
-ghost use Rattle.ring_audit.specs.Audit.{FitsIn, HasTooFewSlots, IsFinding, IsFound, IsOfPrograms, SaysLinearizable, SaysSentence, lawful_until, statement, statement_in, tells_lawful};
-ghost use Rattle.bits_core.specs.Audit.{IsVerdict};
+ghost use Rattle.ring_audit.specs.Audit.{FitsIn, HasTooFewSlots, IsFinding, IsFound, IsOfPrograms, SaysLinearizable, SaysSentence, statement, statement_in, tells_lawful};
 ghost use Rattle.ring_audit.specs.Reading.{NeedsRoom, ReadingStands, BothFollow, reading};
 
 use crate::faults::AuditFault;
 use crate::puts::{PutReader, PutStep};
 use crate::takes::{TakeReader, TakeStep};
-use bits_core::laws::{beginning_is_lawful, fault_breaks, subhistory_changes};
-use bits_core::{Event, Filled, Kind, Shape, Side, Store, Verdict, audit_bits};
+use bits_core::laws::{beginning_is_lawful, fault_breaks, fault_is_first, subhistory_changes};
+use bits_core::{BitAuditor, Event, Filled, Kind, Shape, Side, Store};
 use ring_core::laws::{closed_stays, ring_is_linearizable, ring_law};
 use std::alloc::Allocator;
 
@@ -171,22 +170,10 @@ impl Readers {
     }
 }
 
-// How many events there are before the first fault of the bits.
-fn lawful_length(shape: &Shape, events: &[Event], verdict: Verdict) -> usize
-    requires { IsVerdict shape.now events.now verdict }
-    ensures value { result ≡ lawful_until (length events.now) verdict }
-    ensures within { result ≤ length events.now }
-{
-    match verdict {
-        Verdict::Lawful => events.len(),
-        Verdict::Fault { place, kind: _ } => place,
-    }
-}
-
 /// Whether the events are a lawful history of safe bits of the shape whose two sides follow their programs, with
 /// the items put and taken and whether the consumer was told that the ring is closed; and where they are not, the
 /// least place up to and with which they are not, with the kind of the fault: `NotProgram` where the events up to
-/// and with it are lawful, else the kind that [`audit_bits`] tells.
+/// and with it are lawful, else the kind that [`audit_bits`](bits_core::audit_bits) tells.
 ///
 /// A history has one finding ([`one_finding`](crate::laws::one_finding)). Lists that are told meet the sentence of the ring:
 /// the items taken are a prefix of the items put, and once the end was told they are all of them; and its calls are
@@ -322,14 +309,16 @@ fn find_in<S: Store<u64>>(
     ensures put_slots { (first : S) → S.same_slots first put.old → S.same_slots first put.new }
     ensures taken_slots { (first : S) → S.same_slots first taken.old → S.same_slots first taken.new }
 {
-    beginning_is_lawful();
     fault_breaks();
-    let verdict = audit_bits(shape, events);
-    let lawful = &events[..lawful_length(shape, events, verdict)];
+    fault_is_first();
+    let mut bits = BitAuditor::new(shape);
     let mut readers = Readers::new(shape);
     readers.told();
-    for i in 0..lawful.len() {
-        let on = readers.read(lawful[i], put, taken);
+    for i in 0..events.len() {
+        if let Some(kind) = bits.feed(events[i]) {
+            return Ok(Found::Fault { place: i, kind });
+        }
+        let on = readers.read(events[i], put, taken);
         readers.told();
         if !on? {
             return Ok(Found::Fault {
@@ -339,12 +328,9 @@ fn find_in<S: Store<u64>>(
         }
     }
     let told = readers.told();
-    match verdict {
-        Verdict::Lawful => Ok(Found::Lawful {
-            put: readers.counted,
-            taken: taken.as_slice().len(),
-            told,
-        }),
-        Verdict::Fault { place, kind } => Ok(Found::Fault { place, kind }),
-    }
+    Ok(Found::Lawful {
+        put: readers.counted,
+        taken: taken.as_slice().len(),
+        told,
+    })
 }

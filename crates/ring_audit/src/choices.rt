@@ -4,8 +4,9 @@ ghost use Rattle.bits_core.specs.declared.events.Side.TheVariants.{P};
 ghost use Rattle.bits_core.specs.declared.events.Bit.{Bit};
 ghost use Rattle.bits_core.specs.declared.events.Bit.TheVariants.{Cell};
 ghost use Rattle.bits_core.specs.declared.events.Access.TheVariants as begins;
+ghost use Rattle.bits_core.specs.declared.events.Event.{Event};
 ghost use Rattle.bits_core.specs.Made.{opening_event};
-ghost use Rattle.ring_audit.specs.Dues.{AreInOrder, act_rank};
+ghost use Rattle.ring_audit.specs.Dues.{AreInOrder, IsDueOf, act_rank};
 ghost use Rattle.ring_audit.specs.Sides.{EndsSo};
 
 use bits_core::{Access, Act, Event, Side};
@@ -82,6 +83,18 @@ pub fn writes(read: Option<Access>, other: Option<Event>) -> Dues
             Access::Write(_, _) => only(other),
         },
         None => only(other),
+    }
+}
+
+// No event.
+pub fn none() -> Dues
+    ensures none { (e : Event) → ¬ IsDueOf result e }
+    ensures order { AreInOrder result }
+{
+    Dues {
+        first: None,
+        second: None,
+        third: None,
     }
 }
 

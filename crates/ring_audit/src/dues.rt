@@ -1,9 +1,10 @@
 //! Which events of a side go on with the programs behind a history.
 ghost use Rattle.std.specs.Prelude.{◌≡◌, ◌↔◌, ◌++◌, ◌∷◌, [], List, Some, IsTrue, IfSome, MatchOption, true, false};
+ghost use Rattle.bits_core.specs.declared.events.Side.TheVariants.{P, C};
 ghost use Rattle.ring_audit.specs.Reading.{BothFollow};
 ghost use Rattle.ring_audit.specs.Dues.{AreInOrder, BothStand, GoesOnBehind, IsDueOf, IsNoneOf};
 
-use crate::choices::{Dues, only};
+use crate::choices::{Dues, none};
 use crate::puts::{PutReader, PutStep};
 use crate::takes::{TakeReader, TakeStep};
 use bits_core::laws::subhistory_changes;
@@ -66,17 +67,74 @@ impl Followers {
         let _told = self.takes.told();
     }
 
-    // The events of the side of which the next one has to be one.
-    fn candidates(&mut self, side: Side) -> Dues
-        requires { self.old.takes.consumer.shape ≡ self.old.puts.shape }
-        ensures only { (h : List Event) (e : Event) → BothStand self.old.puts.shape self.old.puts self.old.takes h →
-            e.side ≡ side → IsNoneOf result e → ¬ GoesOnBehind self.old.puts.shape h e }
+    // The same readers once more.
+    fn again(&self) -> Followers
+        ensures { result ≡ self.now }
+    {
+        Followers {
+            puts: self.puts.clone().unwrap(),
+            takes: self.takes.clone().unwrap(),
+        }
+    }
+
+    // Whether the event goes on with the programs behind what was read so far.
+    fn goes_on(&self, event: Event) -> bool
+        requires { self.now.takes.consumer.shape ≡ self.now.puts.shape }
+        ensures { (h : List Event) → BothStand self.now.puts.shape self.now.puts self.now.takes h →
+            IsTrue result ↔ GoesOnBehind self.now.puts.shape h event }
+    {
+        let mut readers = self.again();
+        let on = readers.read(event);
+        readers.follow();
+        on
+    }
+
+    // The event, where it is of the side and goes on with the programs behind what was read so far.
+    fn kept(&self, side: Side, event: Option<Event>) -> Option<Event>
+        requires { self.now.takes.consumer.shape ≡ self.now.puts.shape }
+        ensures kept { (e : Event) → result ≡ Some e → event ≡ Some e }
+        ensures due { (h : List Event) → BothStand self.now.puts.shape self.now.puts self.now.takes h → (e : Event) →
+            (result ≡ Some e) ↔ ((event ≡ Some e) × (e.side ≡ side) × GoesOnBehind self.now.puts.shape h e) }
+    {
+        match event {
+            None => None,
+            Some(next) => {
+                if next.side == side && self.goes_on(next) {
+                    Some(next)
+                } else {
+                    None
+                }
+            }
+        }
+    }
+
+    // Events of which each is one that is of the side and goes on with the programs behind what was read so far.
+    fn candidates(&self, side: Side) -> Dues
+        requires { self.now.takes.consumer.shape ≡ self.now.puts.shape }
+        ensures only { (h : List Event) (e : Event) → BothStand self.now.puts.shape self.now.puts self.now.takes h →
+            e.side ≡ side → IsNoneOf result e → ¬ GoesOnBehind self.now.puts.shape h e }
         ensures order { AreInOrder result }
     {
         subhistory_changes();
+        let mut readers = self.again();
         match side {
-            Side::P => self.puts.candidates(),
-            Side::C => self.takes.candidates(),
+            Side::P => readers.puts.candidates(),
+            Side::C => readers.takes.candidates(),
+        }
+    }
+
+    // The events of the side that go on with the programs behind what was read so far.
+    fn dues(&self, side: Side) -> Dues
+        requires { self.now.takes.consumer.shape ≡ self.now.puts.shape }
+        ensures due { (h : List Event) → BothStand self.now.puts.shape self.now.puts self.now.takes h → (e : Event) →
+            IsDueOf result e ↔ ((e.side ≡ side) × GoesOnBehind self.now.puts.shape h e) }
+        ensures order { AreInOrder result }
+    {
+        let some = self.candidates(side);
+        Dues {
+            first: self.kept(side, some.first),
+            second: self.kept(side, some.second),
+            third: self.kept(side, some.third),
         }
     }
 }
@@ -97,56 +155,14 @@ fn read_all(shape: &Shape, events: &[Event]) -> Option<Followers>
     Some(readers)
 }
 
-// Whether the event goes on with the programs behind these.
-fn goes_on(shape: &Shape, events: &[Event], event: Event) -> bool
-    ensures { IsTrue result ↔ GoesOnBehind shape.now events.now event }
-{
-    match read_all(shape, events) {
-        None => false,
-        Some(mut readers) => {
-            let on = readers.read(event);
-            readers.follow();
-            on
-        }
-    }
-}
-
-// The event, where it is of the side and goes on with the programs behind these.
-fn kept(shape: &Shape, events: &[Event], side: Side, event: Option<Event>) -> Option<Event>
-    ensures { (e : Event) → (result ≡ Some e) ↔
-        ((event ≡ Some e) × (e.side ≡ side) × GoesOnBehind shape.now events.now e) }
-{
-    match event {
-        None => None,
-        Some(next) => {
-            if next.side == side && goes_on(shape, events, next) {
-                Some(next)
-            } else {
-                None
-            }
-        }
-    }
-}
-
-// Events of which each is one that is of the side and goes on with the programs behind these.
-fn candidates(shape: &Shape, events: &[Event], side: Side) -> Dues
-    ensures only { (e : Event) → e.side ≡ side → IsNoneOf result e → ¬ GoesOnBehind shape.now events.now e }
-    ensures order { AreInOrder result }
-{
-    match read_all(shape, events) {
-        None => only(None),
-        Some(mut readers) => readers.candidates(side),
-    }
-}
-
 /// The events of the side that go on with the programs behind these: each event of it with which both sides still
 /// follow their programs is told once, and no other. There are at most three; where these events are not of the
 /// programs, or the side has made its last call, there is none. They stand in one order: a read's answer 0, and 1; the begin of
 /// a scan, and of the close; the write of a digit 0, of 1, and of the count; the read of a word, and the write of the count.
 ///
 /// Said of the programs alone: whether the bits permit the answer of a read is the audit's to say. Where an audit
-/// tells `NotProgram` at a place, the events before that place are to be passed. It goes over them at most four
-/// times and takes no memory.
+/// tells `NotProgram` at a place, the events before that place are to be passed. It goes over them once and takes
+/// no memory.
 ///
 /// For example, behind no event they are `P read r0`, the begin of a put, and `P write x 1`, that of the close. In
 /// use: `lamport_ring audit --why`.
@@ -154,10 +170,23 @@ pub fn due_behind(shape: &Shape, events: &[Event], side: Side) -> Dues
     ensures due { (e : Event) → IsDueOf result e ↔ ((e.side ≡ side) × GoesOnBehind shape.now events.now e) }
     ensures order { AreInOrder result }
 {
-    let some = candidates(shape, events, side);
-    Dues {
-        first: kept(shape, events, side, some.first),
-        second: kept(shape, events, side, some.second),
-        third: kept(shape, events, side, some.third),
+    match read_all(shape, events) {
+        None => none(),
+        Some(readers) => readers.dues(side),
+    }
+}
+
+/// The events of each side that go on with the programs behind these, the producer's first, as [`due_behind`] tells
+/// them. It goes over the events once for both, and takes no memory.
+///
+/// In use: the page, where the producer may close and the consumer take behind any history.
+pub fn dues_of_both(shape: &Shape, events: &[Event]) -> (Dues, Dues)
+    ensures puts { (e : Event) → IsDueOf result.0 e ↔ ((e.side ≡ P) × GoesOnBehind shape.now events.now e) }
+    ensures takes { (e : Event) → IsDueOf result.1 e ↔ ((e.side ≡ C) × GoesOnBehind shape.now events.now e) }
+    ensures order { AreInOrder result.0 × AreInOrder result.1 }
+{
+    match read_all(shape, events) {
+        None => (none(), none()),
+        Some(readers) => (readers.dues(Side::P), readers.dues(Side::C)),
     }
 }

@@ -12,5 +12,5 @@ mod takes;
 
 pub use audits::{Finding, Found, audit, audit_into};
 pub use choices::Dues;
-pub use dues::due_behind;
+pub use dues::{due_behind, dues_of_both};
 pub use faults::AuditFault;

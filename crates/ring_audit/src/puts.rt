@@ -1,5 +1,5 @@
 //! The producer's events, read as its puts.
-ghost use Rattle.std.specs.Prelude.{◌≡◌, ◌≢◌, ◌≤◌, ◌<◌, ◌↔◌, ◌++◌, ◌∷◌, [], ℕ, List, None, Some, Bool, true, false, IsTrue};
+ghost use Rattle.std.specs.Prelude.{◌≡◌, ◌≢◌, ◌≤◌, ◌<◌, ◌↔◌, ◌++◌, ◌∷◌, [], ℕ, List, None, Some, Bool, true, false, IsTrue, ⊤};
 ghost use Rattle.bits_core.specs.declared.events.Side.TheVariants.{P};
 ghost use Rattle.bits_core.specs.declared.events.Bit.TheVariants.{Cell};
 ghost use Rattle.bits_core.specs.Made.{answered, end_event, opening_event};
@@ -15,6 +15,7 @@ use bits_core::{Access, Bit, Event, Shape, Side};
 use register_core::{UnaryScan, UnaryWriter, WordReader};
 use ring_core::laws::{calls_are_first, counts_are_written, last_reads_are_one, puts_go_on};
 use ring_core::{distance, has_room};
+use std::alloc::AllocError;
 use std::marker::Model;
 
 /// What an event of the producer came to.
@@ -91,6 +92,20 @@ impl Model for PutReader {
       row = r.row;
       open_access = r.open_access;
     }) };
+}
+
+// By hand, as a derived one clones each field, which costs the proof ten times as much.
+impl Clone for PutReader {
+    ghost is_clone = { λ x y. y ≡ x };
+
+    ghost is_infallible = { λ _. ⊤ };
+
+    fn clone(&self) -> Result<Self, AllocError> {
+        Ok(PutReader {
+            row: self.row.clone()?,
+            ..*self
+        })
+    }
 }
 
 // The most items that may be stored behind a scan of this value, where one may.

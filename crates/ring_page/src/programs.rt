@@ -1,11 +1,11 @@
 //! The audit of programs, as numbers: whether a trace is one of a ring, and what was due where it is not.
 ghost use Rattle.std.specs.Prelude.{◌≡◌, ◌↔◌, ◌<◌, IsTrue, length};
-ghost use Rattle.ring_audit.specs.Dues.{GoesOnBehind, IsDueOf};
+ghost use Rattle.ring_audit.specs.Dues.{IsDueOf};
 ghost use Rattle.ring_page.specs.Programs.{BreakIsWithin, TellsFound, TellsPrograms, WereDue, broken, no_due, none_due, of_programs, told_due, unjudged};
 
 use crate::marks::{act_number, bit_number, digit_of, index_of, row_of, value_of};
 use bits_core::{Act, Bit, Event, Kind, Shape, Side};
-use ring_audit::{Dues, Found, audit_into, due_behind};
+use ring_audit::{Dues, Found, audit_into, due_behind, dues_of_both};
 
 /// An event that was due; all is 0 where there is none.
 #[repr(C)]
@@ -97,14 +97,6 @@ fn is_due(dues: Dues, event: Event) -> bool
     is_event(dues.third, event)
 }
 
-// Whether the event goes on with the programs behind these.
-fn goes_on(shape: &Shape, events: &[Event], event: Event) -> bool
-    ensures { IsTrue result ↔ GoesOnBehind shape.now events.now event }
-{
-    let dues = due_behind(shape, events, event.side);
-    is_due(dues, event)
-}
-
 // What was due at the place of a fault of this kind.
 fn dues_at(shape: &Shape, events: &[Event], place: usize, kind: Kind) -> Dues
     requires { place < length events.now }
@@ -192,8 +184,9 @@ fn tell_found(shape: &Shape, events: &[Event], found: Found) -> Judged
                 bit: Bit::S(0),
                 act: Act::ReadBegin,
             };
-            let may_close = goes_on(shape, events, closes);
-            let may_scan = goes_on(shape, events, scans);
+            let (puts, takes) = dues_of_both(shape, events);
+            let may_close = is_due(puts, closes);
+            let may_scan = is_due(takes, scans);
             told_programs(put, taken, told, may_close, may_scan)
         }
         Found::Fault { place, kind } => {

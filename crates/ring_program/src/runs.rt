@@ -196,7 +196,7 @@ fn relay_ending(closed: bool) -> Ending
 
 // Relays the items through a new ring of this kind. Where its loads do not agree, an end of a flickering ring answers 0 and
 // 1 in turn.
-fn relay_through<R: Threads, A: Allocator + Copy, G: Gate + Sync>(
+fn relay_by_kind<R: Threads, A: Allocator + Copy, G: Gate + Sync>(
     rt: &R,
     alloc: A,
     ring: RingKind,
@@ -246,10 +246,10 @@ fn relay_run<R: Threads, A: Allocator + Copy>(
     match run.text {
         RunText::Totals | RunText::Report => {
             let gate = RestGate::for_ring(&shape);
-            relay_through(rt, alloc, run.ring, shape, items, run.limits, &gate)
+            relay_by_kind(rt, alloc, run.ring, shape, items, run.limits, &gate)
         }
         RunText::Recording => {
-            relay_through(rt, alloc, run.ring, shape, items, run.limits, recorder)
+            relay_by_kind(rt, alloc, run.ring, shape, items, run.limits, recorder)
         }
     }
 }

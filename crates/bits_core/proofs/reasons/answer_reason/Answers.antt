@@ -1,4 +1,4 @@
-use Rattle.std.proofs.Common.{◌≡◌, ◌≤◌, Some, arith, length, sym, take}
+use Rattle.std.proofs.Common.{◌≡◌, ◌≤◌, Some, arith, length, sym}
 use Rattle.std.proofs.lemmas.List.{length-take-le}
 use Rattle.std.proofs.lemmas.Option.{slice_get_within}
 use Rattle.bits_core.specs.Marks.{settled}

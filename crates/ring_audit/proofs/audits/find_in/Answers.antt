@@ -1,11 +1,13 @@
 use Rattle.std.proofs.Common.{◌≡◌, ℕ, ◌+◌, ◌<◌, List, [], length, take, subst, sym, ap, ◌∙◌, refl, arith, length-append, inl, inr}
 use Rattle.std.proofs.Math.Seq.{take-length}
 use Rattle.std.proofs.lemmas.List.{take_more, length-take-le}
+use Rattle.std.proofs.lemmas.Option.{slice_get-get_or}
 use Rattle.bits_core.specs.declared.events.Event.{Event}
+use Rattle.bits_core.specs.Auditors.{HeardEvents}
 use Rattle.bits_core.specs.Lawful.{IsLawful}
-use Rattle.ring_audit.specs.Audit.{HasTooFewSlots, IsFound, lawful_until}
+use Rattle.ring_audit.specs.Audit.{HasTooFewSlots, IsFound}
 use Rattle.ring_audit.specs.Reading.{Reading, ReadingStands, BothFollow, reading}
-use Rattle.ring_audit.proofs.Breaks.{break_of_program, break_of_bits, lawful_part, length_part}
+use Rattle.ring_audit.proofs.Breaks.{break_of_program, break_of_bits}
 use Rattle.ring_audit.proofs.Readings.{followed}
 use Rattle.ring_audit.proofs.Rooms.{on_err, too_few_slots}
 use Rattle.ring_audit.proofs.audits.find_in.Goals as goal
@@ -18,6 +20,7 @@ loop-i-init g c =
     let stands : ReadingStands c.args.shape.now (reading r.puts r.takes r.counted (g.S.Store.items c.args.put.now) (g.S.Store.items c.args.taken.now)) [] =
     subst (λ l. ReadingStands c.args.shape.now (reading r.puts r.takes r.counted (g.S.Store.items c.args.put.now) l) []) (sym c.requires.none_taken) some in
     record {
+      heard = c.new-bits.ensures;
       put_shape = c.new-readers.ensures.put_shape;
       take_shape = c.new-readers.ensures.take_shape;
       stands = stands;
@@ -29,28 +32,33 @@ loop-i-init g c =
       taken_slots = λ first same. same;
     }
 
+pub returns-in-Some-clause-found : goal.returns-in-Some-clause-found
+returns-in-Some-clause-found g c =
+    let shape = c.args.shape.now in
+    let h : List Event = c.args.events.now in
+    let i : ℕ = c.loop-i.i in
+    let l = c.loop-i.invariant in
+    let fault = c.fault_is_first.ensures shape h i _ c.in-Some.kind (slice_get-get_or h i _ c.loop-i-test.true) l.heard.marks.lawful (c.in-Some.ensures.kind shape (take i h) l.heard) in
+    break_of_bits c.fault_breaks.ensures shape h i c.in-Some.kind fault l.follow
+
 pub returns-in_err-on-clause-refused : goal.returns-in_err-on-clause-refused
 returns-in_err-on-clause-refused g c =
     let shape = c.args.shape.now in
     let h : List Event = c.args.events.now in
-    let n : ℕ = c.lawful_length.result in
     let i : ℕ = c.loop-i.i in
-    let part : List Event = take n h in
     let l = c.loop-i.invariant in
     let old = c.loop-i.readers in
     let new = c.read-on.new.self in
     let put : List ℕ = g.S.Store.items c.loop-i.put in
     let taken : List ℕ = g.S.Store.items c.loop-i.taken in
-    let lawful : IsLawful shape part = lawful_part c.fault_breaks.ensures shape h c.audit_bits-verdict.result n c.audit_bits-verdict.ensures.verdict c.lawful_length.ensures.value in
-    let long : length part ≡ n = length_part h n c.lawful_length.ensures.within in
-    let within : i < length part = c.loop-i-test.true in
-    let st : ReadingStands old.puts.shape (reading old.puts old.takes old.counted put taken) (take i part) = subst (λ s. ReadingStands s (reading old.puts old.takes old.counted put taken) (take i part)) (sym l.put_shape) l.stands in
+    let with_it = (c.in_default.ensures.heard shape (take i h) l.heard).marks.lawful in
+    let st : ReadingStands old.puts.shape (reading old.puts old.takes old.counted put taken) (take i h) = subst (λ s. ReadingStands s (reading old.puts old.takes old.counted put taken) (take i h)) (sym l.put_shape) l.stands in
     let found : (events : List Event) (items ended : List ℕ) → IsLawful old.puts.shape events → ReadingStands old.puts.shape (reading new.puts new.takes new.counted items ended) events → IsFound old.puts.shape events (take new.counted items) ended c.told-in-loop-i.result =
     subst (λ s. (events : List Event) (items ended : List ℕ) → IsLawful s events → ReadingStands s (reading new.puts new.takes new.counted items ended) events → IsFound s events (take new.counted items) ended c.told-in-loop-i.result)
     c.in_err-on.ensures.put_shape c.told-in-loop-i.ensures.found in
     let few : HasTooFewSlots shape h (g.S.Store.room c.loop-i.put) (g.S.Store.room c.loop-i.taken) =
-    too_few_slots c.beginning_is_lawful.ensures old.puts.shape shape h part n i _ new.puts new.takes new.counted (g.S.Store.room c.loop-i.put) (g.S.Store.room c.loop-i.taken) c.told-in-loop-i.result
-    l.put_shape refl within (omega (arith, within, long)) lawful (c.in_err-on.ensures.refused (take i part) st) found in
+    too_few_slots old.puts.shape shape h i _ new.puts new.takes new.counted (g.S.Store.room c.loop-i.put) (g.S.Store.room c.loop-i.taken) c.told-in-loop-i.result
+    l.put_shape c.loop-i-test.true with_it (c.in_err-on.ensures.refused (take i h) st) found in
     on_err c.from_residual.result
     (subst (λ z. HasTooFewSlots shape h (g.S.Store.room c.read-on.new.put) z) (sym c.in_err-on.ensures.rooms.1) (subst (λ z. HasTooFewSlots shape h z (g.S.Store.room c.loop-i.taken)) (sym c.in_err-on.ensures.rooms.0) few))
 
@@ -58,40 +66,36 @@ pub returns-then-not-branch-clause-found : goal.returns-then-not-branch-clause-f
 returns-then-not-branch-clause-found g c =
     let shape = c.args.shape.now in
     let h : List Event = c.args.events.now in
-    let n : ℕ = c.lawful_length.result in
     let i : ℕ = c.loop-i.i in
-    let part : List Event = take n h in
     let l = c.loop-i.invariant in
     let r : Reading = reading c.loop-i.readers.puts c.loop-i.readers.takes c.loop-i.readers.counted (g.S.Store.items c.loop-i.put) (g.S.Store.items c.loop-i.taken) in
-    let lawful : IsLawful shape part = lawful_part c.fault_breaks.ensures shape h c.audit_bits-verdict.result n c.audit_bits-verdict.ensures.verdict c.lawful_length.ensures.value in
-    let long : length part ≡ n = length_part h n c.lawful_length.ensures.within in
-    let within : i < length part = c.loop-i-test.true in
-    let old : ReadingStands r.puts.shape r (take i part) = subst (λ s. ReadingStands s r (take i part)) (sym l.put_shape) l.stands in
-    break_of_program c.beginning_is_lawful.ensures r.puts.shape shape h part n i _ l.put_shape refl lawful within (omega (arith, long, c.lawful_length.ensures.within)) (omega (arith, within, long))
-    (subst (λ s. BothFollow s (take i part)) (sym l.put_shape) l.follow) (c.in_ok-on.ensures.stops c.if-not-branch.true (take i part) old)
+    let with_it = (c.in_default.ensures.heard shape (take i h) l.heard).marks.lawful in
+    let old : ReadingStands r.puts.shape r (take i h) = subst (λ s. ReadingStands s r (take i h)) (sym l.put_shape) l.stands in
+    break_of_program r.puts.shape shape h i _ l.put_shape c.loop-i-test.true l.heard.marks.lawful with_it
+    (subst (λ s. BothFollow s (take i h)) (sym l.put_shape) l.follow) (c.in_ok-on.ensures.stops c.if-not-branch.true (take i h) old)
 
 pub loop-i-preserved : goal.loop-i-preserved
 loop-i-preserved g c =
     let shape = c.args.shape.now in
     let h : List Event = c.args.events.now in
     let i : ℕ = c.loop-i.i in
-    let part : List Event = take c.lawful_length.result h in
     let l = c.loop-i.invariant in
     let new = c.read-on.new.self in
     let put : List ℕ = g.S.Store.items c.read-on.new.put in
     let taken : List ℕ = g.S.Store.items c.read-on.new.taken in
     let r : Reading = reading c.loop-i.readers.puts c.loop-i.readers.takes c.loop-i.readers.counted (g.S.Store.items c.loop-i.put) (g.S.Store.items c.loop-i.taken) in
-    let within : i < length part = c.loop-i-test.true in
-    let old : ReadingStands r.puts.shape r (take i part) = subst (λ s. ReadingStands s r (take i part)) (sym l.put_shape) l.stands in
-    let on = c.in_ok-on.ensures.goes_on c.if-not-branch.false (take i part) old in
-    let stands : ReadingStands shape (reading new.puts new.takes new.counted put taken) (take (i + 1) part) =
-    subst (λ s. ReadingStands s (reading new.puts new.takes new.counted put taken) (take (i + 1) part)) l.put_shape
-    (subst (ReadingStands r.puts.shape (reading new.puts new.takes new.counted put taken)) (sym (take_more part i _ within)) on) in
+    let more = sym (take_more h i _ c.loop-i-test.true) in
+    let old : ReadingStands r.puts.shape r (take i h) = subst (λ s. ReadingStands s r (take i h)) (sym l.put_shape) l.stands in
+    let on = c.in_ok-on.ensures.goes_on c.if-not-branch.false (take i h) old in
+    let stands : ReadingStands shape (reading new.puts new.takes new.counted put taken) (take (i + 1) h) =
+    subst (λ s. ReadingStands s (reading new.puts new.takes new.counted put taken) (take (i + 1) h)) l.put_shape
+    (subst (ReadingStands r.puts.shape (reading new.puts new.takes new.counted put taken)) more on) in
     record {
+      heard = subst (HeardEvents c.feed.new.self shape) more (c.in_default.ensures.heard shape (take i h) l.heard);
       put_shape = c.in_ok-on.ensures.put_shape ∙ l.put_shape;
       take_shape = c.in_ok-on.ensures.take_shape ∙ l.take_shape;
       stands = stands;
-      follow = followed new.puts.shape shape new.puts new.takes new.counted put taken (take (i + 1) part) (c.in_ok-on.ensures.put_shape ∙ l.put_shape) c.told-in-loop-i.ensures.follow stands;
+      follow = followed new.puts.shape shape new.puts new.takes new.counted put taken (take (i + 1) h) (c.in_ok-on.ensures.put_shape ∙ l.put_shape) c.told-in-loop-i.ensures.follow stands;
       few_put = omega (arith, c.in_ok-on.ensures.few, l.few_put);
       put_room = c.in_ok-on.ensures.rooms.0 ∙ l.put_room;
       taken_room = c.in_ok-on.ensures.rooms.1 ∙ l.taken_room;
@@ -99,55 +103,34 @@ loop-i-preserved g c =
       taken_slots = λ first same. c.in_ok-on.ensures.taken_slots first (l.taken_slots first same);
     }
 
-pub returns-in-Lawful-clause-found : goal.returns-in-Lawful-clause-found
-returns-in-Lawful-clause-found g c =
+pub returns-clause-found : goal.returns-clause-found
+returns-clause-found g c =
     let shape = c.args.shape.now in
     let h : List Event = c.args.events.now in
-    let n : ℕ = c.lawful_length.result in
-    let i : ℕ = c.loop-i.i in
-    let part : List Event = take n h in
     let l = c.loop-i.invariant in
     let put : List ℕ = g.S.Store.items c.loop-i.put in
     let taken : List ℕ = g.S.Store.items c.loop-i.taken in
     let r : Reading = reading c.loop-i.readers.puts c.loop-i.readers.takes c.loop-i.readers.counted put taken in
-    let n_is : n ≡ length h = c.lawful_length.ensures.value ∙ ap (lawful_until (length h)) c.in-Lawful.is in
-    let long : length part ≡ n = length_part h n c.lawful_length.ensures.within in
-    let all : part ≡ h = ap (λ k. take k h) n_is ∙ take-length h in
-    let end : i ≡ length part = omega (arith, c.loop-i-test.false, c.loop-i.auto.i-end) in
-    let whole : take i part ≡ h = ap (λ k. take k part) end ∙ take-length part ∙ all in
+    let end : c.loop-i.i ≡ length h = omega (arith, c.loop-i-test.false, c.loop-i.auto.i-end) in
+    let whole : take c.loop-i.i h ≡ h = ap (λ k. take k h) end ∙ take-length h in
     let old : ReadingStands r.puts.shape r h = subst (λ s. ReadingStands s r h) (sym l.put_shape) (subst (ReadingStands shape r) whole l.stands) in
-    let lawful : IsLawful shape h = subst (IsLawful shape) all (lawful_part c.fault_breaks.ensures shape h c.audit_bits-verdict.result n c.audit_bits-verdict.ensures.verdict c.lawful_length.ensures.value) in
+    let lawful : IsLawful shape h = subst (IsLawful shape) whole l.heard.marks.lawful in
     let are : IsFound shape h (take r.counted put) taken c.told-told.result =
     subst (λ s. IsFound s h (take r.counted put) taken c.told-told.result) l.put_shape (c.told-told.ensures.found h put taken (subst (λ s. IsLawful s h) (sym l.put_shape) lawful) old) in
     subst (λ z. IsFound shape h (take r.counted put) z c.told-told.result) (sym (ap (λ k. take k taken) (ap length c.as_slice.ensures) ∙ take-length taken)) are
 
-pub returns-in-Fault-clause-found : goal.returns-in-Fault-clause-found
-returns-in-Fault-clause-found g c =
-    let shape = c.args.shape.now in
-    let h : List Event = c.args.events.now in
-    let n : ℕ = c.lawful_length.result in
-    let i : ℕ = c.loop-i.i in
-    let part : List Event = take n h in
-    let place_is : n ≡ c.in-Fault.place = c.lawful_length.ensures.value ∙ ap (lawful_until (length h)) c.in-Fault.is in
-    let end : i ≡ length part = omega (arith, c.loop-i-test.false, c.loop-i.auto.i-end) in
-    let whole : take i part ≡ take c.in-Fault.place h = ap (λ k. take k part) end ∙ take-length part ∙ ap (λ k. take k h) place_is in
-    break_of_bits c.fault_breaks.ensures shape h c.in-Fault.place c.in-Fault.kind c.in-Fault.ensures.verdict (subst (BothFollow shape) whole c.loop-i.invariant.follow)
-
 pub returns-in_err-on-clause-few : goal.returns-in_err-on-clause-few
 returns-in_err-on-clause-few g c =
     let h : List Event = c.args.events.now in
-    let n : ℕ = c.lawful_length.result in
     let i : ℕ = c.loop-i.i in
-    let part : List Event = take n h in
     let l = c.loop-i.invariant in
     let r : Reading = reading c.loop-i.readers.puts c.loop-i.readers.takes c.loop-i.readers.counted (g.S.Store.items c.loop-i.put) (g.S.Store.items c.loop-i.taken) in
-    let long = length_part h n c.lawful_length.ensures.within in
-    let within : i < length part = c.loop-i-test.true in
-    let st : ReadingStands r.puts.shape r (take i part) = subst (λ s. ReadingStands s r (take i part)) (sym l.put_shape) l.stands in
+    let within : i < length h = c.loop-i-test.true in
+    let st : ReadingStands r.puts.shape r (take i h) = subst (λ s. ReadingStands s r (take i h)) (sym l.put_shape) l.stands in
     on_err c.from_residual.result
     (elim c.in_err-on.ensures.full [
-      | inl full ↦ inl (omega (arith, long, within))
-      | inr full ↦ inr (omega (arith, long, within, full (take i part) st, length-append {A = Event}, length-take-le i part (omega (arith, within))))
+      | inl full ↦ inl (omega (arith, within))
+      | inr full ↦ inr (omega (arith, within, full (take i h) st, length-append {A = Event}, length-take-le i h (omega (arith, within))))
     ])
 
 pub returns-in_err-on-clause-put_slots : goal.returns-in_err-on-clause-put_slots
@@ -162,7 +145,7 @@ returns-then-not-branch-clause-put_slots g c = λ first same. c.in_ok-on.ensures
 pub returns-then-not-branch-clause-taken_slots : goal.returns-then-not-branch-clause-taken_slots
 returns-then-not-branch-clause-taken_slots g c = λ first same. c.in_ok-on.ensures.taken_slots first (c.loop-i.invariant.taken_slots first same)
 
-pub returns-in-Lawful-clause-within : goal.returns-in-Lawful-clause-within
-returns-in-Lawful-clause-within g c =
+pub returns-clause-within : goal.returns-clause-within
+returns-clause-within g c =
     let st = c.loop-i.invariant.stands in
     (omega (arith, st.counted_is, ap length st.put_is, length-append st.items st.stored), omega (arith, ap length c.as_slice.ensures))

@@ -1,8 +1,9 @@
-use Rattle.ring_audit.proofs.DueLemmas.{all_told, kept_in_order}
+use Rattle.std.proofs.Common.{subst, sym}
+use Rattle.ring_audit.proofs.DueLemmas.{dues_behind}
 use Rattle.ring_audit.proofs.dues.due_behind.Goals as goal
 
-pub returns-clause-due : goal.returns-clause-due
-returns-clause-due c = all_told c.args.shape.now c.args.events.now c.args.side c.candidates-some.result _ c.kept.ensures c.kept-2.ensures c.kept-3.ensures c.candidates-some.ensures.only
+pub returns-in-None-clause-due : goal.returns-in-None-clause-due
+returns-in-None-clause-due c e = (λ is. absurd (c.none.ensures.none e is), λ on. absurd (c.in-None.ensures.stands e on.1))
 
-pub returns-clause-order : goal.returns-clause-order
-returns-clause-order c = kept_in_order c.candidates-some.result _ (λ e is. ((c.kept.ensures e).0 is).0) (λ e is. ((c.kept-2.ensures e).0 is).0) (λ e is. ((c.kept-3.ensures e).0 is).0) c.candidates-some.ensures.order
+pub returns-in-Some-clause-due : goal.returns-in-Some-clause-due
+returns-in-Some-clause-due c = dues_behind c.in-Some.readers.puts.shape c.args.shape.now c.args.events.now c.args.side _ _ c.dues.result c.in-Some.ensures.shapes.0 c.in-Some.ensures.stands c.dues.ensures.due
