@@ -138,7 +138,7 @@ fn answer_reason(shape: &Shape, marks: &Marks, past: &[Event], event: Event) -> 
 /// these are not lawful.
 ///
 /// Where an audit tells a fault at a place, other than `NotProgram`, the events before that place are to be passed, and
-/// the event there. It goes over them at most three times and takes no memory.
+/// the event there. It goes over them at most twice and takes no memory.
 ///
 /// In use: `lamport_ring audit --why`, which prints it.
 pub fn reason_behind(shape: &Shape, past: &[Event], event: Event) -> Option<Reason>
