@@ -1,5 +1,5 @@
 -- A take of one item, told as one of several.
-use Rattle.std.proofs.Common.{◌≡◌, ⊎_elim, ℕ, Bool, true, false, Some, None, List, [], ◌∷◌, ◌++◌, take, refl, ap, sym, subst, ◌∙◌}
+use Rattle.std.proofs.Common.{◌≡◌, ⊎_elim, ℕ, Bool, true, false, Some, None, List, [], take, ap, sym, subst, ◌∙◌}
 use Rattle.bits_core.specs.declared.shapes.Shape.{Shape}
 use Rattle.bits_core.specs.declared.events.Event.{Event}
 use Rattle.ring_core.specs.declared.replies.TakeReply.{TakeReply}
@@ -8,8 +8,7 @@ use Rattle.ring_core.specs.declared.replies.TakeBatchReply.{TakeBatchReply}
 use Rattle.ring_core.specs.declared.replies.TakeBatchReply.TheVariants as batch_reply
 use Rattle.ring_core.specs.OneCallMore.{TakesOfOne}
 use Rattle.ring_core.specs.Takes.{Take, Takes, Open, AreTakes}
-use Rattle.ring_core.specs.Items.{taken_of}
-use Rattle.ring_core.specs.ConsumerCalls.{and_take, and_end, HasTakeMore, ends_closed, items_at_end, reply_at_end, reply_items, take_batch_reply, take_reply_to}
+use Rattle.ring_core.specs.ConsumerCalls.{and_take, HasTakeMore, ends_closed, items_at_end, reply_at_end, reply_items, take_batch_reply, take_reply_to}
 use Rattle.ring_ends.specs.Ends.{HasTaken, HasTakenAll, IsTakeReply, TakeAdds, TakeAllAdds, number_brought}
 use Rattle.ring_run.proofs.Lists.{last-snoc}
 use Rattle.ring_run.proofs.RelayTakes.{items_snoc}

@@ -1,20 +1,19 @@
 -- One take more of a relay.
-use Rattle.std.proofs.Common.{◌≡◌, ◌≢◌, ⊎_elim, ℕ, zero, suc, ◌+◌, ◌-◌, ◌≤◌, Bool, true, false, Some, None, List, [], ◌∷◌, ◌++◌, length, take, append_assoc, refl, ap, sym, subst, ◌∙◌, arith, append-nil}
+use Rattle.std.proofs.Common.{◌≡◌, ◌≢◌, ⊎_elim, ℕ, ◌+◌, ◌-◌, ◌≤◌, Bool, true, false, Some, None, List, [], ◌∷◌, ◌++◌, length, take, append_assoc, refl, ap, sym, subst, ◌∙◌, arith, append-nil}
 use Rattle.std.specs.Prelude.{min}
 use Rattle.std.proofs.lemmas.List.{length-append}
 use Rattle.bits_core.specs.declared.shapes.Shape.{Shape}
 use Rattle.bits_core.specs.declared.events.Event.{Event}
 use Rattle.ring_core.specs.declared.replies.TakeBatchReply as replies
 use Rattle.ring_core.specs.declared.replies.TakeBatchReply.TheVariants as reply
-use Rattle.ring_core.specs.declared.replies.TakeReply.TheVariants as first_reply
 use Rattle.bits_core.specs.Shape.{take_batch_of}
-use Rattle.ring_core.specs.Counts.{Count, first_count, number_past}
+use Rattle.ring_core.specs.Counts.{Count, first_count}
 use Rattle.ring_core.specs.Takes as takes
 use Rattle.ring_core.specs.Takes.{Take, Takes, Open, AreTakes, IsTake, count_after, taken_after, taken_count, taken_in}
 use Rattle.ring_core.specs.Items.{all_taken, taken_of}
 use Rattle.ring_core.specs.Over.{empties}
 use Rattle.ring_core.specs.Readings.{TakesAreRead}
-use Rattle.ring_core.specs.ConsumerCalls.{and_take, and_end, no_takes, count_taken, ends_closed, HasTakeMore, IsTakeOf, items_at_end, last_items, reply_at_end, take_batch_reply, take_reply_to}
+use Rattle.ring_core.specs.ConsumerCalls.{and_take, and_end, no_takes, ends_closed, IsTakeOf, items_at_end, last_items, reply_at_end, take_batch_reply, take_reply_to}
 use Rattle.ring_ends.specs.Ends.{HasTakenAll, HasTakes, TakeAllAdds, number_brought}
 use Rattle.ring_run.proofs.Lists.{last-snoc}
 use Rattle.ring_run.specs.Relays.{AreAsked, TakesAre, used_by}

@@ -1,6 +1,6 @@
 use Rattle.std.specs.Prelude.{◌-◌, if◌then◌else◌, min, vec_capacity}
 use Rattle.std.proofs.lemmas.List.{length-append}
-use Rattle.std.proofs.Common.{rules, ◌≡◌, ◌+◌, ◌<◌, ◌≤◌, suc, ℕ, Bool, false, List, [], ◌∷◌, ◌++◌, length, take, refl, ap, sym, subst, ◌∙◌, arith}
+use Rattle.std.proofs.Common.{rules, ◌≡◌, ◌+◌, ◌<◌, ◌≤◌, ℕ, Bool, false, List, ◌++◌, length, take, refl, ap, sym, subst, ◌∙◌, arith}
 use Rattle.ring_core.specs.declared.replies.TakeBatchReply as replies
 use Rattle.ring_core.specs.declared.replies.TakeBatchReply.TheVariants as reply
 use Rattle.bits_core.specs.Shape.{take_batch_of}
