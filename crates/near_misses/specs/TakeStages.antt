@@ -19,6 +19,6 @@ is_counting Counting = true
 is_counting _ = false
 
 -- a take wants some items, has read none before it has seen some, reads no more than it wants, and counts some
-abbrev pub IsWithin : Stage → (whole most wanted : ℕ) → Type 0
-IsWithin stage whole most wanted =
+abbrev pub IsTakeWithin : Stage → (whole most wanted : ℕ) → Type 0
+IsTakeWithin stage whole most wanted =
     (is_looking stage ≡ true → (whole ≡ 0) × (1 ≤ wanted)) × (is_reading stage ≡ true → (whole < most) × (most ≤ wanted)) × (is_counting stage ≡ true → (1 ≤ whole) × (whole ≤ wanted))

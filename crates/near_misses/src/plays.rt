@@ -257,7 +257,8 @@ impl<E: Store<Event>, T: Store<NearCall>, I: Store<u64>> NearWorld<'_, E, T, I> 
         ensures ready { OnOk result (IsNearReady self.new) }
         ensures shape { self.new.memory.shape ≡ self.old.memory.shape }
         ensures has { OnOk result ((a : NearAsked) (letters : List Side) (oracle : List Bool) →
-            NearHas T.items I.items a letters oracle self.old → NearHas T.items I.items a (letters ++ side ∷ []) oracle self.new) }
+            NearHas T.items I.items a letters oracle self.old →
+            NearHas T.items I.items a (letters ++ side ∷ []) oracle self.new) }
         ensures rooms { (self.new.memory.room ≡ self.old.memory.room) × (T.room self.new.told ≡ T.room self.old.told) ×
             (I.room self.new.taken ≡ I.room self.old.taken) }
         ensures few { OnOk result ((length self.new.memory.events ≤ length self.old.memory.events + 1) ×
@@ -278,7 +279,8 @@ impl<E: Store<Event>, T: Store<NearCall>, I: Store<u64>> NearWorld<'_, E, T, I> 
         ensures ready { OnOk result (IsNearReady self.new) }
         ensures shape { self.new.memory.shape ≡ self.old.memory.shape }
         ensures has { OnOk result ((a : NearAsked) (letters : List Side) (oracle : List Bool) →
-            NearHas T.items I.items a letters oracle self.old → NearHas T.items I.items a (letters ++ P ∷ []) oracle self.new) }
+            NearHas T.items I.items a letters oracle self.old →
+            NearHas T.items I.items a (letters ++ P ∷ []) oracle self.new) }
         ensures rooms { (self.new.memory.room ≡ self.old.memory.room) × (T.room self.new.told ≡ T.room self.old.told) ×
             (I.room self.new.taken ≡ I.room self.old.taken) }
         ensures few { OnOk result ((length self.new.memory.events ≤ length self.old.memory.events + 1) ×
@@ -304,7 +306,8 @@ impl<E: Store<Event>, T: Store<NearCall>, I: Store<u64>> NearWorld<'_, E, T, I> 
         ensures ready { OnOk result (IsNearReady self.new) }
         ensures shape { self.new.memory.shape ≡ self.old.memory.shape }
         ensures has { OnOk result ((a : NearAsked) (letters : List Side) (oracle : List Bool) →
-            NearHas T.items I.items a letters oracle self.old → NearHas T.items I.items a (letters ++ C ∷ []) oracle self.new) }
+            NearHas T.items I.items a letters oracle self.old →
+            NearHas T.items I.items a (letters ++ C ∷ []) oracle self.new) }
         ensures rooms { (self.new.memory.room ≡ self.old.memory.room) × (T.room self.new.told ≡ T.room self.old.told) ×
             (I.room self.new.taken ≡ I.room self.old.taken) }
         ensures few { OnOk result ((length self.new.memory.events ≤ length self.old.memory.events + 1) ×

@@ -2,7 +2,7 @@
 ghost use Rattle.std.specs.Prelude.{◌≡◌, ◌≤◌, ◌<◌, ◌+◌, ◌-◌, ◌++◌, ◌∷◌, [], ℕ, List, None, IfSome, IsSome, true, false, length, min, take};
 ghost use Rattle.bits_core.specs.Shape.{take_batch_of};
 ghost use Rattle.near_misses.specs.NearPlays.{with_digit};
-ghost use Rattle.near_misses.specs.TakeStages.{IsWithin};
+ghost use Rattle.near_misses.specs.TakeStages.{IsTakeWithin};
 
 use crate::misses::NearMiss;
 use crate::plays::NearCall;
@@ -69,7 +69,7 @@ pub struct NearTaker {
     stopped: bool,
     row: NearRow,
     ghost room: { whole ≤ 64 },
-    ghost within: { IsWithin stage whole most (min (take_batch_of shape) (takes - used)) },
+    ghost within: { IsTakeWithin stage whole most (min (take_batch_of shape) (takes - used)) },
 }
 
 impl NearTaker {
