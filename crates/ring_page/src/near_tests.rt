@@ -91,7 +91,7 @@ fn play(
     play_in(miss, asked, items, schedule, oracle, &mut [])
 }
 
-// Counts go round at 4, and not at 5. Two items are put and taken, and of the count write of that take the clearing of r0 is open. Two more
+// Counts go round at 4, and not at 5. Two items are put and read, and of the count write of their take the clearing of r0 is open. Two more
 // are put, and the third put sees r0 as 1, the count of long ago: the ring looks empty, and it writes over the cell of the third item. C takes
 // what it finds there.
 #[test]
