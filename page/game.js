@@ -9,7 +9,7 @@ import { firstLetters } from "./script.js";
 export const GOALS = [{name: "take an item twice", words: /comes again/}, {name: "take what was never put", words: /was not inside/},
   {name: "be told Empty with an item inside", words: /^empty, but item/}, {name: "be told Closed with an item inside", words: /^closed, but item/}];
 
-const RULES = {"count-before-cell": "the item before the count", "no-second-scan": "a second scan behind the close bit", "small-modulus": "a modulus of capacity + batch + 1",
+const RULES = {"count-before-cell": "the item before the count", "no-second-scan": "a second scan behind the close bit", "small-modulus": "a modulus of capacity + the larger batch + 1",
   "clears-first": "set the new bit before the others are cleared", "clears-upwards": "clear the bits from the highest down"};
 
 // The choices of rules and goals, made once.

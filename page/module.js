@@ -192,18 +192,21 @@ export async function openModule(bytes) {
   };
 
   // The same by the ring that is nearly right of this name: {refused} or {shape, events, told, letters, roundAt} and how many
-  // events and tellings there are. Its counts go round at `roundAt`, and `told` has each begin of a call, with its `kind`, and each end, with its `reply`, {side, kind, reply, number}: of a put that
-  // begins `number` items are stored, by one that ends so many were, and a take has this item.
+  // events and tellings there are. Its counts go round at `roundAt`, and `told` has each begin of a call, with its `kind`, and each end, with its `reply`,
+  // {side, kind, reply, number, items}: of a put that begins `number` items are stored, by one that ends so many were; a take that begins wants so many,
+  // and one that took so many has these items.
   const playNear = (name, script, letters, isDrawn = true) => {
     const {capacity, modulus, width, batch, take_batch} = script, room = isDrawn ? EVENTS : 0;
-    const [asked, [played, tellings, marks]] = layScript(script, letters, [8 * 8, room * 2 * 8, room * MARK]);
-    call("page_play_near", MISSES.indexOf(name) + 1, ...asked, marks, room, tellings, room, played);
-    const [outcome, number, place, shapeFault, count, toldCount, all, roundAt] = getNumbers(played, 8);
+    const [asked, [played, tellings, items, marks]] = layScript(script, letters, [9 * 8, room * 2 * 8, room * 8, room * MARK]);
+    call("page_play_near", MISSES.indexOf(name) + 1, ...asked, marks, room, tellings, room, items, room, played);
+    const [outcome, number, place, shapeFault, count, toldCount, takenCount, all, roundAt] = getNumbers(played, 9);
     if (outcome === 2) return {refused: scriptFault({number, place, shapeFault})};
-    const numbers = getNumbers(tellings, Math.min(toldCount, room) * 2);
+    const numbers = getNumbers(tellings, Math.min(toldCount, room) * 2), taken = getNumbers(items, Math.min(takenCount, room));
+    let passed = 0;
     const told = Array.from({length: numbers.length / 2}, (_, i) => {
       const [side, word] = WORDS[numbers[2 * i]].split(" "), number = numbers[2 * i + 1];
-      return numbers[2 * i] < BEGINNING ? {side, kind: word, reply: "", number} : {side, kind: "", reply: word, number};
+      return numbers[2 * i] < BEGINNING ? {side, kind: word, reply: "", number, items: []}
+        : {side, kind: "", reply: word, number, items: word === "item" ? taken.slice(passed, passed += number) : []};
     });
     return {shape: {capacity, modulus, width, batch, take_batch}, events: getEvents(marks, Math.min(count, room)), told, toldCount, count, letters: all, roundAt};
   };

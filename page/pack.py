@@ -160,7 +160,7 @@ def wrong_scripts(files):
         if name != file:
             with open(os.path.join(EXAMPLES, "wrong", file), encoding="utf-8") as data:
                 script = json.load(data)
-            files[f"examples/{file}"] = json.dumps({**script, "wrong": name.replace("_", "-")}).encode()
+            files[f"examples/{file}"] = json.dumps({**script, "wrong": name.split("__")[0].replace("_", "-")}).encode()
             names.append(name)
     return names
 

@@ -1,6 +1,6 @@
 // The calls of a play as recorded calls, for their verdict: what was put, taken and told, in the order of the events.
 
-// What a ring that is nearly right tells of its calls, each begin and end with the place of its event: {place, side, kind, reply, number}. `playAt` has
+// What a ring that is nearly right tells of its calls, each begin and end with the place of its event: {place, side, kind, reply, number, items}. `playAt` has
 // of the first letters of the play how many events and tellings there are, and `all` has those of all; a letter makes one of each at most.
 export function tellingsOf(playAt, all) {
   const tellings = [];
@@ -19,12 +19,13 @@ export function tellingsOf(playAt, all) {
 // The calls that these tell of a script, as callsOf in calls.js has those of the right ring; `offered` are the items of a put.
 export function callsTold(tellings, {items, batch}) {
   const calls = [], open = {P: null, C: null}, passed = {P: 0, C: 0};
-  for (const {side, kind, reply, number, place} of tellings) {
+  for (const {side, kind, reply, number, items: taken, place} of tellings) {
     if (!reply) {
-      calls.push(open[side] = {side, kind, begin: place, end: Infinity, reply: "", items: [], offered: kind === "put" ? items.slice(number, number + batch) : [], count: null});
+      const asked = kind === "put" ? {offered: items.slice(number, number + batch)} : kind === "take" ? {offered: [], wanted: number} : {offered: []};
+      calls.push(open[side] = {side, kind, begin: place, end: Infinity, reply: "", items: [], count: null, ...asked});
       continue;
     }
-    const its = reply === "stored" ? open[side].offered.slice(0, number) : reply === "item" ? [number] : [];
+    const its = reply === "stored" ? open[side].offered.slice(0, number) : taken;
     passed[side] += its.length;
     Object.assign(open[side], {end: place, reply, items: its.map(String), count: passed[side]});
   }

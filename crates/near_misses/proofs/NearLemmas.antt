@@ -1,7 +1,9 @@
 -- A play by a near miss, with one letter more.
-use Rattle.std.proofs.Common.{◌≡◌, ◌∙◌, inl, inr, ℕ, Bool, true, false, Option, Some, None, List, [], ◌∷◌, ◌++◌, refl, ap, sym, subst, append_assoc, append-nil, ap₂, zero-add}
-use Rattle.std.specs.Prelude.{if◌then◌else◌, slice_get}
+use Rattle.std.proofs.Common.{◌≡◌, ◌∙◌, inl, inr, ℕ, suc, ◌+◌, ◌≤◌, length, arith, Bool, true, false, Option, Some, None, List, [], ◌∷◌, ◌++◌, refl, ap, sym, subst, append_assoc, append-nil, ap₂, zero-add}
+use Rattle.std.specs.Prelude.{if◌then◌else◌, nat_lt, slice_get}
+use Rattle.std.proofs.lemmas.List.{length-append}
 use Rattle.bits_core.specs.Lawful.{IsLawful}
+use Rattle.bits_core.specs.Shape.{width_of}
 use Rattle.bits_core.specs.Memory.{MemoryState, unused}
 use Rattle.bits_core.specs.Oracle.{tape_answer, turn}
 use Rattle.bits_core.specs.declared.shapes.Shape.{Shape}
@@ -10,78 +12,184 @@ use Rattle.ring_player.specs.Laws.{TurnsAreByInterval}
 use Rattle.ring_script.specs.Content.{Content}
 use Rattle.near_misses.specs.declared.plays.NearWorld.{NearWorld}
 use Rattle.bits_core.specs.declared.events.Access.{Access}
+use Rattle.bits_core.specs.declared.events.Access.TheVariants.{Read, Write}
 use Rattle.bits_core.specs.declared.events.Act.{Act}
 use Rattle.bits_core.specs.declared.events.Act.TheVariants.{ReadBegin, ReadEnd, WriteBegin, WriteEnd}
 use Rattle.bits_core.specs.declared.events.Bit.{Bit}
+use Rattle.bits_core.specs.declared.events.Bit.TheVariants.{S, R, X, Cell}
 use Rattle.bits_core.specs.declared.events.Event.{Event}
 use Rattle.bits_core.specs.declared.events.Side.{Side}
 use Rattle.bits_core.specs.declared.events.Side.TheVariants.{P, C}
 use Rattle.bits_core.specs.Bits.{begun_access, begun_by, is_by, other}
 use Rattle.bits_core.specs.History.{open_access}
 use Rattle.bits_core.specs.Laws.{OpenChanges}
-use Rattle.near_misses.specs.NearPlays.{IsNearPlay, NearAsked, NearBegins, NearEnds, NearMakes, NearStand, NearStands, NearStep, NearStops, asked_by_script, near_stand_of, near_start, near_stopped, with_near_stand}
-use Rattle.near_misses.specs.NearSides.{IsAskedToPut, IsAskedToTake, IsInOpenCall, IsNearReady, NearHas, NearMoves, put_stand, take_stand}
+use Rattle.near_misses.specs.NearPlays.{IsNearPlay, NearAsked, NearBegins, NearEnds, NearMakes, NearStand, NearStands, NearStep, NearStops, asked_by_script, items_told, near_stand_of, near_start, near_stopped, with_digit, with_digit_read, with_near_stand, with_read}
+use Rattle.near_misses.specs.NearSides.{IsAskedToPut, IsAskedToTake, IsInOpenCall, IsNearReady, IsOpenDue, NearHas, NearMoves, items_untold, put_stand, take_stand, with_ended}
 use Rattle.ring_player.specs.Tellings.{listed}
 use Rattle.queue_calls.specs.declared.events.CallEvent.{CallEvent}
 use Rattle.queue_calls.specs.declared.events.CallEvent.TheVariants.{PutBegins, PutStored, PutSome, PutFull, PutShort, PutNothing, PutClosed, CloseBegins, CloseEnds, TakeBegins, TakeItems, TakeSome, TakeEmpty, TakeShort, TakeNothing, TakeClosed}
 
 -- ---- the letters
 
-makes_event : (asked : NearAsked) (n : NearStands) (letters : List Side) (s : Side) (h : List Event) (told : List (CallEvent ℕ ℕ)) (mid : NearStands) (e : Event) (t : Option (CallEvent ℕ ℕ)) (after : NearStand)
-    → e.side ≡ s → (near_stand_of s mid).stopped ≡ false → NearStep asked s (near_stand_of s mid) e.act e.bit t after → NearMakes asked n letters h told mid
-    → NearMakes asked n (letters ++ s ∷ []) (h ++ e ∷ []) (told ++ listed t) (with_near_stand s after mid)
-makes_event asked n [] s h told mid e t after side goes step (none, untold, same) = inl (
+makes_event : (asked : NearAsked) (n : NearStands) (letters : List Side) (s : Side) (h : List Event) (told : List (CallEvent ℕ ℕ)) (taken : List ℕ) (mid : NearStands) (e : Event) (t : Option (CallEvent ℕ ℕ))
+    (after : NearStand) → e.side ≡ s → (near_stand_of s mid).stopped ≡ false → NearStep asked s (near_stand_of s mid) e.act e.bit t after → NearMakes asked n letters h told taken mid
+    → NearMakes asked n (letters ++ s ∷ []) (h ++ e ∷ []) (told ++ listed t) (taken ++ items_told t after.read) (with_near_stand s after mid)
+makes_event asked n [] s h told taken mid e t after side goes step (none, untold, untaken, same) = inl (
   e,
   [],
   t,
   [],
   after,
+  [],
   ap (λ (x : List Event). x ++ e ∷ []) none,
   ap (λ (x : List (CallEvent ℕ ℕ)). x ++ listed t) untold ∙ sym (append-nil (listed t)),
+  ap (λ (x : List ℕ). x ++ items_told t after.read) untaken ∙ sym (append-nil (items_told t after.read)),
   side,
   subst (λ (m : NearStands). (near_stand_of s m).stopped ≡ false) same goes,
   subst (λ (m : NearStands). NearStep asked s (near_stand_of s m) e.act e.bit t after) same step,
-  (refl, refl, ap (λ (m : NearStands). with_near_stand s after m) same),
+  (refl, refl, refl, ap (λ (m : NearStands). with_near_stand s after m) same),
 )
-makes_event asked n (l ∷ letters) s h told mid e t after side goes step (inl (e0, later, t0, others, next, h_is, told_is, side0, goes0, step0, more)) = inl (
+makes_event asked n (l ∷ letters) s h told taken mid e t after side goes step (inl (e0, later, t0, others, next, further, h_is, told_is, taken_is, side0, goes0, step0, more)) = inl (
   e0,
   later ++ e ∷ [],
   t0,
   others ++ listed t,
   next,
+  further ++ items_told t after.read,
   ap (λ (x : List Event). x ++ e ∷ []) h_is,
   ap (λ (x : List (CallEvent ℕ ℕ)). x ++ listed t) told_is ∙ append_assoc (listed t0) others (listed t),
+  ap (λ (x : List ℕ). x ++ items_told t after.read) taken_is ∙ append_assoc (items_told t0 next.read) further (items_told t after.read),
   side0,
   goes0,
   step0,
-  makes_event asked (with_near_stand l next n) letters s later others mid e t after side goes step more,
+  makes_event asked (with_near_stand l next n) letters s later others further mid e t after side goes step more,
 )
-makes_event asked n (l ∷ letters) s h told mid e t after side goes step (inr (stops, more)) =
-    inr (stops, makes_event asked (with_near_stand l (near_stopped (near_stand_of l n)) n) letters s h told mid e t after side goes step more)
+makes_event asked n (l ∷ letters) s h told taken mid e t after side goes step (inr (stops, more)) =
+    inr (stops, makes_event asked (with_near_stand l (near_stopped (near_stand_of l n)) n) letters s h told taken mid e t after side goes step more)
 
-makes_stop : (asked : NearAsked) (n : NearStands) (letters : List Side) (s : Side) (h : List Event) (told : List (CallEvent ℕ ℕ)) (mid : NearStands) → NearStops asked s (near_stand_of s mid)
-    → NearMakes asked n letters h told mid → NearMakes asked n (letters ++ s ∷ []) h told (with_near_stand s (near_stopped (near_stand_of s mid)) mid)
-makes_stop asked n [] s h told mid stops (none, untold, same) = inr (
+makes_stop : (asked : NearAsked) (n : NearStands) (letters : List Side) (s : Side) (h : List Event) (told : List (CallEvent ℕ ℕ)) (taken : List ℕ) (mid : NearStands) → NearStops asked s (near_stand_of s mid)
+    → NearMakes asked n letters h told taken mid → NearMakes asked n (letters ++ s ∷ []) h told taken (with_near_stand s (near_stopped (near_stand_of s mid)) mid)
+makes_stop asked n [] s h told taken mid stops (none, untold, untaken, same) = inr (
   subst (λ (m : NearStands). NearStops asked s (near_stand_of s m)) same stops,
-  (none, untold, ap (λ (m : NearStands). with_near_stand s (near_stopped (near_stand_of s m)) m) same),
+  (none, untold, untaken, ap (λ (m : NearStands). with_near_stand s (near_stopped (near_stand_of s m)) m) same),
 )
-makes_stop asked n (l ∷ letters) s h told mid stops (inl (e0, later, t0, others, next, h_is, told_is, side0, goes0, step0, more)) =
-    inl (e0, later, t0, others, next, h_is, told_is, side0, goes0, step0, makes_stop asked (with_near_stand l next n) letters s later others mid stops more)
-makes_stop asked n (l ∷ letters) s h told mid stops (inr (stopped, more)) =
-    inr (stopped, makes_stop asked (with_near_stand l (near_stopped (near_stand_of l n)) n) letters s h told mid stops more)
+makes_stop asked n (l ∷ letters) s h told taken mid stops (inl (e0, later, t0, others, next, further, h_is, told_is, taken_is, side0, goes0, step0, more)) =
+    inl (e0, later, t0, others, next, further, h_is, told_is, taken_is, side0, goes0, step0, makes_stop asked (with_near_stand l next n) letters s later others further mid stops more)
+makes_stop asked n (l ∷ letters) s h told taken mid stops (inr (stopped, more)) =
+    inr (stopped, makes_stop asked (with_near_stand l (near_stopped (near_stand_of l n)) n) letters s h told taken mid stops more)
 
-pub makes_more : (asked : NearAsked) (n : NearStands) (letters : List Side) (s : Side) (h after : List Event) (told told_after : List (CallEvent ℕ ℕ)) (t : Option (CallEvent ℕ ℕ)) (mid : NearStands)
-    (next : NearStand) → told_after ≡ told ++ listed t → NearMoves asked s h (near_stand_of s mid) t after next → NearMakes asked n letters h told mid
-    → NearMakes asked n (letters ++ s ∷ []) after told_after (with_near_stand s next mid)
-makes_more asked n letters s h after told told_after t mid next told_is (inl (e, is, side, goes, step)) made =
-    subst (λ (x : List Event). NearMakes asked n (letters ++ s ∷ []) x told_after (with_near_stand s next mid)) (sym is)
-    (subst (λ (x : List (CallEvent ℕ ℕ)). NearMakes asked n (letters ++ s ∷ []) (h ++ e ∷ []) x (with_near_stand s next mid)) (sym told_is)
-    (makes_event asked n letters s h told mid e t next side goes step made))
-makes_more asked n letters s h after told told_after t mid next told_is (inr (is, untold, none, stops, next_is)) made =
+pub makes_more : (asked : NearAsked) (n : NearStands) (letters : List Side) (s : Side) (h after : List Event) (told told_after : List (CallEvent ℕ ℕ)) (taken taken_after : List ℕ) (t : Option (CallEvent ℕ ℕ))
+    (mid : NearStands) (next : NearStand) → told_after ≡ told ++ listed t → taken_after ≡ taken ++ items_told t next.read → NearMoves asked s h (near_stand_of s mid) t after next
+    → NearMakes asked n letters h told taken mid → NearMakes asked n (letters ++ s ∷ []) after told_after taken_after (with_near_stand s next mid)
+makes_more asked n letters s h after told told_after taken taken_after t mid next told_is taken_is (inl (e, is, side, goes, step)) made =
+    subst (λ (x : List Event). NearMakes asked n (letters ++ s ∷ []) x told_after taken_after (with_near_stand s next mid)) (sym is)
+    (subst (λ (x : List (CallEvent ℕ ℕ)). NearMakes asked n (letters ++ s ∷ []) (h ++ e ∷ []) x taken_after (with_near_stand s next mid)) (sym told_is)
+    (subst (λ (x : List ℕ). NearMakes asked n (letters ++ s ∷ []) (h ++ e ∷ []) (told ++ listed t) x (with_near_stand s next mid)) (sym taken_is)
+    (makes_event asked n letters s h told taken mid e t next side goes step made)))
+makes_more asked n letters s h after told told_after taken taken_after t mid next told_is taken_is (inr (is, untold, none, stops, next_is)) made =
     let told_same : told_after ≡ told = told_is ∙ ap (λ (o : Option (CallEvent ℕ ℕ)). told ++ listed o) untold ∙ append-nil told in
-    subst (λ (x : List Event). NearMakes asked n (letters ++ s ∷ []) x told_after (with_near_stand s next mid)) (sym is)
-    (subst (λ (x : List (CallEvent ℕ ℕ)). NearMakes asked n (letters ++ s ∷ []) h x (with_near_stand s next mid)) (sym told_same)
-    (subst (λ (x : NearStand). NearMakes asked n (letters ++ s ∷ []) h told (with_near_stand s x mid)) (sym next_is) (makes_stop asked n letters s h told mid stops made)))
+    let taken_same : taken_after ≡ taken = taken_is ∙ ap (λ (o : Option (CallEvent ℕ ℕ)). taken ++ items_told o next.read) untold ∙ append-nil taken in
+    subst (λ (x : List Event). NearMakes asked n (letters ++ s ∷ []) x told_after taken_after (with_near_stand s next mid)) (sym is)
+    (subst (λ (x : List (CallEvent ℕ ℕ)). NearMakes asked n (letters ++ s ∷ []) h x taken_after (with_near_stand s next mid)) (sym told_same)
+    (subst (λ (x : List ℕ). NearMakes asked n (letters ++ s ∷ []) h told x (with_near_stand s next mid)) (sym taken_same)
+    (subst (λ (x : NearStand). NearMakes asked n (letters ++ s ∷ []) h told taken (with_near_stand s x mid)) (sym next_is) (makes_stop asked n letters s h told taken mid stops made))))
+
+-- ---- the items
+
+-- a side that has read none tells none
+pub none_told : (t : Option (CallEvent ℕ ℕ)) → items_told t [] ≡ []
+none_told None = refl
+none_told (Some (PutBegins k)) = refl
+none_told (Some (PutStored k)) = refl
+none_told (Some (PutSome k)) = refl
+none_told (Some PutFull) = refl
+none_told (Some PutShort) = refl
+none_told (Some PutNothing) = refl
+none_told (Some PutClosed) = refl
+none_told (Some CloseBegins) = refl
+none_told (Some CloseEnds) = refl
+none_told (Some (TakeBegins k)) = refl
+none_told (Some (TakeItems k)) = refl
+none_told (Some (TakeSome k)) = refl
+none_told (Some TakeEmpty) = refl
+none_told (Some TakeShort) = refl
+none_told (Some TakeNothing) = refl
+none_told (Some TakeClosed) = refl
+
+-- the items that an event tells and those that are read and not told are so many more than before at most
+abbrev HoldsMore : (before : NearStand) (t : Option (CallEvent ℕ ℕ)) (after : NearStand) (more : ℕ) → Type 0
+HoldsMore before t after more = length (items_told t after.read) + items_untold after ≤ items_untold before + more
+
+begins_held : (asked : NearAsked) (before : NearStand) (t : Option (CallEvent ℕ ℕ)) (after : NearStand) → NearBegins asked C before t after → HoldsMore before t after 0
+begins_held asked before None after (in_call, is) = omega (arith, ap items_untold is)
+begins_held asked before (Some (TakeBegins k)) after (a, b, c, d, is) = omega (arith, ap items_untold is)
+begins_held asked before (Some (PutBegins k)) after x = absurd x
+begins_held asked before (Some (PutStored k)) after x = absurd x
+begins_held asked before (Some (PutSome k)) after x = absurd x
+begins_held asked before (Some PutFull) after x = absurd x
+begins_held asked before (Some PutShort) after x = absurd x
+begins_held asked before (Some PutNothing) after x = absurd x
+begins_held asked before (Some PutClosed) after x = absurd x
+begins_held asked before (Some CloseBegins) after x = absurd x
+begins_held asked before (Some CloseEnds) after x = absurd x
+begins_held asked before (Some (TakeItems k)) after x = absurd x
+begins_held asked before (Some (TakeSome k)) after x = absurd x
+begins_held asked before (Some TakeEmpty) after x = absurd x
+begins_held asked before (Some TakeShort) after x = absurd x
+begins_held asked before (Some TakeNothing) after x = absurd x
+begins_held asked before (Some TakeClosed) after x = absurd x
+
+-- of a call under way all that is read is not told
+untold_is : (n : NearStand) → n.in_call ≡ true → items_untold n ≡ length n.read
+untold_is n is = ap (λ (b : Bool). if b then length n.read else 0) is
+
+ends_held : (asked : NearAsked) (before : NearStand) (t : Option (CallEvent ℕ ℕ)) (after : NearStand) → NearEnds asked C before t after → HoldsMore before t after 0
+ends_held asked before None after (in_call, is) = omega (arith, ap items_untold is)
+ends_held asked before (Some (TakeItems k)) after (in_call, a, b, c, is) = omega (arith, ap items_untold is, ap (λ (n : NearStand). length n.read) is, untold_is before in_call)
+ends_held asked before (Some TakeEmpty) after (in_call, is) = omega (arith, ap items_untold is)
+ends_held asked before (Some TakeClosed) after (in_call, is) = omega (arith, ap items_untold is)
+ends_held asked before (Some (PutBegins k)) after x = absurd x
+ends_held asked before (Some (PutStored k)) after x = absurd x
+ends_held asked before (Some (PutSome k)) after x = absurd x
+ends_held asked before (Some PutFull) after x = absurd x
+ends_held asked before (Some PutShort) after x = absurd x
+ends_held asked before (Some PutNothing) after x = absurd x
+ends_held asked before (Some PutClosed) after x = absurd x
+ends_held asked before (Some CloseBegins) after x = absurd x
+ends_held asked before (Some CloseEnds) after x = absurd x
+ends_held asked before (Some (TakeBegins k)) after x = absurd x
+ends_held asked before (Some (TakeSome k)) after x = absurd x
+ends_held asked before (Some TakeShort) after x = absurd x
+ends_held asked before (Some TakeNothing) after x = absurd x
+
+-- a digit more makes one item whole at most
+digit_held : (width : ℕ) (v : Bool) (i : ℕ) (n : NearStand) → items_untold (with_digit_read width v i n) ≤ items_untold n + 1
+digit_held width v i n = by_last (nat_lt (suc i) width) n.in_call
+  where
+    by_last : (on in_call : Bool) → items_untold (if on then record n { item = with_digit v i n.item; in_call = in_call } else record n { read = n.read ++ with_digit v i n.item ∷ []; item = 0; in_call = in_call })
+        ≤ (if in_call then length n.read else 0) + 1
+    by_last true true = omega arith
+    by_last true false = omega arith
+    by_last false true = omega (arith, length-append n.read (with_digit v i n.item ∷ []))
+    by_last false false = omega arith
+
+read_held : (asked : NearAsked) (v : Bool) (b : Bit) (n : NearStand) → items_untold (with_read asked C v b n) ≤ items_untold n + 1
+read_held asked v (Cell j i) n = digit_held (width_of asked.shape) v i n
+read_held asked v (S i) n = omega arith
+read_held asked v (R i) n = omega arith
+read_held asked v X n = omega arith
+
+step_held : (asked : NearAsked) (before : NearStand) (act : Act) (b : Bit) (t : Option (CallEvent ℕ ℕ)) (after : NearStand) → NearStep asked C before act b t after → HoldsMore before t after 1
+step_held asked before ReadBegin b t after step = omega (arith, begins_held asked before t after step)
+step_held asked before (WriteBegin v) b t after step = omega (arith, begins_held asked before t after step)
+step_held asked before (ReadEnd v) b t after step = omega (arith, ends_held asked (with_read asked C v b before) t after step, read_held asked v b before)
+step_held asked before WriteEnd b t after step = omega (arith, ends_held asked before t after step)
+
+pub moves_held : (asked : NearAsked) (h : List Event) (before : NearStand) (t : Option (CallEvent ℕ ℕ)) (after : List Event) (next : NearStand) → NearMoves asked C h before t after next
+    → length (items_told t next.read) + items_untold next ≤ items_untold before + 1
+moves_held asked h before t after next (inl (e, is, side, goes, step)) = step_held asked before e.act e.bit t next step
+moves_held asked h before t after next (inr (is, untold, none, stops, next_is)) =
+    omega (arith, ap items_untold next_is, ap (λ (o : Option (CallEvent ℕ ℕ)). length (items_told o next.read)) untold)
 
 -- ---- what a side has open
 
@@ -91,7 +199,7 @@ begins_in_call asked P before None after goes (in_call, is) = (ap (λ (x : NearS
 begins_in_call asked C before None after goes (in_call, is) = (ap (λ (x : NearStand). x.in_call) is ∙ in_call, ap (λ (x : NearStand). x.stopped) is ∙ goes)
 begins_in_call asked P before (Some (PutBegins k)) after goes (a, b, c, d, is) = (ap (λ (x : NearStand). x.in_call) is, ap (λ (x : NearStand). x.stopped) is ∙ goes)
 begins_in_call asked P before (Some CloseBegins) after goes (a, b, c, d, is) = (ap (λ (x : NearStand). x.in_call) is, ap (λ (x : NearStand). x.stopped) is ∙ goes)
-begins_in_call asked C before (Some (TakeBegins k)) after goes (one, a, b, c, is) = (ap (λ (x : NearStand). x.in_call) is, ap (λ (x : NearStand). x.stopped) is ∙ goes)
+begins_in_call asked C before (Some (TakeBegins k)) after goes (a, b, c, d, is) = (ap (λ (x : NearStand). x.in_call) is, ap (λ (x : NearStand). x.stopped) is ∙ goes)
 begins_in_call asked P before (Some (PutStored k)) after goes x = absurd x
 begins_in_call asked P before (Some (PutSome k)) after goes x = absurd x
 begins_in_call asked P before (Some PutFull) after goes x = absurd x
@@ -154,30 +262,24 @@ moves_other changes asked s h before t after next stand (inl (e, is, side, goes,
     was access (sym (changes (other s) h e ∙ ap (λ (b : Bool). if b then begun_by e else open_access (other s) h) (other_is_by s e side)) ∙ ap (open_access (other s)) (sym is) ∙ opened)
 moves_other changes asked s h before t after next stand (inr (is, untold, none, stops, next_is)) was access opened = was access (ap (open_access (other s)) (sym is) ∙ opened)
 
--- the digits read count with the event
-pub ends_with_item : (asked : NearAsked) (before mid after : NearStand) (item : ℕ) (t : Option (CallEvent ℕ ℕ)) → mid ≡ record before { item = item } → NearEnds asked C mid mid.item t after
-    → NearEnds asked C before item t after
-ends_with_item asked before mid after item t same ends =
-    by_told t (subst (λ (m : NearStand). NearEnds asked C m m.item t after) same ends)
+-- where a side has nothing open, all that it has open is due
+pub none_due : (due : Access → Type 0) → (s : Side) (h : List Event) → open_access s h ≡ None → IsOpenDue s h due
+none_due due s h none a opened = absurd (none_some (sym none ∙ opened))
   where
-    by_told : (o : Option (CallEvent ℕ ℕ)) → NearEnds asked C (record before { item = item }) item o after → NearEnds asked C before item o after
-    by_told None x = x
-    by_told (Some (PutBegins k)) x = x
-    by_told (Some (PutStored k)) x = x
-    by_told (Some (PutSome k)) x = x
-    by_told (Some PutFull) x = x
-    by_told (Some PutShort) x = x
-    by_told (Some PutNothing) x = x
-    by_told (Some PutClosed) x = x
-    by_told (Some CloseBegins) x = x
-    by_told (Some CloseEnds) x = x
-    by_told (Some (TakeBegins k)) x = x
-    by_told (Some (TakeItems k)) x = x
-    by_told (Some (TakeSome k)) x = x
-    by_told (Some TakeEmpty) x = x
-    by_told (Some TakeShort) x = x
-    by_told (Some TakeNothing) x = x
-    by_told (Some TakeClosed) x = x
+    none_some : None ≡ Some a → ⊥
+    none_some e = absurd (cc)
+
+-- the other side's event leaves what a side has open
+pub other_due : (due : Access → Type 0) → OpenChanges → (asked : NearAsked) (s : Side) (h : List Event) (before : NearStand) (t : Option (CallEvent ℕ ℕ)) (after : List Event) (next : NearStand)
+    → NearMoves asked s h before t after next → IsOpenDue (other s) h due → IsOpenDue (other s) after due
+other_due due changes asked s h before t after next (inl (e, is, side, goes, step)) was access opened =
+    was access (sym (changes (other s) h e ∙ ap (λ (b : Bool). if b then begun_by e else open_access (other s) h) (other_is_by s e side)) ∙ ap (open_access (other s)) (sym is) ∙ opened)
+other_due due changes asked s h before t after next (inr (is, untold, none, stops, next_is)) was access opened = was access (ap (open_access (other s)) (sym is) ∙ opened)
+
+-- the producer reads no items
+pub put_unread : (asked : NearAsked) (access : Access) (v : Bool) (n : NearStand) → with_ended asked P access v n ≡ n
+put_unread asked (Read b) v n = refl
+put_unread asked (Write b w) v n = refl
 
 -- ---- at the begin and at the end
 
@@ -197,7 +299,7 @@ turns_begin turns answers h none same = subst (λ (x : List Event). IsAtTurn tur
     no_place : (place : ℕ) (e : Event) → slice_get [] place ≡ Some e → ⊥
     no_place place e at = absurd (cc)
 
-pub ready_at_first : {E T : Type 0} (w : NearWorld E T) (shape : Shape) (room : ℕ) → w.memory ≡ unused shape room → w.putter.shape ≡ shape → w.taker.shape ≡ shape → IsNearReady w
+pub ready_at_first : {E T I : Type 0} (w : NearWorld E T I) (shape : Shape) (room : ℕ) → w.memory ≡ unused shape room → w.putter.shape ≡ shape → w.taker.shape ≡ shape → IsNearReady w
 ready_at_first w shape room fresh put_is take_is =
     let none : w.memory.events ≡ [] = ap (λ (m : MemoryState). m.events) fresh in
     let shape_is : w.memory.shape ≡ shape = ap (λ (m : MemoryState). m.shape) fresh in
@@ -206,25 +308,27 @@ ready_at_first w shape room fresh put_is take_is =
       take_shape = take_is ∙ sym shape_is;
       put_open = none_opens P w.memory.events (put_stand w.putter) none;
       take_open = none_opens C w.memory.events (take_stand w.taker) none;
+      take_due = none_due _ C w.memory.events (ap (open_access C) none);
     }
 
-pub has_at_first : {E T : Type 0} (items : T → List (CallEvent ℕ ℕ)) (w : NearWorld E T) (shape : Shape) (room : ℕ) (asked : NearAsked) (oracle : List Bool) → w.memory ≡ unused shape room → items w.told ≡ []
-    → put_stand w.putter ≡ near_start → take_stand w.taker ≡ near_start → IsAskedToPut w.putter asked → IsAskedToTake w.taker asked
-    → ((i : ℕ) → tape_answer w.oracle i ≡ turn oracle i) → NearHas items asked [] oracle w
-has_at_first items w shape room asked oracle fresh untold put_is take_is to_put to_take same =
+pub has_at_first : {E T I : Type 0} (told : T → List (CallEvent ℕ ℕ)) (items : I → List ℕ) (w : NearWorld E T I) (shape : Shape) (room : ℕ) (asked : NearAsked) (oracle : List Bool) → w.memory ≡ unused shape room
+    → told w.told ≡ [] → items w.taken ≡ [] → put_stand w.putter ≡ near_start → take_stand w.taker ≡ near_start → IsAskedToPut w.putter asked → IsAskedToTake w.taker asked
+    → ((i : ℕ) → tape_answer w.oracle i ≡ turn oracle i) → NearHas told items asked [] oracle w
+has_at_first told items w shape room asked oracle fresh untold untaken put_is take_is to_put to_take same =
     let none : w.memory.events ≡ [] = ap (λ (m : MemoryState). m.events) fresh in
     record {
       asked_put = to_put;
       asked_take = to_take;
-      made = (none, untold, ap₂ (λ (p : NearStand) (t : NearStand). record { putting = p; taking = t }) put_is take_is);
+      made = (none, untold, untaken, ap₂ (λ (p : NearStand) (t : NearStand). record { putting = p; taking = t }) put_is take_is);
       turns = turns_begin (turn oracle) (tape_answer w.oracle) w.memory.events none same;
     }
 
-pub near_play : {E T : Type 0} (items : T → List (CallEvent ℕ ℕ)) (w : NearWorld E T) (script : Content) (letters : List Side) (h : List Event) → TurnsAreByInterval → w.memory.shape ≡ script.shape
-    → h ≡ w.memory.events → IsLawful w.memory.shape w.memory.events → NearHas items (asked_by_script script) letters script.oracle w → IsNearPlay script letters h (items w.told)
-near_play items w script letters h law shape_is h_is lawful has =
+pub near_play : {E T I : Type 0} (told : T → List (CallEvent ℕ ℕ)) (items : I → List ℕ) (w : NearWorld E T I) (script : Content) (letters : List Side) (h : List Event) → TurnsAreByInterval
+    → w.memory.shape ≡ script.shape → h ≡ w.memory.events → IsLawful w.memory.shape w.memory.events → NearHas told items (asked_by_script script) letters script.oracle w
+    → IsNearPlay script letters h (told w.told) (items w.taken)
+near_play told items w script letters h law shape_is h_is lawful has =
     let lawful_here : IsLawful script.shape w.memory.events = subst (λ (s : Shape). IsLawful s w.memory.events) shape_is lawful in
-    subst (λ (x : List Event). IsNearPlay script letters x (items w.told)) (sym h_is) (record {
+    subst (λ (x : List Event). IsNearPlay script letters x (told w.told) (items w.taken)) (sym h_is) (record {
       lawful = lawful_here;
       stands = _;
       made = has.made;

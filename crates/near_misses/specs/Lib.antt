@@ -1,3 +1,4 @@
 pub mod Misses
 pub mod NearPlays
 pub mod NearSides
+pub mod TakeStages

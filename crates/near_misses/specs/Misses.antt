@@ -1,8 +1,8 @@
 -- What the near misses do otherwise than a ring.
-use Rattle.std.specs.Prelude.{◌≡◌, ℕ, ◌+◌, ◌<◌, ◌≤◌, Bool, true, false, List, [], ◌∷◌, Option, Some, None, codes, if◌then◌else◌, slice_index_or}
+use Rattle.std.specs.Prelude.{◌≡◌, ℕ, ◌+◌, ◌<◌, ◌≤◌, max, Bool, true, false, List, [], ◌∷◌, Option, Some, None, codes, if◌then◌else◌, slice_index_or}
 use Rattle.std.specs.Str.{bytes_eq}
 use Rattle.bits_core.specs.declared.shapes.Shape.{Shape}
-use Rattle.bits_core.specs.Shape.{batch_of, capacity_of, modulus_of}
+use Rattle.bits_core.specs.Shape.{batch_of, capacity_of, modulus_of, take_batch_of}
 use Rattle.near_misses.specs.declared.misses.NearMiss.{NearMiss}
 use Rattle.near_misses.specs.declared.misses.NearMiss.TheVariants.{CountBeforeCell, NoSecondScan, SmallModulus, ClearsFirst, ClearsUpwards}
 
@@ -25,7 +25,7 @@ miss_named name = first_named name (CountBeforeCell ∷ NoSecondScan ∷ SmallMo
 
 -- where the counts go round
 abbrev pub near_modulus : NearMiss → Shape → ℕ
-near_modulus SmallModulus shape = capacity_of shape + batch_of shape
+near_modulus SmallModulus shape = capacity_of shape + max (batch_of shape) (take_batch_of shape)
 near_modulus _ shape = modulus_of shape
 
 -- the bits from a place to below another are clear

@@ -1,6 +1,6 @@
--- What a play by a near miss is: a lawful history, which the letters of its script make, and the calls that are told of it. Each side is
--- in one call after the other; an event of it begins a call, or goes on with it, or ends it, and what begins or ends is told.
-use Rattle.std.specs.Prelude.{◌≡◌, ◌⊎◌, ℕ, suc, ◌+◌, ◌^◌, ◌<◌, ◌≤◌, Bool, true, false, ◌||◌, nat_lt, if◌then◌else◌, Option, Some, None, List, [], ◌∷◌, ◌++◌, length, bit_or}
+-- What a play by a near miss is: a lawful history, which the letters of its script make, the calls that are told of it, and the items taken.
+-- Each side is in one call after the other; an event of it begins a call, or goes on with it, or ends it, and what begins or ends is told.
+use Rattle.std.specs.Prelude.{◌≡◌, ◌⊎◌, ℕ, suc, ◌+◌, ◌-◌, ◌^◌, ◌<◌, ◌≤◌, min, Bool, true, false, ◌||◌, nat_lt, if◌then◌else◌, Option, Some, None, List, [], ◌∷◌, ◌++◌, length, bit_or}
 use Rattle.bits_core.specs.declared.events.Act.{Act}
 use Rattle.bits_core.specs.declared.events.Act.TheVariants.{ReadBegin, ReadEnd, WriteBegin, WriteEnd}
 use Rattle.bits_core.specs.declared.events.Bit.{Bit}
@@ -9,32 +9,41 @@ use Rattle.bits_core.specs.declared.events.Event.{Event}
 use Rattle.bits_core.specs.declared.events.Side.{Side}
 use Rattle.bits_core.specs.declared.events.Side.TheVariants.{P, C}
 use Rattle.bits_core.specs.Lawful.{IsLawful}
+use Rattle.bits_core.specs.Shape.{take_batch_of, width_of}
+use Rattle.bits_core.specs.declared.shapes.Shape.{Shape}
 use Rattle.ring_player.specs.Plays.{AreInTurn}
 use Rattle.ring_player.specs.Tellings.{listed}
 use Rattle.queue_calls.specs.declared.events.CallEvent.{CallEvent}
 use Rattle.queue_calls.specs.declared.events.CallEvent.TheVariants.{PutBegins, PutStored, PutFull, CloseBegins, CloseEnds, TakeBegins, TakeItems, TakeEmpty, TakeClosed}
 use Rattle.ring_script.specs.Content.{Content}
 
--- what a script asks for: so many items, so many takes, and a close
+-- what a script asks for: so many items, so many takes, and a close, of a ring of this shape
 pub record NearAsked : Type 0 where
   pub items : ℕ
   pub takes : ℕ
   pub closes : Bool
+  pub shape : Shape
 
 abbrev pub asked_by_script : Content → NearAsked
-asked_by_script script = record { items = length script.items; takes = script.takes; closes = script.closes }
+asked_by_script script = record { items = length script.items; takes = script.takes; closes = script.closes; shape = script.shape }
 
--- Where a side is: whether it is in a call, and has stopped in it; how many items its puts have stored, or how many takes it has begun;
--- the item of the digits that the take has read; and whether its close has ended, or a take was told that the ring is closed
+-- Where a side is: whether it is in a call, and has stopped in it; how many items its puts have stored, or how many of the script's takes
+-- its takes have used up; the items that the last take has read whole, and the item of the digits that it has read of the next; and
+-- whether its close has ended, or a take was told that the ring is closed
 pub record NearStand : Type 0 where
   pub in_call : Bool
   pub stopped : Bool
   pub count : ℕ
+  pub read : List ℕ
   pub item : ℕ
   pub over : Bool
 
 abbrev pub near_start : NearStand
-near_start = record { in_call = false; stopped = false; count = 0; item = 0; over = false }
+near_start = record { in_call = false; stopped = false; count = 0; read = []; item = 0; over = false }
+
+-- how many items a take wants where so many takes are used up: as many as one count write may count, or as takes are left
+abbrev pub near_wanted : NearAsked → ℕ → ℕ
+near_wanted asked used = min (take_batch_of asked.shape) (asked.takes - used)
 
 -- an event that begins an access: one of the call under way, or the first of a call, which is told
 abbrev pub NearBegins : NearAsked → Side → NearStand → Option (CallEvent ℕ ℕ) → NearStand → Type 0
@@ -44,34 +53,52 @@ NearBegins asked P before (Some (PutBegins stored)) after =
 NearBegins asked P before (Some CloseBegins) after =
     (before.in_call ≡ false) × (before.over ≡ false) × (asked.items ≤ before.count) × (asked.closes ≡ true) × (after ≡ record before { in_call = true })
 NearBegins asked C before (Some (TakeBegins wanted)) after =
-    (wanted ≡ 1) × (before.in_call ≡ false) × (before.over ≡ false) × (before.count < asked.takes) ×
-    (after ≡ record before { in_call = true; count = suc before.count; item = 0 })
+    (before.in_call ≡ false) × (before.over ≡ false) × (1 ≤ wanted) × (wanted ≡ near_wanted asked before.count) ×
+    (after ≡ record before { in_call = true; read = []; item = 0 })
 NearBegins _ _ _ _ _ = ⊥
 
--- an event that ends an access, with which the digits read make this item: one of the call under way, or its last, which is told
-abbrev pub NearEnds : NearAsked → Side → NearStand → ℕ → Option (CallEvent ℕ ℕ) → NearStand → Type 0
-NearEnds asked P before item None after = (before.in_call ≡ true) × (after ≡ before)
-NearEnds asked C before item None after = (before.in_call ≡ true) × (after ≡ record before { item = item })
-NearEnds asked P before item (Some (PutStored count)) after =
+-- an event that ends an access: one of the call under way, or its last, which is told. A take uses up as many of the script's takes as it
+-- took items, and one where it found the ring empty
+abbrev pub NearEnds : NearAsked → Side → NearStand → Option (CallEvent ℕ ℕ) → NearStand → Type 0
+NearEnds asked s before None after = (before.in_call ≡ true) × (after ≡ before)
+NearEnds asked P before (Some (PutStored count)) after =
     (before.in_call ≡ true) × (before.count + count ≤ asked.items) × (after ≡ record before { in_call = false; count = before.count + count })
-NearEnds asked P before item (Some PutFull) after = (before.in_call ≡ true) × (after ≡ record before { in_call = false })
-NearEnds asked P before item (Some CloseEnds) after = (before.in_call ≡ true) × (after ≡ record before { in_call = false; over = true })
-NearEnds asked C before item (Some (TakeItems taken)) after = (before.in_call ≡ true) × (taken ≡ item) × (after ≡ record before { in_call = false; item = item })
-NearEnds asked C before item (Some TakeEmpty) after = (before.in_call ≡ true) × (after ≡ record before { in_call = false; item = item })
-NearEnds asked C before item (Some TakeClosed) after = (before.in_call ≡ true) × (after ≡ record before { in_call = false; item = item; over = true })
-NearEnds _ _ _ _ _ _ = ⊥
+NearEnds asked P before (Some PutFull) after = (before.in_call ≡ true) × (after ≡ record before { in_call = false })
+NearEnds asked P before (Some CloseEnds) after = (before.in_call ≡ true) × (after ≡ record before { in_call = false; over = true })
+NearEnds asked C before (Some (TakeItems taken)) after =
+    (before.in_call ≡ true) × (taken ≡ length before.read) × (1 ≤ taken) × (taken ≤ near_wanted asked before.count) ×
+    (after ≡ record before { in_call = false; count = before.count + taken })
+NearEnds asked C before (Some TakeEmpty) after = (before.in_call ≡ true) × (after ≡ record before { in_call = false; count = suc before.count })
+NearEnds asked C before (Some TakeClosed) after = (before.in_call ≡ true) × (after ≡ record before { in_call = false; over = true })
+NearEnds _ _ _ _ _ = ⊥
 
--- an item with a digit more, where a read of a cell's bit answered 1
-abbrev pub with_digit : Bool → Bit → ℕ → ℕ
-with_digit true (Cell j i) item = (if nat_lt i 64 then bit_or item (2 ^ i) else item)
-with_digit _ _ item = item
+-- an item with a digit more, where that was read as 1
+abbrev pub with_digit : Bool → ℕ → ℕ → ℕ
+with_digit true i item = (if nat_lt i 64 then bit_or item (2 ^ i) else item)
+with_digit false i item = item
+
+-- a take that has read a digit more: with the last digit of a cell an item is whole, and the next one begins
+abbrev pub with_digit_read : (width : ℕ) → Bool → ℕ → NearStand → NearStand
+with_digit_read width v i n =
+    if nat_lt (suc i) width then record n { item = with_digit v i n.item }
+    else record n { read = n.read ++ with_digit v i n.item ∷ []; item = 0 }
+
+-- a side that has read a bit
+abbrev pub with_read : NearAsked → Side → Bool → Bit → NearStand → NearStand
+with_read asked C v (Cell j i) n = with_digit_read (width_of asked.shape) v i n
+with_read asked s v b n = n
 
 -- an event of a side, and what is told of it
 abbrev pub NearStep : NearAsked → Side → NearStand → Act → Bit → Option (CallEvent ℕ ℕ) → NearStand → Type 0
 NearStep asked s before ReadBegin b told after = NearBegins asked s before told after
 NearStep asked s before (WriteBegin v) b told after = NearBegins asked s before told after
-NearStep asked s before (ReadEnd v) b told after = NearEnds asked s before (with_digit v b before.item) told after
-NearStep asked s before WriteEnd b told after = NearEnds asked s before before.item told after
+NearStep asked s before (ReadEnd v) b told after = NearEnds asked s (with_read asked s v b before) told after
+NearStep asked s before WriteEnd b told after = NearEnds asked s before told after
+
+-- the items that an event tells, of a take that has read these
+abbrev pub items_told : Option (CallEvent ℕ ℕ) → List ℕ → List ℕ
+items_told (Some (TakeItems taken)) read = read
+items_told _ read = []
 
 -- a side has stopped, or may stop: in a call, for good, as it finds no count; else where nothing more is asked of it
 abbrev pub NearStops : NearAsked → Side → NearStand → Type 0
@@ -97,17 +124,18 @@ abbrev pub with_near_stand : Side → NearStand → NearStands → NearStands
 with_near_stand P stand n = record n { putting = stand }
 with_near_stand C stand n = record n { taking = stand }
 
--- letters make a history, and so much is told of it: at each letter its side makes an event, or it stops or has stopped
-abbrev pub NearMakes : NearAsked → NearStands → List Side → List Event → List (CallEvent ℕ ℕ) → NearStands → Type 0
-NearMakes asked n [] h told after = (h ≡ []) × (told ≡ []) × (after ≡ n)
-NearMakes asked n (s ∷ letters) h told after =
-    ((e : Event) × (later : List Event) × (t : Option (CallEvent ℕ ℕ)) × (others : List (CallEvent ℕ ℕ)) × (next : NearStand) × (h ≡ e ∷ later) × (told ≡ listed t ++ others) × (e.side ≡ s)
-    × ((near_stand_of s n).stopped ≡ false) × NearStep asked s (near_stand_of s n) e.act e.bit t next × NearMakes asked (with_near_stand s next n) letters later others after)
-    ⊎ (NearStops asked s (near_stand_of s n) × NearMakes asked (with_near_stand s (near_stopped (near_stand_of s n)) n) letters h told after)
+-- letters make a history, so much is told of it, and these items are taken: at each letter its side makes an event, or it stops or has stopped
+abbrev pub NearMakes : NearAsked → NearStands → List Side → List Event → List (CallEvent ℕ ℕ) → List ℕ → NearStands → Type 0
+NearMakes asked n [] h told taken after = (h ≡ []) × (told ≡ []) × (taken ≡ []) × (after ≡ n)
+NearMakes asked n (s ∷ letters) h told taken after =
+    ((e : Event) × (later : List Event) × (t : Option (CallEvent ℕ ℕ)) × (others : List (CallEvent ℕ ℕ)) × (next : NearStand) × (further : List ℕ) × (h ≡ e ∷ later)
+    × (told ≡ listed t ++ others) × (taken ≡ items_told t next.read ++ further) × (e.side ≡ s) × ((near_stand_of s n).stopped ≡ false)
+    × NearStep asked s (near_stand_of s n) e.act e.bit t next × NearMakes asked (with_near_stand s next n) letters later others further after)
+    ⊎ (NearStops asked s (near_stand_of s n) × NearMakes asked (with_near_stand s (near_stopped (near_stand_of s n)) n) letters h told taken after)
 
 -- a play of these letters by a near miss
-pub record IsNearPlay (script : Content) (letters : List Side) (h : List Event) (told : List (CallEvent ℕ ℕ)) : Type 0 where
+pub record IsNearPlay (script : Content) (letters : List Side) (h : List Event) (told : List (CallEvent ℕ ℕ)) (taken : List ℕ) : Type 0 where
   pub lawful : IsLawful script.shape h
   pub stands : NearStands
-  pub made : NearMakes (asked_by_script script) near_starts letters h told stands
+  pub made : NearMakes (asked_by_script script) near_starts letters h told taken stands
   pub answers : AreInTurn script.oracle h

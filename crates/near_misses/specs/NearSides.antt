@@ -1,14 +1,16 @@
 -- Where the two sides of a near miss stand, and what one step of a side does.
-use Rattle.std.specs.Prelude.{◌≡◌, ◌⊎◌, ℕ, Bool, true, false, Option, Some, None, List, [], ◌∷◌, ◌++◌, length}
+use Rattle.std.specs.Prelude.{◌≡◌, ◌⊎◌, ℕ, ◌+◌, ◌-◌, min, if◌then◌else◌, Bool, true, false, Option, Some, None, List, [], ◌∷◌, ◌++◌, length, take}
 use Rattle.bits_core.specs.declared.events.Access.{Access}
 use Rattle.bits_core.specs.declared.events.Access.TheVariants.{Read, Write}
 use Rattle.bits_core.specs.declared.events.Act.TheVariants.{ReadEnd, WriteEnd}
+use Rattle.bits_core.specs.declared.events.Bit.TheVariants.{Cell}
 use Rattle.bits_core.specs.declared.events.Event.{Event}
 use Rattle.bits_core.specs.declared.events.Side.{Side}
 use Rattle.bits_core.specs.declared.events.Side.TheVariants.{P, C}
 use Rattle.bits_core.specs.History.{open_access}
 use Rattle.bits_core.specs.Oracle.{tape_answer, turn}
-use Rattle.near_misses.specs.NearPlays.{NearAsked, NearMakes, NearStand, NearStep, NearStops, near_starts, near_stopped, with_digit}
+use Rattle.bits_core.specs.Shape.{take_batch_of}
+use Rattle.near_misses.specs.NearPlays.{NearAsked, NearMakes, NearStand, NearStep, NearStops, near_starts, near_stopped, with_read}
 use Rattle.near_misses.specs.declared.plays.NearWorld.{NearWorld}
 use Rattle.near_misses.specs.declared.putting.NearPutter.{NearPutter}
 use Rattle.near_misses.specs.declared.putting.Stage as put
@@ -37,26 +39,39 @@ is_take_over taking.TheVariants.Over = true
 is_take_over _ = false
 
 abbrev pub put_stand : NearPutter → NearStand
-put_stand p = record { in_call = is_in_put p.stage; stopped = p.stopped; count = p.stored; item = 0; over = is_put_over p.stage }
+put_stand p = record { in_call = is_in_put p.stage; stopped = p.stopped; count = p.stored; read = []; item = 0; over = is_put_over p.stage }
 
 abbrev pub take_stand : NearTaker → NearStand
-take_stand t = record { in_call = is_in_take t.stage; stopped = t.stopped; count = t.begun; item = t.item; over = is_take_over t.stage }
+take_stand t = record { in_call = is_in_take t.stage; stopped = t.stopped; count = t.used; read = take t.whole t.items; item = t.item; over = is_take_over t.stage }
 
 -- they were asked so much
 abbrev pub IsAskedToPut : NearPutter → NearAsked → Type 0
 IsAskedToPut p asked = (asked.items ≡ length p.items.now) × (asked.closes ≡ p.closes)
 
 abbrev pub IsAskedToTake : NearTaker → NearAsked → Type 0
-IsAskedToTake t asked = asked.takes ≡ t.takes
+IsAskedToTake t asked = (asked.takes ≡ t.takes) × (asked.shape ≡ t.shape)
 
--- an access ends with an answer: the event, and the item with what was read
+-- how many items the consumer's next take wants, or that under way
+abbrev pub taker_wants : NearTaker → ℕ
+taker_wants t = min (take_batch_of t.shape) (t.takes - t.used)
+
+-- the digit of a cell that an access reads, and the one that a take reads next; none where it reads another bit, or writes
+abbrev pub digit_read : Access → Option ℕ
+digit_read (Read (Cell j i)) = Some i
+digit_read _ = None
+
+abbrev pub digit_due : taking.Stage → Option ℕ
+digit_due (taking.TheVariants.Reading digit) = Some digit
+digit_due _ = None
+
+-- an access ends with an answer: the event, and the side with what was read
 abbrev pub ended_event : Side → Access → Bool → Event
 ended_event s (Read b) v = record { side = s; bit = b; act = ReadEnd v }
 ended_event s (Write b w) v = record { side = s; bit = b; act = WriteEnd }
 
-abbrev pub item_ended : Access → Bool → ℕ → ℕ
-item_ended (Read b) v item = with_digit v b item
-item_ended (Write b w) v item = item
+abbrev pub with_ended : NearAsked → Side → Access → Bool → NearStand → NearStand
+with_ended asked s (Read b) v n = with_read asked s v b n
+with_ended asked s (Write b w) v n = n
 
 -- one step of a side: it makes an event, or it stops or has stopped
 abbrev pub NearMoves : NearAsked → Side → List Event → NearStand → Option (CallEvent ℕ ℕ) → List Event → NearStand → Type 0
@@ -68,16 +83,34 @@ NearMoves asked s h before told h' after =
 abbrev pub IsInOpenCall : Side → List Event → NearStand → Type 0
 IsInOpenCall s h stand = (access : Access) → open_access s h ≡ Some access → (stand.in_call ≡ true) × (stand.stopped ≡ false)
 
+-- an access that a side has open is one that is due
+abbrev pub IsOpenDue : Side → List Event → (Access → Type 0) → Type 0
+IsOpenDue s h due = (access : Access) → open_access s h ≡ Some access → due access
+
+-- an access that reads a digit is due where the take reads it next, and any other where it reads none next
+abbrev pub IsDueToTake : NearTaker → Access → Type 0
+IsDueToTake t access = digit_read access ≡ digit_due t.stage
+
+-- how many items of a take under way are whole
+abbrev pub items_untold : NearStand → ℕ
+items_untold n = if n.in_call then length n.read else 0
+
+-- how many items the takes that are over took, and the one under way has read
+abbrev pub items_held : {E T I : Type 0} → (I → List ℕ) → NearWorld E T I → ℕ
+items_held items w = length (items w.taken) + items_untold (take_stand w.taker)
+
 -- both sides can go on
-pub record IsNearReady {E T : Type 0} (w : NearWorld E T) : Type 0 where
+pub record IsNearReady {E T I : Type 0} (w : NearWorld E T I) : Type 0 where
   pub put_shape : w.putter.shape ≡ w.memory.shape
   pub take_shape : w.taker.shape ≡ w.memory.shape
   pub put_open : IsInOpenCall P w.memory.events (put_stand w.putter)
   pub take_open : IsInOpenCall C w.memory.events (take_stand w.taker)
+  pub take_due : IsOpenDue C w.memory.events (IsDueToTake w.taker)
 
--- These letters have made what both sides have done, with what a list that is told has, and the oracle goes on from there.
-pub record NearHas {E T : Type 0} (items : T → List (CallEvent ℕ ℕ)) (asked : NearAsked) (letters : List Side) (oracle : List Bool) (w : NearWorld E T) : Type 0 where
+-- These letters have made what both sides have done, with what the lists of what is told and of what is taken have, and the oracle goes
+-- on from there.
+pub record NearHas {E T I : Type 0} (told : T → List (CallEvent ℕ ℕ)) (items : I → List ℕ) (asked : NearAsked) (letters : List Side) (oracle : List Bool) (w : NearWorld E T I) : Type 0 where
   pub asked_put : IsAskedToPut w.putter asked
   pub asked_take : IsAskedToTake w.taker asked
-  pub made : NearMakes asked near_starts letters w.memory.events (items w.told) (record { putting = put_stand w.putter; taking = take_stand w.taker })
+  pub made : NearMakes asked near_starts letters w.memory.events (told w.told) (items w.taken) (record { putting = put_stand w.putter; taking = take_stand w.taker })
   pub turns : IsAtTurn (turn oracle) w.memory.events (tape_answer w.oracle)

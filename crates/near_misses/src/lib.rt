@@ -6,6 +6,7 @@ mod misses;
 mod plays;
 mod putting;
 mod rows;
+mod sides;
 mod taking;
 
 pub use misses::NearMiss;

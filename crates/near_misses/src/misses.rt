@@ -15,8 +15,8 @@ pub enum NearMiss {
     /// A take that finds no item and reads the close bit as 1 is told Closed at once, without a second scan. So an item that was
     /// stored between its scan and that read is lost.
     NoSecondScan,
-    /// The counts go round at capacity + batch, one too few. So a count that was read before the other side wrote it again may look
-    /// like one a whole round on.
+    /// The counts go round at capacity + the larger of batch and take batch, one too few. So a count that was read before the other side
+    /// wrote it again may look like one a whole round on.
     SmallModulus,
     /// A count write clears the bits below its own first, and sets its own last. So a scan in between gives a count of long ago, or
     /// none.
@@ -64,7 +64,7 @@ impl NearMiss {
         ensures { result ≡ near_modulus self shape.now }
     {
         match self {
-            NearMiss::SmallModulus => shape.capacity() + shape.batch(),
+            NearMiss::SmallModulus => shape.capacity() + shape.batch().max(shape.take_batch()),
             _ => shape.modulus(),
         }
     }

@@ -6,14 +6,15 @@ ghost use Rattle.bits_core.specs.Made.{opening_event};
 ghost use Rattle.bits_core.specs.Open.{IsOpenRight};
 ghost use Rattle.bits_core.specs.Trace.{AreOfShape};
 ghost use Rattle.bits_core.specs.declared.events.Side.TheVariants.{P, C};
-ghost use Rattle.near_misses.specs.NearPlays.{IsNearPlay, NearAsked};
-ghost use Rattle.near_misses.specs.NearSides.{IsInOpenCall, IsNearReady, NearHas, NearMoves, ended_event};
+ghost use Rattle.near_misses.specs.NearPlays.{IsNearPlay, NearAsked, items_told};
+ghost use Rattle.near_misses.specs.NearSides.{IsInOpenCall, IsNearReady, IsOpenDue, NearHas, NearMoves, ended_event, items_held};
 ghost use Rattle.ring_player.specs.Actors.{IsAtTurn};
 ghost use Rattle.ring_player.specs.Tellings.{listed};
 ghost use Rattle.ring_script.specs.Borrowed.{content_of};
 
 use crate::misses::NearMiss;
 use crate::putting::NearPutter;
+use crate::sides::NearSide;
 use crate::taking::NearTaker;
 use bits_core::laws::open_changes;
 use bits_core::{Access, Event, Memory, MemoryFault, Oracle, Side, Store, Tape};
@@ -62,113 +63,20 @@ impl From<MemoryFault> for NearFault {
     }
 }
 
-/// What an event of a play by a near miss tells of a call: a put that begins tells how many items of the script were stored before it, and
-/// each take is of one item, which it tells, as its digits were read, where it took one.
+/// What an event of a play by a near miss tells of a call: a put that begins tells how many items of the script were stored before it, a
+/// take that begins how many it wants, and one that took some how many.
 ///
-/// For example, `CallEvent::TakeItems(5)` is what `C item 5` tells in a recording.
-pub type NearCall = CallEvent<usize, u64>;
+/// For example, `CallEvent::TakeItems(1)` is what `C item 5` tells in a recording, and the item 5 lies with those of the other takes.
+pub type NearCall = CallEvent<usize, usize>;
 
-/// What was played: the history of the bits, and the begins and ends of the calls.
+/// What was played: the history of the bits, the begins and ends of the calls, and the items of the takes that have ended, in order.
 ///
 /// In use: `lamport_ring play --wrong`.
 #[derive(Drop)]
-pub struct NearPlay<E: Store<Event>, T: Store<NearCall>> {
+pub struct NearPlay<E: Store<Event>, T: Store<NearCall>, I: Store<u64>> {
     pub history: E,
     pub told: T,
-}
-
-// One side at work.
-trait NearSide {
-    ghost use Rattle.std.specs.Prelude.{◌≡◌, true, false, Option, None, IfSome, IsSome};
-    ghost use Rattle.bits_core.specs.declared.events.Side.{Side};
-    ghost use Rattle.bits_core.specs.declared.shapes.Shape.{Shape};
-    ghost use Rattle.bits_core.specs.Open.{IsOpenRight};
-    ghost use Rattle.near_misses.specs.NearPlays.{NearAsked, NearBegins, NearEnds, NearStand, NearStops, near_stopped};
-    ghost use Rattle.near_misses.specs.NearSides.{item_ended};
-
-    ghost side: { Self → Side };
-
-    ghost shape: { Self → Shape };
-
-    ghost stand: { Self → NearStand };
-
-    ghost asked: { Self → NearAsked → Type 0 };
-
-    // The access that is due, and what it tells where a call begins with it; none where the side stops.
-    fn next(&mut self) -> Option<(Access, Option<NearCall>)>
-        ensures side { (side self.new ≡ side self.old) × (shape self.new ≡ shape self.old) }
-        ensures asked { (a : NearAsked) → asked self.old a → asked self.new a }
-        ensures begins { IfSome result (λ r. (a : NearAsked) → asked self.old a →
-            NearBegins a (side self.old) (stand self.old) r.1 (stand self.new)) }
-        ensures goes { IsSome result → (stand self.old).stopped ≡ false }
-        ensures right { IfSome result (λ r. IsSome r.1 → IsOpenRight (shape self.old) (side self.old) r.0) }
-        ensures stops { result ≡ None → (a : NearAsked) → asked self.old a →
-            NearStops a (side self.old) (stand self.old) × (stand self.new ≡ stand self.old) };
-
-    // The side stops: in a call for good.
-    fn stop(&mut self)
-        ensures side { (side self.new ≡ side self.old) × (shape self.new ≡ shape self.old) }
-        ensures asked { (a : NearAsked) → asked self.old a → asked self.new a }
-        ensures stopped { stand self.new ≡ near_stopped (stand self.old) };
-
-    // This access, which was due, has ended with this answer. Tells the end of a call, where it is one.
-    fn end(&mut self, access: Access, answer: bool) -> Option<NearCall>
-        requires { (stand self.old).in_call ≡ true }
-        ensures side { (side self.new ≡ side self.old) × (shape self.new ≡ shape self.old) }
-        ensures asked { (a : NearAsked) → asked self.old a → asked self.new a }
-        ensures ends { (a : NearAsked) → asked self.old a →
-            NearEnds a (side self.old) (stand self.old) (item_ended access answer (stand self.old).item) result
-            (stand self.new) };
-}
-
-impl NearSide for NearPutter<'_> {
-    ghost use Rattle.bits_core.specs.declared.events.Side.TheVariants.{P};
-    ghost use Rattle.near_misses.specs.NearSides.{IsAskedToPut, put_stand};
-
-    ghost side = { λ _. P };
-
-    ghost shape = { λ p. p.shape };
-
-    ghost stand = { put_stand };
-
-    ghost asked = { IsAskedToPut };
-
-    fn next(&mut self) -> Option<(Access, Option<NearCall>)> {
-        NearPutter::next(self)
-    }
-
-    fn stop(&mut self) {
-        NearPutter::stop(self)
-    }
-
-    fn end(&mut self, access: Access, answer: bool) -> Option<NearCall> {
-        NearPutter::end(self, access, answer)
-    }
-}
-
-impl NearSide for NearTaker {
-    ghost use Rattle.bits_core.specs.declared.events.Side.TheVariants.{C};
-    ghost use Rattle.near_misses.specs.NearSides.{IsAskedToTake, take_stand};
-
-    ghost side = { λ _. C };
-
-    ghost shape = { λ t. t.shape };
-
-    ghost stand = { take_stand };
-
-    ghost asked = { IsAskedToTake };
-
-    fn next(&mut self) -> Option<(Access, Option<NearCall>)> {
-        NearTaker::next(self)
-    }
-
-    fn stop(&mut self) {
-        NearTaker::stop(self)
-    }
-
-    fn end(&mut self, access: Access, answer: bool) -> Option<NearCall> {
-        NearTaker::end(self, access, answer)
-    }
+    pub taken: I,
 }
 
 // Begins the access, where it is of a bit of the shape by the side that may. (No near miss asks for another; that is looked at as it
@@ -242,6 +150,7 @@ fn go_on<E: Store<Event>, S: NearSide>(
     requires side { (S.side machine.old ≡ side) × (S.shape machine.old ≡ memory.old.shape) }
     ensures shape { memory.new.shape ≡ memory.old.shape }
     ensures side { (S.side machine.new ≡ side) × (S.shape machine.new ≡ memory.new.shape) }
+    ensures due { OnOk result (IsOpenDue side memory.new.events (S.due machine.new)) }
     ensures asked { (a : NearAsked) → S.asked machine.old a → S.asked machine.new a }
     ensures moves { IfOk result (λ told. (a : NearAsked) → S.asked machine.old a →
         NearMoves a side memory.old.events (S.stand machine.old) told memory.new.events (S.stand machine.new)) }
@@ -251,6 +160,7 @@ fn go_on<E: Store<Event>, S: NearSide>(
     ensures few { length memory.new.events ≤ length memory.old.events + 1 }
     ensures full { OnErr result (memory.old.room ≤ length memory.old.events) }
 {
+    open_changes();
     turns_go_on();
     let Some((access, told)) = machine.next() else {
         machine.stop();
@@ -272,8 +182,10 @@ fn step<E: Store<Event>, S: NearSide, O: Oracle>(
 ) -> Result<Option<NearCall>, NearFault>
     requires side { (S.side machine.old ≡ side) × (S.shape machine.old ≡ memory.old.shape) }
     requires open { IsInOpenCall side memory.old.events (S.stand machine.old) }
+    requires due { IsOpenDue side memory.old.events (S.due machine.old) }
     ensures shape { memory.new.shape ≡ memory.old.shape }
     ensures side { (S.side machine.new ≡ side) × (S.shape machine.new ≡ memory.new.shape) }
+    ensures due { OnOk result (IsOpenDue side memory.new.events (S.due machine.new)) }
     ensures asked { (a : NearAsked) → S.asked machine.old a → S.asked machine.new a }
     ensures moves { IfOk result (λ told. (a : NearAsked) → S.asked machine.old a →
         NearMoves a side memory.old.events (S.stand machine.old) told memory.new.events (S.stand machine.new)) }
@@ -283,6 +195,7 @@ fn step<E: Store<Event>, S: NearSide, O: Oracle>(
     ensures few { length memory.new.events ≤ length memory.old.events + 1 }
     ensures full { OnErr result (memory.old.room ≤ length memory.old.events) }
 {
+    open_changes();
     let Some(access) = memory.pending(side) else {
         return go_on(memory, machine, side);
     };
@@ -307,29 +220,53 @@ fn tell<T: Store<NearCall>>(told: &mut T, event: Option<NearCall>) -> Result<(),
     }
 }
 
+// Keeps the items that an event tells, of a take that has read these.
+fn keep<I: Store<u64>>(
+    taken: &mut I,
+    event: Option<NearCall>,
+    items: &[u64],
+) -> Result<(), NearFault>
+    ensures taken { OnOk result (I.items taken.new ≡ I.items taken.old ++ items_told event items.now) }
+    ensures room { I.room taken.new ≡ I.room taken.old }
+    ensures full { OnErr result (I.room taken.old < length (I.items taken.old) + length (items_told event items.now)) }
+{
+    match event {
+        Some(NearCall::TakeItems(_)) => {
+            taken.extend_from_slice(items)?;
+            Ok(())
+        }
+        _ => Ok(()),
+    }
+}
+
 // Both sides at work on one memory.
 #[derive(Drop)]
-struct NearWorld<'a, E: Store<Event>, T: Store<NearCall>> {
+struct NearWorld<'a, E: Store<Event>, T: Store<NearCall>, I: Store<u64>> {
     memory: Memory<E>,
     putter: NearPutter<'a>,
     taker: NearTaker,
     oracle: Tape<'a>,
     told: T,
+    taken: I,
 }
 
-impl<E: Store<Event>, T: Store<NearCall>> NearWorld<'_, E, T> {
+impl<E: Store<Event>, T: Store<NearCall>, I: Store<u64>> NearWorld<'_, E, T, I> {
     // Makes one step of a side.
     fn step(&mut self, side: Side) -> Result<(), NearFault>
         requires { IsNearReady self.old }
         ensures ready { OnOk result (IsNearReady self.new) }
         ensures shape { self.new.memory.shape ≡ self.old.memory.shape }
         ensures has { OnOk result ((a : NearAsked) (letters : List Side) (oracle : List Bool) →
-            NearHas T.items a letters oracle self.old → NearHas T.items a (letters ++ side ∷ []) oracle self.new) }
-        ensures rooms { (self.new.memory.room ≡ self.old.memory.room) × (T.room self.new.told ≡ T.room self.old.told) }
+            NearHas T.items I.items a letters oracle self.old →
+            NearHas T.items I.items a (letters ++ side ∷ []) oracle self.new) }
+        ensures rooms { (self.new.memory.room ≡ self.old.memory.room) × (T.room self.new.told ≡ T.room self.old.told) ×
+            (I.room self.new.taken ≡ I.room self.old.taken) }
         ensures few { OnOk result ((length self.new.memory.events ≤ length self.old.memory.events + 1) ×
-            (length (T.items self.new.told) ≤ length (T.items self.old.told) + 1)) }
+            (length (T.items self.new.told) ≤ length (T.items self.old.told) + 1) ×
+            (items_held I.items self.new ≤ items_held I.items self.old + 1)) }
         ensures full { OnErr result ((self.old.memory.room ≤ length self.old.memory.events) ⊎
-            (T.room self.old.told ≤ length (T.items self.old.told))) }
+            ((T.room self.old.told ≤ length (T.items self.old.told)) ⊎
+            (I.room self.old.taken ≤ items_held I.items self.old))) }
     {
         match side {
             Side::P => self.step_putter(),
@@ -342,12 +279,16 @@ impl<E: Store<Event>, T: Store<NearCall>> NearWorld<'_, E, T> {
         ensures ready { OnOk result (IsNearReady self.new) }
         ensures shape { self.new.memory.shape ≡ self.old.memory.shape }
         ensures has { OnOk result ((a : NearAsked) (letters : List Side) (oracle : List Bool) →
-            NearHas T.items a letters oracle self.old → NearHas T.items a (letters ++ P ∷ []) oracle self.new) }
-        ensures rooms { (self.new.memory.room ≡ self.old.memory.room) × (T.room self.new.told ≡ T.room self.old.told) }
+            NearHas T.items I.items a letters oracle self.old →
+            NearHas T.items I.items a (letters ++ P ∷ []) oracle self.new) }
+        ensures rooms { (self.new.memory.room ≡ self.old.memory.room) × (T.room self.new.told ≡ T.room self.old.told) ×
+            (I.room self.new.taken ≡ I.room self.old.taken) }
         ensures few { OnOk result ((length self.new.memory.events ≤ length self.old.memory.events + 1) ×
-            (length (T.items self.new.told) ≤ length (T.items self.old.told) + 1)) }
+            (length (T.items self.new.told) ≤ length (T.items self.old.told) + 1) ×
+            (items_held I.items self.new ≤ items_held I.items self.old + 1)) }
         ensures full { OnErr result ((self.old.memory.room ≤ length self.old.memory.events) ⊎
-            (T.room self.old.told ≤ length (T.items self.old.told))) }
+            ((T.room self.old.told ≤ length (T.items self.old.told)) ⊎
+            (I.room self.old.taken ≤ items_held I.items self.old))) }
     {
         open_changes();
         let event = step(
@@ -365,16 +306,21 @@ impl<E: Store<Event>, T: Store<NearCall>> NearWorld<'_, E, T> {
         ensures ready { OnOk result (IsNearReady self.new) }
         ensures shape { self.new.memory.shape ≡ self.old.memory.shape }
         ensures has { OnOk result ((a : NearAsked) (letters : List Side) (oracle : List Bool) →
-            NearHas T.items a letters oracle self.old → NearHas T.items a (letters ++ C ∷ []) oracle self.new) }
-        ensures rooms { (self.new.memory.room ≡ self.old.memory.room) × (T.room self.new.told ≡ T.room self.old.told) }
+            NearHas T.items I.items a letters oracle self.old →
+            NearHas T.items I.items a (letters ++ C ∷ []) oracle self.new) }
+        ensures rooms { (self.new.memory.room ≡ self.old.memory.room) × (T.room self.new.told ≡ T.room self.old.told) ×
+            (I.room self.new.taken ≡ I.room self.old.taken) }
         ensures few { OnOk result ((length self.new.memory.events ≤ length self.old.memory.events + 1) ×
-            (length (T.items self.new.told) ≤ length (T.items self.old.told) + 1)) }
+            (length (T.items self.new.told) ≤ length (T.items self.old.told) + 1) ×
+            (items_held I.items self.new ≤ items_held I.items self.old + 1)) }
         ensures full { OnErr result ((self.old.memory.room ≤ length self.old.memory.events) ⊎
-            (T.room self.old.told ≤ length (T.items self.old.told))) }
+            ((T.room self.old.told ≤ length (T.items self.old.told)) ⊎
+            (I.room self.old.taken ≤ items_held I.items self.old))) }
     {
         open_changes();
         let event = step(&mut self.memory, &mut self.taker, &mut self.oracle, Side::C)?;
         tell(&mut self.told, event)?;
+        keep(&mut self.taken, event, self.taker.items())?;
         Ok(())
     }
 
@@ -384,13 +330,16 @@ impl<E: Store<Event>, T: Store<NearCall>> NearWorld<'_, E, T> {
         ensures ready { OnOk result (IsNearReady self.new) }
         ensures shape { self.new.memory.shape ≡ self.old.memory.shape }
         ensures has { OnOk result ((a : NearAsked) (letters : List Side) (oracle : List Bool) →
-            NearHas T.items a letters oracle self.old →
-            NearHas T.items a (letters ++ replicate count side) oracle self.new) }
-        ensures rooms { (self.new.memory.room ≡ self.old.memory.room) × (T.room self.new.told ≡ T.room self.old.told) }
+            NearHas T.items I.items a letters oracle self.old →
+            NearHas T.items I.items a (letters ++ replicate count side) oracle self.new) }
+        ensures rooms { (self.new.memory.room ≡ self.old.memory.room) × (T.room self.new.told ≡ T.room self.old.told) ×
+            (I.room self.new.taken ≡ I.room self.old.taken) }
         ensures few { OnOk result ((length self.new.memory.events ≤ length self.old.memory.events + count) ×
-            (length (T.items self.new.told) ≤ length (T.items self.old.told) + count)) }
+            (length (T.items self.new.told) ≤ length (T.items self.old.told) + count) ×
+            (items_held I.items self.new ≤ items_held I.items self.old + count)) }
         ensures full { OnErr result ((self.old.memory.room < length self.old.memory.events + count) ⊎
-            (T.room self.old.told < length (T.items self.old.told) + count)) }
+            ((T.room self.old.told < length (T.items self.old.told) + count) ⊎
+            (I.room self.old.taken < items_held I.items self.old + count))) }
     {
         for _ in 0..count {
             self.step(side)?;
@@ -400,21 +349,23 @@ impl<E: Store<Event>, T: Store<NearCall>> NearWorld<'_, E, T> {
 }
 
 // Makes one step for each of the first so many letters of the script's schedule, or for each letter where they are fewer.
-fn run_first<E: Store<Event>, T: Store<NearCall>>(
-    world: &mut NearWorld<'_, E, T>,
+fn run_first<E: Store<Event>, T: Store<NearCall>, I: Store<u64>>(
+    world: &mut NearWorld<'_, E, T, I>,
     script: ScriptRef<'_>,
     letters: u64,
 ) -> Result<(), NearFault>
     requires ready { IsNearReady world.old }
-    requires new { (world.old.memory.events ≡ []) × (T.items world.old.told ≡ []) }
+    requires new { (world.old.memory.events ≡ []) × (T.items world.old.told ≡ []) × (items_held I.items world.old ≡ 0) }
     ensures shape { world.new.memory.shape ≡ world.old.memory.shape }
-    ensures has { OnOk result ((a : NearAsked) (oracle : List Bool) → NearHas T.items a [] oracle world.old →
-        NearHas T.items a (take letters (content_of script.entry).letters) oracle world.new) }
+    ensures has { OnOk result ((a : NearAsked) (oracle : List Bool) → NearHas T.items I.items a [] oracle world.old →
+        NearHas T.items I.items a (take letters (content_of script.entry).letters) oracle world.new) }
     ensures few { OnOk result ((length world.new.memory.events ≤ min letters
         (length (content_of script.entry).letters)) ×
-        (length (T.items world.new.told) ≤ min letters (length (content_of script.entry).letters))) }
+        (length (T.items world.new.told) ≤ min letters (length (content_of script.entry).letters)) ×
+        (items_held I.items world.new ≤ min letters (length (content_of script.entry).letters))) }
     ensures full { OnErr result ((world.old.memory.room < min letters (length (content_of script.entry).letters)) ⊎
-        (T.room world.old.told < min letters (length (content_of script.entry).letters))) }
+        ((T.room world.old.told < min letters (length (content_of script.entry).letters)) ⊎
+        (I.room world.old.taken < min letters (length (content_of script.entry).letters)))) }
 {
     let mut left = letters;
     for run in script.runs() {
@@ -427,8 +378,8 @@ fn run_first<E: Store<Event>, T: Store<NearCall>>(
 
 /// Plays a script by a near miss: one step for each letter of its schedule, of a side that has not stopped. The history of the bits is
 /// lawful, as a memory of safe bits makes it, and each read that a write overlaps has the oracle's next answer. Each begin and end of a
-/// call is told at the event that is its first or its last, and the item of a take is that of the digits which it read; of the items put
-/// and taken nothing more is promised.
+/// call is told at the event that is its first or its last, and the items of a take are those of the digits which it read; of the items
+/// put and taken nothing more is promised.
 ///
 /// `OutOfMemory` tells that memory ran out.
 ///
@@ -437,8 +388,9 @@ pub fn play_near<A: Allocator + Copy, B: Allocator>(
     alloc: A,
     miss: NearMiss,
     script: &Script<B>,
-) -> Result<NearPlay<Vec<Event, A>, Vec<NearCall, A>>, NearFault>
-    ensures plays { IfOk result (λ play. IsNearPlay script.now script.now.letters play.history.items play.told.items) }
+) -> Result<NearPlay<Vec<Event, A>, Vec<NearCall, A>, Vec<u64, A>>, NearFault>
+    ensures plays { IfOk result (λ play. IsNearPlay script.now script.now.letters play.history.items play.told.items
+        play.taken.items) }
     ensures of_shape { IfOk result (λ play. AreOfShape script.now.shape play.history.items) }
 {
     let letters = script.len();
@@ -448,33 +400,39 @@ pub fn play_near<A: Allocator + Copy, B: Allocator>(
         letters,
         Vec::new(alloc),
         Vec::new(alloc),
+        Vec::new(alloc),
     )
 }
 
-/// Plays the first so many letters of a script by a near miss, or all of them where they are fewer, as [`play_near`] does. The history
-/// and what is told grow in these stores, which are empty.
+/// Plays the first so many letters of a script by a near miss, or all of them where they are fewer, as [`play_near`] does. The history,
+/// what is told and the items taken grow in these stores, which are empty.
 ///
-/// `OutOfMemory` tells that one of the stores had no room for as many events as letters are played.
+/// `OutOfMemory` tells that one of the stores had no room for as many as letters are played.
 ///
 /// In use: the page, which shows a play up to a letter.
-pub fn play_near_first<E: Store<Event>, T: Store<NearCall>>(
+pub fn play_near_first<E: Store<Event>, T: Store<NearCall>, I: Store<u64>>(
     miss: NearMiss,
     script: ScriptRef<'_>,
     letters: u64,
     events: E,
     told: T,
-) -> Result<NearPlay<E, T>, NearFault>
+    taken: I,
+) -> Result<NearPlay<E, T, I>, NearFault>
     requires no_events { E.items events ≡ [] }
     requires none_told { T.items told ≡ [] }
+    requires none_taken { I.items taken ≡ [] }
     ensures plays { IfOk result (λ play. IsNearPlay (content_of script.entry)
-        (take letters (content_of script.entry).letters) (E.items play.history) (T.items play.told)) }
+        (take letters (content_of script.entry).letters) (E.items play.history) (T.items play.told)
+        (I.items play.taken)) }
     ensures of_shape { IfOk result (λ play. AreOfShape (content_of script.entry).shape (E.items play.history)) }
-    // A letter gives one event at most, and one begin or end of a call.
+    // A letter gives one event at most, one begin or end of a call, and one item.
     ensures few { IfOk result (λ play. (length (E.items play.history) ≤ min letters
         (length (content_of script.entry).letters)) ×
-        (length (T.items play.told) ≤ min letters (length (content_of script.entry).letters))) }
+        (length (T.items play.told) ≤ min letters (length (content_of script.entry).letters)) ×
+        (length (I.items play.taken) ≤ min letters (length (content_of script.entry).letters))) }
     ensures refused { OnErr result ((E.room events < min letters (length (content_of script.entry).letters)) ⊎
-        (T.room told < min letters (length (content_of script.entry).letters))) }
+        ((T.room told < min letters (length (content_of script.entry).letters)) ⊎
+        (I.room taken < min letters (length (content_of script.entry).letters)))) }
 {
     turns_are_by_interval();
     let shape = script.shape();
@@ -484,6 +442,7 @@ pub fn play_near_first<E: Store<Event>, T: Store<NearCall>>(
         taker: NearTaker::new(miss, shape, script.takes()),
         oracle: Tape::new(script.oracle()),
         told,
+        taken,
     };
     run_first(&mut world, script, letters)?;
     let NearWorld {
@@ -492,9 +451,11 @@ pub fn play_near_first<E: Store<Event>, T: Store<NearCall>>(
         taker: _,
         oracle: _,
         told,
+        taken,
     } = world;
     Ok(NearPlay {
         history: memory.into_events(),
         told,
+        taken,
     })
 }

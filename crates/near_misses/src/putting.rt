@@ -140,8 +140,8 @@ impl<'a> NearPutter<'a> {
         requires { is_in_put self.old.stage ≡ true }
         ensures shape { self.new.shape ≡ self.old.shape }
         ensures asked { (asked : NearAsked) → IsAskedToPut self.old asked → IsAskedToPut self.new asked }
-        ensures ends { (asked : NearAsked) (item : ℕ) → IsAskedToPut self.old asked →
-            NearEnds asked P (put_stand self.old) item result (put_stand self.new) }
+        ensures ends { (asked : NearAsked) → IsAskedToPut self.old asked →
+            NearEnds asked P (put_stand self.old) result (put_stand self.new) }
     {
         match self.stage {
             Stage::Between | Stage::Over | Stage::Stuck => None,
@@ -166,8 +166,8 @@ impl<'a> NearPutter<'a> {
         requires { is_in_put self.old.stage ≡ true }
         ensures shape { self.new.shape ≡ self.old.shape }
         ensures asked { (asked : NearAsked) → IsAskedToPut self.old asked → IsAskedToPut self.new asked }
-        ensures ends { (asked : NearAsked) (item : ℕ) → IsAskedToPut self.old asked →
-            NearEnds asked P (put_stand self.old) item result (put_stand self.new) }
+        ensures ends { (asked : NearAsked) → IsAskedToPut self.old asked →
+            NearEnds asked P (put_stand self.old) result (put_stand self.new) }
     {
         self.stage = if u64::from(zeros) + 1 < self.shape.modulus() {
             Stage::Scanning(zeros + 1)
@@ -199,8 +199,8 @@ impl<'a> NearPutter<'a> {
         requires { is_in_put self.old.stage ≡ true }
         ensures shape { self.new.shape ≡ self.old.shape }
         ensures asked { (asked : NearAsked) → IsAskedToPut self.old asked → IsAskedToPut self.new asked }
-        ensures ends { (asked : NearAsked) (item : ℕ) → IsAskedToPut self.old asked →
-            NearEnds asked P (put_stand self.old) item result (put_stand self.new) }
+        ensures ends { (asked : NearAsked) → IsAskedToPut self.old asked →
+            NearEnds asked P (put_stand self.old) result (put_stand self.new) }
     {
         let most = self.room_behind(seen);
         if most == 0 {
@@ -223,8 +223,8 @@ impl<'a> NearPutter<'a> {
         requires { is_in_put self.old.stage ≡ true }
         ensures shape { self.new.shape ≡ self.old.shape }
         ensures asked { (asked : NearAsked) → IsAskedToPut self.old asked → IsAskedToPut self.new asked }
-        ensures ends { (asked : NearAsked) (item : ℕ) → IsAskedToPut self.old asked →
-            NearEnds asked P (put_stand self.old) item result (put_stand self.new) }
+        ensures ends { (asked : NearAsked) → IsAskedToPut self.old asked →
+            NearEnds asked P (put_stand self.old) result (put_stand self.new) }
     {
         if u64::from(digit) + 1 < self.shape.width() {
             self.stage = Stage::Storing(done, digit + 1);
@@ -245,8 +245,8 @@ impl<'a> NearPutter<'a> {
         requires { is_in_put self.old.stage ≡ true }
         ensures shape { self.new.shape ≡ self.old.shape }
         ensures asked { (asked : NearAsked) → IsAskedToPut self.old asked → IsAskedToPut self.new asked }
-        ensures ends { (asked : NearAsked) (item : ℕ) → IsAskedToPut self.old asked →
-            NearEnds asked P (put_stand self.old) item result (put_stand self.new) }
+        ensures ends { (asked : NearAsked) → IsAskedToPut self.old asked →
+            NearEnds asked P (put_stand self.old) result (put_stand self.new) }
     {
         self.row.feed();
         if self.row.next().is_some() {
@@ -263,8 +263,8 @@ impl<'a> NearPutter<'a> {
         requires { is_in_put self.old.stage ≡ true }
         ensures shape { self.new.shape ≡ self.old.shape }
         ensures asked { (asked : NearAsked) → IsAskedToPut self.old asked → IsAskedToPut self.new asked }
-        ensures ends { (asked : NearAsked) (item : ℕ) → IsAskedToPut self.old asked →
-            NearEnds asked P (put_stand self.old) item result (put_stand self.new) }
+        ensures ends { (asked : NearAsked) → IsAskedToPut self.old asked →
+            NearEnds asked P (put_stand self.old) result (put_stand self.new) }
     {
         let stored = self.storing;
         self.count = self.row.value();

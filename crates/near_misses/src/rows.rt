@@ -1,6 +1,7 @@
 //! The count that a side writes, and that it scans.
-ghost use Rattle.std.specs.Prelude.{◌≡◌, IfNone, IfSome};
+ghost use Rattle.std.specs.Prelude.{◌≡◌, IfNone, IfSome, None};
 ghost use Rattle.near_misses.specs.Misses.{AreClear, IsHighestSet, IsLowestSet};
+ghost use Rattle.near_misses.specs.NearSides.{digit_read};
 
 use crate::misses::NearMiss;
 use bits_core::{Access, Bit, Side};
@@ -14,7 +15,9 @@ pub fn row_bit(side: Side, i: u8) -> Bit {
 }
 
 // Bit i of the count that it reads: the other side's.
-pub fn read_bit(side: Side, i: u8) -> Bit {
+pub fn read_bit(side: Side, i: u8) -> Bit
+    ensures { digit_read (Access.Read result) ≡ None }
+{
     match side {
         Side::P => Bit::R(i),
         Side::C => Bit::S(i),
@@ -127,7 +130,9 @@ impl NearRow {
     }
 
     /// The access that is due, and none once the row shows the value.
-    pub fn next(&self) -> Option<Access> {
+    pub fn next(&self) -> Option<Access>
+        ensures { IfSome result (λ access. digit_read access ≡ None) }
+    {
         let (bit, value) = self.due()?;
         Some(Access::Write(row_bit(self.side, bit), value))
     }

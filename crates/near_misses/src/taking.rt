@@ -1,10 +1,8 @@
 //! The consumer of a near miss.
-ghost use Rattle.std.specs.Prelude.{◌≡◌, None, IfSome, IsSome, true, false};
-ghost use Rattle.bits_core.specs.Open.{IsOpenRight};
-ghost use Rattle.near_misses.specs.declared.taking.Stage.TheVariants.{Between};
-ghost use Rattle.bits_core.specs.declared.events.Side.TheVariants.{C};
-ghost use Rattle.near_misses.specs.NearPlays.{NearAsked, NearBegins, NearEnds, NearStops, near_start, near_stopped};
-ghost use Rattle.near_misses.specs.NearSides.{IsAskedToTake, is_in_take, item_ended, take_stand};
+ghost use Rattle.std.specs.Prelude.{◌≡◌, ◌≤◌, ◌<◌, ◌+◌, ◌-◌, ◌++◌, ◌∷◌, [], ℕ, List, None, IfSome, IsSome, true, false, length, min, take};
+ghost use Rattle.bits_core.specs.Shape.{take_batch_of};
+ghost use Rattle.near_misses.specs.NearPlays.{with_digit};
+ghost use Rattle.near_misses.specs.TakeStages.{IsTakeWithin};
 
 use crate::misses::NearMiss;
 use crate::plays::NearCall;
@@ -22,7 +20,7 @@ enum Stage {
     Looking,
     // the same, in the second scan
     ScanningAgain(u8),
-    // so many digits of the item are read
+    // so many digits of the next item are read
     Reading(u8),
     Counting,
     // behind a take that was told that the ring is closed
@@ -31,39 +29,95 @@ enum Stage {
     Stuck,
 }
 
-/// The consumer of a script: it takes so many times, and no more once it was told Closed.
+// Keeps an item behind so many.
+fn keep_one(kept: &mut [u64; 64], at: usize, item: u64)
+    requires room { at < 64 }
+    ensures kept { take (at + 1) kept.new ≡ take at kept.old ++ item ∷ [] }
+{
+    kept[at] = item;
+}
+
+// An item with a digit more, where that was read as 1.
+fn with_digit(answer: bool, digit: u8, item: u64) -> u64
+    ensures { result ≡ with_digit answer digit item }
+{
+    if answer && digit < 64 {
+        item | 1 << u32::from(digit)
+    } else {
+        item
+    }
+}
+
+/// The consumer of a script: it takes as many items as the script has takes, counting one for each that found the ring empty, and no more
+/// once it was told Closed.
 #[derive(Drop)]
 pub struct NearTaker {
     miss: NearMiss,
     shape: Shape,
     takes: u64,
-    begun: u64,
+    // how many of the takes are used up
+    used: u64,
     taken: u64,
     count: u8,
+    // the items of the last take, so many of which are whole
+    items: [u64; 64],
+    whole: usize,
+    // how many the take under way reads
+    most: u64,
     item: u64,
     stage: Stage,
     stopped: bool,
     row: NearRow,
+    ghost room: { whole ≤ 64 },
+    ghost within: { IsTakeWithin stage whole most (min (take_batch_of shape) (takes - used)) },
 }
 
 impl NearTaker {
+    ghost use Rattle.bits_core.specs.Open.{IsOpenRight};
+    ghost use Rattle.bits_core.specs.Shape.{width_of};
+    ghost use Rattle.bits_core.specs.declared.events.Side.TheVariants.{C};
+    ghost use Rattle.near_misses.specs.declared.taking.Stage.TheVariants.{Between, Counting, Reading};
+    ghost use Rattle.near_misses.specs.NearPlays.{NearAsked, NearBegins, NearEnds, NearStops, near_start, near_stopped, with_digit_read};
+    ghost use Rattle.near_misses.specs.NearSides.{IsAskedToTake, IsDueToTake, is_in_take, take_stand, taker_wants, with_ended};
+
     pub fn new(miss: NearMiss, shape: Shape, takes: u64) -> Self
         ensures starts { take_stand result ≡ near_start }
-        ensures asked { (asked : NearAsked) → asked.takes ≡ takes → IsAskedToTake result asked }
+        ensures asked { (asked : NearAsked) → asked.takes ≡ takes → asked.shape ≡ shape → IsAskedToTake result asked }
         ensures shape { result.shape ≡ shape }
     {
         NearTaker {
             miss,
             shape,
             takes,
-            begun: 0,
+            used: 0,
             taken: 0,
             count: 0,
+            items: [0; 64],
+            whole: 0,
+            most: 0,
             item: 0,
             stage: Stage::Between,
             stopped: false,
             row: NearRow::new(Side::C, Order::of(miss)),
         }
+    }
+
+    /// The items that the last take took, and during a take those that it has read so far.
+    pub fn items(&self) -> &[u64]
+        ensures { result.now ≡ (take_stand self.now).read }
+    {
+        &self.items[..self.whole]
+    }
+
+    // How many items the next take wants, or that under way: as many as one count write may count, or as takes are left.
+    fn wanted(&self) -> u64
+        ensures value { result ≡ taker_wants self.now }
+        ensures few { result ≤ 64 }
+    {
+        let _capacity = self.shape.capacity();
+        self.shape
+            .take_batch()
+            .min(self.takes.saturating_sub(self.used))
     }
 
     // Begins the next take. Tells it, with its first access.
@@ -74,16 +128,18 @@ impl NearTaker {
         ensures begins { IfSome result (λ r. (asked : NearAsked) → IsAskedToTake self.old asked →
             NearBegins asked C (take_stand self.old) r.1 (take_stand self.new)) }
         ensures right { IfSome result (λ r. IsOpenRight self.old.shape C r.0) }
+        ensures due { IfSome result (λ r. IsDueToTake self.new r.0) }
         ensures stops { result ≡ None → (asked : NearAsked) → IsAskedToTake self.old asked →
             NearStops asked C (take_stand self.old) × (take_stand self.new ≡ take_stand self.old) }
     {
-        if self.begun < self.takes {
-            self.begun += 1;
+        let wanted = self.wanted();
+        if wanted > 0 {
+            self.whole = 0;
             self.item = 0;
             self.stage = Stage::Scanning(0);
             let _modulus = self.shape.modulus();
             let access = Access::Read(Bit::S(0));
-            Some((access, Some(NearCall::TakeBegins(1))))
+            Some((access, Some(NearCall::TakeBegins(wanted as usize))))
         } else {
             None
         }
@@ -97,6 +153,7 @@ impl NearTaker {
             NearBegins asked C (take_stand self.old) r.1 (take_stand self.new)) }
         ensures goes { IsSome result → self.old.stopped ≡ false }
         ensures right { IfSome result (λ r. IsSome r.1 → IsOpenRight self.old.shape C r.0) }
+        ensures due { IfSome result (λ r. IsDueToTake self.new r.0) }
         ensures stops { result ≡ None → (asked : NearAsked) → IsAskedToTake self.old asked →
             NearStops asked C (take_stand self.old) × (take_stand self.new ≡ take_stand self.old) }
     {
@@ -111,7 +168,7 @@ impl NearTaker {
             }
             Stage::Looking => Access::Read(Bit::X),
             Stage::Reading(digit) => {
-                let cell = self.taken % self.shape.capacity();
+                let cell = self.taken.saturating_add(self.whole as u64) % self.shape.capacity();
                 Access::Read(Bit::Cell(cell as u8, digit))
             }
             Stage::Counting => self.row.next()?,
@@ -128,41 +185,22 @@ impl NearTaker {
         self.stopped = self.stopped || !matches!(self.stage, Stage::Between | Stage::Over);
     }
 
-    // The item that is read, with a digit more where that was read as 1.
-    fn read(&mut self, access: Access, answer: bool)
-        ensures shape { self.new.shape ≡ self.old.shape }
-        ensures asked { (asked : NearAsked) → IsAskedToTake self.old asked → IsAskedToTake self.new asked }
-        ensures read { take_stand self.new ≡ record (take_stand self.old) {
-          item = item_ended access answer
-              self.old.item;
-        } }
-        ensures stage { self.new.stage ≡ self.old.stage }
-    {
-        match access {
-            Access::Read(Bit::Cell(_, digit)) if answer && digit < 64 => {
-                self.item |= 1 << u32::from(digit);
-            }
-            _ => {}
-        }
-    }
-
     /// This access, which was due, has ended with this answer. Tells the end of a take, where it is one.
     pub fn end(&mut self, access: Access, answer: bool) -> Option<NearCall>
-        requires { is_in_take self.old.stage ≡ true }
+        requires in_take { is_in_take self.old.stage ≡ true }
+        requires due { IsDueToTake self.old access }
         ensures shape { self.new.shape ≡ self.old.shape }
         ensures asked { (asked : NearAsked) → IsAskedToTake self.old asked → IsAskedToTake self.new asked }
         ensures ends { (asked : NearAsked) → IsAskedToTake self.old asked →
-            NearEnds asked C (take_stand self.old) (item_ended access answer self.old.item) result
-            (take_stand self.new) }
+            NearEnds asked C (with_ended asked C access answer (take_stand self.old)) result (take_stand self.new) }
     {
-        self.read(access, answer);
         match self.stage {
             Stage::Between | Stage::Over | Stage::Stuck => None,
             Stage::Scanning(zeros) => self.scan_ends(zeros, answer, false),
             Stage::ScanningAgain(zeros) => self.scan_ends(zeros, answer, true),
             Stage::Looking => self.looked(answer),
             Stage::Reading(digit) => {
-                self.read_digit(digit);
+                self.read_digit(digit, answer);
                 None
             }
             Stage::Counting => self.counted(),
@@ -171,11 +209,12 @@ impl NearTaker {
 
     // A bit of the producer's count was read. (A scan that reads 0 to the last bit gives no count, and the side stops.)
     fn scan_ends(&mut self, zeros: u8, answer: bool, again: bool) -> Option<NearCall>
-        requires { is_in_take self.old.stage ≡ true }
+        requires in_take { is_in_take self.old.stage ≡ true }
+        requires none { (self.old.whole ≡ 0) × (1 ≤ taker_wants self.old) }
         ensures shape { self.new.shape ≡ self.old.shape }
         ensures asked { (asked : NearAsked) → IsAskedToTake self.old asked → IsAskedToTake self.new asked }
         ensures ends { (asked : NearAsked) → IsAskedToTake self.old asked →
-            NearEnds asked C (take_stand self.old) self.old.item result (take_stand self.new) }
+            NearEnds asked C (take_stand self.old) result (take_stand self.new) }
     {
         if answer {
             return self.scanned(u64::from(zeros), again);
@@ -190,23 +229,37 @@ impl NearTaker {
         None
     }
 
-    // A scan gave this count.
-    fn scanned(&mut self, seen: u64, again: bool) -> Option<NearCall>
-        requires { is_in_take self.old.stage ≡ true }
-        ensures shape { self.new.shape ≡ self.old.shape }
-        ensures asked { (asked : NearAsked) → IsAskedToTake self.old asked → IsAskedToTake self.new asked }
-        ensures ends { (asked : NearAsked) → IsAskedToTake self.old asked →
-            NearEnds asked C (take_stand self.old) self.old.item result (take_stand self.new) }
+    // How many items a take reads that sees this count: as many as it shows, and no more than the take wants.
+    fn shown(&self, seen: u64) -> u64
+        ensures { result ≤ taker_wants self.now }
     {
         let modulus = self.miss.modulus(&self.shape);
         let count = u64::from(self.count);
-        let ahead = if seen < modulus && count < modulus {
-            distance(seen, count, modulus)
+        if !(seen < modulus && count < modulus) {
+            return 0;
+        }
+        let ahead = distance(seen, count, modulus);
+        if ahead <= self.shape.capacity() {
+            ahead.min(self.wanted())
         } else {
             0
-        };
-        if ahead > 0 && ahead <= self.shape.capacity() {
-            self.row.write(((count + 1) % modulus) as u8);
+        }
+    }
+
+    // A scan gave this count.
+    fn scanned(&mut self, seen: u64, again: bool) -> Option<NearCall>
+        requires in_take { is_in_take self.old.stage ≡ true }
+        requires none { (self.old.whole ≡ 0) × (1 ≤ taker_wants self.old) }
+        ensures shape { self.new.shape ≡ self.old.shape }
+        ensures asked { (asked : NearAsked) → IsAskedToTake self.old asked → IsAskedToTake self.new asked }
+        ensures ends { (asked : NearAsked) → IsAskedToTake self.old asked →
+            NearEnds asked C (take_stand self.old) result (take_stand self.new) }
+    {
+        let most = self.shown(seen);
+        if most > 0 {
+            let modulus = self.miss.modulus(&self.shape);
+            self.most = most;
+            self.row.write(((u64::from(self.count).saturating_add(most)) % modulus) as u8);
             self.stage = Stage::Reading(0);
             None
         } else if again {
@@ -220,13 +273,15 @@ impl NearTaker {
 
     // The close bit was read.
     fn looked(&mut self, closed: bool) -> Option<NearCall>
-        requires { is_in_take self.old.stage ≡ true }
+        requires in_take { is_in_take self.old.stage ≡ true }
+        requires none { (self.old.whole ≡ 0) × (1 ≤ taker_wants self.old) }
         ensures shape { self.new.shape ≡ self.old.shape }
         ensures asked { (asked : NearAsked) → IsAskedToTake self.old asked → IsAskedToTake self.new asked }
         ensures ends { (asked : NearAsked) → IsAskedToTake self.old asked →
-            NearEnds asked C (take_stand self.old) self.old.item result (take_stand self.new) }
+            NearEnds asked C (take_stand self.old) result (take_stand self.new) }
     {
         if !closed {
+            self.used += 1;
             self.stage = Stage::Between;
             Some(NearCall::TakeEmpty)
         } else if self.miss == NearMiss::NoSecondScan {
@@ -238,15 +293,26 @@ impl NearTaker {
         }
     }
 
-    // A digit of the item was read.
-    fn read_digit(&mut self, digit: u8)
-        requires { is_in_take self.old.stage ≡ true }
+    // A digit of an item was read.
+    fn read_digit(&mut self, digit: u8, answer: bool)
+        requires { self.old.stage ≡ Reading digit }
         ensures shape { self.new.shape ≡ self.old.shape }
         ensures asked { (asked : NearAsked) → IsAskedToTake self.old asked → IsAskedToTake self.new asked }
-        ensures same { take_stand self.new ≡ take_stand self.old }
+        ensures in_take { is_in_take self.new.stage ≡ true }
+        ensures read { take_stand self.new ≡ with_digit_read (width_of self.old.shape) answer digit
+            (take_stand self.old) }
     {
-        self.stage = if u64::from(digit) + 1 < self.shape.width() {
-            Stage::Reading(digit + 1)
+        let _wanted = self.wanted();
+        self.item = with_digit(answer, digit, self.item);
+        if u64::from(digit) + 1 < self.shape.width() {
+            self.stage = Stage::Reading(digit + 1);
+            return;
+        }
+        keep_one(&mut self.items, self.whole, self.item);
+        self.whole += 1;
+        self.item = 0;
+        self.stage = if (self.whole as u64) < self.most {
+            Stage::Reading(0)
         } else {
             Stage::Counting
         };
@@ -254,19 +320,22 @@ impl NearTaker {
 
     // A bit of the count was written.
     fn counted(&mut self) -> Option<NearCall>
-        requires { is_in_take self.old.stage ≡ true }
+        requires { self.old.stage ≡ Counting }
         ensures shape { self.new.shape ≡ self.old.shape }
         ensures asked { (asked : NearAsked) → IsAskedToTake self.old asked → IsAskedToTake self.new asked }
         ensures ends { (asked : NearAsked) → IsAskedToTake self.old asked →
-            NearEnds asked C (take_stand self.old) self.old.item result (take_stand self.new) }
+            NearEnds asked C (take_stand self.old) result (take_stand self.new) }
     {
         self.row.feed();
         if self.row.next().is_some() {
             return None;
         }
+        let _wanted = self.wanted();
+        let taken = self.whole;
         self.count = self.row.value();
-        self.taken = self.taken.saturating_add(1);
+        self.taken = self.taken.saturating_add(taken as u64);
+        self.used += taken as u64;
         self.stage = Stage::Between;
-        Some(NearCall::TakeItems(self.item))
+        Some(NearCall::TakeItems(taken))
     }
 }

@@ -26,7 +26,7 @@ pub told_of_fields : (held asked : HeldFields) (letters : ℕ) (marks : List Mar
 told_of_fields held asked letters marks put taken told is tells = subst (λ (h : HeldFields). TellsPlay h letters marks put taken told) is tells
 
 pub near_told_of_fields :
-    (found : Option NearMiss) (miss : NearMiss) (held asked : HeldFields) (letters : ℕ) (marks : List Mark) (tellings : List Telling) (told : NearPlayed) → Some miss ≡ found → held ≡ asked →
-    TellsNearPlay (Some miss) held letters marks tellings told → TellsNearPlay found asked letters marks tellings told
-near_told_of_fields found miss held asked letters marks tellings told by is tells =
-    subst (λ (m : Option NearMiss). TellsNearPlay m asked letters marks tellings told) by (subst (λ (h : HeldFields). TellsNearPlay (Some miss) h letters marks tellings told) is tells)
+    (found : Option NearMiss) (miss : NearMiss) (held asked : HeldFields) (letters : ℕ) (marks : List Mark) (tellings : List Telling) (items : List ℕ) (told : NearPlayed) → Some miss ≡ found → held ≡ asked →
+    TellsNearPlay (Some miss) held letters marks tellings items told → TellsNearPlay found asked letters marks tellings items told
+near_told_of_fields found miss held asked letters marks tellings items told by is tells =
+    subst (λ (m : Option NearMiss). TellsNearPlay m asked letters marks tellings items told) by (subst (λ (h : HeldFields). TellsNearPlay (Some miss) h letters marks tellings items told) is tells)

@@ -15,7 +15,7 @@ use Rattle.call_lines.specs.declared.lines.Word.{Word}
 use Rattle.ring_script.specs.Content.{Content}
 use Rattle.ring_script.specs.Script.{HeldFields, HoldsFields, IsContentOf, IsScript}
 use Rattle.ring_page.specs.Audit.{AreMarksOf}
-use Rattle.ring_page.specs.Play.{TellsRefused}
+use Rattle.ring_page.specs.Play.{Fills, TellsRefused}
 use Rattle.ring_page.specs.declared.marks.Mark.{Mark}
 use Rattle.ring_page.specs.declared.near_plays.NearPlayed.{NearPlayed}
 use Rattle.ring_page.specs.declared.near_plays.Telling.{Telling}
@@ -37,37 +37,49 @@ number_told (PutBegins stored) = stored
 number_told (PutStored count) = count
 number_told (PutSome count) = count
 number_told (TakeBegins wanted) = wanted
-number_told (TakeItems item) = item
-number_told (TakeSome item) = item
+number_told (TakeItems taken) = taken
+number_told (TakeSome taken) = taken
 number_told _ = 0
 
 -- what it tells: the word of its line, and the number
 abbrev pub said_by : CallEvent ℕ ℕ → Option Word × ℕ
-said_by event = (Some (line_of Nothing (event_by (λ stored. []) (λ item. []) event)).word, number_told event)
+said_by event = (Some (line_of Nothing (event_by (λ stored. []) (λ taken. []) event)).word, number_told event)
 
 -- and what numbers tell
 abbrev pub said_in : Telling → Option Word × ℕ
 said_in telling = (word_of telling.word, telling.number)
 
--- what is told of a play of so many events and tellings, of a schedule of so many letters, whose counts go round at this modulus
-abbrev pub near_played : (events tellings letters modulus : ℕ) → NearPlayed
-near_played events tellings letters modulus = record { outcome = 0; number = 0; place = 0; shape_fault = 0; count = events; told = tellings; all_letters = letters; modulus = modulus }
+-- what is told of a play of so many events, tellings and items taken, of a schedule of so many letters, whose counts go round at this modulus
+abbrev pub near_played : (events tellings items letters modulus : ℕ) → NearPlayed
+near_played events tellings items letters modulus = record {
+  outcome = 0;
+  number = 0;
+  place = 0;
+  shape_fault = 0;
+  count = events;
+  told = tellings;
+  taken = items;
+  all_letters = letters;
+  modulus = modulus;
+}
 
 -- this is told of the play of the script's first letters
-pub record TellsNearLetters (miss : NearMiss) (script : Content) (letters : ℕ) (marks : List Mark) (tellings : List Telling) (told : NearPlayed) : Type 0 where
+pub record TellsNearLetters (miss : NearMiss) (script : Content) (letters : ℕ) (marks : List Mark) (tellings : List Telling) (items : List ℕ) (told : NearPlayed) : Type 0 where
   pub history : List Event
   pub calls : List (CallEvent ℕ ℕ)
-  pub plays : IsNearPlay script (take letters script.letters) history calls
+  pub taken : List ℕ
+  pub plays : IsNearPlay script (take letters script.letters) history calls taken
   pub are_marks : AreMarksOf history (length history) marks
   pub fills : map said_in (take (length calls) tellings) ≡ map said_by (take (length tellings) calls)
-  pub numbers : told ≡ near_played (length history) (length calls) (length script.letters) (near_modulus miss script.shape)
+  pub fills_items : Fills taken items
+  pub numbers : told ≡ near_played (length history) (length calls) (length taken) (length script.letters) (near_modulus miss script.shape)
 
 -- the values stand for a script, which is that of any bytes whose fields hold them, and this is told of its play
-pub record TellsNearPlayed (miss : NearMiss) (held : HeldFields) (letters : ℕ) (marks : List Mark) (tellings : List Telling) (told : NearPlayed) : Type 0 where
+pub record TellsNearPlayed (miss : NearMiss) (held : HeldFields) (letters : ℕ) (marks : List Mark) (tellings : List Telling) (items : List ℕ) (told : NearPlayed) : Type 0 where
   pub script : Content
   pub is_content : IsContentOf held script
   pub is_script : (bytes : List ℕ) → HoldsFields bytes held → IsScript bytes script
-  pub is_play : TellsNearLetters miss script letters marks tellings told
+  pub is_play : TellsNearLetters miss script letters marks tellings items told
 
 -- a fault, as `page_play` tells it
 abbrev pub near_refused : Played → NearPlayed
@@ -78,6 +90,7 @@ near_refused told = record {
   shape_fault = told.shape_fault;
   count = 0;
   told = 0;
+  taken = 0;
   all_letters = 0;
   modulus = 0;
 }
@@ -87,9 +100,9 @@ TellsNearRefused held letters told = (fault : Played) × TellsRefused held lette
 
 -- there is no near miss of this number
 abbrev pub no_near_miss : NearPlayed
-no_near_miss = record { outcome = 3; number = 0; place = 0; shape_fault = 0; count = 0; told = 0; all_letters = 0; modulus = 0 }
+no_near_miss = record { outcome = 3; number = 0; place = 0; shape_fault = 0; count = 0; told = 0; taken = 0; all_letters = 0; modulus = 0 }
 
 -- what is told of the values of a script's fields and of a near miss
-abbrev pub TellsNearPlay : Option NearMiss → HeldFields → ℕ → List Mark → List Telling → NearPlayed → Type 0
-TellsNearPlay None held letters marks tellings told = told ≡ no_near_miss
-TellsNearPlay (Some miss) held letters marks tellings told = TellsNearPlayed miss held letters marks tellings told ⊎ TellsNearRefused held letters told
+abbrev pub TellsNearPlay : Option NearMiss → HeldFields → ℕ → List Mark → List Telling → List ℕ → NearPlayed → Type 0
+TellsNearPlay None held letters marks tellings items told = told ≡ no_near_miss
+TellsNearPlay (Some miss) held letters marks tellings items told = TellsNearPlayed miss held letters marks tellings items told ⊎ TellsNearRefused held letters told

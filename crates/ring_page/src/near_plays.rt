@@ -6,7 +6,9 @@ ghost use Rattle.ring_page.specs.Play.{TellsPlayFault, fields_of};
 
 use crate::audits::{EVENT_ROOM, no_events};
 use crate::marks::Mark;
-use crate::plays::{ANSWER_ROOM, Asked, Played, RUN_ROOM, fields, put_lawful, told_fault};
+use crate::plays::{
+    ANSWER_ROOM, Asked, Played, RUN_ROOM, fields, put_lawful, put_list, told_fault,
+};
 use bits_core::{Filled, Side};
 use near_misses::{NearCall, NearFault, NearMiss, play_near_first};
 use ring_script::{LetterRun, ScriptFault, ScriptRef};
@@ -17,8 +19,8 @@ use ring_script::{LetterRun, ScriptFault, ScriptRef};
 pub struct Telling {
     /// The number of the word of its line (`queue_calls::Word`).
     pub word: u64,
-    /// Of a put that begins, how many items of the script are stored; of one that stored items, how many; 1 of a take that begins, and the
-    /// item of one that took it. Else 0.
+    /// Of a put that begins, how many items of the script are stored; of one that stored items, how many; of a take that begins, how many
+    /// items it wants; of one that took some, how many. Else 0.
     pub number: u64,
 }
 
@@ -38,6 +40,8 @@ pub struct NearPlayed {
     pub count: u64,
     /// How many begins and ends of calls are told.
     pub told: u64,
+    /// How many items were taken.
+    pub taken: u64,
     /// How many letters the schedule stands for.
     pub all_letters: u64,
     /// The number at which the counts go round.
@@ -67,7 +71,7 @@ fn telling_of(event: NearCall) -> Telling
         | NearCall::PutStored(count)
         | NearCall::PutSome(count)
         | NearCall::TakeBegins(count) => count as u64,
-        NearCall::TakeItems(item) | NearCall::TakeSome(item) => item,
+        NearCall::TakeItems(taken) | NearCall::TakeSome(taken) => taken as u64,
         _ => 0,
     };
     Telling {
@@ -92,21 +96,26 @@ fn tell_near_play(
     letters: u64,
     marks: &mut [Mark],
     tellings: &mut [Telling],
+    taken: &mut [u64],
 ) -> Result<NearPlayed, NearFault>
-    ensures played { IfOk result (TellsNearLetters miss (content_of script.entry) letters marks.new tellings.new) }
+    ensures played { IfOk result (TellsNearLetters miss (content_of script.entry) letters marks.new tellings.new
+        taken.new) }
     ensures refused { OnErr result (EVENT_ROOM < min letters (length (content_of script.entry).letters)) }
 {
     let mut events = no_events();
     let mut told_room = [NearCall::PutFull; EVENT_ROOM];
+    let mut taken_room = [0; EVENT_ROOM];
     let play = play_near_first(
         miss,
         script,
         letters,
         Filled::new(&mut events),
         Filled::new(&mut told_room),
+        Filled::new(&mut taken_room),
     )?;
     let history = play.history.into_slice();
     let calls = play.told.into_slice();
+    let items = play.taken.into_slice();
     let shape = script.shape();
     if history.len() > EVENT_ROOM {
         // Never so, since the events lie in that room.
@@ -114,6 +123,7 @@ fn tell_near_play(
     }
     put_lawful(&shape, history, marks);
     put_tellings(calls, tellings);
+    put_list(items, taken);
     Ok(NearPlayed {
         outcome: 0,
         number: 0,
@@ -121,6 +131,7 @@ fn tell_near_play(
         shape_fault: 0,
         count: history.len() as u64,
         told: calls.len() as u64,
+        taken: items.len() as u64,
         all_letters: script.len(),
         modulus: miss.modulus(&shape),
     })
@@ -137,14 +148,15 @@ fn near_refused(fault: ScriptFault) -> NearPlayed
         shape_fault: told.shape_fault,
         count: 0,
         told: 0,
+        taken: 0,
         all_letters: 0,
         modulus: 0,
     }
 }
 
 /// Plays the first letters of the script whose fields have these values by the near miss of this number, from 1, in the order of
-/// [`NearMiss`]: the marks of the history's events, and the begins and ends of calls, as many as there is room for; or why it is no
-/// script, as [`page_play`](crate::page_play) tells it. It takes no memory.
+/// [`NearMiss`]: the marks of the history's events, the begins and ends of calls, and the items taken, as many as there is room for; or
+/// why it is no script, as [`page_play`](crate::page_play) tells it. It takes no memory.
 #[unsafe(no_mangle)]
 pub extern "C" fn page_play_near(
     miss: u64,
@@ -154,10 +166,11 @@ pub extern "C" fn page_play_near(
     oracle: &[u8],
     marks: &mut [Mark],
     tellings: &mut [Telling],
+    taken: &mut [u64],
     told: &mut NearPlayed,
 )
     ensures { TellsNearPlay (near_numbered miss) (fields_of asked.now items.now schedule.now oracle.now)
-        asked.now.letters marks.new tellings.new told.new }
+        asked.now.letters marks.new tellings.new taken.new told.new }
 {
     let Some(miss) = near_numbered(miss) else {
         *told = NearPlayed {
@@ -167,6 +180,7 @@ pub extern "C" fn page_play_near(
             shape_fault: 0,
             count: 0,
             told: 0,
+            taken: 0,
             all_letters: 0,
             modulus: 0,
         };
@@ -180,7 +194,7 @@ pub extern "C" fn page_play_near(
     let mut runs = [blank; RUN_ROOM];
     let mut answers = [false; ANSWER_ROOM];
     *told = match ScriptRef::of_fields(&fields, &mut runs, &mut answers) {
-        Ok(script) => match tell_near_play(miss, script, asked.letters, marks, tellings) {
+        Ok(script) => match tell_near_play(miss, script, asked.letters, marks, tellings, taken) {
             Ok(told) => told,
             Err(NearFault::OutOfMemory) => near_refused(ScriptFault::OutOfMemory),
         },

@@ -25,6 +25,7 @@ const NOTHING_PLAYED: NearPlayed = NearPlayed {
     shape_fault: 9,
     count: 9,
     told: 9,
+    taken: 9,
     all_letters: 9,
     modulus: 9,
 };
@@ -41,13 +42,15 @@ const ASKED: Asked = Asked {
     letters: 1_000_000,
 };
 
-// The play by a near miss of the script with these items and this schedule, in room for two marks and five tellings.
-fn play(
+// The play by a near miss of the script with these items and this schedule, in room for two marks and five tellings; the items taken in this
+// room.
+fn play_in(
     miss: u64,
     asked: &Asked,
     items: &[u64],
     schedule: &str,
     oracle: &str,
+    taken: &mut [u64],
 ) -> (NearPlayed, [[u64; 2]; 5], [Mark; 2]) {
     let mut played = NOTHING_PLAYED;
     let mut marks = [NO_MARK; 2];
@@ -60,6 +63,7 @@ fn play(
         oracle.as_bytes(),
         &mut marks,
         &mut tellings,
+        taken,
         &mut played,
     );
     let [a, b, c, d, e] = tellings;
@@ -76,9 +80,45 @@ fn play(
     )
 }
 
+// The same, where the items taken are not asked for.
+fn play(
+    miss: u64,
+    asked: &Asked,
+    items: &[u64],
+    schedule: &str,
+    oracle: &str,
+) -> (NearPlayed, [[u64; 2]; 5], [Mark; 2]) {
+    play_in(miss, asked, items, schedule, oracle, &mut [])
+}
+
+// Counts go round at 4, and not at 5. Two items are put and read, and of the count write of their take the clearing of r0 is open. Two more
+// are put, and the third put sees r0 as 1, the count of long ago: the ring looks empty, and it writes over the cell of the third item. C takes
+// what it finds there.
+#[test]
+fn by_takes_of_several_an_item_is_taken_that_was_not_put(rt: HostRuntime) {
+    let two = Asked {
+        capacity: 2,
+        modulus: 5,
+        width: 3,
+        take_batch: 2,
+        takes: 4,
+        ..ASKED
+    };
+    let mut taken = [9; 5];
+    let (played, told, _) = play_in(3, &two, &[1, 2, 3, 5, 4], "P24C21P36C17", "001", &mut taken);
+    assert_eq!(rt; told, [[0, 0], [3, 1], [0, 1], [3, 1], [2, 2]]);
+    assert_eq!(rt; [played.told, played.taken, played.modulus], [13, 4, 4]);
+    assert_eq!(rt; taken, [1, 2, 0, 5, 9]);
+    let mut one = [9];
+    let (played, _, _) = play_in(3, &two, &[1, 2, 3, 5, 4], "P24C21P36C17", "001", &mut one);
+    assert_eq!(rt; (played.taken, one), (4, [1]));
+}
+
 #[test]
 fn by_a_modulus_one_too_small_an_item_is_taken_twice(rt: HostRuntime) {
-    let (played, told, marks) = play(3, &ASKED, &[1, 2, 3], "P9C20", "01");
+    let mut taken = [9; 3];
+    let (played, told, marks) = play_in(3, &ASKED, &[1, 2, 3], "P9C20", "01", &mut taken);
+    assert_eq!(rt; (played.taken, taken), (2, [1, 1, 9]));
     assert_eq!(rt; told, [[0, 0], [2, 1], [9, 1], [2, 1], [9, 1]]);
     assert_eq!(rt;
         [played.outcome, played.told, played.all_letters],

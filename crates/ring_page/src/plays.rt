@@ -89,8 +89,8 @@ pub fn told_fault(fault: ScriptFault) -> Played
     }
 }
 
-// Puts the list into the room, as much of it as there is room for.
-fn put_list(list: &[u64], room: &mut [u64])
+/// Puts the list into the room, as much of it as there is room for.
+pub fn put_list(list: &[u64], room: &mut [u64])
     ensures { Fills list.now room.new }
 {
     let count = list.len().min(room.len());

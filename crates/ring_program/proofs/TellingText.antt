@@ -1,6 +1,6 @@
 -- The text of the calls that a play told, line by line.
-use Rattle.std.proofs.Common.{◌≡◌, ◌∙◌, ℕ, Bool, ◌<◌, ◌≤◌, List, [], ◌∷◌, ◌++◌, ap, ap₂, sym, subst, append_assoc, arith}
-use Rattle.std.proofs.lemmas.List.{append-nil}
+use Rattle.std.proofs.Common.{◌≡◌, ◌∙◌, ℕ, ◌+◌, length, drop, get_or, Bool, ◌<◌, ◌≤◌, List, [], ◌∷◌, ◌++◌, ap, ap₂, sym, subst, append_assoc, arith}
+use Rattle.std.proofs.lemmas.List.{append-nil, drop_more}
 use Rattle.queue_calls.specs.Calls.{Event}
 use Rattle.queue_calls.specs.InTurn.{CallsAreInTurn}
 use Rattle.call_lines.specs.Lines.{AreSmall, word_text}
@@ -10,7 +10,13 @@ use Rattle.queue_calls.specs.Tellings.{HistoryHasARecording, TellsSmall, line_of
 use Rattle.call_lines.specs.declared.lines.Word.TheVariants.{Queue}
 use Rattle.queue_calls.specs.declared.hearings.Begun.{Begun}
 use Rattle.queue_calls.specs.declared.hearings.Begun.TheVariants as begun
-use Rattle.ring_program.specs.Texts.{list_line}
+use Rattle.queue_calls.specs.Told.{event_by}
+use Rattle.queue_calls.specs.declared.events.CallEvent.{CallEvent}
+use Rattle.ring_player.specs.Plays.{offered}
+use Rattle.ring_player.specs.Tellings.{call_events}
+use Rattle.ring_player.specs.declared.tellings.TakenItems.{TakenItems}
+use Rattle.ring_script.specs.Content.{Content}
+use Rattle.ring_program.specs.Texts.{first_items, items_behind, items_by, list_line, near_calls}
 use Rattle.ring_program.proofs.RecordingText.{line_is}
 
 -- Behind a line that tells this capacity, the lines so far and those of the events that are left are those of the history; its numbers
@@ -50,3 +56,18 @@ pub told_is_recording : (is_cut : Bool) (capacity n : ℕ) (h : List Event) (tex
 told_is_recording is_cut capacity n h text same some few law in_turn small is =
     subst (λ (t : List ℕ). (r : IsRecording t (exactly capacity) h) × (r.is_cut ≡ is_cut)) (sym is)
     (law is_cut capacity h (omega (arith, same, some)) (omega (arith, same, few)) in_turn small)
+
+-- the events of calls by a near miss, one by one
+pub near_more : (script : Content) (left next : List ℕ) (told : List (CallEvent ℕ ℕ)) (i : ℕ) (other : CallEvent ℕ ℕ) (event : Event) → i < length told
+    → event ≡ event_by (offered script) (first_items left) (get_or told i other) → next ≡ drop (items_by (get_or told i other)) left
+    → near_calls script left (drop i told) ≡ event ∷ near_calls script next (drop (i + 1) told)
+near_more script left next told i other event within is next_is =
+    ap (near_calls script left) (drop_more told i other within)
+    ∙ ap₂ (λ (e : Event) (l : List ℕ). e ∷ near_calls script l (drop (i + 1) told)) (sym is) (sym next_is)
+
+pub told_more : (script : Content) (items : List ℕ) (told : List (CallEvent ℕ TakenItems)) (i : ℕ) (other : CallEvent ℕ TakenItems) (event : Event) → i < length told → items ≡ script.items
+    → event ≡ event_by (offered script) (items_behind items) (get_or told i other) → call_events script (drop i told) ≡ event ∷ call_events script (drop (i + 1) told)
+told_more script items told i other event within same is =
+    ap (call_events script) (drop_more told i other within)
+    ∙ ap (λ (e : Event). e ∷ call_events script (drop (i + 1) told))
+    (sym (is ∙ ap (λ (from : List ℕ). event_by (offered script) (items_behind from) (get_or told i other)) same))

@@ -39,7 +39,7 @@ use Rattle.ring_run.specs.Relays.{IsRelayed}
 use Rattle.bits_core.specs.declared.memory.MemoryFault.TheVariants as run
 use Rattle.ring_program.specs.RunRecordings.{RecordsRun, run_counts}
 use Rattle.ring_program.specs.Runs.{run_items}
-use Rattle.ring_program.specs.Texts.{Summary, audit_text_of, item_read, relay_report_of, relay_text_of, report_text_of, told_text_of, verdict_text_of}
+use Rattle.ring_program.specs.Texts.{Summary, audit_text_of, near_calls, relay_report_of, relay_text_of, report_text_of, told_text_of, verdict_text_of}
 use Rattle.ring_program.specs.Why.{TellsWhy, verdict_in}
 use Rattle.ring_program.specs.declared.inputs.TheConstants.{INPUT_LIMIT}
 use Rattle.ring_program.specs.declared.answers.Ending.{Ending}
@@ -120,11 +120,11 @@ ShowsPlay (shown.Calls None) script text =
     (history : List Event) × IsPlayOf script script.letters history × (told : List (CallEvent ℕ TakenItems))
     × RecordsPlay script history told × IsRecording text (exactly (capacity_of script.shape)) (call_events script told)
 ShowsPlay (shown.Trace (Some miss)) script text =
-    (history : List Event) × (told : List (CallEvent ℕ ℕ)) × IsNearPlay script script.letters history told
+    (history : List Event) × (told : List (CallEvent ℕ ℕ)) × (taken : List ℕ) × IsNearPlay script script.letters history told taken
     × IsTraceText text script.shape history
 ShowsPlay (shown.Calls (Some miss)) script text =
-    (history : List Event) × (told : List (CallEvent ℕ ℕ)) × IsNearPlay script script.letters history told
-    × (text ≡ told_text_of item_read script told)
+    (history : List Event) × (told : List (CallEvent ℕ ℕ)) × (taken : List ℕ) × IsNearPlay script script.letters history told taken
+    × (text ≡ told_text_of script (near_calls script taken told))
 
 -- the input is a script, and the text is that of its play
 pub record PlaysScript (shows : PlayText) (input text : List ℕ) (ending : Ending) : Type 0 where

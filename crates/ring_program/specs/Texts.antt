@@ -1,5 +1,5 @@
 -- The texts of the answers.
-use Rattle.std.specs.Prelude.{ℕ, ◌+◌, ◌*◌, ◌/◌, ◌^◌, Bool, true, false, ◌&&◌, List, [], ◌∷◌, ◌++◌, Option, Some, None, codes, decimal, length, map, Vec, nat_lt, if◌then◌else◌, option_and_then}
+use Rattle.std.specs.Prelude.{ℕ, ◌+◌, ◌*◌, ◌/◌, ◌^◌, Bool, true, false, ◌&&◌, List, [], ◌∷◌, ◌++◌, Option, Some, None, codes, decimal, drop, length, take, Vec, nat_lt, if◌then◌else◌, option_and_then}
 use Rattle.std.specs.List.{flat_map}
 use Rattle.bits_core.specs.Audit.{kind_words}
 use Rattle.bits_core.specs.declared.audits.Verdict.{Verdict}
@@ -20,6 +20,8 @@ use Rattle.queue_calls.specs.declared.reports.CallsReport as calls_report
 use Rattle.ring_audit.specs.Audit.{Statement, Lawful, Fault}
 use Rattle.ring_player.specs.Plays.{offered}
 use Rattle.queue_calls.specs.declared.events.CallEvent.{CallEvent}
+use Rattle.queue_calls.specs.declared.events.CallEvent.TheVariants.{TakeItems}
+use Rattle.ring_player.specs.declared.tellings.TakenItems.{TakenItems}
 use Rattle.ring_player.specs.declared.worlds.Report.{Report}
 use Rattle.ring_script.specs.Content.{Content}
 
@@ -150,14 +152,23 @@ relay_report_of put calls full taken empty closed time =
 
 -- ---- the text of the calls that were told
 
--- the item that a take of a near miss read
-abbrev pub item_read : Content → ℕ → List ℕ
-item_read script item = item ∷ []
+-- the items that a take took, of a list of which they are the first, or behind as many as were taken before
+abbrev pub first_items : List ℕ → ℕ → List ℕ
+first_items items count = take count items
 
--- what is told, as events of calls, by the items that a take took
-abbrev pub told_calls : {T : Type 0} → (Content → T → List ℕ) → Content → List (CallEvent ℕ T) → List queue.Event
-told_calls took script told = map (event_by (offered script) (took script)) told
+abbrev pub items_behind : List ℕ → TakenItems → List ℕ
+items_behind items taken = take taken.count (drop taken.before items)
+
+-- how many items an event of calls by a near miss tells
+abbrev pub items_by : CallEvent ℕ ℕ → ℕ
+items_by (TakeItems count) = count
+items_by _ = 0
+
+-- what is told of a play by a near miss, as events of calls: each take has the next of the items taken
+abbrev pub near_calls : Content → List ℕ → List (CallEvent ℕ ℕ) → List queue.Event
+near_calls script taken [] = []
+near_calls script taken (event ∷ told) = event_by (offered script) (first_items taken) event ∷ near_calls script (drop (items_by event) taken) told
 
 -- a line of the ring's capacity, and the line of each event of calls
-abbrev pub told_text_of : {T : Type 0} → (Content → T → List ℕ) → Content → List (CallEvent ℕ T) → List ℕ
-told_text_of took script told = lines_text (line word.Queue (capacity_of script.shape ∷ []) ∷ lines_of begun.Nothing (told_calls took script told))
+abbrev pub told_text_of : Content → List queue.Event → List ℕ
+told_text_of script events = lines_text (line word.Queue (capacity_of script.shape ∷ []) ∷ lines_of begun.Nothing events)

@@ -7,7 +7,7 @@ use crate::answers::{Answer, Ending};
 use crate::command_line::PlayText;
 use crate::faults::Refusal;
 use crate::reports::report_text;
-use crate::tellings::{calls_text, told_text};
+use crate::tellings::{calls_text, near_text};
 use bits_core::write_trace;
 use near_misses::{NearMiss, play_near};
 use ring_player::{Script, play, play_calls};
@@ -69,7 +69,7 @@ fn wrong_calls<A: Allocator + Copy>(
     ensures memory { IfErr result IsOutOfMemory }
 {
     let play = play_near(alloc, miss, script)?;
-    Ok(told_text(alloc, script, play.told.as_slice())?)
+    Ok(near_text(alloc, script, play.told.as_slice(), play.taken.as_slice())?)
 }
 
 // The text of a play.

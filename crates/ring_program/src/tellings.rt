@@ -1,5 +1,5 @@
 //! The calls of a play, as the text of a recording.
-ghost use Rattle.std.specs.Prelude.{◌≡◌, IfErr, IfOk, OnOk, string_bytes};
+ghost use Rattle.std.specs.Prelude.{◌≡◌, drop, IfErr, IfOk, OnOk, string_bytes};
 ghost use Rattle.bits_core.specs.Shape.{capacity_of};
 ghost use Rattle.queue_calls.specs.Calls.{IsLinearizable};
 ghost use Rattle.call_lines.specs.Lines.{AreSmall};
@@ -9,16 +9,16 @@ ghost use Rattle.queue_calls.specs.Tellings.{TellsSmall};
 ghost use Rattle.queue_calls.specs.Told.{event_by, told as event_told};
 ghost use Rattle.ring_player.specs.Plays.{offered};
 ghost use Rattle.ring_player.specs.Tellings.{call_events};
-ghost use Rattle.ring_program.specs.Texts.{told_calls, told_text_of};
+ghost use Rattle.ring_program.specs.Texts.{items_by, near_calls, told_text_of};
 
 use crate::call_writing::{begun_behind, push_event};
 use crate::faults::AppFault;
 use crate::lines::push_list;
+use near_misses::NearCall;
 use queue_calls::laws::{history_has_a_recording, linearizable_is_in_turn};
 use queue_calls::{Begun, CallEvent, Event, Word};
 use ring_player::{PlayedCall, Script, TakenItems};
 use std::alloc::Allocator;
-use std::slice;
 
 // The items that a put offers, behind so many stored ones.
 fn offered<B: Allocator>(script: &Script<B>, stored: usize) -> &[u64]
@@ -34,46 +34,44 @@ fn offered<B: Allocator>(script: &Script<B>, stored: usize) -> &[u64]
 // What tells the items that a take took.
 pub trait Took {
     ghost use Rattle.std.specs.Prelude.{◌≡◌, ℕ, List};
-    ghost use Rattle.ring_script.specs.Content.{Content};
 
-    // The items, of the script that is played.
-    ghost took: { Content → Self → List ℕ };
+    // The items, of these.
+    ghost took: { List ℕ → Self → List ℕ };
 
-    fn items<'a, B: Allocator>(&'a self, script: &'a Script<B>) -> &'a [u64]
-        ensures { result.now ≡ took script.now self.now };
+    fn items<'a>(&self, from: &'a [u64]) -> &'a [u64]
+        ensures { result.now ≡ took from.now self.now };
 }
 
-// The item that a take of a near miss read.
-impl Took for u64 {
-    ghost use Rattle.ring_program.specs.Texts.{item_read};
+// So many of the items: the first ones.
+impl Took for usize {
+    ghost use Rattle.ring_program.specs.Texts.{first_items};
 
-    ghost took = { item_read };
+    ghost took = { first_items };
 
-    fn items<'a, B: Allocator>(&'a self, script: &'a Script<B>) -> &'a [u64] {
-        let _ = script;
-        slice::from_ref(self)
+    fn items<'a>(&self, from: &'a [u64]) -> &'a [u64] {
+        &from[..(*self).min(from.len())]
     }
 }
 
-// The items of the script that a take of a play took.
+// So many of them, behind so many.
 impl Took for TakenItems {
-    ghost use Rattle.ring_player.specs.Tellings.{taken_items};
+    ghost use Rattle.ring_program.specs.Texts.{items_behind};
 
-    ghost took = { taken_items };
+    ghost took = { items_behind };
 
-    fn items<'a, B: Allocator>(&'a self, script: &'a Script<B>) -> &'a [u64] {
-        let items = script.items();
-        let further = &items[self.before.min(items.len())..];
+    fn items<'a>(&self, from: &'a [u64]) -> &'a [u64] {
+        let further = &from[self.before.min(from.len())..];
         &further[..self.count.min(further.len())]
     }
 }
 
-// What was told, as an event with its items.
+// What was told, as an event with its items, which a take took of these.
 fn event_of<'a, B: Allocator, T: Took>(
     script: &'a Script<B>,
-    told: &'a CallEvent<usize, T>,
+    from: &'a [u64],
+    told: &CallEvent<usize, T>,
 ) -> Event<'a>
-    ensures { event_told result ≡ event_by (offered script.now) (T.took script.now) told.now }
+    ensures { event_told result ≡ event_by (offered script.now) (T.took from.now) told.now }
 {
     match told {
         CallEvent::PutBegins(stored) => Event::PutBegins(offered(script, *stored)),
@@ -86,8 +84,8 @@ fn event_of<'a, B: Allocator, T: Took>(
         CallEvent::CloseBegins => Event::CloseBegins,
         CallEvent::CloseEnds => Event::CloseEnds,
         CallEvent::TakeBegins(wanted) => Event::TakeBegins(*wanted),
-        CallEvent::TakeItems(taken) => Event::TakeItems(taken.items(script)),
-        CallEvent::TakeSome(taken) => Event::TakeSome(taken.items(script)),
+        CallEvent::TakeItems(taken) => Event::TakeItems(taken.items(from)),
+        CallEvent::TakeSome(taken) => Event::TakeSome(taken.items(from)),
         CallEvent::TakeEmpty => Event::TakeEmpty,
         CallEvent::TakeShort => Event::TakeShort,
         CallEvent::TakeNothing => Event::TakeNothing,
@@ -95,23 +93,61 @@ fn event_of<'a, B: Allocator, T: Took>(
     }
 }
 
-/// A line of the ring's capacity, and the lines of the begins and ends of calls that a play told.
-pub fn told_text<A: Allocator, B: Allocator, T: Took>(
+// A line of the ring's capacity, and the lines of the begins and ends of calls that a play told.
+fn told_text<A: Allocator, B: Allocator>(
     alloc: A,
     script: &Script<B>,
-    told: &[CallEvent<usize, T>],
+    told: &[PlayedCall],
 ) -> Result<String<A>, AppFault>
-    ensures text { IfOk result (λ text. string_bytes text ≡ told_text_of T.took script.now told.now) }
-    ensures small { OnOk result (TellsSmall (told_calls T.took script.now told.now)) }
+    ensures text { IfOk result (λ text. string_bytes text ≡ told_text_of script.now
+        (call_events script.now told.now)) }
+    ensures small { OnOk result (TellsSmall (call_events script.now told.now)) }
     ensures memory { IfErr result (λ e. e ≡ AppFault.OutOfMemory) }
 {
     let mut text = String::new(alloc);
     push_list(&mut text, Word::Queue.text(), &[script.shape().capacity()])?;
     let mut begun = Begun::Nothing;
+    let items = script.items();
     for each in told {
-        let event = event_of(script, each);
+        let event = event_of(script, items, each);
         push_event(&mut text, begun, event)?;
         begun = begun_behind(begun, event);
+    }
+    Ok(text)
+}
+
+// The items behind those that it tells.
+fn items_left<'a>(items: &'a [u64], told: &NearCall) -> &'a [u64]
+    ensures { result.now ≡ drop (items_by told.now) items.now }
+{
+    match told {
+        NearCall::TakeItems(count) => &items[(*count).min(items.len())..],
+        _ => items,
+    }
+}
+
+/// A line of the ring's capacity, and the lines of the begins and ends of calls that a play by a near miss told, whose takes took these
+/// items.
+pub fn near_text<A: Allocator, B: Allocator>(
+    alloc: A,
+    script: &Script<B>,
+    told: &[NearCall],
+    taken: &[u64],
+) -> Result<String<A>, AppFault>
+    ensures text { IfOk result (λ text. string_bytes text ≡ told_text_of script.now
+        (near_calls script.now taken.now told.now)) }
+    ensures memory { IfErr result (λ e. e ≡ AppFault.OutOfMemory) }
+{
+    let mut text = String::new(alloc);
+    let capacity = script.shape().capacity();
+    push_list(&mut text, Word::Queue.text(), &[capacity])?;
+    let mut begun = Begun::Nothing;
+    let mut left = taken;
+    for each in told {
+        let event = event_of(script, left, each);
+        push_event(&mut text, begun, event)?;
+        begun = begun_behind(begun, event);
+        left = items_left(left, each);
     }
     Ok(text)
 }

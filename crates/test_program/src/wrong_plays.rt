@@ -20,6 +20,19 @@ fn plays_a_script_by_a_near_miss(rt: HostRuntime) {
     }
 }
 
+const SEVERAL: &str =
+    "{\"capacity\":2,\"modulus\":5,\"width\":3,\"take_batch\":2,\"items\":[1,2,3,5,4],\"takes\":4,\"close\":false,\"schedule\":\"P24C21P36C27\",\"oracle\":\"001\"}";
+
+const SEVERAL_CALLS: &str =
+    "queue 2\nP put 1\nP stored\nP put 2\nP stored\nC take 2\nP put 3\nP stored\nP put 5\nP stored\nP put 4\nC item 1 2\nC take 2\nC item 0 5\n";
+
+#[test]
+fn a_take_of_several_tells_its_items(rt: HostRuntime) {
+    let words = words_of(&rt, "lamport_ring play --wrong small-modulus --calls");
+    let mut bytes = SEVERAL.as_bytes();
+    expect_run_on(&rt, words.as_slice(), &mut bytes, 0, SEVERAL_CALLS, "");
+}
+
 // Words behind the program's name that do not go together.
 static CLASHES: [(&str, u8, &str, &str); 9] = [
     (

@@ -17,14 +17,17 @@ loop-run-init g c =
       ready = c.requires.ready;
       shape = refl;
       all = c.runs-run-items.ensures;
-      has = λ a oracle has. subst (λ (t : List Side). NearHas g.T.Store.items a t oracle w) (sym (take-none c.args.letters)) has;
+      has = λ a oracle has. subst (λ (t : List Side). NearHas g.T.Store.items g.I.Store.items a t oracle w) (sym (take-none c.args.letters)) has;
       left = omega (arith, ap length spelled-none);
       event_room = refl;
       told_room = refl;
+      item_room = refl;
       few_events = omega (arith, ap length c.requires.new.0);
       few_told = omega (arith, ap length c.requires.new.1);
+      few_items = omega (arith, c.requires.new.2);
       events_within = omega (arith, ap length c.requires.new.0);
       told_within = omega (arith, ap length c.requires.new.1);
+      items_within = omega (arith, c.requires.new.2);
     }
 
 pub loop-run-preserved : goal.loop-run-preserved
@@ -48,15 +51,18 @@ loop-run-preserved g c =
       shape = c.in_ok-repeat.ensures.shape ∙ l.shape;
       all = l.all;
       has = λ a oracle has.
-          subst (λ (t : List Side). NearHas g.T.Store.items a t oracle c.repeat.new.self) (sym (ap (λ (t : List Side). take k t) after ∙ more))
+          subst (λ (t : List Side). NearHas g.T.Store.items g.I.Store.items a t oracle c.repeat.new.self) (sym (ap (λ (t : List Side). take k t) after ∙ more))
           (c.in_ok-repeat.ensures.has a (take k before) oracle (l.has a oracle has));
       left = left-more k before one.count one.side c.loop-run.left count l.left least ∙ ap (λ (t : List Side). k - length t) (sym after);
       event_room = c.repeat.ensures.rooms.0 ∙ l.event_room;
       told_room = c.repeat.ensures.rooms.1 ∙ l.told_room;
+      item_room = c.repeat.ensures.rooms.2 ∙ l.item_room;
       few_events = omega (arith, few.0, l.few_events, least);
       few_told = omega (arith, few.1, l.few_told, least);
+      few_items = omega (arith, few.2, l.few_items, least);
       events_within = omega (arith, few.0, l.events_within, least, longer);
       told_within = omega (arith, few.1, l.told_within, least, longer);
+      items_within = omega (arith, few.2, l.items_within, least, longer);
     }
 
 pub returns-in_err-repeat-clause-full : goal.returns-in_err-repeat-clause-full
@@ -69,7 +75,8 @@ returns-in_err-repeat-clause-full g c =
     let all = ap length c.runs-run-items.ensures in
     on_err c.from_residual.result (elim c.in_err-repeat.ensures.full [
       | inl h ↦ inl (omega (arith, h, l.event_room, l.few_events, l.events_within, c.min-count.ensures, within, all))
-      | inr h ↦ inr (omega (arith, h, l.told_room, l.few_told, l.told_within, c.min-count.ensures, within, all))
+      | inr (inl h) ↦ inr (inl (omega (arith, h, l.told_room, l.few_told, l.told_within, c.min-count.ensures, within, all)))
+      | inr (inr h) ↦ inr (inr (omega (arith, h, l.item_room, l.few_items, l.items_within, c.min-count.ensures, within, all)))
     ])
 
 pub returns-clause-has : goal.returns-clause-has
@@ -78,12 +85,15 @@ returns-clause-has g c a oracle has =
     let l = c.loop-run.invariant in
     let end : c.loop-run.run-index ≡ length runs = omega arith in
     let all : spelled (take c.loop-run.run-index runs) ≡ spelled c.args.script.runs.now = ap (λ i. spelled (take i runs)) end ∙ ap spelled (take-length runs) ∙ l.all in
-    subst (λ (t : List Side). NearHas g.T.Store.items a (take c.args.letters t) oracle c.loop-run.world) all (l.has a oracle has)
+    subst (λ (t : List Side). NearHas g.T.Store.items g.I.Store.items a (take c.args.letters t) oracle c.loop-run.world) all (l.has a oracle has)
 
 pub returns-clause-few : goal.returns-clause-few
 returns-clause-few g c =
     let runs : List LetterRun = c.runs-run-items.result.now in
     let l = c.loop-run.invariant in
     let end : c.loop-run.run-index ≡ length runs = omega arith in
-    let all : spelled (take c.loop-run.run-index runs) ≡ spelled c.args.script.runs.now = ap (λ i. spelled (take i runs)) end ∙ ap spelled (take-length runs) ∙ l.all in
-    (omega (arith, l.few_events, l.events_within, ap length all), omega (arith, l.few_told, l.told_within, ap length all))
+    let all : spelled (take c.loop-run.run-index runs) ≡ spelled c.args.script.runs.now = ap (λ i. spelled (take i runs)) end ∙ ap spelled (take-length runs) ∙ l.all in (
+      omega (arith, l.few_events, l.events_within, ap length all),
+      omega (arith, l.few_told, l.told_within, ap length all),
+      omega (arith, l.few_items, l.items_within, ap length all),
+    )

@@ -8,7 +8,7 @@ use Rattle.ring_page.proofs.Rooms.{near_told_of_fields, short_or_fault}
 use Rattle.ring_page.proofs.near_plays.page_play_near.Goals as goal
 
 pub returns-in-Ok-tell_near_play : goal.returns-in-Ok-tell_near_play
-returns-in-Ok-tell_near_play c = near_told_of_fields _ _ _ _ _ _ _ _ c.in-Some.ensures c.fields-fields.ensures (inl (record {
+returns-in-Ok-tell_near_play c = near_told_of_fields _ _ _ _ _ _ _ _ _ c.in-Some.ensures c.fields-fields.ensures (inl (record {
   script = content_of c.in-Ok.script;
   is_content = c.in-Ok.ensures.content;
   is_script = c.in-Ok.ensures.read;
@@ -18,7 +18,7 @@ returns-in-Ok-tell_near_play c = near_told_of_fields _ _ _ _ _ _ _ _ c.in-Some.e
 pub returns-in-Err-OutOfMemory : goal.returns-in-Err-OutOfMemory
 returns-in-Err-OutOfMemory c =
     let (fault, tells, is) = c.near_refused.ensures in
-    near_told_of_fields _ _ _ _ _ _ _ _ c.in-Some.ensures c.fields-fields.ensures (inr (
+    near_told_of_fields _ _ _ _ _ _ _ _ _ c.in-Some.ensures c.fields-fields.ensures (inr (
       fault,
       record {
         why = OutOfMemory;
@@ -32,7 +32,7 @@ pub returns-in-Err : goal.returns-in-Err
 returns-in-Err c =
     let blank : LetterRun = record { side = P; count = 0 } in
     let (fault, tells, is) = c.near_refused-in-Err.ensures in
-    near_told_of_fields _ _ _ _ _ _ _ _ c.in-Some.ensures c.fields-fields.ensures (inr (
+    near_told_of_fields _ _ _ _ _ _ _ _ _ c.in-Some.ensures c.fields-fields.ensures (inr (
       fault,
       record {
         why = c.in-Err.fault;

@@ -1,14 +1,14 @@
 use Rattle.std.proofs.Common.{◌≡◌, ◌∙◌, ◌∷◌, ◌+◌, ap, drop, subst, sym, string_bytes}
-use Rattle.std.proofs.lemmas.List.{drop_all, drop_more}
+use Rattle.std.proofs.lemmas.List.{drop_all}
 use Rattle.bits_core.specs.Shape.{capacity_of}
 use Rattle.queue_calls.specs.Told.{told as event_told}
-use Rattle.ring_program.specs.Texts.{told_calls}
-use Rattle.ring_program.proofs.TellingText.{IsToldSoFar, telling_begins, telling_goes_on, telling_is_small, telling_is_told}
+use Rattle.ring_player.specs.Tellings.{call_events}
+use Rattle.ring_program.proofs.TellingText.{IsToldSoFar, telling_begins, telling_goes_on, telling_is_small, telling_is_told, told_more}
 use Rattle.ring_program.proofs.tellings.told_text.Goals as goal
 
 pub loop-each-init : goal.loop-each-init
 loop-each-init g c =
-    telling_begins (capacity_of c.args.script.now.shape) c.capacity.result (told_calls g.T.Took.took c.args.script.now c.args.told.now) _ _ c.text.result.now c.new-text.ensures.bytes c.text.ensures
+    telling_begins (capacity_of c.args.script.now.shape) c.capacity.result (call_events c.args.script.now c.args.told.now) _ _ c.text.result.now c.new-text.ensures.bytes c.text.ensures
     (c.capacity.ensures.value ∙ ap capacity_of c.shape.ensures) c.in_ok-push_list.ensures.ok
 
 pub loop-each-preserved : goal.loop-each-preserved
@@ -16,24 +16,24 @@ loop-each-preserved g c =
     let script = c.args.script.now in
     let told = c.args.told.now in
     let event = event_told c.event_of-event.result in
-    let later = told_calls g.T.Took.took script (drop (c.loop-each.each-index + 1) told) in
-    let first : told_calls g.T.Took.took script (drop c.loop-each.each-index told) ≡ event ∷ later =
-    ap (told_calls g.T.Took.took script) (drop_more told c.loop-each.each-index c.each-item.result c.loop-each-test.true ∙ ap (λ x. x ∷ drop (c.loop-each.each-index + 1) told) (sym c.each-item.is)) ∙ ap (λ e. e ∷ later) (sym c.event_of-event.ensures) in
-    telling_goes_on (capacity_of script.shape) (told_calls g.T.Took.took script told) event later c.loop-each.begun (string_bytes c.loop-each.text) _ _ c.in_ok-push_event.ensures.line c.begun_behind-begun.ensures c.in_ok-push_event.ensures.small
-    (subst (λ l. IsToldSoFar (capacity_of script.shape) (told_calls g.T.Took.took script told) l c.loop-each.begun (string_bytes c.loop-each.text)) first c.loop-each.invariant)
+    let later = call_events script (drop (c.loop-each.each-index + 1) told) in
+    let first : call_events script (drop c.loop-each.each-index told) ≡ event ∷ later =
+    told_more script c.items-items.result.now told c.loop-each.each-index _ event c.loop-each-test.true c.items-items.ensures.value c.event_of-event.ensures in
+    telling_goes_on (capacity_of script.shape) (call_events script told) event later c.loop-each.begun (string_bytes c.loop-each.text) _ _ c.in_ok-push_event.ensures.line c.begun_behind-begun.ensures c.in_ok-push_event.ensures.small
+    (subst (λ l. IsToldSoFar (capacity_of script.shape) (call_events script told) l c.loop-each.begun (string_bytes c.loop-each.text)) first c.loop-each.invariant)
 
 pub returns-clause-text : goal.returns-clause-text
 returns-clause-text g c =
     let script = c.args.script.now in
     let told = c.args.told.now in
-    telling_is_told (capacity_of script.shape) (told_calls g.T.Took.took script told) c.loop-each.begun (string_bytes c.loop-each.text)
-    (subst (λ rest. IsToldSoFar (capacity_of script.shape) (told_calls g.T.Took.took script told) (told_calls g.T.Took.took script rest) c.loop-each.begun (string_bytes c.loop-each.text))
+    telling_is_told (capacity_of script.shape) (call_events script told) c.loop-each.begun (string_bytes c.loop-each.text)
+    (subst (λ rest. IsToldSoFar (capacity_of script.shape) (call_events script told) (call_events script rest) c.loop-each.begun (string_bytes c.loop-each.text))
     (drop_all c.loop-each.each-index told c.loop-each-test.false) c.loop-each.invariant)
 
 pub returns-clause-small : goal.returns-clause-small
 returns-clause-small g c =
     let script = c.args.script.now in
     let told = c.args.told.now in
-    telling_is_small (capacity_of script.shape) (told_calls g.T.Took.took script told) c.loop-each.begun (string_bytes c.loop-each.text)
-    (subst (λ rest. IsToldSoFar (capacity_of script.shape) (told_calls g.T.Took.took script told) (told_calls g.T.Took.took script rest) c.loop-each.begun (string_bytes c.loop-each.text))
+    telling_is_small (capacity_of script.shape) (call_events script told) c.loop-each.begun (string_bytes c.loop-each.text)
+    (subst (λ rest. IsToldSoFar (capacity_of script.shape) (call_events script told) (call_events script rest) c.loop-each.begun (string_bytes c.loop-each.text))
     (drop_all c.loop-each.each-index told c.loop-each-test.false) c.loop-each.invariant)

@@ -8,11 +8,13 @@ pub loop-init : goal.loop-init
 loop-init g c = record {
   ready = c.requires;
   shape = refl;
-  has = λ a letters oracle has. subst (λ (t : List Side). NearHas g.T.Store.items a t oracle c.args.self.now) (sym (append-nil letters)) has;
+  has = λ a letters oracle has. subst (λ (t : List Side). NearHas g.T.Store.items g.I.Store.items a t oracle c.args.self.now) (sym (append-nil letters)) has;
   event_room = refl;
   told_room = refl;
+  item_room = refl;
   few_events = omega arith;
   few_told = omega arith;
+  few_items = omega arith;
 }
 
 pub step-requires : goal.step-requires
@@ -28,14 +30,16 @@ loop-preserved g c =
       has = λ a letters oracle has.
           let more : (letters ++ replicate n side) ++ side ∷ [] ≡ letters ++ replicate (n + 1) side =
           append_assoc letters (replicate n side) (side ∷ []) ∙ ap (λ (t : List Side). letters ++ t) (replicate_more n side) in
-          subst (λ (t : List Side). NearHas g.T.Store.items a t oracle c.step.new.self) more (c.in_ok-step.ensures.has a (letters ++ replicate n side) oracle (c.loop.invariant.has a letters oracle has));
+          subst (λ (t : List Side). NearHas g.T.Store.items g.I.Store.items a t oracle c.step.new.self) more (c.in_ok-step.ensures.has a (letters ++ replicate n side) oracle (c.loop.invariant.has a letters oracle has));
       event_room = c.step.ensures.rooms.0 ∙ c.loop.invariant.event_room;
       told_room = c.step.ensures.rooms.1 ∙ c.loop.invariant.told_room;
+      item_room = c.step.ensures.rooms.2 ∙ c.loop.invariant.item_room;
       few_events = omega (arith, c.in_ok-step.ensures.few.0, c.loop.invariant.few_events);
       few_told = omega (arith, c.in_ok-step.ensures.few.1, c.loop.invariant.few_told);
+      few_items = omega (arith, c.in_ok-step.ensures.few.2, c.loop.invariant.few_items);
     }
 
 pub returns-clause-has : goal.returns-clause-has
 returns-clause-has g c a letters oracle has =
     let over : c.loop.counter ≡ c.args.count = omega (arith, c.loop.auto.counter-end, c.loop-test.false) in
-    subst (λ (n : ℕ). NearHas g.T.Store.items a (letters ++ replicate n c.args.side) oracle c.loop.self) over (c.loop.invariant.has a letters oracle has)
+    subst (λ (n : ℕ). NearHas g.T.Store.items g.I.Store.items a (letters ++ replicate n c.args.side) oracle c.loop.self) over (c.loop.invariant.has a letters oracle has)
