@@ -108,7 +108,7 @@ begins_so made rest (Some a) open_is =
 -- ---- counts
 
 -- a count shows its number, and its writes have accesses
-abbrev CountLaws : Type 0
+abbrev pub CountLaws : Type 0
 CountLaws = CountsShowNumbers × CountsAreWritten
 
 -- calls that go on with a put that stores, or with one that finds no room, or with nothing but perhaps the close
