@@ -7,8 +7,6 @@ use Rattle.ring_audit.specs.declared.puts.PutStep.TheVariants.{Stops}
 use Rattle.ring_audit.specs.declared.puts.Stage.TheVariants.{Closing}
 use Rattle.ring_audit.specs.contracts.puts.PutReader.{the_view}
 use Rattle.ring_audit.specs.PutReading.{PutReading, HasReadPut, IsReaderAt}
-use Rattle.register_core.proofs.Items.{same_item}
-use Rattle.ring_core.proofs.Readings.ItemsRead.{puts-are_first}
 use Rattle.ring_audit.proofs.PutReads.{at_stage, no_more}
 use Rattle.ring_audit.proofs.puts.PutReader.begin.Goals as goal
 
@@ -24,6 +22,6 @@ pub returns-in-Closed-clause-read : goal.returns-in-Closed-clause-read
 returns-in-Closed-clause-read c =
     let now : PutReading = c.args.self.now in
     let stops : HasReadPut now.shape now now (opening_event P c.args.access) Stops = λ es items stored st of_puts.
-    no_more (puts-are_first same_item) now.shape now es items stored c.args.access st c.requires
+    no_more now.shape now es items stored c.args.access st c.requires
     (sym (ap (λ (z : PutReading). z.stage) c.self.view_is) ∙ c.in-Closed.is) of_puts in
     stops

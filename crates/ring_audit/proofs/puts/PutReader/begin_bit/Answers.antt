@@ -6,8 +6,6 @@ use Rattle.ring_audit.specs.declared.puts.PutStep.TheVariants.{Stops, GoesOn}
 use Rattle.ring_audit.specs.declared.puts.Stage.TheVariants.{Counting}
 use Rattle.ring_audit.specs.contracts.puts.PutReader.{the_view}
 use Rattle.ring_audit.specs.PutReading.{PutReading, IsReaderAt}
-use Rattle.register_core.proofs.Items.{same_item}
-use Rattle.ring_core.proofs.Machines.PutParts.{counts-on}
 use Rattle.ring_audit.proofs.PutReads.{lift, at_stage, no_bit}
 use Rattle.ring_audit.proofs.PutSteps.{begins_bit}
 use Rattle.ring_audit.proofs.puts.PutReader.begin_bit.Goals as goal
@@ -33,5 +31,5 @@ returns-else-is_same-clause-read c =
     let at : IsReaderAt Counting r = at_stage r Counting c.self.invariant stage in
     let a : Access = c.args.access in
     lift r now r (opening_event P a) Stops is
-    (λ es items stored st of_puts. no_bit (counts-on same_item) r.shape r es items stored a st none stage c.self.invariant.row_side at.0
+    (λ es items stored st of_puts. no_bit r.shape r es items stored a st none stage c.self.invariant.row_side at.0
     (λ due. (let clash : true ≡ false = sym (c.is_same.ensures.1 (c.next.ensures.due ∙ due)) ∙ c.if-is_same.false in absurd (cc))) of_puts)

@@ -9,8 +9,6 @@ use Rattle.ring_audit.specs.declared.puts.PutStep.TheVariants.{Stops, Counts}
 use Rattle.ring_audit.specs.declared.puts.Stage.TheVariants.{Choosing, Counting, Closed}
 use Rattle.ring_audit.specs.contracts.puts.PutReader.{the_view}
 use Rattle.ring_audit.specs.PutReading.{PutReading, IsReaderAt}
-use Rattle.register_core.proofs.Items.{same_item}
-use Rattle.ring_core.proofs.Machines.PutParts.{stores-or_counts}
 use Rattle.ring_audit.proofs.PutReads.{lift, at_stage, no_word_nor_count}
 use Rattle.ring_audit.proofs.PutSteps.{begins_count}
 use Rattle.ring_audit.proofs.puts.PutReader.begin_count.Goals as goal
@@ -39,6 +37,6 @@ returns-else-is_same-clause-read c =
     let at : IsReaderAt Choosing r = at_stage r Choosing c.self.invariant stage in
     let a : Access = c.args.access in
     lift r now (record r { stage = Closed; row = c.write.new.self }) (opening_event P a) Stops is
-    (λ es items stored st of_puts. no_word_nor_count (stores-or_counts same_item) r.shape r es items stored a st none stage c.self.invariant.row_side
+    (λ es items stored st of_puts. no_word_nor_count r.shape r es items stored a st none stage c.self.invariant.row_side
     (subst (λ (z : PutReading). (v : Bool) → 0 < z.room → a ≡ begins.Write (Cell z.cell 0) v → ⊥) (sym is) c.requires.no_word)
     (λ some due. (let clash : true ≡ false = sym (c.is_same.ensures.1 (c.next.ensures.due ∙ ap due_unary c.write.ensures.state ∙ due)) ∙ c.if-is_same.false in absurd (cc))) of_puts)

@@ -9,8 +9,6 @@ use Rattle.ring_audit.specs.declared.puts.PutStep.TheVariants.{Stops}
 use Rattle.ring_audit.specs.declared.puts.Stage.TheVariants.{Scanning}
 use Rattle.ring_audit.specs.contracts.puts.PutReader.{the_view}
 use Rattle.ring_audit.specs.PutReading.{PutReading, IsReaderAt}
-use Rattle.register_core.proofs.Items.{same_item}
-use Rattle.ring_core.proofs.Machines.PutParts.{scans-on}
 use Rattle.ring_audit.proofs.PutReads.{lift, at_stage, no_read, scan_due}
 use Rattle.ring_audit.proofs.puts.PutReader.begin_read.Goals as goal
 
@@ -25,5 +23,5 @@ returns-else-is_same-clause-read c =
     let a : Access = c.args.access in
     let due : c.next.result ≡ Some (begins.Read (row_read_by P r.scan.zeros)) = c.next.ensures.due ∙ scan_due P (modulus_of r.shape) r.scan at.1 in
     lift r now r (opening_event P a) Stops is
-    (λ es items stored st of_puts. no_read (scans-on same_item) r.shape r es items stored a st none stage (at.2 none)
+    (λ es items stored st of_puts. no_read r.shape r es items stored a st none stage (at.2 none)
     (λ same. (let clash : true ≡ false = sym (c.is_same.ensures.1 (due ∙ ap Some same)) ∙ c.if-is_same.false in absurd (cc))) of_puts)

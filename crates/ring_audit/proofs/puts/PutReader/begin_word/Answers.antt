@@ -10,8 +10,6 @@ use Rattle.ring_audit.specs.declared.puts.PutStep.TheVariants.{Stops, GoesOn}
 use Rattle.ring_audit.specs.declared.puts.Stage.TheVariants.{Choosing, Storing}
 use Rattle.ring_audit.specs.contracts.puts.PutReader.{the_view}
 use Rattle.ring_audit.specs.PutReading.{PutReading, IsReaderAt}
-use Rattle.register_core.proofs.Items.{same_item}
-use Rattle.ring_core.proofs.Machines.PutParts.{stores-or_counts}
 use Rattle.ring_audit.proofs.PutReads.{lift, at_stage, no_word_nor_count, read_due}
 use Rattle.ring_audit.proofs.PutSteps.{begins_word}
 use Rattle.ring_audit.proofs.puts.PutReader.begin_word.Goals as goal
@@ -49,5 +47,5 @@ returns-else-self-clause-read c =
       | else-self-gt0-via-else-self-gt0 w ↦ absurd (omega (arith, room, w.if-self-gt0.false))
     ]) in
     lift r now r (opening_event P a) Stops is
-    (λ es items stored st of_puts. no_word_nor_count (stores-or_counts same_item) r.shape r es items stored a st none stage c.self.invariant.row_side no_word
+    (λ es items stored st of_puts. no_word_nor_count r.shape r es items stored a st none stage c.self.invariant.row_side no_word
     (λ some due. (let clash : true ≡ false = sym some ∙ c.if-self.false in absurd (cc))) of_puts)

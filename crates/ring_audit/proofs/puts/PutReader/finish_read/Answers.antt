@@ -10,7 +10,6 @@ use Rattle.ring_audit.specs.declared.puts.Stage.TheVariants.{Resting, Scanning, 
 use Rattle.ring_audit.specs.contracts.puts.PutReader.{the_view}
 use Rattle.ring_audit.specs.Sides.{AreOfPuts}
 use Rattle.ring_audit.specs.PutReading.{PutReading, IsReaderAt}
-use Rattle.ring_core.proofs.Machines.PutParts.{last-puts_read_one}
 use Rattle.ring_audit.proofs.PutReads.{lift, at_stage, same_open, zero_at_last, scan_due, no_value}
 use Rattle.ring_audit.proofs.PutSteps.{ends_zero, ends_with_room, ends_full}
 use Rattle.ring_audit.proofs.puts.PutReader.finish_read.Goals as goal
@@ -25,7 +24,7 @@ returns-then-not-answer-clause-read c =
     let at : IsReaderAt Scanning r = at_stage r Scanning c.self.invariant stage in
     let a : Access = c.args.access in
     lift r now r (end_event P (answered a c.args.answer)) Stops is
-    (λ es items stored st of_puts. zero_at_last last-puts_read_one r.shape r es items stored a st some at.1 (at.3 a some) (c.expects_one.ensures.0 c.if-expects_one.true)
+    (λ es items stored st of_puts. zero_at_last r.shape r es items stored a st some at.1 (at.3 a some) (c.expects_one.ensures.0 c.if-expects_one.true)
     (subst (λ v. AreOfPuts r.shape (es ++ end_event P (answered a v) ∷ [])) c.if-not-answer.true of_puts))
 
 pub returns-in-None-clause-read : goal.returns-in-None-clause-read

@@ -9,8 +9,6 @@ use Rattle.register_core.specs.UnaryState.{UnaryState, due_unary}
 use Rattle.ring_audit.specs.declared.puts.Stage.TheVariants.{Choosing}
 use Rattle.ring_audit.specs.contracts.puts.PutReader.{the_view}
 use Rattle.ring_audit.specs.PutReading.{PutReading}
-use Rattle.register_core.proofs.Items.{same_item}
-use Rattle.ring_core.proofs.Machines.PutParts.{stores-or_counts}
 use Rattle.ring_audit.proofs.PutReads.{read_due, no_word_nor_count}
 use Rattle.ring_audit.proofs.DueLemmas.{begins_by, counts_last}
 use Rattle.ring_audit.proofs.puts.PutReader.word_or_count.Goals as goal
@@ -23,7 +21,7 @@ returns-clause-only c =
     let word : ReaderState = record { width = width_of r.shape; cell = r.cell; read = 0; value = 0 } in
     let due : c.next-word.result ≡ Some (begins.Read (Cell r.cell 0)) = c.next-word.ensures.due ∙ ap due_read c.new.ensures.state ∙ read_due word r.shape.has_digits in
     begins_by r c.args.self.now _ c.self.view_is
-    (λ es items stored a st others. no_word_nor_count (stores-or_counts same_item) r.shape r es items stored a st none stage c.self.invariant.row_side
+    (λ es items stored a st others. no_word_nor_count r.shape r es items stored a st none stage c.self.invariant.row_side
     (λ v room is. c.writes.ensures.writes (Cell r.cell 0) v due (subst (λ z. c.writes.result.first ≢ Some (opening_event P z)) is others.0) (subst (λ z. c.writes.result.second ≢ Some (opening_event P z)) is others.1))
     (λ some count. others.2 (c.writes.ensures.other ∙ c.opening.ensures.some a (c.next.ensures.due ∙ ap due_unary c.write.ensures.state ∙ count))))
 

@@ -2,8 +2,6 @@ use Rattle.std.proofs.Common.{subst, sym, ap, ◌∙◌}
 use Rattle.ring_core.specs.ConsumerState.{ConsumerState}
 use Rattle.ring_core.specs.ConsumerCalls.{ConsumerStands}
 use Rattle.ring_audit.specs.TakeReading.{TakeReading}
-use Rattle.register_core.proofs.Items.{same_item}
-use Rattle.ring_core.proofs.Machines.TakeParts.{takes-go_on}
 use Rattle.ring_audit.proofs.TakeReads.{counts_else}
 use Rattle.ring_audit.proofs.takes.TakeReader.count.Goals as goal
 
@@ -13,6 +11,6 @@ returns-clause-only c es items access st wrong writes of_takes =
     let (i, v, due) = c.count_now.ensures.due in
     let consumer_is = ap (λ (z : TakeReading). z.consumer) c.self.view_is in
     let stands = c.count_now.ensures.stands st.calls st.made (subst (λ p. ConsumerStands p st.calls st.made) (sym consumer_is) st.stands) in
-    counts_else (takes-go_on same_item) r.consumer.shape r es items c.count_now.new.self c.next.result access i v st c.requires.none
+    counts_else r.consumer.shape r es items c.count_now.new.self c.next.result access i v st c.requires.none
     (c.count_now.ensures.shape ∙ ap (λ (p : ConsumerState). p.shape) consumer_is) stands (c.next.ensures.due ∙ due)
     (λ d is. c.next.ensures.goes_on st.calls st.made d stands is) wrong writes of_takes
