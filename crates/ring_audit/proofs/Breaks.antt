@@ -9,7 +9,6 @@ use Rattle.bits_core.specs.declared.audits.Kind.{Kind}
 use Rattle.bits_core.specs.declared.audits.Kind.TheVariants.{WrongSide, OutOfTurn, NotPermitted, NotProgram}
 use Rattle.bits_core.specs.declared.shapes.Shape.{Shape}
 use Rattle.bits_core.specs.Audit.{IsFirstFault}
-use Rattle.bits_core.specs.Laws.{BeginningIsLawful, FaultBreaks}
 use Rattle.bits_core.specs.Lawful.{IsLawful}
 use Rattle.bits_core.specs.declared.events.Side.{Side}
 use Rattle.bits_core.specs.Bits.{is_by}
@@ -18,6 +17,8 @@ use Rattle.ring_audit.specs.Audit.{IsOfPrograms, IsFound, IsKindAt, IsFirstBreak
 use Rattle.ring_audit.specs.PutReading.{PutsStand, WerePut}
 use Rattle.ring_audit.specs.TakeReading.{TakesStand, WereTaken}
 use Rattle.ring_audit.specs.Reading.{Reading, ReadingStands, BothFollow}
+use Rattle.bits_core.proofs.LawProofs.{beginning_is_lawful}
+use Rattle.bits_core.proofs.FaultLemmas.{fault_breaks}
 
 pub of_programs : (shape : Shape) (h : List Event) → IsLawful shape h → BothFollow shape h → IsOfPrograms shape h
 of_programs shape h lawful ((puts, are, events), (takes, are', events')) =
@@ -27,8 +28,8 @@ both_follow : (shape : Shape) (h : List Event) → IsOfPrograms shape h → Both
 both_follow shape h (puts, takes, run) =
     ((puts, run.puts_follow.are, run.puts_follow.events), (takes, run.takes_follow.are, run.takes_follow.events))
 
-pub lawful_take : BeginningIsLawful → (shape : Shape) (h : List Event) (n : ℕ) → IsLawful shape h → IsLawful shape (take n h)
-lawful_take law shape h n lawful = law shape (take n h) (drop n h) (subst (IsLawful shape) (sym (take-append-drop n h)) lawful)
+pub lawful_take : (shape : Shape) (h : List Event) (n : ℕ) → IsLawful shape h → IsLawful shape (take n h)
+lawful_take shape h n lawful = beginning_is_lawful shape (take n h) (drop n h) (subst (IsLawful shape) (sym (take-append-drop n h)) lawful)
 
 -- where the event behind the first i is not of the programs
 pub break_of_program :
@@ -52,11 +53,11 @@ kind_at shape h place NotProgram fault = absurd fault.fault
 
 -- where the bits are at fault first
 pub break_of_bits :
-    FaultBreaks → (shape : Shape) (h : List Event) (place : ℕ) (kind : Kind) → IsFirstFault shape h place kind → BothFollow shape (take place h) → IsFirstBreak shape h place kind
-break_of_bits law shape h place kind fault follow = record {
+    (shape : Shape) (h : List Event) (place : ℕ) (kind : Kind) → IsFirstFault shape h place kind → BothFollow shape (take place h) → IsFirstBreak shape h place kind
+break_of_bits shape h place kind fault follow = record {
   within = slice_get_within h place fault.event fault.at_place;
-  before = of_programs shape (take place h) (law shape h place kind fault).0 follow;
-  breaks = λ runs. (law shape h place kind fault).1 runs.2.lawful;
+  before = of_programs shape (take place h) (fault_breaks shape h place kind fault).0 follow;
+  breaks = λ runs. (fault_breaks shape h place kind fault).1 runs.2.lawful;
   kind_is = kind_at shape h place kind fault;
 }
 
@@ -102,17 +103,17 @@ begins_take s h n all (rest, e) = (
 )
 
 -- a beginning of a history of the programs is of the programs
-pub programs_take : BeginningIsLawful → (shape : Shape) (h : List Event) (n : ℕ) → IsOfPrograms shape h → IsOfPrograms shape (take n h)
-programs_take law shape h n (puts, takes, run) = (
+pub programs_take : (shape : Shape) (h : List Event) (n : ℕ) → IsOfPrograms shape h → IsOfPrograms shape (take n h)
+programs_take shape h n (puts, takes, run) = (
   puts,
   takes,
   record {
-    lawful = lawful_take law shape h n run.lawful;
+    lawful = lawful_take shape h n run.lawful;
     puts_follow = record { are = run.puts_follow.are; events = begins_take P h n _ run.puts_follow.events };
     takes_follow = record { are = run.takes_follow.are; events = begins_take C h n _ run.takes_follow.events };
   },
 )
 
-pub exact_finding : BeginningIsLawful → (shape : Shape) (h : List Event) (f : Statement) → IsFinding shape h f → IsTrue (tells_lawful f) ↔ IsOfPrograms shape h
-exact_finding law shape h (Lawful put taken told) found = (λ e. (found.puts, found.takes, found.run), λ runs. refl)
-exact_finding law shape h (Fault place kind) found = (λ e. absurd (cc), λ runs. absurd (found.breaks (programs_take law shape h (suc place) runs)))
+pub exact_finding : (shape : Shape) (h : List Event) (f : Statement) → IsFinding shape h f → IsTrue (tells_lawful f) ↔ IsOfPrograms shape h
+exact_finding shape h (Lawful put taken told) found = (λ e. (found.puts, found.takes, found.run), λ runs. refl)
+exact_finding shape h (Fault place kind) found = (λ e. absurd (cc), λ runs. absurd (found.breaks (programs_take shape h (suc place) runs)))

@@ -8,10 +8,12 @@ use Rattle.bits_core.specs.declared.audits.Kind.TheVariants.{WrongSide, OutOfTur
 use Rattle.bits_core.specs.declared.audits.Verdict.TheVariants as bits
 use Rattle.bits_core.specs.declared.shapes.Shape.{Shape}
 use Rattle.bits_core.specs.Audit.{IsFirstFault}
-use Rattle.bits_core.specs.Laws.{BeginningIsLawful, FaultBreaks, OneVerdict}
 use Rattle.bits_core.specs.Lawful.{IsLawful}
-use Rattle.ring_core.specs.Items.{ItemsAreRead, TakenAreRead}
 use Rattle.ring_audit.specs.Audit.{IsOfPrograms, IsFound, IsKindAt, IsFirstBreak, Lawful, Fault, OneFinding}
+use Rattle.bits_core.proofs.FaultLemmas.{fault_breaks, one_verdict}
+use Rattle.register_core.proofs.Items.{same_item}
+use Rattle.ring_core.proofs.Readings.ItemsRead.{items-are_read}
+use Rattle.ring_core.proofs.Readings.TakenRead.{taken-are_read}
 use Rattle.ring_audit.proofs.Breaks.{programs_take}
 
 -- ---- what was put, taken and told
@@ -22,12 +24,12 @@ same_truth false true on back = back refl
 same_truth false false on back = refl
 
 one_found :
-    ItemsAreRead → TakenAreRead → (shape : Shape) (h : List Event) (put taken put' taken' : List ℕ) (told told' : Bool) → IsFound shape h put taken told →
+    (shape : Shape) (h : List Event) (put taken put' taken' : List ℕ) (told told' : Bool) → IsFound shape h put taken told →
     IsFound shape h put' taken' told' → Lawful put taken told ≡ Lawful put' taken' told'
-one_found puts_read takes_read shape h put taken put' taken' told told' f g =
-    let same_put : put ≡ put' = f.put_is ∙ puts_read shape h f.puts g.puts f.run.puts_follow g.run.puts_follow ∙ sym g.put_is in
-    let (there, on) = takes_read shape h f.takes g.takes f.run.takes_follow g.run.takes_follow in
-    let (back, on') = takes_read shape h g.takes f.takes g.run.takes_follow f.run.takes_follow in
+one_found shape h put taken put' taken' told told' f g =
+    let same_put : put ≡ put' = f.put_is ∙ items-are_read same_item shape h f.puts g.puts f.run.puts_follow g.run.puts_follow ∙ sym g.put_is in
+    let (there, on) = taken-are_read same_item shape h f.takes g.takes f.run.takes_follow g.run.takes_follow in
+    let (back, on') = taken-are_read same_item shape h g.takes f.takes g.run.takes_follow f.run.takes_follow in
     let same_taken : taken ≡ taken' = f.taken_is ∙ there ∙ sym g.taken_is in
     let same_told : told ≡ told' = same_truth told told' (λ e. g.told_is.1 (on (f.told_is.0 e))) (λ e. f.told_is.1 (on' (g.told_is.0 e))) in
     cc
@@ -36,9 +38,9 @@ one_found puts_read takes_read shape h put taken put' taken' told told' f g =
 
 -- no place is before another
 not_before :
-    BeginningIsLawful → (shape : Shape) (h : List Event) (p q : ℕ) (k l : Kind) → IsFirstBreak shape h p k → IsFirstBreak shape h q l → p < q → ⊥
-not_before law shape h p q k l f g below =
-    f.breaks (subst (IsOfPrograms shape) (take-take (suc p) q h (omega (arith, below))) (programs_take law shape (take q h) (suc p) g.before))
+    (shape : Shape) (h : List Event) (p q : ℕ) (k l : Kind) → IsFirstBreak shape h p k → IsFirstBreak shape h q l → p < q → ⊥
+not_before shape h p q k l f g below =
+    f.breaks (subst (IsOfPrograms shape) (take-take (suc p) q h (omega (arith, below))) (programs_take shape (take q h) (suc p) g.before))
 
 -- a fault is the program's, where the bits are lawful, or of the bits
 of_kind : (shape : Shape) (h : List Event) (place : ℕ) (k : Kind) → IsKindAt shape h place k → (IsLawful shape (take (suc place) h) × (k ≡ NotProgram)) ⊎ IsFirstFault shape h place k
@@ -47,38 +49,38 @@ of_kind shape h place WrongSide is = inr is
 of_kind shape h place OutOfTurn is = inr is
 of_kind shape h place NotPermitted is = inr is
 
-one_kind : FaultBreaks → OneVerdict → (shape : Shape) (h : List Event) (place : ℕ) (k l : Kind) → IsKindAt shape h place k → IsKindAt shape h place l → k ≡ l
-one_kind breaks one shape h place k l is is' = by_kinds (of_kind shape h place k is) (of_kind shape h place l is')
+one_kind : (shape : Shape) (h : List Event) (place : ℕ) (k l : Kind) → IsKindAt shape h place k → IsKindAt shape h place l → k ≡ l
+one_kind shape h place k l is is' = by_kinds (of_kind shape h place k is) (of_kind shape h place l is')
   where
     by_kinds :
         (IsLawful shape (take (suc place) h) × (k ≡ NotProgram)) ⊎ IsFirstFault shape h place k →
         (IsLawful shape (take (suc place) h) × (l ≡ NotProgram)) ⊎ IsFirstFault shape h place l → k ≡ l
     by_kinds (inl (lawful, e)) (inl (lawful', e')) = e ∙ sym e'
-    by_kinds (inl (lawful, e)) (inr fault) = absurd ((breaks shape h place l fault).1 lawful)
-    by_kinds (inr fault) (inl (lawful, e)) = absurd ((breaks shape h place k fault).1 lawful)
-    by_kinds (inr fault) (inr fault') = let both : bits.Fault place k ≡ bits.Fault place l = one shape h (bits.Fault place k) (bits.Fault place l) fault fault' in cc
+    by_kinds (inl (lawful, e)) (inr fault) = absurd ((fault_breaks shape h place l fault).1 lawful)
+    by_kinds (inr fault) (inl (lawful, e)) = absurd ((fault_breaks shape h place k fault).1 lawful)
+    by_kinds (inr fault) (inr fault') = let both : bits.Fault place k ≡ bits.Fault place l = one_verdict shape h (bits.Fault place k) (bits.Fault place l) fault fault' in cc
 
 one_break :
-    BeginningIsLawful → FaultBreaks → OneVerdict → (shape : Shape) (h : List Event) (p q : ℕ) (k l : Kind) → IsFirstBreak shape h p k → IsFirstBreak shape h q l →
+    (shape : Shape) (h : List Event) (p q : ℕ) (k l : Kind) → IsFirstBreak shape h p k → IsFirstBreak shape h q l →
     Fault p k ≡ Fault q l
-one_break law breaks one shape h p q k l f g =
+one_break shape h p q k l f g =
     elim (cases_order p q) [
-      | inl same ↦ ap₂ Fault same (one_kind breaks one shape h q k l (subst (λ n. IsKindAt shape h n k) same f.kind_is) g.kind_is)
+      | inl same ↦ ap₂ Fault same (one_kind shape h q k l (subst (λ n. IsKindAt shape h n k) same f.kind_is) g.kind_is)
       | inr other ↦ elim other [
-        | inl below ↦ absurd (not_before law shape h p q k l f g below)
-        | inr above ↦ absurd (not_before law shape h q p l k g f above)
+        | inl below ↦ absurd (not_before shape h p q k l f g below)
+        | inr above ↦ absurd (not_before shape h q p l k g f above)
       ]
     ]
 
 -- ---- both
 
 never_both :
-    BeginningIsLawful → (shape : Shape) (h : List Event) (put taken : List ℕ) (told : Bool) (place : ℕ) (kind : Kind) → IsFound shape h put taken told → IsFirstBreak shape h place kind → ⊥
-never_both law shape h put taken told place kind f g = g.breaks (programs_take law shape h (suc place) (f.puts, f.takes, f.run))
+    (shape : Shape) (h : List Event) (put taken : List ℕ) (told : Bool) (place : ℕ) (kind : Kind) → IsFound shape h put taken told → IsFirstBreak shape h place kind → ⊥
+never_both shape h put taken told place kind f g = g.breaks (programs_take shape h (suc place) (f.puts, f.takes, f.run))
 
-pub one_finding : BeginningIsLawful → FaultBreaks → OneVerdict → ItemsAreRead → TakenAreRead → OneFinding
-one_finding law breaks one puts_read takes_read shape h (Lawful put taken told) (Lawful put' taken' told') f g =
-    one_found puts_read takes_read shape h put taken put' taken' told told' f g
-one_finding law breaks one puts_read takes_read shape h (Fault p k) (Fault q l) f g = one_break law breaks one shape h p q k l f g
-one_finding law breaks one puts_read takes_read shape h (Lawful put taken told) (Fault p k) f g = absurd (never_both law shape h put taken told p k f g)
-one_finding law breaks one puts_read takes_read shape h (Fault p k) (Lawful put taken told) f g = absurd (never_both law shape h put taken told p k g f)
+pub one_finding : OneFinding
+one_finding shape h (Lawful put taken told) (Lawful put' taken' told') f g =
+    one_found shape h put taken put' taken' told told' f g
+one_finding shape h (Fault p k) (Fault q l) f g = one_break shape h p q k l f g
+one_finding shape h (Lawful put taken told) (Fault p k) f g = absurd (never_both shape h put taken told p k f g)
+one_finding shape h (Fault p k) (Lawful put taken told) f g = absurd (never_both shape h put taken told p k g f)

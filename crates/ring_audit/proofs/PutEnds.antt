@@ -19,12 +19,12 @@ use Rattle.register_core.specs.ScanState.{zero_reads, scan_phrase, row_read_by, 
 use Rattle.ring_core.specs.Counts.{LeavesRoom, distance, number_past, Count, IsCount, first_count, batch_phrase}
 use Rattle.ring_core.specs.Puts.{Put, Puts, Stored, Full, stored_after, stored_count, words_phrase, put_phrase, put_phrases, close_phrase, accesses_before_count, IsPut, ArePuts}
 use Rattle.ring_core.specs.Items.{events_in, items_put, all_put}
-use Rattle.ring_core.specs.CountWrites.{CountsAreWritten, CountsShowNumbers}
 use Rattle.ring_core.specs.PutParts.{count_behind}
 use Rattle.ring_audit.specs.declared.puts.Stage.{Stage}
 use Rattle.ring_audit.specs.declared.puts.Stage.TheVariants.{Resting, Scanning, Choosing, Storing, Counting, Closing, Closed}
 use Rattle.ring_audit.specs.Sides.{open_events}
 use Rattle.ring_audit.specs.PutReading.{PutReading, IsPutReading, IsReaderAt, IsMost, InCount, PutsStand, WerePut}
+use Rattle.ring_core.proofs.CountRow.{batch_by_below, batch_long, counted_is_count, first_is_count}
 use Rattle.ring_audit.proofs.Beginnings.{begin_is, events_of-append, length-events}
 use Rattle.ring_audit.proofs.Readers.{at_rest, open-short, open-long}
 use Rattle.ring_audit.proofs.PutReads.{made_at, at_stage, scan_due, same_open, read_due}
@@ -107,20 +107,16 @@ begins_so made rest (Some a) open_is =
 
 -- ---- counts
 
--- a count shows its number, and its writes have accesses
-abbrev CountLaws : Type 0
-CountLaws = CountsShowNumbers × CountsAreWritten
-
 -- calls that go on with a put that stores, or with one that finds no room, or with nothing but perhaps the close
 abbrev closes_of : List Put → Bool → Puts
 closes_of puts closes = record { puts = puts; closes = closes }
 
 all_count :
-    CountLaws → (shape : Shape) (c : Count) (xs : List Put) → IsCount shape c → ArePuts shape c.number xs → AllCount shape c xs
-all_count laws shape c [] is are = record {}
-all_count laws shape c (Stored seen items ∷ xs) is ((below, room, batch), are) =
-    (laws.1 shape P c items is batch.some batch.few, all_count laws shape (stored_after shape c (Stored seen items)) xs ((laws.0 shape).1 c seen items) are)
-all_count laws shape c (Full seen ∷ xs) is (none, are) = all_count laws shape c xs is are
+    (shape : Shape) (c : Count) (xs : List Put) → IsCount shape c → ArePuts shape c.number xs → AllCount shape c xs
+all_count shape c [] is are = record {}
+all_count shape c (Stored seen items ∷ xs) is ((below, room, batch), are) =
+    (batch_long shape P c items is batch.some (omega (arith, batch.few, batch_by_below shape P)), all_count shape (stored_after shape c (Stored seen items)) xs (counted_is_count shape c items) are)
+all_count shape c (Full seen ∷ xs) is (none, are) = all_count shape c xs is are
 
 -- the access that is open is the first of the rest
 abbrev OpensRest : Option Access → List Made → Type 0
@@ -131,9 +127,9 @@ none_opens o rest none a some = let clash : None ≡ Some a = sym none ∙ some 
 
 -- no put under way
 by_puts :
-    CountLaws → (shape : Shape) (r : PutReading) (es : List Event) (items stored : List ℕ) (st : PutsStand shape r es items stored) (closes : Bool) (part rest : List Made) →
+    (shape : Shape) (r : PutReading) (es : List Event) (items stored : List ℕ) (st : PutsStand shape r es items stored) (closes : Bool) (part rest : List Made) →
     items ≡ all_put st.puts → st.made ≡ put_phrases shape first_count st.puts ++ part → close_phrase closes ≡ part ++ rest → OpensRest r.open_access rest → WerePut shape es items
-by_puts law shape r es items stored st closes part rest items_are made_is close_is opens =
+by_puts shape r es items stored st closes part rest items_are made_is close_is opens =
     let front : List Made = put_phrases shape first_count st.puts in
     let lower : 2 * length st.made ≤ length es = subst (λ l. 2 * length st.made ≤ length l) (sym st.events_are) (open-long P st.made r.open_access) in
     let reached : events_in front ≤ length es = omega (arith, lower, ap length made_is, length-append front part) in
@@ -144,17 +140,17 @@ by_puts law shape r es items stored st closes part rest items_are made_is close_
       events = subst (λ l. IsPrefix l (events_of P (front ++ close_phrase closes))) (sym st.events_are)
           (subst (λ l. IsPrefix (events_of P st.made ++ open_events P r.open_access) (events_of P l)) (sym program) (begins_so st.made rest r.open_access opens));
       put = items_are ∙ sym (append-nil (all_put st.puts))
-          ∙ sym (items-behind shape first_count st.puts [] (length es) (all_count law shape first_count st.puts (law.0 shape).0 st.are) reached)
+          ∙ sym (items-behind shape first_count st.puts [] (length es) (all_count shape first_count st.puts (first_is_count shape) st.are) reached)
           ∙ ap (λ l. items_put shape first_count l (length es)) (append-nil st.puts);
     }
 
 -- a put under way, of which the accesses made are a beginning
 by_put :
-    CountLaws → (shape : Shape) (r : PutReading) (es : List Event) (items stored : List ℕ) (st : PutsStand shape r es items stored) (x : Put) (part rest : List Made) (more : List ℕ) →
+    (shape : Shape) (r : PutReading) (es : List Event) (items stored : List ℕ) (st : PutsStand shape r es items stored) (x : Put) (part rest : List Made) (more : List ℕ) →
     IsPut shape (count_behind shape st.puts).number x → items ≡ all_put st.puts ++ more → st.made ≡ put_phrases shape first_count st.puts ++ part →
     put_phrase shape (count_behind shape st.puts) x ≡ part ++ rest → OpensRest r.open_access rest →
     ((t : ℕ) → t ≡ length es - events_in (put_phrases shape first_count st.puts) → items_put shape (count_behind shape st.puts) (x ∷ []) t ≡ more) → WerePut shape es items
-by_put law shape r es items stored st x part rest more is_put items_are made_is phrase_is opens put_so =
+by_put shape r es items stored st x part rest more is_put items_are made_is phrase_is opens put_so =
     let front : List Made = put_phrases shape first_count st.puts in
     let lower : 2 * length st.made ≤ length es = subst (λ l. 2 * length st.made ≤ length l) (sym st.events_are) (open-long P st.made r.open_access) in
     let reached : events_in front ≤ length es = omega (arith, lower, ap length made_is, length-append front part) in
@@ -167,7 +163,7 @@ by_put law shape r es items stored st x part rest more is_put items_are made_is 
       events = subst (λ l. IsPrefix l (events_of P (put_phrases shape first_count (st.puts ++ x ∷ []) ++ []))) (sym st.events_are)
           (subst (λ l. IsPrefix (events_of P st.made ++ open_events P r.open_access) (events_of P l)) (sym program) (begins_so st.made rest r.open_access opens));
       put = items_are ∙ ap (λ l. all_put st.puts ++ l) (sym (put_so (length es - events_in front) refl))
-          ∙ sym (items-behind shape first_count st.puts (x ∷ []) (length es) (all_count law shape first_count st.puts (law.0 shape).0 st.are) reached);
+          ∙ sym (items-behind shape first_count st.puts (x ∷ []) (length es) (all_count shape first_count st.puts (first_is_count shape) st.are) reached);
     }
 
 -- the moment, behind the puts that have ended
@@ -190,8 +186,8 @@ room_or_none shape n d = below_or_not (distance (modulus_of shape) n d) (capacit
 has_batch : (shape : Shape) → 1 ≤ batch_of shape
 has_batch shape = omega (arith, shape.has_batch)
 
-scanning_put : (law : CountLaws) (shape : Shape) (r : PutReading) (es : List Event) (items stored : List ℕ) → PutsStand shape r es items stored → r.stage ≡ Scanning → IsReaderAt Scanning r → WerePut shape es items
-scanning_put law shape r es items stored st stage (idle, scans, some, due) =
+scanning_put : (shape : Shape) (r : PutReading) (es : List Event) (items stored : List ℕ) → PutsStand shape r es items stored → r.stage ≡ Scanning → IsReaderAt Scanning r → WerePut shape es items
+scanning_put shape r es items stored st stage (idle, scans, some, due) =
     let (rests, made_is) = made_at shape r es items stored st Scanning stage in
     let c : Count = count_behind shape st.puts in
     let z : ℕ = r.scan.zeros in
@@ -206,7 +202,7 @@ scanning_put law shape r es items stored st stage (idle, scans, some, due) =
           let tail : List Made = words_phrase shape c.number (0 ∷ []) ++ batch_phrase shape P c (0 ∷ []) in
           let is_put : IsPut shape c.number (Stored z (0 ∷ [])) =
           (below, omega (arith, room), record { some = omega arith; few = omega (arith, has_batch shape); fit = (pow_pos (width_of shape), record {}) }) in
-          by_put law shape r es items stored st (Stored z (0 ∷ [])) zeros (here ∷ tail) [] is_put items_are made_is
+          by_put shape r es items stored st (Stored z (0 ∷ [])) zeros (here ∷ tail) [] is_put items_are made_is
           (append_assoc (zeros ++ here ∷ []) (words_phrase shape c.number (0 ∷ [])) (batch_phrase shape P c (0 ∷ [])) ∙ append_assoc zeros (here ∷ []) tail)
           (opens_here tail)
           (λ t e. late shape c z (0 ∷ []) t
@@ -216,7 +212,7 @@ scanning_put law shape r es items stored st stage (idle, scans, some, due) =
           let scan_long : length (zeros ++ here ∷ []) ≡ length zeros + 1 = length-append zeros (here ∷ []) in
           omega (arith, high, long, scan_long)))
       | inr none ↦
-          by_put law shape r es items stored st (Full z) zeros (here ∷ []) [] (below, none) items_are made_is refl (opens_here []) (λ t e. refl)
+          by_put shape r es items stored st (Full z) zeros (here ∷ []) [] (below, none) items_are made_is refl (opens_here []) (λ t e. refl)
     ]
 
 -- a put that stores these items and one more
@@ -274,8 +270,8 @@ some_digits : (item w : ℕ) → 0 < w → 1 ≤ length (digit_writes item w)
 some_digits item zero l = absurd (omega (arith, l))
 some_digits item (suc w) l = omega (arith, length-append (digit_writes item w) (record { bit = w; value = digit w item } ∷ []))
 
-choosing_put : (law : CountLaws) (shape : Shape) (r : PutReading) (es : List Event) (items stored : List ℕ) → PutsStand shape r es items stored → r.stage ≡ Choosing → IsReaderAt Choosing r → WerePut shape es items
-choosing_put law shape r es items stored st stage (none, idle) =
+choosing_put : (shape : Shape) (r : PutReading) (es : List Event) (items stored : List ℕ) → PutsStand shape r es items stored → r.stage ≡ Choosing → IsReaderAt Choosing r → WerePut shape es items
+choosing_put shape r es items stored st stage (none, idle) =
     let (s, made_is) = made_at shape r es items stored st Choosing stage in
     let c : Count = count_behind shape st.puts in
     let scan : List Made = scan_phrase (row_read_by P) s.seen in
@@ -288,7 +284,7 @@ choosing_put law shape r es items stored st stage (none, idle) =
           (s.may.below, omega (arith, s.may.room), record { some = omega (arith, s.may.some, no_room); few = omega (arith, s.may.few); fit = s.fit }) in
           let rest : List Made = batch_phrase shape P c stored in
           let es_is : length es ≡ 2 * length st.made = ap length (at_rest P es st.made r.open_access st.events_are none) ∙ length-events P st.made in
-          by_put law shape r es items stored st (Stored s.seen stored) (scan ++ words) rest [] is_put items_are made_is refl (none_opens r.open_access rest none)
+          by_put shape r es items stored st (Stored s.seen stored) (scan ++ words) rest [] is_put items_are made_is refl (none_opens r.open_access rest none)
           (λ t e. late shape c s.seen stored t
           (let long : length st.made ≡ length (put_phrases shape first_count st.puts) + length (scan ++ words) =
           ap length made_is ∙ length-append (put_phrases shape first_count st.puts) (scan ++ words) in
@@ -297,7 +293,7 @@ choosing_put law shape r es items stored st stage (none, idle) =
           let whole : digit_writes 0 (width_of shape) ≡ [] ++ digit_writes 0 (width_of shape) = refl in
           let part_is : scan ++ words ≡ scan ++ (words ++ writes_in (Cell cell) []) = ap (λ l. scan ++ l) (sym (append-nil words)) in
           let rest : List Made = writes_in (Cell cell) (digit_writes 0 (width_of shape)) ++ batch_phrase shape P c (stored ++ 0 ∷ []) in
-          by_put law shape r es items stored st (Stored s.seen (stored ++ 0 ∷ [])) (scan ++ words) rest [] (one_more shape c.number s.seen r.room stored 0 s.may some s.fit (pow_pos (width_of shape)))
+          by_put shape r es items stored st (Stored s.seen (stored ++ 0 ∷ [])) (scan ++ words) rest [] (one_more shape c.number s.seen r.room stored 0 s.may some s.fit (pow_pos (width_of shape)))
           items_are made_is (storing_phrase shape c s.seen stored 0 [] (digit_writes 0 (width_of shape)) whole ∙ ap (λ l. l ++ rest) (sym part_is)) (none_opens r.open_access rest none)
           (λ t e. late_word shape c s.seen stored 0 t (scan ++ words) [] [] (digit_writes 0 (width_of shape)) (moment shape r es items stored st (scan ++ words) t made_is e).1 whole
           (some_digits 0 (width_of shape) shape.has_digits) part_is)
@@ -308,10 +304,10 @@ choosing_put law shape r es items stored st stage (none, idle) =
     zero_or_more (suc n) = inr (omega arith)
 
 storing_put :
-    (law : CountLaws) (shape : Shape) (r : PutReading) (es : List Event) (items stored : List ℕ) (st : PutsStand shape r es items stored) → r.stage ≡ Storing → IsReaderAt Storing r →
+    (shape : Shape) (r : PutReading) (es : List Event) (items stored : List ℕ) (st : PutsStand shape r es items stored) → r.stage ≡ Storing → IsReaderAt Storing r →
     (v : Bool) → ((a : Access) → r.open_access ≡ Some a → a ≡ begins.Write (Cell r.word.cell r.word.read) v) →
     ((made : List Made) → ReaderStands r.word made → BeginsRead r.word.width r.word.cell (made ++ Read (Cell r.word.cell r.word.read) v ∷ [])) → WerePut shape es items
-storing_put law shape r es items stored st stage (idle, width_is, cell_same, below, room, some, opened_so) v opened goes =
+storing_put shape r es items stored st stage (idle, width_is, cell_same, below, room, some, opened_so) v opened goes =
     let (s, reads, stands, made_is) = made_at shape r es items stored st Storing stage in
     let c : Count = count_behind shape st.puts in
     let scan : List Made = scan_phrase (row_read_by P) s.seen in
@@ -330,14 +326,14 @@ storing_put law shape r es items stored st stage (idle, width_is, cell_same, bel
     let part_is : part ≡ scan ++ (words ++ writes_in (Cell cell) first) = ap (λ j. scan ++ (words ++ writes_in (Cell j) first)) s.cell_is in
     let tail : List Made = writes_in (Cell cell) (map as_write later) ++ batch_phrase shape P c (stored ++ item ∷ []) in
     let rest : List Made = Write (Cell cell n) v ∷ tail in
-    by_put law shape r es items stored st (Stored s.seen (stored ++ item ∷ [])) part rest []
+    by_put shape r es items stored st (Stored s.seen (stored ++ item ∷ [])) part rest []
     (one_more shape c.number s.seen r.room stored item s.may room s.fit (subst (λ w. item < 2 ^ w) width_so fits))
     items_are made_is (storing_phrase shape c s.seen stored item first (here ∷ map as_write later) digits ∙ ap (λ l. l ++ rest) (sym part_is))
     (λ a o. (Write (Cell cell n) v, tail, refl, ap (λ j. begins.Write (Cell j n) v) (sym (cell_same ∙ s.cell_is)) ∙ sym (opened a o)))
     (λ t f. late_word shape c s.seen stored item t part [] first (here ∷ map as_write later) (moment shape r es items stored st part t made_is f).1 digits (omega arith) part_is)
 
-counting_put : (law : CountLaws) (shape : Shape) (r : PutReading) (es : List Event) (items stored : List ℕ) → PutsStand shape r es items stored → r.stage ≡ Counting → r.row.side ≡ P → IsReaderAt Counting r → WerePut shape es items
-counting_put law shape r es items stored st stage side (due, opened) =
+counting_put : (shape : Shape) (r : PutReading) (es : List Event) (items stored : List ℕ) → PutsStand shape r es items stored → r.stage ≡ Counting → r.row.side ≡ P → IsReaderAt Counting r → WerePut shape es items
+counting_put shape r es items stored st stage side (due, opened) =
     let (s, made_is) = made_at shape r es items stored st Counting stage in
     let c : Count = count_behind shape st.puts in
     let scan : List Made = scan_phrase (row_read_by P) s.seen in
@@ -348,7 +344,7 @@ counting_put law shape r es items stored st stage side (due, opened) =
     ap (λ ws. (scan ++ words) ++ writes_in (row_bit P) ws) s.parts
     ∙ ap (λ l. (scan ++ words) ++ l) (map-append (λ (z : RowWrite). Write (row_bit P z.bit) z.value) s.writes (due_writes r.row))
     ∙ sym (append_assoc (scan ++ words) bits rest) ∙ ap (λ l. l ++ rest) (append_assoc scan words bits) in
-    by_put law shape r es items stored st (Stored s.seen s.batch) (scan ++ (words ++ bits)) rest s.batch s.is_put s.items_are made_is phrase
+    by_put shape r es items stored st (Stored s.seen s.batch) (scan ++ (words ++ bits)) rest s.batch s.is_put s.items_are made_is phrase
     (λ a o.
     (let (w, more, due_are, is) = first_of r.row a side (opened a o) in
     (Write (S w.bit) w.value, writes_in (row_bit P) more, ap (writes_in (row_bit P)) due_are, sym is)))
@@ -380,18 +376,18 @@ counting_put law shape r es items stored st stage side (due, opened) =
 -- ---- whatever the stage
 
 pub has_put :
-    CountLaws → (r : PutReading) → IsPutReading r → (due : Option Access) → due ≡ due_read r.word →
+    (r : PutReading) → IsPutReading r → (due : Option Access) → due ≡ due_read r.word →
     ((made : List Made) → ReaderStands r.word made → IsNextRead r.word.width r.word.cell made due) →
     (es : List Event) (items stored : List ℕ) → PutsStand r.shape r es items stored → WerePut r.shape es items
-has_put law r is due due_is nexts es items stored st = by_stage r.stage refl
+has_put r is due due_is nexts es items stored st = by_stage r.stage refl
   where
     by_stage : (stage : Stage) → r.stage ≡ stage → WerePut r.shape es items
     by_stage Resting e =
         let (rests, made_is) = made_at r.shape r es items stored st Resting e in
         let at : IsReaderAt Resting r = at_stage r Resting is e in
-        by_puts law r.shape r es items stored st false [] [] rests.items_are (made_is ∙ sym (append-nil (put_phrases r.shape first_count st.puts))) refl (none_opens r.open_access [] at.0)
-    by_stage Scanning e = scanning_put law r.shape r es items stored st e (at_stage r Scanning is e)
-    by_stage Choosing e = choosing_put law r.shape r es items stored st e (at_stage r Choosing is e)
+        by_puts r.shape r es items stored st false [] [] rests.items_are (made_is ∙ sym (append-nil (put_phrases r.shape first_count st.puts))) refl (none_opens r.open_access [] at.0)
+    by_stage Scanning e = scanning_put r.shape r es items stored st e (at_stage r Scanning is e)
+    by_stage Choosing e = choosing_put r.shape r es items stored st e (at_stage r Choosing is e)
     by_stage Storing e =
         let at : IsReaderAt Storing r = at_stage r Storing is e in
         let reads : (v : Bool) (made : List Made) → ReaderStands r.word made → BeginsRead r.word.width r.word.cell (made ++ Read (Cell r.word.cell r.word.read) v ∷ []) = λ v made stands.
@@ -401,17 +397,17 @@ has_put law r is due due_is nexts es items stored st = by_stage r.stage refl
         by_open :
             (o : Option Access) → r.open_access ≡ o → IsReaderAt Storing r →
             ((v : Bool) (made : List Made) → ReaderStands r.word made → BeginsRead r.word.width r.word.cell (made ++ Read (Cell r.word.cell r.word.read) v ∷ [])) → WerePut r.shape es items
-        by_open None o at reads = storing_put law r.shape r es items stored st e at true (λ a f. (let clash : None ≡ Some a = sym o ∙ f in absurd (cc))) (reads true)
+        by_open None o at reads = storing_put r.shape r es items stored st e at true (λ a f. (let clash : None ≡ Some a = sym o ∙ f in absurd (cc))) (reads true)
         by_open (Some b) o at reads =
             let (v, writes) = at.6 b o in
-            storing_put law r.shape r es items stored st e at v (λ a f. same_open r.open_access a b f o ∙ writes) (reads v)
-    by_stage Counting e = counting_put law r.shape r es items stored st e is.row_side (at_stage r Counting is e)
+            storing_put r.shape r es items stored st e at v (λ a f. same_open r.open_access a b f o ∙ writes) (reads v)
+    by_stage Counting e = counting_put r.shape r es items stored st e is.row_side (at_stage r Counting is e)
     by_stage Closing e =
         let (rests, made_is) = made_at r.shape r es items stored st Closing e in
         let at : IsReaderAt Closing r = at_stage r Closing is e in
-        by_puts law r.shape r es items stored st true [] (Write X true ∷ []) rests.items_are (made_is ∙ sym (append-nil (put_phrases r.shape first_count st.puts))) refl
+        by_puts r.shape r es items stored st true [] (Write X true ∷ []) rests.items_are (made_is ∙ sym (append-nil (put_phrases r.shape first_count st.puts))) refl
         (λ a o. (Write X true, [], refl, same_open r.open_access (begins.Write X true) a at o))
     by_stage Closed e =
         let (rests, made_is) = made_at r.shape r es items stored st Closed e in
         let at : IsReaderAt Closed r = at_stage r Closed is e in
-        by_puts law r.shape r es items stored st true (Write X true ∷ []) [] rests.items_are made_is refl (none_opens r.open_access [] at)
+        by_puts r.shape r es items stored st true (Write X true ∷ []) [] rests.items_are made_is refl (none_opens r.open_access [] at)

@@ -20,14 +20,15 @@ use Rattle.register_core.specs.ScanState.{ScanState, LastIsDue, zero_reads, scan
 use Rattle.ring_core.specs.Counts.{LeavesRoom, number_past, Count, first_count, count_bits}
 use Rattle.ring_core.specs.Puts.{Puts, words_phrase, put_phrases, put_program}
 use Rattle.ring_core.specs.Calls.{IsScanning}
-use Rattle.ring_core.specs.PutParts.{GoesBehind, count_behind, count_access, ScansOrCloses, ScansOn, StoresOrCounts, StoresOn, CountsOn}
-use Rattle.ring_core.specs.GoingOn.{LastPutsReadOne}
-use Rattle.ring_core.specs.Readings.{PutsAreFirst}
+use Rattle.ring_core.specs.PutParts.{GoesBehind, count_behind, count_access}
 use Rattle.ring_audit.specs.declared.puts.PutStep.{PutStep}
 use Rattle.ring_audit.specs.declared.puts.Stage.{Stage}
 use Rattle.ring_audit.specs.declared.puts.Stage.TheVariants.{Resting, Scanning, Choosing, Storing, Counting, Closed}
 use Rattle.ring_audit.specs.Sides.{AreOfPuts}
 use Rattle.ring_audit.specs.PutReading.{PutReading, IsPutReading, HasReadPut, IsReaderAt, RowHolds, IsMost, has_items, MadeWhile, PutsStand}
+use Rattle.register_core.proofs.Items.{same_item}
+use Rattle.ring_core.proofs.Machines.PutParts.{counts-on, last-puts_read_one, scans-on, scans-or_closes, stores-on, stores-or_counts}
+use Rattle.ring_core.proofs.Readings.ItemsRead.{puts-are_first}
 use Rattle.ring_audit.proofs.Readers as readers
 use Rattle.ring_audit.proofs.Beginnings.{begin_is, access_is, same_access, same_made, GoesOnWith, GoesOnBy, events_of-append}
 
@@ -51,9 +52,9 @@ scan_due side m s is =
 
 -- a 0 of the last bit
 pub zero_at_last :
-    LastPutsReadOne → (shape : Shape) (r : PutReading) (es : List Event) (items stored : List ℕ) (a : Access) → PutsStand shape r es items stored → r.open_access ≡ Some a →
+    (shape : Shape) (r : PutReading) (es : List Event) (items stored : List ℕ) (a : Access) → PutsStand shape r es items stored → r.open_access ≡ Some a →
     IsScanning P (modulus_of shape) r.scan → due_scan r.scan ≡ Some a → LastIsDue r.scan → AreOfPuts shape (es ++ end_event P (answered a false) ∷ []) → ⊥
-zero_at_last one shape r es items stored a st some scans due last of_puts =
+zero_at_last shape r es items stored a st some scans due last of_puts =
     let on = work_on shape r es items stored st a (end_event P (answered a false)) some of_puts in
     let begun : begin_event P (answered a false) ≡ begin_event P on.next =
     begin_is P (answered a false) ∙ ap (opening_event P) (access_is a false) ∙ on.begins in
@@ -62,7 +63,7 @@ zero_at_last one shape r es items stored a st some scans due last of_puts =
     let a_is : a ≡ begins.Read (row_read_by P r.scan.zeros) = cc in
     let next_reads : on.next ≡ Read (row_read_by P r.scan.zeros) false = next_is ∙ ap (λ z. answered z false) a_is in
     let clash : false ≡ true =
-    one shape of_puts.0 of_puts.1 st.made r.scan.zeros false on.rest (on.whole_is ∙ ap (λ z. st.made ++ z ∷ on.rest) next_reads) (last.1 ∙ scans.modulus_is) in
+    last-puts_read_one shape of_puts.0 of_puts.1 st.made r.scan.zeros false on.rest (on.whole_is ∙ ap (λ z. st.made ++ z ∷ on.rest) next_reads) (last.1 ∙ scans.modulus_is) in
     absurd (cc)
 
 -- ---- where it stops, by the stage
@@ -84,23 +85,23 @@ made_at shape r es items stored st stage e = subst (λ s. MadeWhile s shape r st
 
 -- between calls
 pub no_call :
-    ScansOrCloses → (shape : Shape) (r : PutReading) (es : List Event) (items stored : List ℕ) (a : Access) → PutsStand shape r es items stored → r.open_access ≡ None →
+    (shape : Shape) (r : PutReading) (es : List Event) (items stored : List ℕ) (a : Access) → PutsStand shape r es items stored → r.open_access ≡ None →
     r.stage ≡ Resting → (begins.Write X true ≡ a → ⊥) → (begins.Read (row_read_by P 0) ≡ a → ⊥) → AreOfPuts shape (es ++ opening_event P a ∷ []) → ⊥
-no_call law shape r es items stored a st none stage no_close no_read of_puts =
+no_call shape r es items stored a st none stage no_close no_read of_puts =
     let (rests, made_is) = made_at shape r es items stored st Resting stage in
     let on = rest_on shape r es items stored st (opening_event P a) none of_puts in
     let is_a : access_of on.next ≡ a = same_access P a on.next on.begins in
     let g = goes_behind shape r es items stored st [] (opening_event P a) (made_is ∙ sym (append-nil (put_phrases shape first_count st.puts))) of_puts on in
-    elim (law shape st.puts on.next on.rest st.are g) [
+    elim (scans-or_closes same_item shape st.puts on.next on.rest st.are g) [
       | inl (v, e) ↦ no_read (sym (ap access_of e) ∙ is_a)
       | inr e ↦ no_close (sym (ap access_of e) ∙ is_a)
     ]
 
 -- in a scan
 pub no_read :
-    ScansOn → (shape : Shape) (r : PutReading) (es : List Event) (items stored : List ℕ) (a : Access) → PutsStand shape r es items stored → r.open_access ≡ None →
+    (shape : Shape) (r : PutReading) (es : List Event) (items stored : List ℕ) (a : Access) → PutsStand shape r es items stored → r.open_access ≡ None →
     r.stage ≡ Scanning → 0 < r.scan.zeros → (begins.Read (row_read_by P r.scan.zeros) ≡ a → ⊥) → AreOfPuts shape (es ++ opening_event P a ∷ []) → ⊥
-no_read law shape r es items stored a st none stage some wrong of_puts =
+no_read shape r es items stored a st none stage some wrong of_puts =
     by_zeros r.scan.zeros refl
   where
     by_zeros : (zeros : ℕ) → r.scan.zeros ≡ zeros → ⊥
@@ -111,7 +112,7 @@ no_read law shape r es items stored a st none stage some wrong of_puts =
         let is_a : access_of on.next ≡ a = same_access P a on.next on.begins in
         let g = goes_behind shape r es items stored st (zero_reads (row_read_by P) (suc zeros)) (opening_event P a)
         (made_is ∙ ap (λ n. put_phrases shape first_count st.puts ++ zero_reads (row_read_by P) n) e) of_puts on in
-        let (v, is) = law shape st.puts zeros on.next on.rest st.are g in
+        let (v, is) = scans-on same_item shape st.puts zeros on.next on.rest st.are g in
         wrong (ap (λ n. begins.Read (row_read_by P n)) e ∙ sym (ap access_of is) ∙ is_a)
 
 -- where something may be stored there is room
@@ -149,10 +150,10 @@ first_due row w more side e = ap (first_access (row_bit row.side)) e ∙ ap (λ 
 
 -- behind a scan that found room, or a whole word
 pub no_word_nor_count :
-    StoresOrCounts → (shape : Shape) (r : PutReading) (es : List Event) (items stored : List ℕ) (a : Access) → PutsStand shape r es items stored → r.open_access ≡ None →
+    (shape : Shape) (r : PutReading) (es : List Event) (items stored : List ℕ) (a : Access) → PutsStand shape r es items stored → r.open_access ≡ None →
     r.stage ≡ Choosing → r.row.side ≡ P → ((v : Bool) → 0 < r.room → a ≡ begins.Write (Cell r.cell 0) v → ⊥) →
     (r.some ≡ true → due_unary (record r.row { value = r.next }) ≡ Some a → ⊥) → AreOfPuts shape (es ++ opening_event P a ∷ []) → ⊥
-no_word_nor_count law shape r es items stored a st none stage side no_word no_count of_puts =
+no_word_nor_count shape r es items stored a st none stage side no_word no_count of_puts =
     let (s, made_is) = made_at shape r es items stored st Choosing stage in
     let c : Count = count_behind shape st.puts in
     let scan : List Made = scan_phrase (row_read_by P) s.seen in
@@ -160,7 +161,7 @@ no_word_nor_count law shape r es items stored a st none stage side no_word no_co
     let on = rest_on shape r es items stored st (opening_event P a) none of_puts in
     let is_a : access_of on.next ≡ a = same_access P a on.next on.begins in
     let g = goes_behind shape r es items stored st (scan ++ words) (opening_event P a) made_is of_puts on in
-    elim (law shape st.puts s.seen stored on.next on.rest st.are (has_room_then shape c.number s.seen (length stored + r.room) s.may) s.fit
+    elim (stores-or_counts same_item shape st.puts s.seen stored on.next on.rest st.are (has_room_then shape c.number s.seen (length stored + r.room) s.may) s.fit
     (subst (GoesBehind shape st.puts) (append_assoc scan words (on.next ∷ on.rest)) g)) [
       | inl (v, e, room, few) ↦
           let most : suc (length stored) ≤ length stored + r.room = s.may.most (suc (length stored)) room few in
@@ -176,10 +177,10 @@ no_word_nor_count law shape r es items stored a st none stage side no_word no_co
 
 -- in a word
 pub no_digit :
-    StoresOn → (shape : Shape) (r : PutReading) (es : List Event) (items stored : List ℕ) (a : Access) → PutsStand shape r es items stored → r.open_access ≡ None →
+    (shape : Shape) (r : PutReading) (es : List Event) (items stored : List ℕ) (a : Access) → PutsStand shape r es items stored → r.open_access ≡ None →
     r.stage ≡ Storing → r.word.read < width_of shape → 0 < r.word.read → ((v : Bool) → a ≡ begins.Write (Cell r.cell r.word.read) v → ⊥) →
     AreOfPuts shape (es ++ opening_event P a ∷ []) → ⊥
-no_digit law shape r es items stored a st none stage below some wrong of_puts =
+no_digit shape r es items stored a st none stage below some wrong of_puts =
     by_read r.word.read refl
   where
     by_read : (read : ℕ) → r.word.read ≡ read → ⊥
@@ -199,7 +200,7 @@ no_digit law shape r es items stored a st none stage below some wrong of_puts =
         let g = goes_behind shape r es items stored st (scan ++ (words ++ digits)) (opening_event P a) made_so of_puts on in
         let parts : (scan ++ (words ++ digits)) ++ on.next ∷ on.rest ≡ scan ++ (words ++ (digits ++ on.next ∷ on.rest)) =
         append_assoc scan (words ++ digits) (on.next ∷ on.rest) ∙ ap (λ l. scan ++ l) (append_assoc words digits (on.next ∷ on.rest)) in
-        let (v, is) = law shape st.puts s.seen stored r.word.value read on.next on.rest st.are
+        let (v, is) = stores-on same_item shape st.puts s.seen stored r.word.value read on.next on.rest st.are
         (has_room_then shape c.number s.seen (length stored + r.room) s.may) s.fit (omega (arith, below, e)) (subst (GoesBehind shape st.puts) parts g) in
         wrong v (sym is_a ∙ ap access_of is ∙ ap (λ j. begins.Write (Cell j (suc read)) v) (sym s.cell_is) ∙ ap (λ n. begins.Write (Cell r.cell n) v) (sym e))
 
@@ -209,9 +210,9 @@ some_due (w ∷ more) none = (w, more, refl)
 
 -- in a count write
 pub no_bit :
-    CountsOn → (shape : Shape) (r : PutReading) (es : List Event) (items stored : List ℕ) (a : Access) → PutsStand shape r es items stored → r.open_access ≡ None →
+    (shape : Shape) (r : PutReading) (es : List Event) (items stored : List ℕ) (a : Access) → PutsStand shape r es items stored → r.open_access ≡ None →
     r.stage ≡ Counting → r.row.side ≡ P → due_unary r.row ≢ None → (due_unary r.row ≡ Some a → ⊥) → AreOfPuts shape (es ++ opening_event P a ∷ []) → ⊥
-no_bit law shape r es items stored a st none stage side due wrong of_puts =
+no_bit shape r es items stored a st none stage side due wrong of_puts =
     let (s, made_is) = made_at shape r es items stored st Counting stage in
     let c : Count = count_behind shape st.puts in
     let scan : List Made = scan_phrase (row_read_by P) s.seen in
@@ -228,15 +229,15 @@ no_bit law shape r es items stored a st none stage side due wrong of_puts =
     append_assoc scan (words ++ bits) (on.next ∷ on.rest) ∙ ap (λ l. scan ++ l) (append_assoc words bits (on.next ∷ on.rest)) in
     let batch = s.is_put.2 in
     let room : LeavesRoom shape (c.number % modulus_of shape) s.seen = omega (arith, s.is_put.1, batch.some) in
-    let is = law shape st.puts s.seen s.batch u w writes more on.next on.rest st.are room batch.fit
+    let is = counts-on same_item shape st.puts s.seen s.batch u w writes more on.next on.rest st.are room batch.fit
     (s.parts ∙ ap (λ ws. ws ++ due_writes r.row) writes_are ∙ ap (λ ws. (u ∷ writes) ++ ws) due_are) (subst (GoesBehind shape st.puts) parts g) in
     wrong (first_due r.row w more side due_are ∙ ap Some (sym (ap access_of is) ∙ is_a))
 
 -- behind the close
 pub no_more :
-    PutsAreFirst → (shape : Shape) (r : PutReading) (es : List Event) (items stored : List ℕ) (a : Access) → PutsStand shape r es items stored → r.open_access ≡ None →
+    (shape : Shape) (r : PutReading) (es : List Event) (items stored : List ℕ) (a : Access) → PutsStand shape r es items stored → r.open_access ≡ None →
     r.stage ≡ Closed → AreOfPuts shape (es ++ opening_event P a ∷ []) → ⊥
-no_more first shape r es items stored a st none stage of_puts =
+no_more shape r es items stored a st none stage of_puts =
     let (rests, made_is) = made_at shape r es items stored st Closed stage in
     let on = rest_on shape r es items stored st (opening_event P a) none of_puts in
     let calls : Puts = record { puts = st.puts; closes = true } in
@@ -244,7 +245,7 @@ no_more first shape r es items stored a st none stage of_puts =
     let whole : put_program shape calls ++ more ≡ put_program shape of_puts.0 = ap (λ l. l ++ more) (sym made_is) ∙ sym on.whole_is in
     let events : events_of P (put_program shape calls) ++ events_of P more ≡ events_of P (put_program shape of_puts.0) =
     sym (events_of-append P (put_program shape calls) more) ∙ ap (events_of P) whole in
-    let all : calls ≡ of_puts.0 = (first shape calls of_puts.0 st.are of_puts.1 (events_of P more, events)).1 refl in
+    let all : calls ≡ of_puts.0 = (puts-are_first same_item shape calls of_puts.0 st.are of_puts.1 (events_of P more, events)).1 refl in
     absurd (omega (arith, ap length whole, length-append (put_program shape calls) more, ap (λ z. length (put_program shape z)) all))
 
 -- ---- from what the reader is inside

@@ -5,7 +5,6 @@ use Rattle.bits_core.specs.declared.events.Side.TheVariants.{P, C}
 use Rattle.bits_core.specs.declared.events.Event.{Event}
 use Rattle.bits_core.specs.declared.shapes.Shape.{Shape}
 use Rattle.bits_core.specs.Bits.{same_side}
-use Rattle.bits_core.specs.Laws.{SubhistoryChanges}
 use Rattle.bits_core.specs.Made.{subhistory}
 use Rattle.ring_audit.specs.declared.puts.PutStep.TheVariants as p
 use Rattle.ring_audit.specs.declared.takes.TakeStep.TheVariants as c
@@ -13,50 +12,51 @@ use Rattle.ring_audit.specs.Sides.{AreOfPuts, AreOfTakes}
 use Rattle.ring_audit.specs.PutReading.{PutReading, PutsStand, HasReadPut}
 use Rattle.ring_audit.specs.TakeReading.{TakeReading, TakesStand, HasReadTake}
 use Rattle.ring_audit.specs.Reading.{Reading, ReadingStands, BothFollow, reading}
+use Rattle.bits_core.proofs.OwnEvents.{subhistory_changes}
 
-pub own_more : SubhistoryChanges → (s t : Side) (h : List Event) (e : Event) → e.side ≡ t → subhistory s (h ++ e ∷ []) ≡ (if same_side s t then subhistory s h ++ e ∷ [] else subhistory s h)
-own_more changes s t h e by = changes s h e ∙ ap (λ (u : Side). if same_side s u then subhistory s h ++ e ∷ [] else subhistory s h) by
+pub own_more : (s t : Side) (h : List Event) (e : Event) → e.side ≡ t → subhistory s (h ++ e ∷ []) ≡ (if same_side s t then subhistory s h ++ e ∷ [] else subhistory s h)
+own_more s t h e by = subhistory_changes s h e ∙ ap (λ (u : Side). if same_side s u then subhistory s h ++ e ∷ [] else subhistory s h) by
 
 -- ---- an event of the producer
 
 pub put_stops :
-    SubhistoryChanges → (shape : Shape) (r : Reading) (new : PutReading) (e : Event) → e.side ≡ P → HasReadPut shape r.puts new e p.Stops →
+    (shape : Shape) (r : Reading) (new : PutReading) (e : Event) → e.side ≡ P → HasReadPut shape r.puts new e p.Stops →
     (h : List Event) → ReadingStands shape r h → BothFollow shape (h ++ e ∷ []) → ⊥
-put_stops changes shape r new e by read h st (of_puts, of_takes) =
-    read (subhistory P h) st.items st.stored st.puts_stand (subst (AreOfPuts shape) (own_more changes P P h e by) of_puts)
+put_stops shape r new e by read h st (of_puts, of_takes) =
+    read (subhistory P h) st.items st.stored st.puts_stand (subst (AreOfPuts shape) (own_more P P h e by) of_puts)
 
 pub put_goes :
-    SubhistoryChanges → (shape : Shape) (r : Reading) (new : PutReading) (e : Event) → e.side ≡ P → HasReadPut shape r.puts new e p.GoesOn →
+    (shape : Shape) (r : Reading) (new : PutReading) (e : Event) → e.side ≡ P → HasReadPut shape r.puts new e p.GoesOn →
     (h : List Event) → ReadingStands shape r h → ReadingStands shape (record r { puts = new }) (h ++ e ∷ [])
-put_goes changes shape r new e by read h st = record {
+put_goes shape r new e by read h st = record {
   items = st.items;
   stored = st.stored;
-  puts_stand = subst (λ es. PutsStand shape new es st.items st.stored) (sym (own_more changes P P h e by)) (read (subhistory P h) st.items st.stored st.puts_stand);
-  takes_stand = subst (λ es. TakesStand shape r.takes es r.taken) (sym (own_more changes C P h e by)) st.takes_stand;
+  puts_stand = subst (λ es. PutsStand shape new es st.items st.stored) (sym (own_more P P h e by)) (read (subhistory P h) st.items st.stored st.puts_stand);
+  takes_stand = subst (λ es. TakesStand shape r.takes es r.taken) (sym (own_more C P h e by)) st.takes_stand;
   put_is = st.put_is;
   counted_is = st.counted_is;
 }
 
 pub put_stores :
-    SubhistoryChanges → (shape : Shape) (r : Reading) (new : PutReading) (e : Event) (item : ℕ) (put : List ℕ) → e.side ≡ P → HasReadPut shape r.puts new e (p.Stores item) →
+    (shape : Shape) (r : Reading) (new : PutReading) (e : Event) (item : ℕ) (put : List ℕ) → e.side ≡ P → HasReadPut shape r.puts new e (p.Stores item) →
     put ≡ r.put ++ item ∷ [] → (h : List Event) → ReadingStands shape r h → ReadingStands shape (record r { puts = new; put = put }) (h ++ e ∷ [])
-put_stores changes shape r new e item put by read more h st = record {
+put_stores shape r new e item put by read more h st = record {
   items = st.items;
   stored = st.stored ++ item ∷ [];
-  puts_stand = subst (λ es. PutsStand shape new es st.items (st.stored ++ item ∷ [])) (sym (own_more changes P P h e by)) (read (subhistory P h) st.items st.stored st.puts_stand);
-  takes_stand = subst (λ es. TakesStand shape r.takes es r.taken) (sym (own_more changes C P h e by)) st.takes_stand;
+  puts_stand = subst (λ es. PutsStand shape new es st.items (st.stored ++ item ∷ [])) (sym (own_more P P h e by)) (read (subhistory P h) st.items st.stored st.puts_stand);
+  takes_stand = subst (λ es. TakesStand shape r.takes es r.taken) (sym (own_more C P h e by)) st.takes_stand;
   put_is = more ∙ ap (λ l. l ++ item ∷ []) st.put_is ∙ append_assoc st.items st.stored (item ∷ []);
   counted_is = st.counted_is;
 }
 
 pub put_counts :
-    SubhistoryChanges → (shape : Shape) (r : Reading) (new : PutReading) (e : Event) (counted : ℕ) → e.side ≡ P → HasReadPut shape r.puts new e p.Counts →
+    (shape : Shape) (r : Reading) (new : PutReading) (e : Event) (counted : ℕ) → e.side ≡ P → HasReadPut shape r.puts new e p.Counts →
     counted ≡ length r.put → (h : List Event) → ReadingStands shape r h → ReadingStands shape (record r { puts = new; counted = counted }) (h ++ e ∷ [])
-put_counts changes shape r new e counted by read all h st = record {
+put_counts shape r new e counted by read all h st = record {
   items = st.items ++ st.stored;
   stored = [];
-  puts_stand = subst (λ es. PutsStand shape new es (st.items ++ st.stored) []) (sym (own_more changes P P h e by)) (read (subhistory P h) st.items st.stored st.puts_stand);
-  takes_stand = subst (λ es. TakesStand shape r.takes es r.taken) (sym (own_more changes C P h e by)) st.takes_stand;
+  puts_stand = subst (λ es. PutsStand shape new es (st.items ++ st.stored) []) (sym (own_more P P h e by)) (read (subhistory P h) st.items st.stored st.puts_stand);
+  takes_stand = subst (λ es. TakesStand shape r.takes es r.taken) (sym (own_more C P h e by)) st.takes_stand;
   put_is = st.put_is ∙ sym (append-nil (st.items ++ st.stored));
   counted_is = all ∙ ap length st.put_is;
 }
@@ -64,31 +64,31 @@ put_counts changes shape r new e counted by read all h st = record {
 -- ---- an event of the consumer
 
 pub take_stops :
-    SubhistoryChanges → (shape : Shape) (r : Reading) (new : TakeReading) (e : Event) → e.side ≡ C → HasReadTake shape r.takes new e c.Stops →
+    (shape : Shape) (r : Reading) (new : TakeReading) (e : Event) → e.side ≡ C → HasReadTake shape r.takes new e c.Stops →
     (h : List Event) → ReadingStands shape r h → BothFollow shape (h ++ e ∷ []) → ⊥
-take_stops changes shape r new e by read h st (of_puts, of_takes) =
-    read (subhistory C h) r.taken st.takes_stand (subst (AreOfTakes shape) (own_more changes C C h e by) of_takes)
+take_stops shape r new e by read h st (of_puts, of_takes) =
+    read (subhistory C h) r.taken st.takes_stand (subst (AreOfTakes shape) (own_more C C h e by) of_takes)
 
 pub take_goes :
-    SubhistoryChanges → (shape : Shape) (r : Reading) (new : TakeReading) (e : Event) → e.side ≡ C → HasReadTake shape r.takes new e c.GoesOn →
+    (shape : Shape) (r : Reading) (new : TakeReading) (e : Event) → e.side ≡ C → HasReadTake shape r.takes new e c.GoesOn →
     (h : List Event) → ReadingStands shape r h → ReadingStands shape (record r { takes = new }) (h ++ e ∷ [])
-take_goes changes shape r new e by read h st = record {
+take_goes shape r new e by read h st = record {
   items = st.items;
   stored = st.stored;
-  puts_stand = subst (λ es. PutsStand shape r.puts es st.items st.stored) (sym (own_more changes P C h e by)) st.puts_stand;
-  takes_stand = subst (λ es. TakesStand shape new es r.taken) (sym (own_more changes C C h e by)) (read (subhistory C h) r.taken st.takes_stand);
+  puts_stand = subst (λ es. PutsStand shape r.puts es st.items st.stored) (sym (own_more P C h e by)) st.puts_stand;
+  takes_stand = subst (λ es. TakesStand shape new es r.taken) (sym (own_more C C h e by)) (read (subhistory C h) r.taken st.takes_stand);
   put_is = st.put_is;
   counted_is = st.counted_is;
 }
 
 pub take_takes :
-    SubhistoryChanges → (shape : Shape) (r : Reading) (new : TakeReading) (e : Event) (taken : List ℕ) → e.side ≡ C → HasReadTake shape r.takes new e c.Takes →
+    (shape : Shape) (r : Reading) (new : TakeReading) (e : Event) (taken : List ℕ) → e.side ≡ C → HasReadTake shape r.takes new e c.Takes →
     taken ≡ r.taken ++ new.consumer.items → (h : List Event) → ReadingStands shape r h → ReadingStands shape (record r { takes = new; taken = taken }) (h ++ e ∷ [])
-take_takes changes shape r new e taken by read more h st = record {
+take_takes shape r new e taken by read more h st = record {
   items = st.items;
   stored = st.stored;
-  puts_stand = subst (λ es. PutsStand shape r.puts es st.items st.stored) (sym (own_more changes P C h e by)) st.puts_stand;
-  takes_stand = subst (λ es. TakesStand shape new es taken) (sym (own_more changes C C h e by))
+  puts_stand = subst (λ es. PutsStand shape r.puts es st.items st.stored) (sym (own_more P C h e by)) st.puts_stand;
+  takes_stand = subst (λ es. TakesStand shape new es taken) (sym (own_more C C h e by))
       (subst (TakesStand shape new (subhistory C h ++ e ∷ [])) (sym more) (read (subhistory C h) r.taken st.takes_stand));
   put_is = st.put_is;
   counted_is = st.counted_is;

@@ -8,7 +8,6 @@ use Rattle.bits_core.specs.Shape.{batch_of}
 use Rattle.bits_core.specs.declared.events.Side.{Side}
 use Rattle.bits_core.specs.declared.events.Side.TheVariants.{P, C}
 use Rattle.bits_core.specs.Bits.{is_by}
-use Rattle.bits_core.specs.Laws.{SubhistoryChanges}
 use Rattle.bits_core.specs.Lawful.{IsLawful}
 use Rattle.ring_core.specs.Puts.{Put}
 use Rattle.bits_core.specs.Made.{Made, subhistory}
@@ -32,24 +31,24 @@ on_err (Err x) g = g
 -- ---- an event for whose item there is no room
 
 pub put_needs :
-    SubhistoryChanges → (shape : Shape) (puts new : PutReading) (takes : TakeReading) (counted : ℕ) (put taken : List ℕ) (e : Event) (item put_room taken_room : ℕ) → e.side ≡ P →
+    (shape : Shape) (puts new : PutReading) (takes : TakeReading) (counted : ℕ) (put taken : List ℕ) (e : Event) (item put_room taken_room : ℕ) → e.side ≡ P →
     HasReadPut shape puts new e (p.Stores item) → put_room ≤ length put → (h : List Event) → ReadingStands shape (reading puts takes counted put taken) h →
     NeedsRoom shape new takes counted put_room taken_room (h ++ e ∷ [])
-put_needs changes shape puts new takes counted put taken e item put_room taken_room by read full h st = record {
+put_needs shape puts new takes counted put taken e item put_room taken_room by read full h st = record {
   put = put ++ item ∷ [];
   taken = taken;
-  stands = put_stores changes shape (reading puts takes counted put taken) new e item (put ++ item ∷ []) by read refl h st;
+  stands = put_stores shape (reading puts takes counted put taken) new e item (put ++ item ∷ []) by read refl h st;
   short = inl (omega (arith, full, length-append put (item ∷ [])));
 }
 
 pub take_needs :
-    SubhistoryChanges → (shape : Shape) (puts : PutReading) (takes new : TakeReading) (counted : ℕ) (put taken kept : List ℕ) (e : Event) (put_room taken_room : ℕ) → e.side ≡ C →
+    (shape : Shape) (puts : PutReading) (takes new : TakeReading) (counted : ℕ) (put taken kept : List ℕ) (e : Event) (put_room taken_room : ℕ) → e.side ≡ C →
     HasReadTake shape takes new e c.Takes → kept ≡ new.consumer.items → taken_room < length taken + length kept → (h : List Event) →
     ReadingStands shape (reading puts takes counted put taken) h → NeedsRoom shape puts new counted put_room taken_room (h ++ e ∷ [])
-take_needs changes shape puts takes new counted put taken kept e put_room taken_room by read same full h st = record {
+take_needs shape puts takes new counted put taken kept e put_room taken_room by read same full h st = record {
   put = put;
   taken = taken ++ kept;
-  stands = take_takes changes shape (reading puts takes counted put taken) new e (taken ++ kept) by read (ap (λ l. taken ++ l) same) h st;
+  stands = take_takes shape (reading puts takes counted put taken) new e (taken ++ kept) by read (ap (λ l. taken ++ l) same) h st;
   short = inr (omega (arith, full, length-append taken kept));
 }
 
@@ -63,12 +62,12 @@ length-own s (e ∷ h) =
     ]
 
 pub take_short :
-    SubhistoryChanges → (shape : Shape) (puts : PutReading) (takes new : TakeReading) (counted : ℕ) (put taken kept : List ℕ) (e : Event) (taken_room : ℕ) → e.side ≡ C →
+    (shape : Shape) (puts : PutReading) (takes new : TakeReading) (counted : ℕ) (put taken kept : List ℕ) (e : Event) (taken_room : ℕ) → e.side ≡ C →
     HasReadTake shape takes new e c.Takes → kept ≡ new.consumer.items → taken_room < length taken + length kept → (h : List Event) →
     ReadingStands shape (reading puts takes counted put taken) h → taken_room < length (h ++ e ∷ [])
-take_short changes shape puts takes new counted put taken kept e taken_room by read same full h st =
+take_short shape puts takes new counted put taken kept e taken_room by read same full h st =
     let stands : ReadingStands shape (reading puts new counted put (taken ++ kept)) (h ++ e ∷ []) =
-    take_takes changes shape (reading puts takes counted put taken) new e (taken ++ kept) by read (ap (λ l. taken ++ l) same) h st in
+    take_takes shape (reading puts takes counted put taken) new e (taken ++ kept) by read (ap (λ l. taken ++ l) same) h st in
     omega (arith, full, length-append taken kept, few_taken shape new (subhistory C (h ++ e ∷ [])) (taken ++ kept) stands.takes_stand, length-own C (h ++ e ∷ []))
 
 -- ---- what is told of it

@@ -20,14 +20,17 @@ use Rattle.ring_core.specs.declared.replies.TakeReply.{TakeReply}
 use Rattle.ring_core.specs.Calls.{LastBitIsDue}
 use Rattle.ring_core.specs.Takes.{Takes, End, Open, Closed, words_read, take_phrases, end_phrase, take_program, AreTakes}
 use Rattle.ring_core.specs.Items.{Tells}
-use Rattle.ring_core.specs.GoingOn.{WritesTakeCount, EndInCellRead, TakesPart, TakesGoOn, LastTakesReadOne}
-use Rattle.ring_core.specs.Readings.{TakesAreFirst}
+use Rattle.ring_core.specs.GoingOn.{WritesTakeCount, EndInCellRead, TakesPart}
 use Rattle.ring_core.specs.declared.consumers.Stage.{Stage}
 use Rattle.ring_core.specs.declared.consumers.Stage.TheVariants.{Idle, Scanning, Checking, Rescanning, Loading, Counting}
 use Rattle.ring_core.specs.ConsumerState.{ConsumerState, IsBetweenWords, consumer_due_at, due_take, takes_at, is_taking}
 use Rattle.ring_core.specs.ConsumerCalls.{Finding, Once, Twice, finding_phrase, count_taken, TakeGoesOn, ConsumerMadeAt, ConsumerStands, ends_closed}
 use Rattle.ring_audit.specs.Sides.{AreOfTakes}
 use Rattle.ring_audit.specs.TakeReading.{TakeReading, TakesStand}
+use Rattle.register_core.proofs.Items.{same_item}
+use Rattle.ring_core.proofs.LastBits.{last-takes_read_one}
+use Rattle.ring_core.proofs.Machines.TakeParts.{takes-go_on}
+use Rattle.ring_core.proofs.Readings.TakenRead.{takes-are_first}
 use Rattle.ring_audit.proofs.Readers as readers
 use Rattle.ring_audit.proofs.Beginnings.{begin_is, access_is, same_access, same_made, GoesOnWith, GoesOnBy, events_of-append}
 
@@ -46,9 +49,9 @@ work_on shape r es items st a e some (calls, are, begins) = readers.work_on C es
 
 -- a 0 of the last bit
 pub zero_at_last :
-    LastTakesReadOne → (shape : Shape) (r : TakeReading) (es : List Event) (items : List ℕ) (a : Access) → TakesStand shape r es items → r.open_access ≡ Some a →
+    (shape : Shape) (r : TakeReading) (es : List Event) (items : List ℕ) (a : Access) → TakesStand shape r es items → r.open_access ≡ Some a →
     due_take r.consumer ≡ Some a → LastBitIsDue shape C (due_take r.consumer) → AreOfTakes shape (es ++ end_event C (answered a false) ∷ []) → ⊥
-zero_at_last one shape r es items a st some due (i, reads, last) of_takes =
+zero_at_last shape r es items a st some due (i, reads, last) of_takes =
     let on = work_on shape r es items st a (end_event C (answered a false)) some of_takes in
     let begun : begin_event C (answered a false) ≡ begin_event C on.next =
     begin_is C (answered a false) ∙ ap (opening_event C) (access_is a false) ∙ on.begins in
@@ -57,7 +60,7 @@ zero_at_last one shape r es items a st some due (i, reads, last) of_takes =
     let a_is : a ≡ begins.Read (row_read_by C i) = cc in
     let next_reads : on.next ≡ Read (row_read_by C i) false = next_is ∙ ap (λ z. answered z false) a_is in
     let clash : false ≡ true =
-    one shape of_takes.0 of_takes.1 st.made i false on.rest (on.whole_is ∙ ap (λ z. st.made ++ z ∷ on.rest) next_reads) last in
+    last-takes_read_one shape of_takes.0 of_takes.1 st.made i false on.rest (on.whole_is ∙ ap (λ z. st.made ++ z ∷ on.rest) next_reads) last in
     absurd (cc)
 
 -- a take is under way while an access is due
@@ -180,31 +183,31 @@ front_at Counting p calls made (look, finds, fit, writes, stands, is) = (_, is)
 
 -- the access that begins is the one that is due, or behind a whole word the one reads the next and the other counts
 next_or :
-    TakesGoOn → (shape : Shape) (r : TakeReading) (es : List Event) (items : List ℕ) (p : ConsumerState) (due a : Access) (st : TakesStand shape r es items) →
+    (shape : Shape) (r : TakeReading) (es : List Event) (items : List ℕ) (p : ConsumerState) (due a : Access) (st : TakesStand shape r es items) →
     r.open_access ≡ None → p.shape ≡ shape → ConsumerStands p st.calls st.made → TakeGoesOn p.shape p.wanted st.calls st.made due →
     AreOfTakes shape (es ++ opening_event C a ∷ []) → (a ≡ due) ⊎ (EndInCellRead st.made × TakesPart shape p.wanted due a)
-next_or law shape r es items p due a st none same stands goes of_takes =
+next_or shape r es items p due a st none same stands goes of_takes =
     let on = rest_on shape r es items st (opening_event C a) none of_takes in
     let is_a : access_of on.next ≡ a = same_access C a on.next on.begins in
     let (part, made_is) = front_at p.stage p st.calls st.made stands.made_is in
     let begins : IsPrefix (take_phrases shape first_count st.calls.takes) st.made = (part, sym (made_is ∙ ap (λ s. take_phrases s first_count st.calls.takes ++ part) same)) in
     subst (λ z. (z ≡ due) ⊎ (EndInCellRead st.made × TakesPart shape p.wanted due z)) is_a
-    (law shape p.wanted st.calls of_takes.0 st.made due on.next on.rest begins (subst (λ s. TakeGoesOn s p.wanted st.calls st.made due) same goes) of_takes.1 on.whole_is)
+    (takes-go_on same_item shape p.wanted st.calls of_takes.0 st.made due on.next on.rest begins (subst (λ s. TakeGoesOn s p.wanted st.calls st.made due) same goes) of_takes.1 on.whole_is)
 
 -- an access that is not due: it counts, behind a whole word
 pub not_due :
-    TakesGoOn → TakesAreFirst → (shape : Shape) (r : TakeReading) (es : List Event) (items : List ℕ) (p : ConsumerState) (due : Option Access) (a : Access) →
+    (shape : Shape) (r : TakeReading) (es : List Event) (items : List ℕ) (p : ConsumerState) (due : Option Access) (a : Access) →
     (st : TakesStand shape r es items) → r.open_access ≡ None → p.shape ≡ shape → ConsumerStands p st.calls st.made → due ≡ due_take p →
     ((access : Access) → due ≡ Some access → (is_taking p ≡ true) × TakeGoesOn p.shape p.wanted st.calls st.made access) →
     (due ≡ None → (is_taking p ≡ false) × (st.made ≡ take_program p.shape st.calls)) → (is_taking p ≡ true → EndInCellRead st.made → p.wanted ≡ take_batch_of shape) →
     (is_taking p ≡ true) ⊎ (p.told ≡ true) → (due ≡ Some a → ⊥) → AreOfTakes shape (es ++ opening_event C a ∷ []) → IsBetweenWords p × WritesTakeCount a
-not_due law first shape r es items p (Some d) a st none same stands due_is goes rests wants over wrong of_takes =
-    elim (next_or law shape r es items p d a st none same stands (goes d refl).1 of_takes) [
+not_due shape r es items p (Some d) a st none same stands due_is goes rests wants over wrong of_takes =
+    elim (next_or shape r es items p d a st none same stands (goes d refl).1 of_takes) [
       | inl is ↦ absurd (wrong (ap Some (sym is)))
       | inr (ends, inl ((j, reads), counts, more)) ↦ (between_at p.stage p st.calls st.made j refl stands.made_is (sym due_is ∙ ap Some reads) ends, counts)
       | inr (ends, inr (counts, reads, less)) ↦ absurd (omega (arith, less, wants (goes d refl).0 ends))
     ]
-not_due law first shape r es items p None a st none same stands due_is goes rests wants over wrong of_takes =
+not_due shape r es items p None a st none same stands due_is goes rests wants over wrong of_takes =
     let on = rest_on shape r es items st (opening_event C a) none of_takes in
     let (idle, made_is) = rests refl in
     let made_so : st.made ≡ take_program shape st.calls = made_is ∙ ap (λ s. take_program s st.calls) same in
@@ -219,17 +222,17 @@ not_due law first shape r es items p None a st none same stands due_is goes rest
         let whole : take_program shape st.calls ++ more ≡ take_program shape of_takes.0 = ap (λ l. l ++ more) (sym made_so) ∙ sym on.whole_is in
         let events : events_of C (take_program shape st.calls) ++ events_of C more ≡ events_of C (take_program shape of_takes.0) =
         sym (events_of-append C (take_program shape st.calls) more) ∙ ap (events_of C) whole in
-        let all : st.calls ≡ of_takes.0 = (first shape st.calls of_takes.0 are of_takes.1 (events_of C more, events)).1 tells_end in
+        let all : st.calls ≡ of_takes.0 = (takes-are_first same_item shape st.calls of_takes.0 are of_takes.1 (events_of C more, events)).1 tells_end in
         absurd (omega (arith, ap length whole, length-append (take_program shape st.calls) more, ap (λ calls. length (take_program shape calls)) all))
 
 -- where the take under way counts, no other write of the count may begin
 pub counts_else :
-    TakesGoOn → (shape : Shape) (r : TakeReading) (es : List Event) (items : List ℕ) (p : ConsumerState) (due : Option Access) (a : Access) (i : ℕ) (v : Bool) →
+    (shape : Shape) (r : TakeReading) (es : List Event) (items : List ℕ) (p : ConsumerState) (due : Option Access) (a : Access) (i : ℕ) (v : Bool) →
     (st : TakesStand shape r es items) → r.open_access ≡ None → p.shape ≡ shape → ConsumerStands p st.calls st.made → due ≡ Some (begins.Write (R i) v) →
     ((access : Access) → due ≡ Some access → (is_taking p ≡ true) × TakeGoesOn p.shape p.wanted st.calls st.made access) →
     (due ≡ Some a → ⊥) → WritesTakeCount a → AreOfTakes shape (es ++ opening_event C a ∷ []) → ⊥
-counts_else law shape r es items p due a i v st none same stands due_is goes wrong (k, w, writes) of_takes =
-    elim (next_or law shape r es items p (begins.Write (R i) v) a st none same stands (goes (begins.Write (R i) v) due_is).1 of_takes) [
+counts_else shape r es items p due a i v st none same stands due_is goes wrong (k, w, writes) of_takes =
+    elim (next_or shape r es items p (begins.Write (R i) v) a st none same stands (goes (begins.Write (R i) v) due_is).1 of_takes) [
       | inl is ↦ wrong (due_is ∙ ap Some (sym is))
       | inr (ends, inl ((j, reads), counts, more)) ↦ absurd (cc)
       | inr (ends, inr (counts, (j, reads), less)) ↦ (let clash : begins.Write (R k) w ≡ begins.Read (Cell j 0) = sym writes ∙ reads in absurd (cc))

@@ -7,7 +7,6 @@ ghost use Rattle.ring_audit.specs.Reading.{NeedsRoom, ReadingStands, BothFollow,
 use crate::faults::AuditFault;
 use crate::puts::{PutReader, PutStep};
 use crate::takes::{TakeReader, TakeStep};
-use bits_core::laws::{beginning_is_lawful, fault_breaks, fault_is_first, subhistory_changes};
 use bits_core::{BitAuditor, Event, Filled, Kind, Shape, Side, Store};
 use ring_core::laws::{closed_stays, ring_is_linearizable, ring_law};
 use std::alloc::Allocator;
@@ -130,7 +129,6 @@ impl Readers {
         ensures put_slots { (first : S) → S.same_slots first put.old → S.same_slots first put.new }
         ensures taken_slots { (first : S) → S.same_slots first taken.old → S.same_slots first taken.new }
     {
-        subhistory_changes();
         match event.side {
             Side::P => match self.puts.read(event) {
                 PutStep::Stops => Ok(false),
@@ -192,7 +190,6 @@ pub fn audit<A: Allocator + Copy>(
     ensures sentence { IfOk result (λ found. SaysSentence shape.now events.now (statement found)) }
     ensures linearizable { IfOk result (λ found. SaysLinearizable shape.now events.now (statement found)) }
 {
-    beginning_is_lawful();
     ring_law();
     closed_stays();
     ring_is_linearizable();
@@ -247,7 +244,6 @@ fn find_filled<'a>(
     ensures put_slots { put.new.slots.ghost_name ≡ put.old.slots.ghost_name }
     ensures taken_slots { taken.new.slots.ghost_name ≡ taken.old.slots.ghost_name }
 {
-    beginning_is_lawful();
     ring_law();
     closed_stays();
     let found = find_in(shape, events, put, taken)?;
@@ -309,8 +305,6 @@ fn find_in<S: Store<u64>>(
     ensures put_slots { (first : S) → S.same_slots first put.old → S.same_slots first put.new }
     ensures taken_slots { (first : S) → S.same_slots first taken.old → S.same_slots first taken.new }
 {
-    fault_breaks();
-    fault_is_first();
     let mut bits = BitAuditor::new(shape);
     let mut readers = Readers::new(shape);
     readers.told();

@@ -7,7 +7,6 @@ ghost use Rattle.ring_audit.specs.Dues.{AreInOrder, BothStand, GoesOnBehind, IsD
 use crate::choices::{Dues, none};
 use crate::puts::{PutReader, PutStep};
 use crate::takes::{TakeReader, TakeStep};
-use bits_core::laws::subhistory_changes;
 use bits_core::{Event, Shape, Side};
 
 // The readers of both sides.
@@ -41,7 +40,6 @@ impl Followers {
             BothStand self.old.puts.shape self.old.puts self.old.takes h →
             ¬ BothFollow self.old.puts.shape (h ++ event ∷ []) }
     {
-        subhistory_changes();
         match event.side {
             Side::P => match self.puts.read(event) {
                 PutStep::Stops => false,
@@ -115,7 +113,6 @@ impl Followers {
             e.side ≡ side → IsNoneOf result e → ¬ GoesOnBehind self.now.puts.shape h e }
         ensures order { AreInOrder result }
     {
-        subhistory_changes();
         let mut readers = self.again();
         match side {
             Side::P => readers.puts.candidates(),

@@ -13,7 +13,6 @@ use crate::choices::{Dues, ends, only, opening, writes};
 use crate::sides::{answer_to, begun_by, is_same, told_by, writes_next};
 use bits_core::{Access, Bit, Event, Shape, Side};
 use register_core::{UnaryScan, UnaryWriter, WordReader};
-use ring_core::laws::{calls_are_first, counts_are_written, last_reads_are_one, puts_go_on};
 use ring_core::{distance, has_room};
 use std::alloc::AllocError;
 use std::marker::Model;
@@ -173,7 +172,6 @@ impl PutReader {
         ensures shape { self.new.shape ≡ self.old.shape }
         ensures read { HasReadPut self.old.shape self.old self.new (opening_event P access) result }
     {
-        calls_are_first();
         match self.stage {
             Stage::Resting => self.begin_call(access),
             Stage::Scanning => self.begin_read(access),
@@ -192,7 +190,6 @@ impl PutReader {
         ensures shape { self.new.shape ≡ self.old.shape }
         ensures read { HasReadPut self.old.shape self.old self.new (opening_event P access) result }
     {
-        puts_go_on();
         if is_same(Some(Access::Write(Bit::X, true)), access) {
             self.stage = Stage::Closing;
             self.open_access = Some(access);
@@ -216,7 +213,6 @@ impl PutReader {
         ensures shape { self.new.shape ≡ self.old.shape }
         ensures read { HasReadPut self.old.shape self.old self.new (opening_event P access) result }
     {
-        puts_go_on();
         if is_same(self.scan.next(), access) {
             self.open_access = Some(access);
             PutStep::GoesOn
@@ -232,7 +228,6 @@ impl PutReader {
         ensures shape { self.new.shape ≡ self.old.shape }
         ensures read { HasReadPut self.old.shape self.old self.new (opening_event P access) result }
     {
-        puts_go_on();
         if self.room > 0 && writes_next(WordReader::new(&self.shape, self.cell).next(), access) {
             self.word = WordReader::new(&self.shape, self.cell);
             self.stage = Stage::Storing;
@@ -254,7 +249,6 @@ impl PutReader {
         ensures shape { self.new.shape ≡ self.old.shape }
         ensures read { HasReadPut self.old.shape self.old self.new (opening_event P access) result }
     {
-        puts_go_on();
         self.row.write(self.next);
         if is_same(self.row.next(), access) {
             self.stage = Stage::Counting;
@@ -274,7 +268,6 @@ impl PutReader {
         ensures shape { self.new.shape ≡ self.old.shape }
         ensures read { HasReadPut self.old.shape self.old self.new (opening_event P access) result }
     {
-        puts_go_on();
         if writes_next(self.word.next(), access) {
             self.open_access = Some(access);
             PutStep::GoesOn
@@ -290,7 +283,6 @@ impl PutReader {
         ensures shape { self.new.shape ≡ self.old.shape }
         ensures read { HasReadPut self.old.shape self.old self.new (opening_event P access) result }
     {
-        puts_go_on();
         if is_same(self.row.next(), access) {
             self.open_access = Some(access);
             PutStep::GoesOn
@@ -321,7 +313,6 @@ impl PutReader {
         ensures shape { self.new.shape ≡ self.old.shape }
         ensures read { HasReadPut self.old.shape self.old self.new (end_event P (answered access answer)) result }
     {
-        last_reads_are_one();
         if self.scan.expects_one() && !answer {
             return PutStep::Stops;
         }
@@ -414,8 +405,6 @@ impl PutReader {
             ¬ AreOfPuts self.old.shape (es ++ opening_event P access ∷ []) }
         ensures order { AreInOrder result }
     {
-        puts_go_on();
-        calls_are_first();
         match self.stage {
             Stage::Resting => Dues {
                 first: opening(Side::P, Some(Access::Read(Bit::R(0)))),
@@ -440,7 +429,6 @@ impl PutReader {
             ¬ AreOfPuts self.old.shape (es ++ opening_event P access ∷ []) }
         ensures order { AreInOrder result }
     {
-        puts_go_on();
         let word = WordReader::new(&self.shape, self.cell).next();
         self.row.write(self.next);
         // it has stopped, with a row that is at rest no more
@@ -453,7 +441,6 @@ impl PutReader {
         ensures { (es : List Event) (items stored : List ℕ) → PutsStand self.now.shape self.now es items stored →
             WerePut self.now.shape es items }
     {
-        counts_are_written();
         let _due = self.word.next();
     }
 }

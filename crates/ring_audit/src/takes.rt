@@ -13,7 +13,6 @@ ghost use Rattle.ring_audit.specs.TakeReading.{TakesStand, HasReadTake, WereTake
 use crate::choices::{Dues, ends, only, opening};
 use crate::sides::{answer_to, begun_by, is_same};
 use bits_core::{Access, Event, Shape, Side};
-use ring_core::laws::{calls_are_first, last_reads_are_one, takes_go_on};
 use ring_core::{Consumer, TakeReply};
 use std::alloc::AllocError;
 use std::marker::Model;
@@ -146,8 +145,6 @@ impl TakeReader {
             AreOfTakes self.old.consumer.shape (es ++ opening_event C access ∷ [])
             → IsBetweenWords self.new.consumer × WritesTakeCount access }
     {
-        takes_go_on();
-        calls_are_first();
         match self.consumer.next() {
             Some(access) => Some(access),
             None => {
@@ -174,7 +171,6 @@ impl TakeReader {
             TakesStand self.old.consumer.shape self.old es items → result ≢ Some access → WritesTakeCount access
             → ¬ AreOfTakes self.old.consumer.shape (es ++ opening_event C access ∷ []) }
     {
-        takes_go_on();
         self.consumer.count_now();
         self.consumer.next()
     }
@@ -186,7 +182,6 @@ impl TakeReader {
         ensures read { HasReadTake self.old.consumer.shape self.old self.new (end_event C (answered access answer))
             result }
     {
-        last_reads_are_one();
         if self.consumer.expects_one() && !answer {
             return TakeStep::Stops;
         }

@@ -5,7 +5,7 @@ use Rattle.ring_audit.proofs.Sentences.{says_linearizable, says_sentence}
 use Rattle.ring_audit.proofs.audits.audit.Goals as goal
 
 pub returns-clause-exact : goal.returns-clause-exact
-returns-clause-exact g c = exact_finding c.beginning_is_lawful.ensures c.args.shape.now c.args.events.now (statement c.in_ok-found.found) c.in_ok-found.ensures
+returns-clause-exact g c = exact_finding c.args.shape.now c.args.events.now (statement c.in_ok-found.found) c.in_ok-found.ensures
 
 pub returns-clause-sentence : goal.returns-clause-sentence
 returns-clause-sentence g c =

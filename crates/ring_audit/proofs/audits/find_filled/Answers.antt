@@ -10,7 +10,7 @@ returns-clause-exact c =
     let put = c.find_in.new.put in
     let taken = c.find_in.new.taken in
     let found = c.in_ok-found.found in
-    exact_finding c.beginning_is_lawful.ensures c.args.shape.now c.args.events.now (statement_in put.slots.now taken.slots.now found)
+    exact_finding c.args.shape.now c.args.events.now (statement_in put.slots.now taken.slots.now found)
     (in_slots c.args.shape.now c.args.events.now put.slots.now taken.slots.now put.used taken.used found put.within taken.within c.in_ok-found.ensures.within c.in_ok-found.ensures.found)
 
 pub returns-clause-sentence : goal.returns-clause-sentence

@@ -7,6 +7,7 @@ use Rattle.bits_core.specs.Auditors.{HeardEvents}
 use Rattle.bits_core.specs.Lawful.{IsLawful}
 use Rattle.ring_audit.specs.Audit.{HasTooFewSlots, IsFound}
 use Rattle.ring_audit.specs.Reading.{Reading, ReadingStands, BothFollow, reading}
+use Rattle.bits_core.proofs.FaultLemmas.{fault_is_first}
 use Rattle.ring_audit.proofs.Breaks.{break_of_program, break_of_bits}
 use Rattle.ring_audit.proofs.Readings.{followed}
 use Rattle.ring_audit.proofs.Rooms.{on_err, too_few_slots}
@@ -38,8 +39,8 @@ returns-in-Some-clause-found g c =
     let h : List Event = c.args.events.now in
     let i : ℕ = c.loop-i.i in
     let l = c.loop-i.invariant in
-    let fault = c.fault_is_first.ensures shape h i _ c.in-Some.kind (slice_get-get_or h i _ c.loop-i-test.true) l.heard.marks.lawful (c.in-Some.ensures.kind shape (take i h) l.heard) in
-    break_of_bits c.fault_breaks.ensures shape h i c.in-Some.kind fault l.follow
+    let fault = fault_is_first shape h i _ c.in-Some.kind (slice_get-get_or h i _ c.loop-i-test.true) l.heard.marks.lawful (c.in-Some.ensures.kind shape (take i h) l.heard) in
+    break_of_bits shape h i c.in-Some.kind fault l.follow
 
 pub returns-in_err-on-clause-refused : goal.returns-in_err-on-clause-refused
 returns-in_err-on-clause-refused g c =

@@ -10,7 +10,7 @@ pub returns-in_err-push-in-Stores-clause-refused : goal.returns-in_err-push-in-S
 returns-in_err-push-in-Stores-clause-refused g c =
     let r = c.args.self.now in
     on_err c.from_residual.result
-    (put_needs c.subhistory_changes.ensures r.puts.shape r.puts c.read.new.self r.takes r.counted (g.S.Store.items c.args.put.now) (g.S.Store.items c.args.taken.now) c.args.event c.in-Stores.item
+    (put_needs r.puts.shape r.puts c.read.new.self r.takes r.counted (g.S.Store.items c.args.put.now) (g.S.Store.items c.args.taken.now) c.args.event c.in-Stores.item
     (g.S.Store.room c.args.put.now) (g.S.Store.room c.args.taken.now) c.in-P.is c.in-Stores.ensures.read c.in_err-push-in-Stores.ensures.full)
 
 pub returns-in_err-push_all-in-Takes-clause-refused : goal.returns-in_err-push_all-in-Takes-clause-refused
@@ -18,7 +18,7 @@ returns-in_err-push_all-in-Takes-clause-refused g c =
     let r = c.args.self.now in
     let read : HasReadTake r.puts.shape r.takes c.read-in-C.new.self c.args.event takes.Takes = subst (λ s. HasReadTake s r.takes c.read-in-C.new.self c.args.event takes.Takes) c.requires c.in-Takes.ensures.read in
     on_err c.from_residual-in_err-push_all-in-Takes.result
-    (take_needs c.subhistory_changes.ensures r.puts.shape r.puts r.takes c.read-in-C.new.self r.counted (g.S.Store.items c.args.put.now) (g.S.Store.items c.args.taken.now) c.items.result.now c.args.event
+    (take_needs r.puts.shape r.puts r.takes c.read-in-C.new.self r.counted (g.S.Store.items c.args.put.now) (g.S.Store.items c.args.taken.now) c.items.result.now c.args.event
     (g.S.Store.room c.args.put.now) (g.S.Store.room c.args.taken.now) c.in-C.is read c.items.ensures c.in_err-push_all-in-Takes.ensures.full)
 
 pub returns-in_err-push_all-in-Takes-clause-full : goal.returns-in_err-push_all-in-Takes-clause-full
@@ -26,31 +26,31 @@ returns-in_err-push_all-in-Takes-clause-full g c =
     let r = c.args.self.now in
     let read : HasReadTake r.puts.shape r.takes c.read-in-C.new.self c.args.event takes.Takes = subst (λ s. HasReadTake s r.takes c.read-in-C.new.self c.args.event takes.Takes) c.requires c.in-Takes.ensures.read in
     on_err c.from_residual-in_err-push_all-in-Takes.result
-    (inr (take_short c.subhistory_changes.ensures r.puts.shape r.puts r.takes c.read-in-C.new.self r.counted (g.S.Store.items c.args.put.now) (g.S.Store.items c.args.taken.now) c.items.result.now c.args.event
+    (inr (take_short r.puts.shape r.puts r.takes c.read-in-C.new.self r.counted (g.S.Store.items c.args.put.now) (g.S.Store.items c.args.taken.now) c.items.result.now c.args.event
     (g.S.Store.room c.args.taken.now) c.in-C.is read c.items.ensures c.in_err-push_all-in-Takes.ensures.full))
 
 pub returns-in-Stops-clause-stops : goal.returns-in-Stops-clause-stops
 returns-in-Stops-clause-stops g c f =
     let r = c.args.self.now in
-    put_stops c.subhistory_changes.ensures r.puts.shape (reading r.puts r.takes r.counted (g.S.Store.items c.args.put.now) (g.S.Store.items c.args.taken.now)) c.read.new.self c.args.event c.in-P.is c.in-Stops.ensures.read
+    put_stops r.puts.shape (reading r.puts r.takes r.counted (g.S.Store.items c.args.put.now) (g.S.Store.items c.args.taken.now)) c.read.new.self c.args.event c.in-P.is c.in-Stops.ensures.read
 
 pub returns-in_ok-push-in-Stores-clause-goes_on : goal.returns-in_ok-push-in-Stores-clause-goes_on
 returns-in_ok-push-in-Stores-clause-goes_on g c f =
     let r = c.args.self.now in
-    put_stores c.subhistory_changes.ensures r.puts.shape (reading r.puts r.takes r.counted (g.S.Store.items c.args.put.now) (g.S.Store.items c.args.taken.now)) c.read.new.self c.args.event c.in-Stores.item
+    put_stores r.puts.shape (reading r.puts r.takes r.counted (g.S.Store.items c.args.put.now) (g.S.Store.items c.args.taken.now)) c.read.new.self c.args.event c.in-Stores.item
     (g.S.Store.items c.push.new.store) c.in-P.is c.in-Stores.ensures.read c.in_ok-push-in-Stores.ensures.pushed
 
 pub returns-in-Counts-clause-goes_on : goal.returns-in-Counts-clause-goes_on
 returns-in-Counts-clause-goes_on g c f =
     let r = c.args.self.now in
-    put_counts c.subhistory_changes.ensures r.puts.shape (reading r.puts r.takes r.counted (g.S.Store.items c.args.put.now) (g.S.Store.items c.args.taken.now)) c.read.new.self c.args.event
+    put_counts r.puts.shape (reading r.puts r.takes r.counted (g.S.Store.items c.args.put.now) (g.S.Store.items c.args.taken.now)) c.read.new.self c.args.event
     (length c.as_slice.result.now) c.in-P.is c.in-Counts.ensures.read (ap length c.as_slice.ensures)
 
 pub returns-in-Stops-read-clause-stops : goal.returns-in-Stops-read-clause-stops
 returns-in-Stops-read-clause-stops g c f =
     let r = c.args.self.now in
     let read : HasReadTake r.puts.shape r.takes c.read-in-C.new.self c.args.event takes.Stops = subst (λ s. HasReadTake s r.takes c.read-in-C.new.self c.args.event takes.Stops) c.requires c.in-Stops-read.ensures.read in
-    take_stops c.subhistory_changes.ensures r.puts.shape (reading r.puts r.takes r.counted (g.S.Store.items c.args.put.now) (g.S.Store.items c.args.taken.now)) c.read-in-C.new.self c.args.event c.in-C.is read
+    take_stops r.puts.shape (reading r.puts r.takes r.counted (g.S.Store.items c.args.put.now) (g.S.Store.items c.args.taken.now)) c.read-in-C.new.self c.args.event c.in-C.is read
 
 pub returns-in_ok-push-in-Stores-clause-few : goal.returns-in_ok-push-in-Stores-clause-few
 returns-in_ok-push-in-Stores-clause-few g c = omega (arith, length-append {A = ℕ}, ap length c.in_ok-push-in-Stores.ensures.pushed)
@@ -58,17 +58,17 @@ returns-in_ok-push-in-Stores-clause-few g c = omega (arith, length-append {A = �
 pub returns-in-GoesOn-clause-goes_on : goal.returns-in-GoesOn-clause-goes_on
 returns-in-GoesOn-clause-goes_on g c f =
     let r = c.args.self.now in
-    put_goes c.subhistory_changes.ensures r.puts.shape (reading r.puts r.takes r.counted (g.S.Store.items c.args.put.now) (g.S.Store.items c.args.taken.now)) c.read.new.self c.args.event c.in-P.is c.in-GoesOn.ensures.read
+    put_goes r.puts.shape (reading r.puts r.takes r.counted (g.S.Store.items c.args.put.now) (g.S.Store.items c.args.taken.now)) c.read.new.self c.args.event c.in-P.is c.in-GoesOn.ensures.read
 
 pub returns-in-GoesOn-read-clause-goes_on : goal.returns-in-GoesOn-read-clause-goes_on
 returns-in-GoesOn-read-clause-goes_on g c f =
     let r = c.args.self.now in
     let read : HasReadTake r.puts.shape r.takes c.read-in-C.new.self c.args.event takes.GoesOn = subst (λ s. HasReadTake s r.takes c.read-in-C.new.self c.args.event takes.GoesOn) c.requires c.in-GoesOn-read.ensures.read in
-    take_goes c.subhistory_changes.ensures r.puts.shape (reading r.puts r.takes r.counted (g.S.Store.items c.args.put.now) (g.S.Store.items c.args.taken.now)) c.read-in-C.new.self c.args.event c.in-C.is read
+    take_goes r.puts.shape (reading r.puts r.takes r.counted (g.S.Store.items c.args.put.now) (g.S.Store.items c.args.taken.now)) c.read-in-C.new.self c.args.event c.in-C.is read
 
 pub returns-in_ok-push_all-in-Takes-clause-goes_on : goal.returns-in_ok-push_all-in-Takes-clause-goes_on
 returns-in_ok-push_all-in-Takes-clause-goes_on g c f =
     let r = c.args.self.now in
     let read : HasReadTake r.puts.shape r.takes c.read-in-C.new.self c.args.event takes.Takes = subst (λ s. HasReadTake s r.takes c.read-in-C.new.self c.args.event takes.Takes) c.requires c.in-Takes.ensures.read in
-    take_takes c.subhistory_changes.ensures r.puts.shape (reading r.puts r.takes r.counted (g.S.Store.items c.args.put.now) (g.S.Store.items c.args.taken.now)) c.read-in-C.new.self c.args.event
+    take_takes r.puts.shape (reading r.puts r.takes r.counted (g.S.Store.items c.args.put.now) (g.S.Store.items c.args.taken.now)) c.read-in-C.new.self c.args.event
     (g.S.Store.items c.push_all.new.store) c.in-C.is read (c.in_ok-push_all-in-Takes.ensures.pushed ∙ ap (λ l. g.S.Store.items c.args.taken.now ++ l) c.items.ensures)

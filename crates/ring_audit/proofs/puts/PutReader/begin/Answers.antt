@@ -22,6 +22,6 @@ pub returns-in-Closed-clause-read : goal.returns-in-Closed-clause-read
 returns-in-Closed-clause-read c =
     let now : PutReading = c.args.self.now in
     let stops : HasReadPut now.shape now now (opening_event P c.args.access) Stops = λ es items stored st of_puts.
-    no_more c.calls_are_first.ensures.puts now.shape now es items stored c.args.access st c.requires
+    no_more now.shape now es items stored c.args.access st c.requires
     (sym (ap (λ (z : PutReading). z.stage) c.self.view_is) ∙ c.in-Closed.is) of_puts in
     stops

@@ -31,5 +31,5 @@ returns-else-is_same-clause-read c =
     let at : IsReaderAt Counting r = at_stage r Counting c.self.invariant stage in
     let a : Access = c.args.access in
     lift r now r (opening_event P a) Stops is
-    (λ es items stored st of_puts. no_bit c.puts_go_on.ensures.counts r.shape r es items stored a st none stage c.self.invariant.row_side at.0
+    (λ es items stored st of_puts. no_bit r.shape r es items stored a st none stage c.self.invariant.row_side at.0
     (λ due. (let clash : true ≡ false = sym (c.is_same.ensures.1 (c.next.ensures.due ∙ due)) ∙ c.if-is_same.false in absurd (cc))) of_puts)

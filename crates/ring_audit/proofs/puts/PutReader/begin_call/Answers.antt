@@ -22,6 +22,6 @@ returns-else-is_same-2-clause-read c =
     let a : Access = c.args.access in
     let due : c.next.result ≡ Some (begins.Read (row_read_by P 0)) = c.next.ensures.due ∙ ap due_scan c.new-self-inside.ensures.state in
     lift r now (record r { scan = c.new-self-inside.result }) (opening_event P a) Stops is
-    (λ es items stored st of_puts. no_call c.puts_go_on.ensures.between r.shape r es items stored a st none stage
+    (λ es items stored st of_puts. no_call r.shape r es items stored a st none stage
     (λ same. (let clash : true ≡ false = sym (c.is_same.ensures.1 (ap Some same)) ∙ c.if-is_same.false in absurd (cc)))
     (λ same. (let clash : true ≡ false = sym (c.is_same-else-is_same.ensures.1 (due ∙ ap Some same)) ∙ c.if-is_same-2.false in absurd (cc))) of_puts)

@@ -37,6 +37,6 @@ returns-else-is_same-clause-read c =
     let at : IsReaderAt Choosing r = at_stage r Choosing c.self.invariant stage in
     let a : Access = c.args.access in
     lift r now (record r { stage = Closed; row = c.write.new.self }) (opening_event P a) Stops is
-    (λ es items stored st of_puts. no_word_nor_count c.puts_go_on.ensures.words r.shape r es items stored a st none stage c.self.invariant.row_side
+    (λ es items stored st of_puts. no_word_nor_count r.shape r es items stored a st none stage c.self.invariant.row_side
     (subst (λ (z : PutReading). (v : Bool) → 0 < z.room → a ≡ begins.Write (Cell z.cell 0) v → ⊥) (sym is) c.requires.no_word)
     (λ some due. (let clash : true ≡ false = sym (c.is_same.ensures.1 (c.next.ensures.due ∙ ap due_unary c.write.ensures.state ∙ due)) ∙ c.if-is_same.false in absurd (cc))) of_puts)

@@ -36,5 +36,5 @@ returns-else-writes_next-clause-read c =
     let below : r.word.read < width_of r.shape = subst (λ w. r.word.read < w) at.1 at.3 in
     let due : c.next.result ≡ Some (begins.Read (Cell r.word.cell r.word.read)) = c.next.ensures.due ∙ read_due r.word at.3 in
     lift r now r (opening_event P a) Stops is
-    (λ es items stored st of_puts. no_digit c.puts_go_on.ensures.digits r.shape r es items stored a st none stage below (at.5 none)
+    (λ es items stored st of_puts. no_digit r.shape r es items stored a st none stage below (at.5 none)
     (λ v writes. (let clash : true ≡ false = sym (c.writes_next.ensures.1 (Cell r.word.cell r.word.read, v, due, writes ∙ ap (λ j. begins.Write (Cell j r.word.read) v) (sym at.2))) ∙ c.if-writes_next.false in absurd (cc))) of_puts)

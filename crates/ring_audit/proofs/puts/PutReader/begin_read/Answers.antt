@@ -23,5 +23,5 @@ returns-else-is_same-clause-read c =
     let a : Access = c.args.access in
     let due : c.next.result ≡ Some (begins.Read (row_read_by P r.scan.zeros)) = c.next.ensures.due ∙ scan_due P (modulus_of r.shape) r.scan at.1 in
     lift r now r (opening_event P a) Stops is
-    (λ es items stored st of_puts. no_read c.puts_go_on.ensures.scans r.shape r es items stored a st none stage (at.2 none)
+    (λ es items stored st of_puts. no_read r.shape r es items stored a st none stage (at.2 none)
     (λ same. (let clash : true ≡ false = sym (c.is_same.ensures.1 (due ∙ ap Some same)) ∙ c.if-is_same.false in absurd (cc))) of_puts)

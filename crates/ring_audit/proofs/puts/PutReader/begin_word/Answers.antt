@@ -47,5 +47,5 @@ returns-else-self-clause-read c =
       | else-self-gt0-via-else-self-gt0 w ↦ absurd (omega (arith, room, w.if-self-gt0.false))
     ]) in
     lift r now r (opening_event P a) Stops is
-    (λ es items stored st of_puts. no_word_nor_count c.puts_go_on.ensures.words r.shape r es items stored a st none stage c.self.invariant.row_side no_word
+    (λ es items stored st of_puts. no_word_nor_count r.shape r es items stored a st none stage c.self.invariant.row_side no_word
     (λ some due. (let clash : true ≡ false = sym some ∙ c.if-self.false in absurd (cc))) of_puts)

@@ -24,7 +24,7 @@ returns-then-not-answer-clause-read c =
     let at : IsReaderAt Scanning r = at_stage r Scanning c.self.invariant stage in
     let a : Access = c.args.access in
     lift r now r (end_event P (answered a c.args.answer)) Stops is
-    (λ es items stored st of_puts. zero_at_last c.last_reads_are_one.ensures.puts r.shape r es items stored a st some at.1 (at.3 a some) (c.expects_one.ensures.0 c.if-expects_one.true)
+    (λ es items stored st of_puts. zero_at_last r.shape r es items stored a st some at.1 (at.3 a some) (c.expects_one.ensures.0 c.if-expects_one.true)
     (subst (λ v. AreOfPuts r.shape (es ++ end_event P (answered a v) ∷ [])) c.if-not-answer.true of_puts))
 
 pub returns-in-None-clause-read : goal.returns-in-None-clause-read

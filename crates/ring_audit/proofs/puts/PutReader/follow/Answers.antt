@@ -9,4 +9,4 @@ pub returns : goal.returns
 returns c =
     let r : PutReading = the_view c.self.inside in
     subst (λ (z : PutReading). (es : List Event) (items stored : List ℕ) → PutsStand z.shape z es items stored → WerePut z.shape es items) c.self.view_is
-    (has_put (c.counts_are_written.ensures.numbers, c.counts_are_written.ensures.written) r c.self.invariant c.next-due.result c.next-due.ensures.due c.next-due.ensures.stands)
+    (has_put r c.self.invariant c.next-due.result c.next-due.ensures.due c.next-due.ensures.stands)

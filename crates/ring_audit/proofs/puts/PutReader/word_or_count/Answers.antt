@@ -21,7 +21,7 @@ returns-clause-only c =
     let word : ReaderState = record { width = width_of r.shape; cell = r.cell; read = 0; value = 0 } in
     let due : c.next-word.result ≡ Some (begins.Read (Cell r.cell 0)) = c.next-word.ensures.due ∙ ap due_read c.new.ensures.state ∙ read_due word r.shape.has_digits in
     begins_by r c.args.self.now _ c.self.view_is
-    (λ es items stored a st others. no_word_nor_count c.puts_go_on.ensures.words r.shape r es items stored a st none stage c.self.invariant.row_side
+    (λ es items stored a st others. no_word_nor_count r.shape r es items stored a st none stage c.self.invariant.row_side
     (λ v room is. c.writes.ensures.writes (Cell r.cell 0) v due (subst (λ z. c.writes.result.first ≢ Some (opening_event P z)) is others.0) (subst (λ z. c.writes.result.second ≢ Some (opening_event P z)) is others.1))
     (λ some count. others.2 (c.writes.ensures.other ∙ c.opening.ensures.some a (c.next.ensures.due ∙ ap due_unary c.write.ensures.state ∙ count))))
 

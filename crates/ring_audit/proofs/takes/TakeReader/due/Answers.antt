@@ -17,7 +17,7 @@ returns-in-Some-clause-only c es items access st wrong of_takes =
     let stands = subst (λ p. ConsumerStands p st.calls st.made) (sym consumer_is) st.stands in
     let takes = due_takes p c.in-Some.access (sym c.in-Some.ensures.due) in
     subst (λ q. IsBetweenWords q × WritesTakeCount access) consumer_is
-    (not_due c.takes_go_on.ensures c.calls_are_first.ensures.takes r.consumer.shape r es items p (Some c.in-Some.access) access st c.requires
+    (not_due r.consumer.shape r es items p (Some c.in-Some.access) access st c.requires
     (ap (λ (p : ConsumerState). p.shape) consumer_is) stands c.in-Some.ensures.due (λ d is. c.in-Some.ensures.goes_on st.calls st.made d stands is)
     (λ none. c.in-Some.ensures.rest st.calls st.made stands none) (λ taking ends. ap (λ (q : ConsumerState). q.wanted) consumer_is ∙ st.wants.behind_word (sym (ap is_taking consumer_is) ∙ taking) c.requires ends)
     (inl takes) wrong of_takes)
@@ -31,7 +31,7 @@ returns-in-None-clause-only c es items access st wrong of_takes =
     let stands = c.take_all.ensures.stands st.calls st.made before in
     let idle = (c.in-None.ensures.rest st.calls st.made before refl).0 in
     let most = c.self.invariant.1 ∙ ap (λ (q : ConsumerState). take_batch_of q.shape) consumer_is in
-    not_due c.takes_go_on.ensures c.calls_are_first.ensures.takes r.consumer.shape r es items c.take_all.new.self c.next-in-None.result access st c.requires
+    not_due r.consumer.shape r es items c.take_all.new.self c.next-in-None.result access st c.requires
     (c.take_all.ensures.shape ∙ ap (λ (p : ConsumerState). p.shape) consumer_is) stands c.next-in-None.ensures.due (λ d is. c.next-in-None.ensures.goes_on st.calls st.made d stands is)
     (λ none. c.next-in-None.ensures.rest st.calls st.made stands none)
     (λ taking ends. wants_most p c.take_all.new.self (Some Closed) c.self.inside.most c.take_all.ensures.begun c.take_all.ensures.refused idle taking ∙ most)

@@ -19,7 +19,7 @@ returns-then-not-answer-clause-read c es items stands of_takes =
     let open_is = ap (λ (z : TakeReading). z.open_access) c.self.view_is in
     let due = ap due_take (sym consumer_is) ∙ c.self.invariant.0.is_due access (open_is ∙ c.requires) in
     let last = subst (λ p. LastBitIsDue p.shape C (due_take p)) consumer_is (c.expects_one.ensures.due.0 c.if-expects_one.true) in
-    zero_at_last c.last_reads_are_one.ensures.takes shape r es items access stands c.requires due last
+    zero_at_last shape r es items access stands c.requires due last
     (subst (λ v. AreOfTakes shape (es ++ end_event C (answered access v) ∷ [])) c.if-not-answer.true of_takes)
 
 pub returns-clause-read : goal.returns-clause-read
