@@ -1,4 +1,3 @@
-use Rattle.std.proofs.Common.{subst, sym}
 use Rattle.ring_audit.proofs.DueLemmas.{dues_behind}
 use Rattle.ring_audit.proofs.dues.due_behind.Goals as goal
 
