@@ -131,8 +131,10 @@ fn by_a_modulus_one_too_small_an_item_is_taken_twice(rt: HostRuntime) {
 #[test]
 fn by_a_count_before_its_cell_an_item_is_taken_that_was_not_put(rt: HostRuntime) {
     let narrow = Asked { width: 1, ..ASKED };
-    let (played, told, _) = play(1, &narrow, &[1], "P5C10", "");
-    assert_eq!(rt; told, [[0, 0], [2, 1], [9, 0], [99, 99], [99, 99]]);
+    let mut taken = [9];
+    let (played, told, _) = play_in(1, &narrow, &[1], "P5C10", "", &mut taken);
+    assert_eq!(rt; told, [[0, 0], [2, 1], [9, 1], [99, 99], [99, 99]]);
+    assert_eq!(rt; (played.taken, taken), (1, [0]));
     assert_eq!(rt; [played.outcome, played.told, played.modulus], [0, 3, 3]);
 }
 
