@@ -1,5 +1,5 @@
 use bits_core::{Act, Bit, Event, Side, read_trace};
-use ring_audit::{Dues, due_behind};
+use ring_audit::{Dues, due_behind, dues_of_both};
 use std::alloc::AllocGlobal;
 use std::process::Abort;
 use std::test::Fail;
@@ -27,6 +27,8 @@ fn expect_dues(rt: &(impl Abort + AllocGlobal), cases: &[Case]) -> Result<(), Fa
     for (text, side, expected) in cases {
         let (shape, events) = read_trace(rt.alloc(), text.as_bytes())?;
         let dues = due_behind(&shape, events.as_slice(), *side);
+        let (puts, takes) = dues_of_both(&shape, events.as_slice());
+        assert!(rt; dues == if *side == Side::P { puts } else { takes });
         assert!(rt; count_of(&dues) == expected.len());
         for due in expected.iter() {
             assert!(rt; is_told(&dues, *side, due));
