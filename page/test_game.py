@@ -145,7 +145,7 @@ def test_goals(page, same, _):
     draw, began, calls, taken = random.Random(63), time.monotonic(), 0, 0
     page.open("")
     for name in WRONG:
-        shape, reached = {"batch": 1, "take_batch": 1, **json.loads(example(f"wrong/{name}.json")), "wrong": name.replace("_", "-")}, 0
+        shape, reached = {"batch": 1, "take_batch": 1, **json.loads(example(f"wrong/{name}.json")), "wrong": name.split("__")[0].replace("_", "-")}, 0
         runs = re.findall(r"([PC])(\d*)", shape["schedule"])
         for part in range(AT_RANDOM // 1000):
             found = page.browser.wait(PLAYS, [{**shape, **drawn(draw, runs)} for _ in range(1000)], GOALS[name], part == 0)
