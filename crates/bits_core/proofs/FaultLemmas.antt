@@ -13,7 +13,8 @@ use Rattle.bits_core.specs.declared.audits.Verdict.TheVariants.{Lawful, Fault}
 use Rattle.bits_core.specs.Audit.{IsFault, IsFirstFault, IsFaultAfter, IsVerdict}
 use Rattle.bits_core.specs.Steps.{MayFollow, EachMayFollow}
 use Rattle.bits_core.specs.Lawful.{TakesTurn, IsLawfulEvent, IsLawful}
-use Rattle.bits_core.specs.Laws.{FaultBreaks, FaultIsFirst}
+use Rattle.bits_core.specs.Laws.{FaultBreaks}
+use Rattle.bits_core.proofs.Statements.{FaultIsFirst}
 use Rattle.bits_core.proofs.Places.{slice_get-take, slice_get-from_take}
 use Rattle.bits_core.proofs.OverlapLemmas.{IsByDoers, IsByDoers-below}
 use Rattle.bits_core.proofs.LawfulLemmas.{same_event, IsByDoers-steps, IsLawfulEvent-from, IsLawfulEvent-to, IsLawful-from, IsLawful-to, TakesTurn-from, TakesTurn-to, AnswersSafely-to}

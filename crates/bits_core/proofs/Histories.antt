@@ -1,5 +1,5 @@
 -- How each word on histories changes by one event at the end.
-use Rattle.std.proofs.Common.{◌≡◌, ℕ, Bool, true, false, ◌||◌, cond, Option, Some, None, List, [], ◌∷◌, ◌++◌, ◌+◌, ◌-◌, ◌<◌, ◌≤◌, length, get_or, subst, take, drop, length-drop, refl, ap, sym, ◌∙◌, arith}
+use Rattle.std.proofs.Common.{◌≡◌, ℕ, Bool, true, false, ◌||◌, cond, Option, Some, None, List, [], ◌∷◌, ◌++◌, ◌+◌, ◌-◌, length, take, drop, length-drop, refl, ap, sym, ◌∙◌}
 use Rattle.std.specs.Prelude.{option_and_then, is_some, if◌then◌else◌, slice_get}
 use Rattle.std.proofs.lemmas.Option.{slice_get_within, get_or_from_slice_get}
 use Rattle.std.proofs.lemmas.List.{take-append-drop, drop_more}
@@ -12,7 +12,7 @@ use Rattle.bits_core.specs.declared.events.Side.{Side}
 use Rattle.bits_core.specs.declared.events.Bit.{Bit}
 use Rattle.bits_core.specs.declared.events.Event.{Event}
 use Rattle.bits_core.specs.Bits.{writer, is_by, begun_by, write_of}
-use Rattle.bits_core.specs.History.{has_event, last_event, before_last, after_last, open_access, writes_begun, writes_ended, last_value, is_empty, IsLastPlace}
+use Rattle.bits_core.specs.History.{has_event, last_event, before_last, after_last, open_access, writes_begun, writes_ended, last_value, IsLastPlace}
 
 -- a side has an event in two lists where it has one in either
 pub has_event-append : (s : Side) (xs ys : List Event) → has_event s (xs ++ ys) ≡ (has_event s xs || has_event s ys)
@@ -129,32 +129,10 @@ pub before_last-none : (s : Side) (h : List Event) → has_event s h ≡ false �
 before_last-none s [] none = refl
 before_last-none s (x ∷ h) none = let q = or_parts (is_by s x) (has_event s h) none in rw q.1 refl
 
-pub after_last-none : (s : Side) (h : List Event) → has_event s h ≡ false → after_last s h ≡ h
-after_last-none s [] none = refl
-after_last-none s (x ∷ h) none = let q = or_parts (is_by s x) (has_event s h) none in rw (q.1, q.0) refl
-
 -- the last of some values
 pub last_value-push : (v : Bool) (ws : List Bool) (w : Bool) → last_value v (ws ++ w ∷ []) ≡ w
 last_value-push v [] w = refl
 last_value-push v (x ∷ ws) w = last_value-push x ws w
-
-pub is_empty-push : {A : Type 0} (xs : List A) (x : A) → is_empty (xs ++ x ∷ []) ≡ false
-is_empty-push [] x = refl
-is_empty-push (y ∷ xs) x = refl
-
--- the same for a place that is read
-pub split_get : (h : List Event) (p : ℕ) (d : Event) → p < length h → h ≡ take p h ++ get_or h p d ∷ drop (p + 1) h
-split_get h p d within = sym (take-append-drop p h) ∙ ap (λ t. take p h ++ t) (drop_more h p d within)
-
-pub split_down : (h : List Event) (i : ℕ) (d : Event) → 0 < i → i ≤ length h → h ≡ take (i - 1) h ++ get_or h (i - 1) d ∷ drop i h
-split_down h i d some within =
-    let e : i - 1 + 1 ≡ i = omega arith in
-    subst (λ n. h ≡ take (i - 1) h ++ get_or h (i - 1) d ∷ drop n h) e (split_get h (i - 1) d (omega arith))
-
--- the writes up to the last of them
-pub writes_begun-last : (b : Bit) (h : List Event) (i : ℕ) (d : Event) (v : Bool) → 0 < i → i ≤ length h → write_of b (get_or h (i - 1) d) ≡ Some v → writes_begun b (drop i h) ≡ [] → writes_begun b h ≡ writes_begun b (take (i - 1) h) ++ v ∷ []
-writes_begun-last b h i d v some within writes none =
-    ap (writes_begun b) (split_down h i d some within) ∙ filter_map-append (write_of b) (take (i - 1) h) (get_or h (i - 1) d ∷ drop i h) ∙ ap (λ t. writes_begun b (take (i - 1) h) ++ t) (rw (writes, none) refl)
 
 pub some_when : {A : Type 0} (o : Option A) → is_some o ≡ true → (x : A) × (o ≡ Some x)
 some_when None h = absurd (false≢true h)

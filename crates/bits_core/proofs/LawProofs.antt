@@ -3,7 +3,8 @@ use Rattle.std.proofs.Common.{[], ◌∷◌, ◌++◌, length, take, ap, sym, su
 use Rattle.std.proofs.Math.Seq.{take-length}
 use Rattle.bits_core.specs.History.{open_access, held}
 use Rattle.bits_core.specs.Intervals.{IsHeld}
-use Rattle.bits_core.specs.Laws.{EmptyIsLawful, BeginningIsLawful, LawfulByOneMore, OpenIsByInterval, HeldIsByInterval, OverlapIsByInterval, HeldChanges}
+use Rattle.bits_core.specs.Laws.{EmptyIsLawful, BeginningIsLawful, LawfulByOneMore, OpenIsByInterval, HeldIsByInterval, OverlapIsByInterval}
+use Rattle.bits_core.proofs.Statements.{HeldChanges}
 use Rattle.bits_core.proofs.StepLemmas.{EachMayFollow-empty, EachMayFollow-append, EachMayFollow-push, EachMayFollow-last}
 use Rattle.bits_core.proofs.Changes.{AllByDoer-lawful, held-push}
 use Rattle.bits_core.proofs.IntervalLemmas.{open_access-from, IsOpenAt-from}

@@ -1,3 +1,4 @@
+pub mod Statements
 pub mod Fitting
 pub mod Places
 pub mod Histories
@@ -29,3 +30,4 @@ pub mod MarkLemmas
 pub mod OwnOpen
 pub mod SeenLemmas
 pub mod ReasonLemmas
+pub mod LawLemmas

@@ -8,7 +8,7 @@ use Rattle.bits_core.specs.declared.events.Event.{Event}
 use Rattle.bits_core.specs.Bits.{same_side, is_by, begun_by}
 use Rattle.bits_core.specs.Intervals.{end_of, IsAccess}
 use Rattle.bits_core.specs.Made.{Made, Read, Write, access_of, begin_event, end_event, events_of, IsPrefix, subhistory, clock, place_of, IsPlaceOf, IsMadeAt}
-use Rattle.bits_core.specs.Laws.{MadeIsAccess, AccessIsMade}
+use Rattle.bits_core.proofs.Statements.{MadeIsAccess, AccessIsMade}
 use Rattle.bits_core.proofs.Places.{slice_get-append, slice_get-take}
 use Rattle.bits_core.proofs.Changes.{same_side-same}
 use Rattle.bits_core.proofs.OwnEvents.{subhistory_has_place, subhistory_has_one_place, place-next, IsOwn, own_at}

@@ -7,7 +7,8 @@ use Rattle.bits_core.specs.declared.events.Event.{Event}
 use Rattle.bits_core.specs.Bits.{is_by}
 use Rattle.bits_core.specs.Intervals.{first_place}
 use Rattle.bits_core.specs.Made.{subhistory, clock, place_of, IsPlaceOf}
-use Rattle.bits_core.specs.Laws.{SubhistoryChanges, SubhistoryHasPlace, SubhistoryHasOnePlace, ClockCountsPlaces}
+use Rattle.bits_core.specs.Laws.{SubhistoryChanges}
+use Rattle.bits_core.proofs.Statements.{SubhistoryHasPlace, SubhistoryHasOnePlace, ClockCountsPlaces}
 
 -- by a test, with what it gave
 pub by_case : {G : Type 0} → (b : Bool) → (b ≡ true → G) → (b ≡ false → G) → G

@@ -11,7 +11,8 @@ use Rattle.bits_core.specs.Bits.{other, writer, reader, same_side, is_by, begun_
 use Rattle.bits_core.specs.History.{before_last, open_access, open_write, held, is_overlapped}
 use Rattle.bits_core.specs.Lawful.{IsLawful}
 use Rattle.bits_core.specs.Made.{Made, Read, Write, begin_event, end_event, events_of, subhistory}
-use Rattle.bits_core.specs.Laws.{OpenFromOwn, MadeLeaveNoneOpen, QuietIsHeld}
+use Rattle.bits_core.specs.Laws.{OpenFromOwn, MadeLeaveNoneOpen}
+use Rattle.bits_core.proofs.Statements.{QuietIsHeld}
 use Rattle.bits_core.proofs.Histories.{before_last-push, open_access-push}
 use Rattle.bits_core.proofs.Changes.{same_side-same, open_write-push, is_overlapped-push}
 use Rattle.bits_core.proofs.LawProofs.{lawful_by_one_more, held_changes}

@@ -1,7 +1,7 @@
 -- One event more, and beginnings, of a history whose every event may follow those before it.
-use Rattle.std.proofs.Common.{◌≡◌, ℕ, inl, inr, List, [], ◌∷◌, ◌++◌, ◌+◌, ◌<◌, ◌≤◌, length, get_or, take, drop, refl, sym, subst, arith}
+use Rattle.std.proofs.Common.{◌≡◌, ℕ, inl, inr, List, [], ◌∷◌, ◌++◌, ◌+◌, ◌≤◌, length, take, drop, refl, sym, subst, arith}
 use Rattle.std.proofs.lemmas.Option.{none-some, slice_get_within}
-use Rattle.std.proofs.lemmas.List.{take-append-le, take-append-drop, take_at, take_more}
+use Rattle.std.proofs.lemmas.List.{take-append-le, take-append-drop, take_at}
 use Rattle.bits_core.specs.declared.events.Event.{Event}
 use Rattle.bits_core.specs.declared.shapes.Shape.{Shape}
 use Rattle.bits_core.specs.Steps.{EachMayFollow, MayFollow}
@@ -38,7 +38,3 @@ EachMayFollow-push shape h e lawful follows = record {
 
 pub EachMayFollow-last : (shape : Shape) (h : List Event) (e : Event) → EachMayFollow shape (h ++ e ∷ []) → MayFollow shape h e
 EachMayFollow-last shape h e lawful = subst (λ past. MayFollow shape past e) (take_at h (e ∷ []) (length h) refl) (lawful.each (length h) e (slice_get-last h e))
-
--- the same of an event that is read, as the audit's loop has it
-pub EachMayFollow-more : (shape : Shape) (h : List Event) (i : ℕ) (d : Event) → i < length h → EachMayFollow shape (take i h) → MayFollow shape (take i h) (get_or h i d) → EachMayFollow shape (take (i + 1) h)
-EachMayFollow-more shape h i d within lawful follows = subst (λ t. EachMayFollow shape t) (sym (take_more h i d within)) (EachMayFollow-push shape (take i h) (get_or h i d) lawful follows)

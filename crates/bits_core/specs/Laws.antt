@@ -1,5 +1,5 @@
 -- The laws that the layers above stand on.
-use Rattle.std.specs.Prelude.{◌≡◌, ◌≢◌, ℕ, suc, ◌*◌, ◌<◌, ◌≤◌, ◌⊎◌, ◌↔◌, ◌||◌, Bool, true, false, Some, None, List, [], ◌∷◌, ◌++◌, length, take, slice_get, if◌then◌else◌, is_some, unwrap_or}
+use Rattle.std.specs.Prelude.{◌≡◌, ◌≢◌, ℕ, suc, ◌≤◌, ◌⊎◌, ◌↔◌, Bool, true, Some, None, List, [], ◌∷◌, ◌++◌, length, take, if◌then◌else◌}
 use Rattle.bits_core.specs.declared.events.Side.{Side}
 use Rattle.bits_core.specs.declared.events.Bit.{Bit}
 use Rattle.bits_core.specs.declared.events.Access.{Access}
@@ -10,15 +10,15 @@ use Rattle.bits_core.specs.declared.shapes.Shape.{Shape}
 use Rattle.bits_core.specs.declared.traces.TheConstants.{EVENT_LIMIT}
 use Rattle.bits_core.specs.declared.traces.TraceFault.{TraceFault}
 use Rattle.bits_core.specs.declared.traces.TraceFault.TheVariants.{TooLong}
-use Rattle.bits_core.specs.Audit.{IsFaultAfter, IsFirstFault, IsVerdict}
+use Rattle.bits_core.specs.Audit.{IsFirstFault, IsVerdict}
 use Rattle.bits_core.specs.Trace.{IsTrace, IsTraceFault, IsTraceText, RefusesTraceText}
-use Rattle.bits_core.specs.Bits.{reader, writer, is_by, begun_by, write_of}
-use Rattle.bits_core.specs.History.{before_last, open_access, open_write, held, held_at_begin, is_overlapped}
-use Rattle.bits_core.specs.Intervals.{IsAccess, IsHeld, IsOpenAt, IsRead, HasOverlap}
+use Rattle.bits_core.specs.Bits.{is_by, begun_by}
+use Rattle.bits_core.specs.History.{open_access, held, is_overlapped}
+use Rattle.bits_core.specs.Intervals.{IsHeld, IsOpenAt, IsRead, HasOverlap}
 use Rattle.bits_core.specs.Lawful.{IsLawful}
 use Rattle.bits_core.specs.Memory.{EndsOverlappedRead, is_flicker_at}
 use Rattle.bits_core.specs.Steps.{MayFollow}
-use Rattle.bits_core.specs.Made.{Made, access_of, events_of, IsPrefix, subhistory, clock, place_of, IsPlaceOf, IsMadeAt}
+use Rattle.bits_core.specs.Made.{Made, events_of, subhistory}
 
 -- nothing has happened
 abbrev pub EmptyIsLawful : Type 0
@@ -46,18 +46,6 @@ OverlapIsByInterval = (shape : Shape) (h : List Event) → IsLawful shape h → 
 abbrev pub OpenChanges : Type 0
 OpenChanges = (s : Side) (h : List Event) (e : Event) → open_access s (h ++ e ∷ []) ≡ (if is_by s e then begun_by e else open_access s h)
 
-abbrev pub OpenWriteChanges : Type 0
-OpenWriteChanges = (b : Bit) (h : List Event) (e : Event) → open_write b (h ++ e ∷ []) ≡ (if is_by (writer b) e then write_of b e else open_write b h)
-
-abbrev pub HeldChanges : Type 0
-HeldChanges = (shape : Shape) (b : Bit) (h : List Event) (e : Event) → IsLawful shape h → held b (h ++ e ∷ []) ≡ (if is_by (writer b) e then unwrap_or (open_write b h) (held b h) else held b h)
-
-abbrev pub HeldAtBeginChanges : Type 0
-HeldAtBeginChanges = (s : Side) (b : Bit) (h : List Event) (e : Event) → held_at_begin s b (h ++ e ∷ []) ≡ (if is_by s e then held b h else held_at_begin s b h)
-
-abbrev pub OverlapChanges : Type 0
-OverlapChanges = (s : Side) (b : Bit) (h : List Event) (e : Event) → is_overlapped s b (h ++ e ∷ []) ≡ (if is_by s e then is_some (open_write b h) else is_overlapped s b h || is_some (write_of b e))
-
 -- a history has one verdict
 abbrev pub OneVerdict : Type 0
 OneVerdict = (shape : Shape) (h : List Event) (v w : Verdict) → IsVerdict shape h v → IsVerdict shape h w → v ≡ w
@@ -65,11 +53,6 @@ OneVerdict = (shape : Shape) (h : List Event) (v w : Verdict) → IsVerdict shap
 -- the events before the first fault are lawful, and with it they are not
 abbrev pub FaultBreaks : Type 0
 FaultBreaks = (shape : Shape) (h : List Event) (place : ℕ) (kind : Kind) → IsFirstFault shape h place kind → IsLawful shape (take place h) × (IsLawful shape (take (suc place) h) → ⊥)
-
--- an event that may not follow the events before it, which are lawful, is the first fault
-abbrev pub FaultIsFirst : Type 0
-FaultIsFirst = (shape : Shape) (h : List Event) (place : ℕ) (e : Event) (kind : Kind) → slice_get h place ≡ Some e → IsLawful shape (take place h) → IsFaultAfter shape (take place h) e kind →
-    IsFirstFault shape h place kind
 
 -- whether a write of a bit overlaps an access is decidable
 abbrev pub OverlapIsDecidable : Type 0
@@ -111,36 +94,6 @@ FlickerIsByInterval = (shape : Shape) (h : List Event) → IsLawful shape h → 
 abbrev pub SubhistoryChanges : Type 0
 SubhistoryChanges = (s : Side) (h : List Event) (e : Event) → subhistory s (h ++ e ∷ []) ≡ (if is_by s e then subhistory s h ++ e ∷ [] else subhistory s h)
 
--- each own event has its place
-abbrev pub SubhistoryHasPlace : Type 0
-SubhistoryHasPlace = (s : Side) (h : List Event) (i : ℕ) → i < length (subhistory s h) → IsPlaceOf s h i (place_of s h i)
-
--- and that is its only place
-abbrev pub SubhistoryHasOnePlace : Type 0
-SubhistoryHasOnePlace = (s : Side) (h : List Event) (i place : ℕ) → IsPlaceOf s h i place → place ≡ place_of s h i
-
--- an own event stands before a place exactly where its number is below the clock there
-abbrev pub ClockCountsPlaces : Type 0
-ClockCountsPlaces = (s : Side) (h : List Event) (i place : ℕ) → i < length (subhistory s h) → (place_of s h i < place) ↔ (i < clock s h place)
-
--- where a side's events are a beginning of the events of accesses that were made, each of these that began is an access of the history
-abbrev pub MadeIsAccess : Type 0
-MadeIsAccess =
-    (s : Side) (h : List Event) (made : List Made) → IsPrefix (subhistory s h) (events_of s made) →
-    (n : ℕ) (x : Made) → slice_get made n ≡ Some x → 2 * n < length (subhistory s h) →
-    (stop : ℕ) × IsMadeAt s h n x (place_of s h (2 * n)) stop
-
--- and each access of the side in the history is one of these
-abbrev pub AccessIsMade : Type 0
-AccessIsMade =
-    (s : Side) (h : List Event) (made : List Made) → IsPrefix (subhistory s h) (events_of s made) →
-    (access : Access) (start stop : ℕ) → IsAccess h s access start stop →
-    (n : ℕ) × (x : Made) × (slice_get made n ≡ Some x) × (access_of x ≡ access) × IsMadeAt s h n x start stop
-
--- what stands before a side's last event, by one event more
-abbrev pub BeforeLastChanges : Type 0
-BeforeLastChanges = (s : Side) (h : List Event) (e : Event) → before_last s (h ++ e ∷ []) ≡ (if is_by s e then h else before_last s h)
-
 -- the open access of a side follows from its own events
 abbrev pub OpenFromOwn : Type 0
 OpenFromOwn = (s : Side) (h : List Event) → open_access s h ≡ open_access s (subhistory s h)
@@ -148,10 +101,3 @@ OpenFromOwn = (s : Side) (h : List Event) → open_access s h ≡ open_access s 
 -- whole accesses, one after the other, leave none open
 abbrev pub MadeLeaveNoneOpen : Type 0
 MadeLeaveNoneOpen = (s : Side) (made : List Made) → open_access s (events_of s made) ≡ None
-
--- while no write of a bit overlaps its reader's last access, no write of it is open, none was where the access began, and it
--- holds what it held there
-abbrev pub QuietIsHeld : Type 0
-QuietIsHeld =
-    (shape : Shape) (h : List Event) (s : Side) (b : Bit) → IsLawful shape h → s ≡ reader b → is_overlapped s b h ≡ false →
-    (open_write b h ≡ None) × (open_write b (before_last s h) ≡ None) × (held b h ≡ held_at_begin s b h)

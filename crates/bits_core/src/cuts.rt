@@ -8,7 +8,7 @@ pub const LINE_LIMIT: usize = 31;
 
 /// The first bytes of a line, as far as they have come. They are seen as a list, which has room for a whole line.
 #[derive(Drop)]
-pub struct LineFront {
+pub(crate) struct LineFront {
     room: [u8; LINE_LIMIT],
     used: usize,
 }

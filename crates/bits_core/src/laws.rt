@@ -1,15 +1,15 @@
 //! The laws of histories and of trace text that the layers above stand on. Each is the contract of a function that does
 //! nothing: a body that calls it has the statement at hand in its proof.
 //!
-//! - Of a history with one event more: `lawful_by_one_more`, and what changes by it: `open_changes`, `open_write_changes`,
-//!   `held_changes`, `held_at_begin_changes`, `overlap_changes`, `subhistory_changes`, `before_last_changes`. For who keeps something event
-//!   by event, as `uses::by_hand` does.
+//! - Of a history with one event more: `lawful_by_one_more`, `open_changes`, `subhistory_changes`. For who keeps something event by
+//!   event, as `uses::by_hand` does.
 //! - Of intervals: `open_is_by_interval`, `held_is_by_interval`, `overlap_is_by_interval`, `flicker_is_by_interval`. For who
 //!   states something of a history and not of its working words.
-//! - Of a side's own events and accesses: `subhistory_has_place`, `clock_counts_places`, `made_is_access`, `access_is_made`, `made_leave_none_open`. For who has a machine that makes them.
-//! - Of verdicts and of text: `one_verdict`, `fault_breaks`, `fault_is_first`, `one_reading` to `refused_is_no_text`. For who reads a verdict, or
-//!   a trace.
-ghost use Rattle.bits_core.specs.Laws.{AccessIsMade, BeforeLastChanges, BeginningIsLawful, ClockCountsPlaces, EmptyIsLawful, FaultBreaks, FaultIsFirst, FaultyIsNoTrace, FlickerIsByInterval, HeldAtBeginChanges, HeldChanges, HeldIsByInterval, LawfulByOneMore, MadeIsAccess, MadeLeaveNoneOpen, OneFault, OneReading, OneTextReading, OneVerdict, OpenChanges, OpenFromOwn, OpenIsByInterval, OpenWriteChanges, OverlapChanges, OverlapIsByInterval, OverlapIsDecidable, SubhistoryChanges, SubhistoryHasOnePlace, SubhistoryHasPlace, QuietIsHeld, RefusedIsNoText, TraceIsText, TraceOrFault};
+//! - Of a side's own events and accesses: `open_from_own`, `made_leave_none_open`. For who has a machine that makes them.
+//! - Of verdicts and of text: `one_verdict`, `fault_breaks`, `one_reading` to `refused_is_no_text`. For who reads a verdict, or a trace.
+//!
+//! Proofs cite the lemmas behind them, which `proofs/LawLemmas.antt` has under these names, with some that only proofs ask for.
+ghost use Rattle.bits_core.specs.Laws.{BeginningIsLawful, EmptyIsLawful, FaultBreaks, FaultyIsNoTrace, FlickerIsByInterval, HeldIsByInterval, LawfulByOneMore, MadeLeaveNoneOpen, OneFault, OneReading, OneTextReading, OneVerdict, OpenChanges, OpenFromOwn, OpenIsByInterval, OverlapIsByInterval, OverlapIsDecidable, SubhistoryChanges, RefusedIsNoText, TraceIsText, TraceOrFault};
 
 /// The history with no event is lawful.
 pub fn empty_is_lawful()
@@ -46,26 +46,6 @@ pub fn open_changes()
     ensures { OpenChanges }
 {}
 
-/// How the open write of a bit changes by one event.
-pub fn open_write_changes()
-    ensures { OpenWriteChanges }
-{}
-
-/// How what a bit holds changes by one event.
-pub fn held_changes()
-    ensures { HeldChanges }
-{}
-
-/// How what a bit held at a side's last begin changes by one event.
-pub fn held_at_begin_changes()
-    ensures { HeldAtBeginChanges }
-{}
-
-/// How the overlap of a side's last access changes by one event.
-pub fn overlap_changes()
-    ensures { OverlapChanges }
-{}
-
 /// Whether a write of a bit overlaps an access is decidable.
 pub fn overlap_is_decidable()
     ensures { OverlapIsDecidable }
@@ -79,11 +59,6 @@ pub fn one_verdict()
 /// The events before the first fault of a history are lawful, and with it they are not.
 pub fn fault_breaks()
     ensures { FaultBreaks }
-{}
-
-/// An event that may not follow the events before it, which are lawful, is the first fault of a history.
-pub fn fault_is_first()
-    ensures { FaultIsFirst }
 {}
 
 /// A text is that of one shape and one list of events.
@@ -131,36 +106,6 @@ pub fn subhistory_changes()
     ensures { SubhistoryChanges }
 {}
 
-/// Each own event of a side has its place in the history.
-pub fn subhistory_has_place()
-    ensures { SubhistoryHasPlace }
-{}
-
-/// An own event of a side has no other place.
-pub fn subhistory_has_one_place()
-    ensures { SubhistoryHasOnePlace }
-{}
-
-/// The clock of a side counts its own events before a place.
-pub fn clock_counts_places()
-    ensures { ClockCountsPlaces }
-{}
-
-/// Each access that a side made and that began is an access of the history.
-pub fn made_is_access()
-    ensures { MadeIsAccess }
-{}
-
-/// Each access of a side in the history is one that the side made.
-pub fn access_is_made()
-    ensures { AccessIsMade }
-{}
-
-/// How what stands before a side's last event changes by one event.
-pub fn before_last_changes()
-    ensures { BeforeLastChanges }
-{}
-
 /// The open access of a side follows from its own events.
 pub fn open_from_own()
     ensures { OpenFromOwn }
@@ -169,9 +114,4 @@ pub fn open_from_own()
 /// Whole accesses leave none open.
 pub fn made_leave_none_open()
     ensures { MadeLeaveNoneOpen }
-{}
-
-/// While no write of a bit overlaps its reader's last access, the bit holds what it held where that began.
-pub fn quiet_is_held()
-    ensures { QuietIsHeld }
 {}

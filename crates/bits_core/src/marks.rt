@@ -17,7 +17,7 @@ const BIT_COUNT: usize = 4_609;
 
 /// What is kept of a side: the access that it has open, and whether a write has overlapped it.
 #[derive(Clone, Copy)]
-pub struct SideMark {
+pub(crate) struct SideMark {
     opened: Option<Access>,
     overlapped: bool,
 }
@@ -27,7 +27,7 @@ pub struct SideMark {
 ///
 /// They tell in a moment what may follow, and take no memory.
 #[derive(Drop)]
-pub struct Marks {
+pub(crate) struct Marks {
     values: [bool; BIT_COUNT],
     sides: [SideMark; 2],
 }

@@ -6,7 +6,7 @@ use crate::events::{Act, Bit, Event, Side};
 
 /// What the word of a line says of the access.
 #[derive(Clone, Copy)]
-pub enum ActWord {
+pub(crate) enum ActWord {
     Read,
     Got,
     Write,
@@ -15,7 +15,7 @@ pub enum ActWord {
 
 /// The numbers of a trace's first line; each batch is 1 where it names none.
 #[derive(Clone, Copy)]
-pub struct Numbers {
+pub(crate) struct Numbers {
     pub capacity: u64,
     pub modulus: u64,
     pub width: u64,

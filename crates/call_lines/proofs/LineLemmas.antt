@@ -104,9 +104,6 @@ line_is bytes rest w numbers read are allowed = record {
 read_of_line : (bytes : List ℕ) (w : Word) (numbers : List ℕ) → IsLine bytes w numbers → line_word_at bytes ≡ Some (w, numbers_text numbers)
 read_of_line bytes w numbers is = ap line_word_at is.text ∙ word_at-again w numbers
 
-pub no_line_word : (bytes : List ℕ) → None ≡ line_word_at bytes → (w : Word) (told : List ℕ) → ¬ (IsLine bytes w told)
-no_line_word bytes read w told is = none-some (w, numbers_text told) (read ∙ read_of_line bytes w told is)
-
 -- what is behind its word
 behind : (bytes rest : List ℕ) (w : Word) → Some (w, rest) ≡ line_word_at bytes → (other : Word) (told : List ℕ) → IsLine bytes other told → ◌≡◌ {A = Word × List ℕ} (w, rest) (other, numbers_text told)
 behind bytes rest w read other told is = same_Some (w, rest) (other, numbers_text told) (read ∙ read_of_line bytes other told is)

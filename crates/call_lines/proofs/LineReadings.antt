@@ -54,9 +54,6 @@ number_at-again n numbers small = digits_at-again n (numbers_text numbers) small
 
 -- ---- numbers
 
-pub none_so_far : (bytes numbers : List ℕ) → numbers ≡ [] → (bytes ≡ numbers_text numbers ++ bytes) × AreSmall numbers
-none_so_far bytes numbers none = subst (λ (t : List ℕ). (bytes ≡ numbers_text t ++ bytes) × AreSmall t) (sym none) (refl, λ k d inside. absurd (omega arith))
-
 pub one_more : (bytes left rest numbers bytes_behind : List ℕ) (n : ℕ) → bytes ≡ numbers_text numbers ++ left → Some (n, rest) ≡ spaced_number left → bytes_behind ≡ numbers ++ n ∷ []
     → bytes ≡ numbers_text bytes_behind ++ rest
 one_more bytes left rest numbers bytes_behind n so_far read pushed =

@@ -8,7 +8,7 @@ use Rattle.bits_core.specs.Memory.{MemoryState, unused}
 use Rattle.bits_core.specs.Oracle.{tape_answer, turn}
 use Rattle.bits_core.specs.declared.shapes.Shape.{Shape}
 use Rattle.ring_player.specs.Actors.{IsAtTurn}
-use Rattle.ring_player.specs.Laws.{TurnsAreByInterval}
+use Rattle.ring_player.proofs.LawLemmas.{TurnsAreByInterval}
 use Rattle.ring_script.specs.Content.{Content}
 use Rattle.near_misses.specs.declared.plays.NearWorld.{NearWorld}
 use Rattle.bits_core.specs.declared.events.Access.{Access}

@@ -16,10 +16,8 @@ use crate::misses::NearMiss;
 use crate::putting::NearPutter;
 use crate::sides::NearSide;
 use crate::taking::NearTaker;
-use bits_core::laws::open_changes;
 use bits_core::{Access, Event, Memory, MemoryFault, Oracle, Side, Store, Tape};
 use queue_calls::CallEvent;
-use ring_player::laws::{turns_are_by_interval, turns_go_on};
 use ring_script::{Script, ScriptRef};
 use std::alloc::{AllocError, AllocFailed, Allocator};
 use thiserror::Error;
@@ -114,6 +112,7 @@ fn begin<E: Store<Event>>(
 }
 
 // Ends this access, which the side has open. A write answers nothing, told as 0.
+#[tactic(auto, using(ring_player::proofs::LawLemmas::turns_go_on))]
 fn end<E: Store<Event>, O: Oracle>(
     memory: &mut Memory<E>,
     side: Side,
@@ -130,7 +129,6 @@ fn end<E: Store<Event>, O: Oracle>(
     ensures turns { OnOk result ((turns : ℕ → Bool) → IsAtTurn turns memory.old.events (O.answers oracle.old) →
         IsAtTurn turns memory.new.events (O.answers oracle.new)) }
 {
-    turns_go_on();
     match access {
         Access::Read(_) => Ok(memory.end_read(side, oracle)?),
         Access::Write(_, _) => {
@@ -141,6 +139,7 @@ fn end<E: Store<Event>, O: Oracle>(
 }
 
 // Begins the next access of a side, or has it stop.
+#[tactic(auto, using(bits_core::proofs::LawLemmas::open_changes, ring_player::proofs::LawLemmas::turns_go_on))]
 fn go_on<E: Store<Event>, S: NearSide>(
     memory: &mut Memory<E>,
     machine: &mut S,
@@ -160,8 +159,6 @@ fn go_on<E: Store<Event>, S: NearSide>(
     ensures few { length memory.new.events ≤ length memory.old.events + 1 }
     ensures full { OnErr result (memory.old.room ≤ length memory.old.events) }
 {
-    open_changes();
-    turns_go_on();
     let Some((access, told)) = machine.next() else {
         machine.stop();
         return Ok(None);
@@ -174,6 +171,7 @@ fn go_on<E: Store<Event>, S: NearSide>(
 }
 
 // One step of a side, and what its event tells, if any.
+#[tactic(auto, using(bits_core::proofs::LawLemmas::open_changes))]
 fn step<E: Store<Event>, S: NearSide, O: Oracle>(
     memory: &mut Memory<E>,
     machine: &mut S,
@@ -195,7 +193,6 @@ fn step<E: Store<Event>, S: NearSide, O: Oracle>(
     ensures few { length memory.new.events ≤ length memory.old.events + 1 }
     ensures full { OnErr result (memory.old.room ≤ length memory.old.events) }
 {
-    open_changes();
     let Some(access) = memory.pending(side) else {
         return go_on(memory, machine, side);
     };
@@ -290,7 +287,6 @@ impl<E: Store<Event>, T: Store<NearCall>, I: Store<u64>> NearWorld<'_, E, T, I> 
             ((T.room self.old.told ≤ length (T.items self.old.told)) ⊎
             (I.room self.old.taken ≤ items_held I.items self.old))) }
     {
-        open_changes();
         let event = step(
             &mut self.memory,
             &mut self.putter,
@@ -317,7 +313,6 @@ impl<E: Store<Event>, T: Store<NearCall>, I: Store<u64>> NearWorld<'_, E, T, I> 
             ((T.room self.old.told ≤ length (T.items self.old.told)) ⊎
             (I.room self.old.taken ≤ items_held I.items self.old))) }
     {
-        open_changes();
         let event = step(&mut self.memory, &mut self.taker, &mut self.oracle, Side::C)?;
         tell(&mut self.told, event)?;
         keep(&mut self.taken, event, self.taker.items())?;
@@ -434,7 +429,6 @@ pub fn play_near_first<E: Store<Event>, T: Store<NearCall>, I: Store<u64>>(
         ((T.room told < min letters (length (content_of script.entry).letters)) ⊎
         (I.room taken < min letters (length (content_of script.entry).letters)))) }
 {
-    turns_are_by_interval();
     let shape = script.shape();
     let mut world = NearWorld {
         memory: Memory::over(events, shape),

@@ -25,7 +25,7 @@ enum Stage {
 
 /// The producer of a script: it puts the items, as many at a time as a batch may have, and then perhaps closes.
 #[derive(Drop)]
-pub struct NearPutter<'a> {
+pub(crate) struct NearPutter<'a> {
     miss: NearMiss,
     shape: Shape,
     items: &'a [u64],

@@ -54,7 +54,7 @@ fn highest_set(bits: &[bool; 256], below: u8) -> Option<u8>
 
 /// In which order a count write makes its writes.
 #[derive(Clone, Copy)]
-pub enum Order {
+pub(crate) enum Order {
     /// It sets its bit, and clears those below from the highest down, as a ring does.
     Downwards,
     /// It sets its bit, and clears those below from the lowest up.
@@ -76,7 +76,7 @@ impl Order {
 
 /// The bits of a count, as the side that writes them remembers them, and the value that they are to show.
 #[derive(Drop)]
-pub struct NearRow {
+pub(crate) struct NearRow {
     side: Side,
     order: Order,
     bits: [bool; 256],

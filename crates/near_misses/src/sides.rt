@@ -5,7 +5,7 @@ use crate::taking::NearTaker;
 use bits_core::Access;
 
 /// One side at work.
-pub trait NearSide {
+pub(crate) trait NearSide {
     ghost use Rattle.std.specs.Prelude.{◌≡◌, true, false, Option, None, IfSome, IsSome};
     ghost use Rattle.bits_core.specs.declared.events.Access.{Access};
     ghost use Rattle.bits_core.specs.declared.events.Side.{Side};

@@ -51,7 +51,7 @@ fn with_digit(answer: bool, digit: u8, item: u64) -> u64
 /// The consumer of a script: it takes as many items as the script has takes, counting one for each that found the ring empty, and no more
 /// once it was told Closed.
 #[derive(Drop)]
-pub struct NearTaker {
+pub(crate) struct NearTaker {
     miss: NearMiss,
     shape: Shape,
     takes: u64,

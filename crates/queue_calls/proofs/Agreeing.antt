@@ -402,8 +402,3 @@ turned h event = reverse-append h (event ∷ [])
 
 pub turned_behind : (first : Event) (events past : List Event) → reverse (first ∷ events) ++ past ≡ reverse events ++ (first ∷ past)
 turned_behind first events past = ap (λ z. z ++ past) (reverse-append (first ∷ []) events) ∙ append_assoc (reverse events) (first ∷ []) past
-
--- each event that can be counted, behind a history
-pub step_behind : (h : List Event) (k : Kept) → Agrees (reverse h) k → (capacity : Capacity) (event : Event) (after : Kept) → Counts capacity k event after → Agrees (reverse (h ++ event ∷ [])) after
-step_behind h k a capacity event after c =
-    let F : List Event → Type 0 = λ z. Agrees z after in subst F (sym (turned h event)) (step (reverse h) k a capacity event after c)

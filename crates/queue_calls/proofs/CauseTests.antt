@@ -18,12 +18,6 @@ pub can_lack_tells : (capacity : Capacity) (inside count : ℕ) → (can_lack ca
 can_lack_tells Unbounded inside count = (λ e. absurd cc, λ h. absurd h)
 can_lack_tells (Between full most) inside count = (λ e. ltb-true full (inside + count) e, λ h. lt-ltb full (inside + count) h)
 
-pub cannot_lack_tells : (capacity : Capacity) (inside count : ℕ) → (can_lack capacity inside count ≡ false) ↔ (¬ LacksRoom capacity inside count)
-cannot_lack_tells capacity inside count = (
-  λ e. λ h. both_ways (can_lack capacity inside count) e ((can_lack_tells capacity inside count).1 h),
-  λ f. false_from_ne_true (can_lack capacity inside count) (λ e. f ((can_lack_tells capacity inside count).0 e)),
-)
-
 -- two tests that do not both hold
 pub and_off : (b c : Bool) → (b ≡ true → c ≡ false) → (b && c) ≡ false
 and_off true c f = f refl
@@ -42,10 +36,6 @@ and_told false b A tells = (λ e. λ g. absurd cc, λ h. refl)
 pub if_on : {A : Type 0} (b : Bool) (x y : A) → b ≡ true → (if b then x else y) ≡ x
 if_on true x y e = refl
 if_on false x y e = absurd cc
-
-pub if_off : {A : Type 0} (b : Bool) (x y : A) → b ≡ false → (if b then x else y) ≡ y
-if_off true x y e = absurd cc
-if_off false x y e = refl
 
 module _ {A : Type 0} where
   -- where the first of several tests holds, there is something

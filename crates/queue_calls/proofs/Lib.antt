@@ -30,3 +30,4 @@ pub mod CauseTold
 pub mod Remembering
 pub mod Hears
 mod LastOnes
+pub mod LawLemmas

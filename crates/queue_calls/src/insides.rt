@@ -93,7 +93,7 @@ impl<Q: Fifo<u64>> Inside for Q {
 
 // Items with the lines of their puts.
 #[derive(Drop)]
-pub struct Lined<O: Fifo<Offered>> {
+pub(crate) struct Lined<O: Fifo<Offered>> {
     pub(crate) list: O,
 }
 

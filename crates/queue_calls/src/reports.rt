@@ -45,7 +45,7 @@ pub struct CallsReport {
 
 // The report on the events so far; and whether the call under way of each side has overlapped one of the other.
 #[derive(Drop)]
-pub struct Tally {
+pub(crate) struct Tally {
     pub(crate) report: CallsReport,
     pub(crate) put_overlaps: bool,
     pub(crate) take_overlaps: bool,

@@ -22,7 +22,7 @@ use lists::Fifo;
 
 // A history of a queue, with the lines of its events.
 #[derive(Drop)]
-pub struct Witness<S: Storage> {
+pub(crate) struct Witness<S: Storage> {
     pub(crate) auditor: CallAuditor<Lined<S::Offered>>,
     // the items taken last, and how many of them are kept
     pub(crate) taken: S::Taken,

@@ -9,35 +9,6 @@ use Rattle.queue_calls.specs.declared.hearings.HearingState.{HearingState}
 use Rattle.lists.specs.declared.slots.Slots.{Slots}
 
 module _ {S N B : Type 0} (state : HearingState) (o : Slots Offered) (t : Slots Taken) (is_cut : Bool) (lines : List Line) where
-  pub in_lists :
-      FollowsLines {S = S} {N = N} {B = B} ring_items ring_items (hearing_of state o t) is_cut lines →
-      FollowsLines {S = Unit} {N = Unit} {B = Unit} (λ x. x) (λ x. x) (hearing_of state (ring_items o) (ring_items t)) is_cut lines
-  in_lists (are, (first, further, parts, begun, (r, tallied)), none) = (
-    are,
-    (
-      first,
-      further,
-      parts,
-      begun,
-      (
-        record {
-          proper = r.proper;
-          capacity_is = r.capacity_is;
-          counted = r.counted;
-          inside = r.inside;
-          taken = r.taken;
-          taken_last = r.taken_last;
-          ended = r.ended;
-          told = r.told;
-          put_at = r.put_at;
-          stored_at = r.stored_at;
-        },
-        tallied,
-      ),
-    ),
-    none,
-  )
-
   pub in_slots :
       FollowsLines {S = Unit} {N = Unit} {B = Unit} (λ x. x) (λ x. x) (hearing_of state (ring_items o) (ring_items t)) is_cut lines →
       FollowsLines {S = S} {N = N} {B = B} ring_items ring_items (hearing_of state o t) is_cut lines

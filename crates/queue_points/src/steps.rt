@@ -30,7 +30,7 @@ pub enum Operation {
 
 // What the producer is in, as `specs/Calls` has it.
 #[derive(Clone, Copy)]
-pub enum PutStand<'a> {
+pub(crate) enum PutStand<'a> {
     Idle,
     // how many items it found no room for, how many are stored, and all that it offers
     Putting(usize, usize, &'a [u64]),
@@ -40,7 +40,7 @@ pub enum PutStand<'a> {
 
 // What the consumer is in.
 #[derive(Clone, Copy)]
-pub enum TakeStand {
+pub(crate) enum TakeStand {
     Resting,
     // how many items it found fewer than, the place in the row at which it began, and how many more it may take
     Taking(usize, usize, usize),

@@ -23,3 +23,4 @@ pub mod Counts
 pub mod UnaryLaw
 pub mod MadeWrites
 pub mod MadeReads
+pub mod LawLemmas

@@ -8,50 +8,35 @@ ghost use Rattle.register_core.specs.UnaryLaw.{NumberedStayWithin, UnaryIsRegula
 ghost use Rattle.register_core.specs.Word.{DigitsTellItems};
 ghost use Rattle.register_core.specs.WordLaw.{DigitsAreSafe, WordIsSafe};
 
-use bits_core::laws::{
-    clock_counts_places, held_is_by_interval, made_is_access, subhistory_has_one_place,
-    subhistory_has_place,
-};
-
 /// A bit whose writer makes logical writes is regular.
 pub fn bit_is_regular()
     ensures { BitIsRegular }
-{
-    held_is_by_interval();
-}
+{}
 
 /// Where the writes to a cell are word writes one after the other, a word read that none of them overlaps
 /// gives the item of the last that ended before it, and 0 where there is none.
 pub fn word_is_safe()
     ensures { WordIsSafe }
-{
-    held_is_by_interval();
-}
+{}
 
 /// The same of the digits that a word read has read so far, where no word write overlaps its interval, which runs past
 /// the end of the history while it has not ended.
 pub fn digits_are_safe()
     ensures { DigitsAreSafe }
-{
-    held_is_by_interval();
-}
+{}
 
 /// Where the writes to a count are unary writes of any values one after the other, a scan of it gives the
 /// value of a write whose number lies from those that had ended where it began to those that had begun
 /// where it ended.
 pub fn unary_is_regular()
     ensures { UnaryIsRegular }
-{
-    held_is_by_interval();
-}
+{}
 
 /// Where, moreover, no value whose write had begun where the scan ended is above the last bit's number, a scan
 /// that read 0 in all bits below the last does not read 0 in it.
 pub fn unary_has_one()
     ensures { UnaryHasOne }
-{
-    held_is_by_interval();
-}
+{}
 
 /// Where no value of a list is above a bound, no value of a numbered write of the list is.
 pub fn numbered_stay_within()
@@ -81,12 +66,7 @@ pub fn reads_are_made()
     ensures scans { ScansAreMade }
     ensures zeros { ZerosAreMade }
     ensures words { WordReadsAreMade }
-{
-    made_is_access();
-    subhistory_has_place();
-    subhistory_has_one_place();
-    clock_counts_places();
-}
+{}
 
 /// Items of a width are told apart by their digits.
 pub fn digits_tell_items()

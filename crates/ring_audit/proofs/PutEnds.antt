@@ -36,10 +36,6 @@ use Rattle.ring_audit.proofs.PutItems.{first_of, fit-push, words-push, as_write,
 events_in-append : (xs ys : List Made) → events_in (xs ++ ys) ≡ events_in xs + events_in ys
 events_in-append xs ys = omega (arith, length-append xs ys)
 
--- the accesses before a put's count write are some of the put's
-before_within : (shape : Shape) (c : Count) (seen : ℕ) (items : List ℕ) → events_in (accesses_before_count shape c.number seen items) ≤ events_in (put_phrase shape c (Stored seen items))
-before_within shape c seen items = omega (arith, length-append (accesses_before_count shape c.number seen items) (batch_phrase shape P c items))
-
 -- where a put has ended and its count write has begun, its items are put
 begun_items :
     (shape : Shape) (c : Count) (seen : ℕ) (items rest : List ℕ) (t : ℕ) → events_in (accesses_before_count shape c.number seen items) < t →

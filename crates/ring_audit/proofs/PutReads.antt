@@ -260,9 +260,6 @@ at_stage r stage is e = subst (λ s. IsReaderAt s r) e is.at
 pub same_open : (o : Option Access) (a b : Access) → o ≡ Some a → o ≡ Some b → a ≡ b
 same_open o a b e f = let both : Some a ≡ Some b = sym e ∙ f in cc
 
-pub no_due_none : (row : UnaryState) (a : Access) → due_unary row ≡ Some a → due_unary row ≢ None
-no_due_none row a e f = let clash : Some a ≡ None = sym e ∙ f in absurd (cc)
-
 -- a word that goes on reads its next digit
 pub read_due : (w : ReaderState) → w.read < w.width → due_read w ≡ Some (begins.Read (Cell w.cell w.read))
 read_due w l = by_test (nat_lt w.read w.width) refl

@@ -52,21 +52,6 @@ full-push (Full u ∷ xs) seen = full-push xs seen
 
 -- ---- a begin
 
-pub begins_close :
-    (shape : Shape) (r : PutReading) (es : List Event) (items stored : List ℕ) (a : Access) → PutsStand shape r es items stored → r.open_access ≡ None → r.stage ≡ Resting →
-    PutsStand shape (record r { stage = Closing; open_access = Some a }) (es ++ opening_event P a ∷ []) items stored
-begins_close shape r es items stored a st none stage =
-    let (rests, made_is) = made_at shape r es items stored st Resting stage in
-    record {
-      puts = st.puts;
-      made = st.made;
-      shape_is = st.shape_is;
-      are = st.are;
-      count_is = st.count_is;
-      events_are = opened P es st.made r.open_access a st.events_are none;
-      made_is = (record { holds = rests.holds; cell_is = rests.cell_is; items_are = rests.items_are; none_stored = rests.none_stored }, made_is);
-    }
-
 pub begins_scan :
     (shape : Shape) (r : PutReading) (es : List Event) (items stored : List ℕ) (scan : ScanState) (a : Access) → PutsStand shape r es items stored → r.open_access ≡ None → r.stage ≡ Resting →
     scan.zeros ≡ 0 → PutsStand shape (record r { stage = Scanning; scan = scan; open_access = Some a }) (es ++ opening_event P a ∷ []) items stored

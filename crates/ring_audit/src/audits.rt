@@ -8,7 +8,6 @@ use crate::faults::AuditFault;
 use crate::puts::{PutReader, PutStep};
 use crate::takes::{TakeReader, TakeStep};
 use bits_core::{BitAuditor, Event, Filled, Kind, Shape, Side, Store};
-use ring_core::laws::{closed_stays, ring_is_linearizable, ring_law};
 use std::alloc::Allocator;
 
 /// What an audit finds.
@@ -190,9 +189,6 @@ pub fn audit<A: Allocator + Copy>(
     ensures sentence { IfOk result (λ found. SaysSentence shape.now events.now (statement found)) }
     ensures linearizable { IfOk result (λ found. SaysLinearizable shape.now events.now (statement found)) }
 {
-    ring_law();
-    closed_stays();
-    ring_is_linearizable();
     let found = find(alloc, shape, events)?;
     Ok(found)
 }
@@ -244,8 +240,6 @@ fn find_filled<'a>(
     ensures put_slots { put.new.slots.ghost_name ≡ put.old.slots.ghost_name }
     ensures taken_slots { taken.new.slots.ghost_name ≡ taken.old.slots.ghost_name }
 {
-    ring_law();
-    closed_stays();
     let found = find_in(shape, events, put, taken)?;
     Ok(found)
 }
@@ -279,7 +273,6 @@ pub fn audit_into(
     ensures refused { OnErr result (HasTooFewSlots shape.now events.now (length put.new) (length taken.new)) }
     ensures few { OnErr result ((length put.new < length events.now) ⊎ (length taken.new < length events.now)) }
 {
-    ring_is_linearizable();
     let mut put_list = Filled::new(put);
     let mut taken_list = Filled::new(taken);
     let found = find_filled(shape, events, &mut put_list, &mut taken_list)?;

@@ -19,7 +19,7 @@ use std::marker::Model;
 
 /// What an event of the producer came to.
 #[derive(Clone, Copy)]
-pub enum PutStep {
+pub(crate) enum PutStep {
     /// It is not the next one of any puts.
     Stops,
     /// It is.
@@ -45,7 +45,7 @@ enum Stage {
 /// Reads the events of a producer as its puts, whose items it learns from the digits that they write, and
 /// their number from the count write. It takes no memory.
 #[derive(Drop)]
-pub struct PutReader {
+pub(crate) struct PutReader {
     shape: Shape,
     count: u64,
     next: u64,

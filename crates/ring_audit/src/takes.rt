@@ -19,7 +19,7 @@ use std::marker::Model;
 
 /// What an event of the consumer came to.
 #[derive(Clone, Copy)]
-pub enum TakeStep {
+pub(crate) enum TakeStep {
     /// It is not the next one of any takes.
     Stops,
     /// It is, and ends no take of items.
@@ -31,7 +31,7 @@ pub enum TakeStep {
 /// Reads the events of a consumer as its takes: it has a consumer make the same takes, whose number of items it learns
 /// from their count write. It takes no memory.
 #[derive(Drop)]
-pub struct TakeReader {
+pub(crate) struct TakeReader {
     consumer: Consumer,
     most: u64,
     open_access: Option<Access>,

@@ -12,7 +12,7 @@ use Rattle.bits_core.specs.Shape.{batch_of, capacity_of, modulus_of, take_batch_
 use Rattle.bits_core.specs.Made.{Write}
 use Rattle.register_core.specs.Row.{RowWrite, row_bit, first_bits, bits_with, bits_after}
 use Rattle.register_core.specs.Unary.{clearing, setting, unary_phrase, unary_writes, row_writes, writes_of}
-use Rattle.ring_core.specs.Counts.{bits_held, counted, count_phrase, number_past, Count, first_count, count_bits, batch_phrase, batch_by, IsCount}
+use Rattle.ring_core.specs.Counts.{bits_held, counted, number_past, Count, first_count, count_bits, batch_phrase, batch_by, IsCount}
 use Rattle.ring_core.proofs.OverSpans.Distances.{apart}
 
 -- ---- a unary write over any bits
@@ -192,20 +192,6 @@ next_length shape n = count (next_modulo n (modulus_of shape) (omega (arith, som
         let zeros : length (clearing (bits_held shape n) v) ≡ 0 = last_clears shape n last in
         (omega (arith, whole, ones, zeros), omega (arith, whole, ones, zeros))
 
--- the next unary write has at most two bit writes
-pub next_short : (shape : Shape) (n : ℕ) → length (unary_phrase (bits_held shape n) (suc n % modulus_of shape)) ≤ 2
-next_short shape n = (next_length shape n).1
-
--- the next unary write has at least one bit write
-pub next_long : (shape : Shape) (n : ℕ) → 1 ≤ length (unary_phrase (bits_held shape n) (suc n % modulus_of shape))
-next_long shape n = (next_length shape n).0
-
--- the next unary write is not nothing
-pub next_some : (shape : Shape) (n : ℕ) → unary_phrase (bits_held shape n) (suc n % modulus_of shape) ≡ [] → ⊥
-next_some shape n e =
-    let none : length (unary_phrase (bits_held shape n) (suc n % modulus_of shape)) ≡ 0 = ap length e in
-    absurd (omega (arith, none, next_long shape n))
-
 -- ---- the unary writes of a count, one after the other
 
 -- one more unary write, over the bits after the others
@@ -239,26 +225,7 @@ counted_holds shape (suc n) =
     bits_after-append (writes_of (counted shape n)) next first_bits ∙
     ap (λ b. bits_after b next) (counted_holds shape n)
 
--- the bit writes of one more unary write
-pub counted_writes :
-    (shape : Shape) (n : ℕ) →
-    writes_of (counted shape (suc n)) ≡ writes_of (counted shape n) ++ unary_phrase (bits_held shape n) (suc n % modulus_of shape)
-counted_writes shape n = held_step shape n (counted_holds shape n)
-
 -- ---- the accesses of the next unary write
-
--- a count write has an access for each bit write
-length_count :
-    (shape : Shape) (s : Side) (n : ℕ) → length (count_phrase shape s n) ≡ length (unary_phrase (bits_held shape n) (suc n % modulus_of shape))
-length_count shape s n = length-map (unary_phrase (bits_held shape n) (suc n % modulus_of shape)) (λ w. Write (row_bit s w.bit) w.value)
-
--- a count write has at most two accesses
-pub count_short : (shape : Shape) (s : Side) (n : ℕ) → length (count_phrase shape s n) ≤ 2
-count_short shape s n = omega (arith, length_count shape s n, next_short shape n)
-
--- a count write has at least one access
-pub count_long : (shape : Shape) (s : Side) (n : ℕ) → 1 ≤ length (count_phrase shape s n)
-count_long shape s n = omega (arith, length_count shape s n, next_long shape n)
 
 -- ---- a count whose writes count several items
 

@@ -22,3 +22,4 @@ pub mod NeverMisses
 pub mod OneMore
 pub mod Witness
 pub mod LastBits
+pub mod LawLemmas

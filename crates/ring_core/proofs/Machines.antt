@@ -9,6 +9,7 @@ pub mod Lengths
 pub mod MachineParts
 pub mod NextParts
 pub mod OneCallMore
+pub mod OneWordMore
 pub mod ProducerInvariant
 pub mod ProducerMoves
 pub mod ProducerNext

@@ -11,7 +11,7 @@ use Rattle.bits_core.specs.Shape.{modulus_of}
 use Rattle.bits_core.specs.Bits.{other}
 use Rattle.bits_core.specs.Intervals.{IsRead}
 use Rattle.bits_core.specs.Lawful.{IsLawful}
-use Rattle.bits_core.specs.Laws.{SubhistoryHasOnePlace, MadeIsAccess}
+use Rattle.bits_core.proofs.Statements.{SubhistoryHasOnePlace, MadeIsAccess}
 use Rattle.bits_core.specs.Made.{Made, Read, events_of, subhistory, IsPrefix}
 use Rattle.register_core.specs.Row.{row_bit}
 use Rattle.register_core.specs.ScanState.{zero_reads, row_read_by}

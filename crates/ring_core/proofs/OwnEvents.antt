@@ -14,7 +14,7 @@ use Rattle.bits_core.specs.declared.shapes.Shape.{Shape}
 use Rattle.bits_core.specs.Bits.{same_side, is_by, doer}
 use Rattle.bits_core.specs.History.{has_event, before_last}
 use Rattle.bits_core.specs.Lawful.{IsLawful}
-use Rattle.bits_core.specs.Laws.{SubhistoryHasPlace}
+use Rattle.bits_core.proofs.Statements.{SubhistoryHasPlace}
 use Rattle.bits_core.specs.Made.{subhistory, clock, place_of}
 use Rattle.register_core.specs.Row.{row_write}
 use Rattle.register_core.specs.UnaryLaw.{number_in_count, count_write, count_begun, count_ended}

@@ -12,7 +12,6 @@ pub mod Calls
 pub mod CallsAt
 pub mod Whole
 pub mod OneCallMore
-pub mod OneWordMore
 pub mod ProducerState
 pub mod ProducerCalls
 pub mod ConsumerState

@@ -47,9 +47,11 @@ pub fn has_room(shape: &Shape, n: u64, d: u64) -> bool
     distance(n, d, shape.modulus()) < shape.capacity()
 }
 
-/// The count that is so many past `n`, modulo the modulus. `n` is below it.
+/// The number that is so many past `n`, modulo the modulus, which is below 1,000: `n` is below it, and `more` no more than it.
+///
+/// In use: the count and the cell of each end of a counter ring.
 #[inline(always)]
-pub(crate) fn past_in(n: u64, more: u64, modulus: u64) -> u64
+pub fn past_in(n: u64, more: u64, modulus: u64) -> u64
     requires { (n < modulus) × (more ≤ modulus) × (modulus < 1000) }
     ensures { result ≡ (n + more) % modulus }
 {
@@ -60,7 +62,7 @@ pub(crate) fn past_in(n: u64, more: u64, modulus: u64) -> u64
 /// How many items a consumer that has taken `k` takes of at most so many, where the producer's count `c` shows some: those
 /// that it shows, or as many as are wanted. Both are below the modulus.
 ///
-/// In use: `ring_seats::take_all_open`.
+/// In use: the takes of a counter ring.
 #[inline(always)]
 pub fn items_shown(shape: &Shape, c: u64, k: u64, wanted: usize) -> usize
     requires c { c < modulus_of shape.now }

@@ -11,7 +11,6 @@ ghost use Rattle.ring_core.specs.Items.{ItemsAreRead, TakenAreRead};
 ghost use Rattle.ring_core.specs.Lengths.{ItemPutsAreShort, FullPutsAreShort, PutsAreShort, TakesAreShort, EndsAreShort};
 ghost use Rattle.ring_core.specs.Linear.{IsLinearizableRun};
 ghost use Rattle.ring_core.specs.OneCallMore.{ClosesByOneMore, EndsByOneMore, PutsByOneMore, TakesByOneMore, TakesOfOne};
-ghost use Rattle.ring_core.specs.OneWordMore.{ItemsFitByOneMore, WordsByOneMore, WordsGoOn};
 ghost use Rattle.ring_core.specs.Over.{PutsOverAreRead, TakesOverAreRead};
 ghost use Rattle.ring_core.specs.PutParts.{CountsOn, ScansOn, ScansOrCloses, StoresOn, StoresOrCounts};
 ghost use Rattle.ring_core.specs.Readings.{PutsAreFirst, PutsAreRead, TakesAreFirst, TakesAreRead};
@@ -22,61 +21,39 @@ ghost use Rattle.ring_core.specs.Ranges.{PutsAreInRange, TakesAreInRange};
 ghost use Rattle.ring_core.specs.RunLaws.{ClosedStays, HasARun, PutsAreSeen, RunsByPut, RunsByTake, TakesAreSeen};
 ghost use Rattle.ring_core.specs.Whole.{WholePutsCount, WholeTakesCount};
 
-use bits_core::laws::{
-    access_is_made, clock_counts_places, empty_is_lawful, lawful_by_one_more, made_is_access,
-    subhistory_changes, subhistory_has_one_place, subhistory_has_place,
-};
-use queue_calls::laws::counted_is_linearizable;
-use register_core::laws::{
-    digits_tell_items, numbered_stay_within, reads_are_made, unary_has_one, unary_is_regular,
-    word_is_safe, writes_are_made,
-};
-
 /// The events of whole calls of the producer are the events of no other calls.
 pub fn puts_are_read()
     ensures { PutsAreRead }
-{
-    digits_tell_items();
-}
+{}
 
 /// The events of whole calls of the consumer are the events of no other calls.
 pub fn takes_are_read()
     ensures { TakesAreRead }
-{
-    digits_tell_items();
-}
+{}
 
 /// Whole calls whose events begin those of other calls are the first of these; with a close, or where the last
 /// take is told that the ring is closed, they are all of them.
 pub fn calls_are_first()
     ensures puts { PutsAreFirst }
     ensures takes { TakesAreFirst }
-{
-    digits_tell_items();
-}
+{}
 
 /// The items that were put in a history are the same whichever calls of the producer its events are read as.
 pub fn items_put_are_read()
     ensures { ItemsAreRead }
-{
-    digits_tell_items();
-}
+{}
 
 /// The items that were taken in a history, and whether its consumer was told that the ring is closed,
 /// are the same whichever calls of the consumer its events are read as.
 pub fn items_taken_are_read()
     ensures { TakenAreRead }
-{
-    digits_tell_items();
-}
+{}
 
 /// The puts and the takes that are over in a history are the same whichever calls its events are read as.
 pub fn calls_over_are_read()
     ensures puts { PutsOverAreRead }
     ensures takes { TakesOverAreRead }
-{
-    calls_are_first();
-}
+{}
 
 /// What one own event of a side tells of its calls, by the calls that are over before it and with it: it begins a call where
 /// those over before it have all events before it, ends one where one more is over with it, and tells nothing between.
@@ -121,15 +98,6 @@ pub fn programs_by_one_call()
     ensures one { TakesOfOne }
 {}
 
-/// The words that a take reads, by one more: the word of the next item comes behind those of the items before it, in the
-/// cell of its number, and where it fits and they do, all fit. And to items that fit, and any number no less than theirs,
-/// there are so many items that fit whose words begin with their words.
-pub fn words_by_one_more()
-    ensures words { WordsByOneMore }
-    ensures fit { ItemsFitByOneMore }
-    ensures go_on { WordsGoOn }
-{}
-
 /// The access that a call under way goes on with, whatever it is answered, is the only one: behind the same calls and
 /// accesses there is no other. So what a machine's `next` says is all that its program lets it say.
 pub fn calls_go_on_by_one()
@@ -143,9 +111,7 @@ pub fn calls_go_on_by_one()
 /// be taken.
 pub fn takes_go_on()
     ensures { TakesGoOn }
-{
-    digits_tell_items();
-}
+{}
 
 /// Where a take may take one item, what a consumer does next follows from the accesses that it has made and their
 /// answers, with no exception: programs that begin with these go on with the same access.
@@ -161,9 +127,7 @@ pub fn puts_go_on()
     ensures words { StoresOrCounts }
     ensures digits { StoresOn }
     ensures counts { CountsOn }
-{
-    digits_tell_items();
-}
+{}
 
 /// In a program the last bit of the other side's count is read as 1.
 pub fn last_reads_are_one()
@@ -183,32 +147,20 @@ pub fn calls_are_followed()
 pub fn last_bit_is_one()
     ensures puts { PutsAreSeen }
     ensures takes { TakesAreSeen }
-{
-    unary_has_one();
-    numbered_stay_within();
-    reads_are_made();
-    made_is_access();
-    subhistory_has_one_place();
-}
+{}
 
 /// A history whose two sides follow their programs has that again after one event more, where the event may
 /// follow the history's and is of its side's program.
 pub fn runs_by_one_more()
     ensures put { RunsByPut }
     ensures take { RunsByTake }
-{
-    lawful_by_one_more();
-    subhistory_changes();
-}
+{}
 
 /// There is a lawful history whose two sides follow their programs, in which a write overlaps a read, a take finds
 /// the ring empty, a put finds it full, an item is put and taken, and the consumer is told that the ring is closed.
 pub fn has_a_run()
     ensures { HasARun }
-{
-    empty_is_lawful();
-    lawful_by_one_more();
-}
+{}
 
 /// The law of the ring, in the words of the calls. In every lawful history of safe bits whose two sides follow their
 /// programs, with `N` items put and `K` items taken by calls whose count write has begun:
@@ -245,18 +197,7 @@ pub fn ring_law()
     ensures fill { InEveryRun FillIsFresh }
     ensures drain { InEveryRun DrainIsFresh }
     ensures closed { InEveryRun ClosedIsTrue }
-{
-    digits_tell_items();
-    subhistory_has_place();
-    subhistory_has_one_place();
-    clock_counts_places();
-    made_is_access();
-    access_is_made();
-    unary_is_regular();
-    word_is_safe();
-    reads_are_made();
-    writes_are_made();
-}
+{}
 
 /// Every run of the ring is linearizable: in every lawful history of safe bits whose two sides follow their programs, the
 /// operations of both sides that took effect have one order in which each side's stand in its own order, which a bounded
@@ -267,17 +208,7 @@ pub fn ring_law()
 /// Herlihy and Wing 1990.
 pub fn ring_is_linearizable()
     ensures { InEveryRun IsLinearizableRun }
-{
-    subhistory_has_place();
-    subhistory_has_one_place();
-    clock_counts_places();
-    made_is_access();
-    access_is_made();
-    unary_is_regular();
-    word_is_safe();
-    reads_are_made();
-    writes_are_made();
-}
+{}
 
 /// The calls of every run of the ring, as a recorder would tell them, are a linearizable history of a queue of the ring's
 /// capacity: an auditor of recorded calls accepts each event. A put may have been offered more items than it stored; it
@@ -285,25 +216,10 @@ pub fn ring_is_linearizable()
 /// ring then held no more. A call that is cut has begun and has not ended.
 pub fn recorded_is_linearizable()
     ensures { RecordedIsLinearizable }
-{
-    subhistory_has_place();
-    subhistory_has_one_place();
-    clock_counts_places();
-    made_is_access();
-    access_is_made();
-    unary_is_regular();
-    word_is_safe();
-    reads_are_made();
-    writes_are_made();
-    counted_is_linearizable();
-}
+{}
 
 /// Once the consumer was told that the ring is closed, the items put and the items taken stay what they are in
 /// every longer lawful history whose two sides follow their programs.
 pub fn closed_stays()
     ensures { ClosedStays }
-{
-    ring_law();
-    items_put_are_read();
-    items_taken_are_read();
-}
+{}

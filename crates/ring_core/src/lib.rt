@@ -12,7 +12,7 @@ mod replies;
 
 pub use consumer_parts::{TakeScan, TakeWord};
 pub use consumers::Consumer;
-pub use counts::{distance, has_item, has_room, items_shown};
+pub use counts::{distance, has_item, has_room, items_shown, past_in};
 pub use producer_parts::{PutScan, PutWord};
 pub use producers::Producer;
 pub use replies::{BatchReply, PutReply, TakeBatchReply, TakeReply};

@@ -41,7 +41,7 @@ pub enum TakeReply {
 
 /// What a take of several items was answered.
 ///
-/// In use: the answer of `ring_seats::take_all_open`.
+/// In use: the answer of a take of several of a counter ring.
 #[derive(Clone, Copy, PartialEq, Eq, Debug)]
 pub enum TakeBatchReply {
     /// So many items were taken, which [`Consumer::items`](crate::Consumer::items) tells.

@@ -1,17 +1,22 @@
--- The ends of a counter ring that have made no call.
-use Rattle.std.proofs.Common.{◌≡◌, false, List, [], refl, sym, subst}
+-- The ends of a counter ring that have made no call, and those between calls.
+use Rattle.std.proofs.Common.{◌≡◌, ℕ, Bool, false, List, [], refl, ap, sym, subst, ◌∙◌}
 use Rattle.std.proofs.Math.Nat.{zero-mod}
 use Rattle.bits_core.specs.declared.events.Side.{Side}
 use Rattle.bits_core.specs.declared.events.Side.TheVariants.{P, C}
 use Rattle.bits_core.specs.declared.events.Event.{Event}
 use Rattle.bits_core.specs.declared.shapes.Shape.{Shape}
 use Rattle.bits_core.specs.Shape.{capacity_of, modulus_of}
+use Rattle.bits_core.specs.History.{open_access}
+use Rattle.bits_core.proofs.LawLemmas.{made_leave_none_open}
+use Rattle.ring_core.specs.Puts.{put_program}
+use Rattle.ring_core.specs.Takes.{take_program}
+use Rattle.ring_seats.specs.Rule.{IsIdle}
 use Rattle.ring_core.specs.ProducerCalls.{no_puts}
 use Rattle.ring_core.specs.ConsumerCalls.{no_takes}
 use Rattle.ring_seats.specs.Ring.{RingEnd}
 use Rattle.ring_seats.specs.Steppers.{StandsAs}
 use Rattle.ring_ends.specs.Ends.{HasPuts, HasTakes}
-use Rattle.ring_seats.specs.CounterEnds.{CountedList, IsPutterList, IsTakerList}
+use Rattle.ring_ends.specs.CounterEnds.{CountedList, IsPutterList, IsTakerList}
 
 new_list :
     (x : Side) (Has : Shape → List Event → Type 0) (e : RingEnd) → e.side ≡ x → e.list ≡ [] → StandsAs x e → Has e.ring.shape [] →
@@ -31,3 +36,9 @@ new_putter e side none stands =
 pub new_taker : (e : RingEnd) → e.side ≡ C → e.list ≡ [] → StandsAs C e → IsTakerList e 0 0 false
 new_taker e side none stands =
     (no_takes, new_list C (λ (s : Shape) (l : List Event). HasTakes s l no_takes) e side none stands (record { are = tt; list_is = refl }), refl)
+
+pub putter_idle : (e : RingEnd) (count cell : ℕ) (closed : Bool) → IsPutterList e count cell closed → IsIdle P e.list
+putter_idle e count cell closed (calls, at, same) = ap (open_access P) at.has.list_is ∙ made_leave_none_open P (put_program e.ring.shape calls)
+
+pub taker_idle : (e : RingEnd) (count cell : ℕ) (told : Bool) → IsTakerList e count cell told → IsIdle C e.list
+taker_idle e count cell told (calls, at, same) = ap (open_access C) at.has.list_is ∙ made_leave_none_open C (take_program e.ring.shape calls)

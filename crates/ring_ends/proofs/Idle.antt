@@ -15,7 +15,7 @@ use Rattle.ring_seats.specs.Ring.{RingEnd}
 use Rattle.ring_seats.specs.Rule.{IsIdle}
 use Rattle.ring_ends.specs.Machines.{IsMachine, Machine, consuming, producing}
 use Rattle.ring_ends.specs.Meetings.{closed_reply, ClosesAre, TellsAre}
-use Rattle.ring_seats.specs.Below.{LawsBelow}
+use Rattle.ring_seats.proofs.Below.{LawsBelow}
 use Rattle.ring_ends.specs.Moves.{MachineLaws}
 use Rattle.ring_ends.proofs.MachineCalls.{rest_list}
 use Rattle.ring_ends.proofs.PutterCalls.{put_laws}

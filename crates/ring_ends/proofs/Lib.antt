@@ -11,3 +11,5 @@ pub mod Steps
 pub mod TakerCalls
 pub mod TakerWhole
 pub mod TakesAll
+pub mod CounterPutterCalls
+pub mod CounterTakerCalls

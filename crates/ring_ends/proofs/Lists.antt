@@ -17,7 +17,7 @@ use Rattle.bits_core.specs.Made.{Made, Read, Write, answered, begin_event, end_e
 use Rattle.register_core.specs.ScanState.{zero_reads, row_read_by}
 use Rattle.ring_core.specs.Calls.{EndsInZeros}
 use Rattle.ring_seats.specs.Programs.{Follows, IsRing, begin_of, ending_event}
-use Rattle.ring_seats.specs.Below.{LawsBelow}
+use Rattle.ring_seats.proofs.Below.{LawsBelow}
 
 pub same_side-same : (x : Side) → same_side x x ≡ true
 same_side-same P = refl

@@ -12,7 +12,7 @@ use Rattle.bits_core.specs.Made.{Made, Read, answered, events_of}
 use Rattle.register_core.specs.ScanState.{row_read_by}
 use Rattle.ring_seats.specs.Programs.{Follows, GoesOn, begin_of, ending_event}
 use Rattle.ring_ends.specs.Machines.{ListIs}
-use Rattle.ring_seats.specs.Below.{LawsBelow}
+use Rattle.ring_seats.proofs.Below.{LawsBelow}
 use Rattle.ring_ends.proofs.Lists.{same_side-same, begun_open}
 
 -- the access can begin, or it is open and can end

@@ -13,7 +13,7 @@ use Rattle.ring_core.specs.Takes as takes
 use Rattle.ring_core.specs.Takes.{AreTakes, End, Open, Take, Takes, take_program}
 use Rattle.ring_core.specs.ConsumerState.{ConsumerState, is_taking}
 use Rattle.ring_core.specs.ConsumerCalls.{AreItemsOfTake, ConsumerStands, HasTakeMore, IsOpenForTake, IsReplyToTake, IsTakeOf, ends_closed, items_at_end, last_items, last_take_reply, reply_at_end, take_batch_reply, take_reply_to}
-use Rattle.ring_seats.specs.CounterEnds.{TakeAllKept, TakeMade}
+use Rattle.ring_ends.specs.CounterEnds.{TakeAllKept, TakeMade}
 use Rattle.ring_seats.specs.Ring.{Ring, RingEnd}
 use Rattle.ring_seats.specs.Steppers.{Grows}
 use Rattle.ring_ends.specs.Ends.{HasTakePart, HasTakenAll, HasTakes, TakeAllAdds, number_brought, whole_take}

@@ -18,7 +18,7 @@ use Rattle.ring_core.specs.ProducerCalls as puts
 use Rattle.ring_core.specs.ConsumerCalls as takes
 use Rattle.ring_seats.specs.Ring.{RingEnd}
 pub use Rattle.ring_seats.specs.Calls.{HasPuts, HasTakes, IsTakeReply}
-pub use Rattle.ring_seats.specs.CounterEnds.{number_brought}
+pub use Rattle.ring_ends.specs.CounterEnds.{number_brought}
 
 -- ---- the producer's end
 

@@ -1,3 +1,4 @@
+pub mod CounterEnds
 pub mod Ends
 pub mod Machines
 pub mod Meetings

@@ -6,7 +6,6 @@ ghost use Rattle.ring_ends.specs.Machines.{MachineAt, MachineBusy, MachineEnded,
 
 use crate::machines::SideMachine;
 use bits_core::Oracle;
-use ring_seats::laws::laws_below;
 use ring_seats::{Flickering, Stepper};
 
 // One step of the call under way.
@@ -21,7 +20,6 @@ fn advance<'a, M: SideMachine, O: Oracle>(
         (O.answers oracle.old) (O.answers oracle.new) }
     ensures oracle { IsAskedOnce O.answers oracle.old oracle.new }
 {
-    laws_below();
     M::laws();
     match machine.next() {
         None => {}
@@ -79,7 +77,6 @@ fn finish_scan<'a, M: SideMachine, O: Oracle>(
     ensures { MachineWent M.kind stepper.old (M.state machine.old) stepper.new (M.state machine.new)
         (O.answers oracle.old) (O.answers oracle.new) }
 {
-    laws_below();
     M::laws();
     let Some(mut scan) = machine.scan() else {
         return;
@@ -107,7 +104,6 @@ fn finish_word<'a, M: SideMachine, O: Oracle>(
     ensures { MachineWent M.kind stepper.old (M.state machine.old) stepper.new (M.state machine.new)
         (O.answers oracle.old) (O.answers oracle.new) }
 {
-    laws_below();
     M::laws();
     let Some(mut word) = machine.word() else {
         return;
@@ -136,7 +132,6 @@ fn write_count<'a, M: SideMachine, O: Oracle>(
     ensures { MachineWent M.kind stepper.old (M.state machine.old) stepper.new (M.state machine.new)
         (O.answers oracle.old) (O.answers oracle.new) }
 {
-    laws_below();
     M::laws();
     let ring = stepper.words();
     'writes: while machine.is_counting() {
@@ -159,7 +154,6 @@ pub(crate) fn finish<'a, M: SideMachine, O: Oracle>(
     ensures { MachineEnded M.kind stepper.old (M.state machine.old) stepper.new (M.state machine.new)
         (O.answers oracle.old) (O.answers oracle.new) }
 {
-    laws_below();
     M::laws();
     'accesses: loop {
         finish_scan(stepper, machine, oracle);

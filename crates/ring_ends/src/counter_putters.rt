@@ -1,10 +1,11 @@
 //! The producer's end of a counter ring.
 
+use crate::counter_calls::{close_open, put_open};
 use crate::ends::PutEnd;
 use crate::rings::Pad;
 use bits_core::Shape;
 use ring_core::{BatchReply, PutReply};
-use ring_seats::{Counting, Stepper, close_open, put_open};
+use ring_seats::{Counting, Stepper};
 use std::marker::Model;
 
 /// The producer's end of a counter ring. No call of it is ever under way.
@@ -23,7 +24,7 @@ pub struct CounterPutter<'a> {
 
 impl<'a> Model for CounterPutter<'a> {
     ghost use Rattle.ring_seats.specs.Ring.{RingEnd};
-    ghost use Rattle.ring_seats.specs.CounterEnds.{IsPutterList};
+    ghost use Rattle.ring_ends.specs.CounterEnds.{IsPutterList};
 
     ghost Value = { RingEnd };
 

@@ -13,8 +13,6 @@ use crate::ends::RingOf;
 use crate::meetings::Finished;
 use crate::rings::{Pad, RingIn, RunFault, StartIn};
 use bits_core::Shape;
-use ring_core::laws::ring_is_linearizable;
-use ring_seats::laws::laws_below;
 use ring_seats::{Counting, counter_table, first_steppers, join_steppers, meet_steppers};
 use std::alloc::{Allocator, Global};
 
@@ -111,8 +109,6 @@ impl CounterRing<Global> {
         ensures linearizable { EachReadingIsLinearizable putter.entry.ring.shape result.0.known }
         ensures lawful { StandsAs P result.0 × StandsAs C result.1 }
     {
-        laws_below();
-        ring_is_linearizable();
         let (p, c) = meet_steppers(putter.stepper, taker.stepper);
         putter.stepper = p;
         taker.stepper = c;
@@ -130,8 +126,6 @@ impl CounterRing<Global> {
         ensures closed { ClosesAre putter.entry.ring.shape putter.entry.list result.closed }
         ensures told { TellsAre taker.entry.ring.shape taker.entry.list result.told }
     {
-        laws_below();
-        ring_is_linearizable();
         let seat = join_steppers(putter.stepper, taker.stepper);
         Finished {
             seat,

@@ -1,11 +1,12 @@
 //! The consumer's end of a counter ring.
 
+use crate::counter_calls::{take_all_open, take_open};
 use crate::ends::TakeEnd;
 use crate::meetings::is_closed_reply;
 use crate::rings::Pad;
 use bits_core::Shape;
 use ring_core::{TakeBatchReply, TakeReply};
-use ring_seats::{Counting, Stepper, take_all_open, take_open};
+use ring_seats::{Counting, Stepper};
 use std::marker::Model;
 
 /// The consumer's end of a counter ring. No take of it is ever under way.
@@ -24,7 +25,7 @@ pub struct CounterTaker<'a> {
 
 impl<'a> Model for CounterTaker<'a> {
     ghost use Rattle.ring_seats.specs.Ring.{RingEnd};
-    ghost use Rattle.ring_seats.specs.CounterEnds.{IsTakerList};
+    ghost use Rattle.ring_ends.specs.CounterEnds.{IsTakerList};
 
     ghost Value = { RingEnd };
 

@@ -4,6 +4,7 @@
 #![tactic(auto)]
 
 mod calls;
+mod counter_calls;
 mod counter_putters;
 mod counter_rings;
 mod counter_takers;

@@ -10,9 +10,7 @@ use crate::rings::{FlickerRing, Pad, Start};
 use crate::takers::Taker;
 use atomic_table::Seat;
 use bits_core::Oracle;
-use ring_core::laws::ring_is_linearizable;
 use ring_core::{Consumer, Producer, TakeReply};
-use ring_seats::laws::laws_below;
 use ring_seats::{View, first_steppers, join_steppers, meet_steppers};
 use std::alloc::{Allocator, Global};
 use std::marker::Model;
@@ -120,8 +118,6 @@ impl FlickerRing<Global> {
         ensures lawful { StandsAs P result.0.end × StandsAs C result.1.end }
         ensures oracles { (result.0.oracle ≡ putter.entry.oracle) × (result.1.oracle ≡ taker.entry.oracle) }
     {
-        laws_below();
-        ring_is_linearizable();
         let (p, c) = meet_steppers(putter.stepper, taker.stepper);
         putter.stepper = p;
         taker.stepper = c;
@@ -143,8 +139,6 @@ impl FlickerRing<Global> {
         ensures closed { ClosesAre putter.entry.end.ring.shape putter.entry.end.list result.closed }
         ensures told { TellsAre taker.entry.end.ring.shape taker.entry.end.list result.told }
     {
-        laws_below();
-        ring_is_linearizable();
         let closed = putter.machine.is_closed();
         let told = is_closed_reply(taker.machine.reply());
         let seat = join_steppers(putter.stepper, taker.stepper);

@@ -20,7 +20,6 @@ use crate::machines::SideMachine;
 use crate::rings::Pad;
 use bits_core::{Access, Oracle, Shape};
 use ring_core::{BatchReply, Producer, PutReply, PutScan, PutWord};
-use ring_seats::laws::laws_below;
 use ring_seats::{Flickering, Stepper};
 use std::marker::Model;
 
@@ -234,7 +233,6 @@ impl<'a, O: Oracle + Drop> Putter<'a, O> {
         ensures answered { AreAnswered self.old.end self.new.end (O.answers self.old.oracle)
             (O.answers self.new.oracle) }
     {
-        laws_below();
         begin_put(&mut self.machine, item);
         step(
             &mut self.stepper,
@@ -265,7 +263,6 @@ impl<'a, O: Oracle + Drop> Putter<'a, O> {
         ensures answered { AreAnswered self.old.end self.new.end (O.answers self.old.oracle)
             (O.answers self.new.oracle) }
     {
-        laws_below();
         begin_put_all(&mut self.machine, items);
         step(
             &mut self.stepper,
@@ -293,7 +290,6 @@ impl<'a, O: Oracle + Drop> Putter<'a, O> {
         ensures answered { AreAnswered self.old.end self.new.end (O.answers self.old.oracle)
             (O.answers self.new.oracle) }
     {
-        laws_below();
         begin_close(&mut self.machine);
         step(
             &mut self.stepper,

@@ -20,7 +20,6 @@ use crate::machines::SideMachine;
 use crate::rings::Pad;
 use bits_core::{Access, Oracle, Shape};
 use ring_core::{Consumer, TakeBatchReply, TakeReply, TakeScan, TakeWord};
-use ring_seats::laws::laws_below;
 use ring_seats::{Flickering, Stepper};
 use std::marker::Model;
 
@@ -231,7 +230,6 @@ impl<'a, O: Oracle + Drop> Taker<'a, O> {
         ensures answered { AreAnswered self.old.end self.new.end (O.answers self.old.oracle)
             (O.answers self.new.oracle) }
     {
-        laws_below();
         begin_take(&mut self.machine, 1);
         step(
             &mut self.stepper,
@@ -266,7 +264,6 @@ impl<'a, O: Oracle + Drop> Taker<'a, O> {
         ensures answered { AreAnswered self.old.end self.new.end (O.answers self.old.oracle)
             (O.answers self.new.oracle) }
     {
-        laws_below();
         begin_take(&mut self.machine, into.len() as u64);
         step(
             &mut self.stepper,

@@ -107,11 +107,6 @@ tells_nothing numbers c b old none is =
     λ mark tells. (let clash : None ≡ Some mark =
     sym (ap (λ (l : Option Line). mark_told b l (does_in c)) none ∙ ap (λ (x : Option Operation). option_map (λ d. Effect d) x) is) ∙ tells in absurd (cc))
 
--- and nothing changed
-pub kept_so : (mark : Mark) (result : Bool) (old new : LinearizationPoints) → Accepts old mark result new → result ≡ false → new ≡ old
-kept_so mark true old new accepts is = absurd (true≢false is)
-kept_so mark false old new accepts is = accepts.0
-
 -- said of what has come
 pub nowhere_behind : (numbers items : List ℕ) (before : List Came) (c next : Came) (capacity : Capacity) (m : LinearizationPoints) (b : Begun) (h : HaveCome numbers items before capacity m b) → c ≡ next →
     LeadsNowhere b numbers m.row.now c (meant m.capacity) (point_of m) m.tail

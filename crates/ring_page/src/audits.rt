@@ -7,7 +7,6 @@ ghost use Rattle.ring_page.specs.Audit.{IsNothingSeen, TellsText, TellsFault, Te
 use crate::marks::{Mark, put_marks};
 use crate::programs::{Judged, tell_programs, unjudged};
 use crate::reasons::since_when;
-use bits_core::laws::{fault_breaks, flicker_is_by_interval};
 use bits_core::{
     Act, Bit, Event, Seen, Shape, Side, TraceFault, Verdict, audit_bits_into, read_trace_into,
 };
@@ -111,8 +110,6 @@ fn audited(
     requires seen { (length seen.old ≡ EVENT_ROOM) × IsNothingSeen seen.old }
     ensures { TellsText text.now marks.new put.new taken.new result }
 {
-    fault_breaks();
-    flicker_is_by_interval();
     match read_trace_into(text, events) {
         Ok((shape, count)) => {
             let read = &events[..count];

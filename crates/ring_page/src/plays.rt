@@ -9,7 +9,6 @@ ghost use Rattle.ring_page.specs.Play.{Fills, TellsFirstLetters, TellsPlay, Tell
 
 use crate::audits::{EVENT_ROOM, no_events, nothing_seen};
 use crate::marks::{Mark, bit_number, put_marks};
-use bits_core::laws::{fault_breaks, flicker_is_by_interval, one_verdict};
 use bits_core::{Event, Filled, Seen, Shape, Side, audit_bits_into};
 use ring_player::{PlayFault, play_first};
 use ring_script::{Fields, ITEM_LIMIT, LetterRun, ScriptFault, ScriptRef};
@@ -103,9 +102,6 @@ pub fn put_lawful(shape: &Shape, history: &[Event], marks: &mut [Mark])
     requires few { length history.now ≤ EVENT_ROOM }
     ensures { AreMarksOf history.now (length history.now) marks.new }
 {
-    fault_breaks();
-    flicker_is_by_interval();
-    one_verdict();
     let mut seen = nothing_seen();
     audit_bits_into(shape, history, &mut seen);
     put_marks(history, &seen, marks);

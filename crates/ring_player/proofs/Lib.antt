@@ -18,3 +18,4 @@ mod Fillings
 mod TellingSteps
 mod TellingMoves
 mod TellingRecords
+pub mod LawLemmas

@@ -286,34 +286,6 @@ unfinished law script p kept list due a s next is d =
 
 -- ---- the next call begins
 
-pub began_put :
-    (script : Content) (p p' : ProducerState) (kept : PutTally) (list : List Made) (items : List ℕ) → PutActorStands script p kept list None → NextOf p None → kept.stored < length script.items →
-    items ≡ offered script kept.stored → p'.shape ≡ p.shape → p'.batched ≡ true → (p.closed ≡ false → (call_of p' ≡ Some (Put items)) × (p'.closed ≡ false)) → StandsOn p p' →
-    PutActorStands script p' kept list None
-began_put script p p' kept list items s next left are shape batched begun on =
-    let (none, whole) = idle p.shape s.calls (call_of p) list (next s.calls list s.there) in
-    let not_closed : p.closed ≡ false = s.there.closed_is ∙ ap (closes_with s.calls) none ∙ still_open s.calls.closes refl in
-    let (call, o) = begun not_closed in
-    record {
-      calls = s.calls;
-      there = on s.calls list s.there;
-      same_shape = shape ∙ s.same_shape;
-      attempts = s.attempts;
-      counted = s.counted;
-      filled = s.filled;
-      long = s.long;
-      batched = λ items e. batched;
-      asked = subst (λ t. IsAsked script s.calls t) (sym call) (are ∙ ap (offered script) s.counted, omega (arith, left, s.counted));
-      program = s.program;
-    }
-  where
-    asked_none : IsAsked script s.calls None
-    asked_none = subst (λ t. IsAsked script s.calls t) (idle p.shape s.calls (call_of p) list (next s.calls list s.there)).0 s.asked
-
-    still_open : (b : Bool) → s.calls.closes ≡ b → s.calls.closes ≡ false
-    still_open false e = e
-    still_open true e = absurd (omega (arith, (asked_none e).1, s.counted, left))
-
 -- it has begun one, or it may not
 pub began_one :
     (script : Content) (p p' : ProducerState) (kept : PutTally) (list : List Made) (items : List ℕ) → PutActorStands script p kept list None → NextOf p None → kept.stored < length script.items →

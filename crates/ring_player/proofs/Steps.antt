@@ -75,25 +75,9 @@ after_end opens owns s h h' due due' stands stands' a v e p o is end by ends the
     (own_by owns s h e by ∙ ap (λ l. l ++ e ∷ []) (own_with s h due stands (Some a) p o) ∙ ap (λ x. so_far s p.list (Some a) ++ x ∷ []) end ∙ sym (events-more s p.list a v))
     (λ b f. none_some b f))
 
--- the due access begun
-begun_begins : (s : Side) (a : Access) → begun_by (opening_event s a) ≡ Some a
-begun_begins s (access.Read b) = refl
-begun_begins s (access.Write b v) = refl
-
 pub begun_side : (s : Side) (a : Access) → (opening_event s a).side ≡ s
 begun_side s (access.Read b) = refl
 begun_side s (access.Write b v) = refl
-
-pub after_begin :
-    OpenChanges → SubhistoryChanges → (s : Side) (h h' : List Event) (due due' : Option Access) (stands stands' : Stands) (a : Access) → (p : IsPlaying s h due stands) → open_access s h ≡ None →
-    h' ≡ h ++ opening_event s a ∷ [] → due' ≡ Some a → stands' p.list (Some a) → IsPlaying s h' due' stands'
-after_begin opens owns s h h' due due' stands stands' a p o is is_due there =
-    let e : Event = opening_event s a in
-    let by : e.side ≡ s = begun_side s a in
-    subst (λ (t : List Event). IsPlaying s t due' stands') (sym is)
-    (playing s (h ++ e ∷ []) due' stands' p.list (Some a) (open_by opens s h e by ∙ begun_begins s a) there
-    (own_by owns s h e by ∙ ap (λ l. l ++ e ∷ []) (own_with s h due stands None p o))
-    (λ b f. is_due ∙ f))
 
 -- a side whose access was open was not done
 pub end_move :

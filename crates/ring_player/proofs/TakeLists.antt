@@ -49,10 +49,6 @@ pub tells_so : (end : End) → ends_closed end ≡ true → Tells end
 tells_so Open e = absurd (cc)
 tells_so (Closed seen again) e = tt
 
-pub open_tells : (end : End) → ends_closed end ≡ false → end ≡ Open
-open_tells Open e = refl
-open_tells (Closed seen again) e = absurd (cc)
-
 -- the number of the count that takes leave
 pub number_is : (shape : Shape) (c : Count) (xs : List Take) → (taken_count shape c xs).number ≡ taken_in c.number xs
 number_is shape c [] = refl

@@ -174,9 +174,6 @@ module _ (law : PutsTellByOne) (script : Content) (puts : Puts) (i : ℕ) (asked
       whole : events_in (put_program shape puts) ≡ events_of_puts shape puts.puts + 2
       whole = omega (arith, length-append (put_phrases shape first_count puts.puts) (close_phrase puts.closes), ap (λ b. length (close_phrase b)) at.1)
 
-  pub closed_is_last : IsPutStage put.Closed script puts i → ⊥
-  closed_is_last at = omega (arith, at, few)
-
 -- ---- takes
 
 module _ (law : TakesTellByOne) (script : Content) (takes : Takes) (i : ℕ) (few : i < events_in (take_program script.shape takes)) where
@@ -282,6 +279,3 @@ module _ (law : TakesTellByOne) (script : Content) (takes : Takes) (i : ℕ) (fe
         sym t,
         sym ends,
       )
-
-  pub told_is_last : IsTakeStage taking.Told script takes i → ⊥
-  told_is_last at = omega (arith, at, few)

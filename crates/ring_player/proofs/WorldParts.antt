@@ -22,9 +22,8 @@ use Rattle.ring_script.specs.declared.schedules.LetterRun.{LetterRun}
 use Rattle.ring_script.specs.Schedule.{spelled}
 use Rattle.ring_script.specs.Content.{Content}
 use Rattle.ring_core.specs.Counts.{first_count}
-use Rattle.ring_core.specs.Items.{ItemsAreRead, all_taken, items_put, items_put_in, items_taken, items_taken_in, TakenAreRead, ToldIn}
-use Rattle.ring_core.specs.Over.{empties, fulls, PutsOverAreRead, puts_over_in, TakesOverAreRead, takes_over_in}
-use Rattle.ring_core.specs.Puts.{FollowsPuts, Puts, stored_in}
+use Rattle.ring_core.specs.Items.{all_taken, items_put, items_taken, items_taken_in, TakenAreRead, ToldIn}
+use Rattle.ring_core.specs.Over.{TakesOverAreRead, takes_over_in}
 use Rattle.ring_core.specs.Takes.{FollowsTakes, Takes}
 use Rattle.ring_player.specs.Headline.{EveryPlayFills, EveryPlayHolds, HoldsHeadline, IsPlayOf}
 use Rattle.ring_player.specs.SoFar.{PutSoFar, TakenSoFar}
@@ -165,40 +164,7 @@ taken_of read script cs h due stands taken told empty same p t takes follows =
     let (items', told_back) = read script.shape h takes u.takes follows mine in
     (sym u.items ∙ items, (λ e. told_there (u.tells.0 e), λ e. u.tells.1 (told_back e)))
 
-pub empty_of :
-    TakesOverAreRead → (script cs : Content) (h : List Event) (due : Option Access) (stands : Stands) (taken : List ℕ) (told : Bool) (empty : ℕ) → cs ≡ script → (p : IsPlaying C h due stands) →
-    TakenSoFar cs.shape (so_far C p.list (open_access C h)) taken told empty → (takes : Takes) → FollowsTakes script.shape h takes → empty ≡ empties (takes_over_in script.shape h takes)
-empty_of read script cs h due stands taken told empty same p t takes follows =
-    let u : TakenSoFar script.shape (subhistory C h) taken told empty =
-    subst (λ (x : Content). TakenSoFar x.shape (subhistory C h) taken told empty) same (subst (λ l. TakenSoFar cs.shape l taken told empty) (sym p.own_is) t) in
-    let mine : FollowsTakes script.shape h u.takes = record { are = u.are; events = u.begins } in
-    sym u.over ∙ ap empties (read script.shape h u.takes takes mine follows)
-
 -- ---- what was put
-
-pub put_of :
-    ItemsAreRead → (script ps : Content) (h : List Event) (due : Option Access) (stands : Stands) (put : List ℕ) (kept : PutTally) → ps ≡ script → (p : IsPlaying P h due stands) →
-    PutSoFar ps.shape (so_far P p.list (open_access P h)) put kept → (puts : Puts) → FollowsPuts script.shape h puts → put ≡ items_put_in script.shape h puts
-put_of read script ps h due stands put kept same p t puts follows =
-    let u : PutSoFar script.shape (subhistory P h) put kept = subst (λ (x : Content). PutSoFar x.shape (subhistory P h) put kept) same (subst (λ l. PutSoFar ps.shape l put kept) (sym p.own_is) t) in
-    let mine : FollowsPuts script.shape h u.puts = record { are = u.are; events = u.begins } in
-    sym u.items ∙ read script.shape h u.puts puts mine follows
-
-pub full_of :
-    PutsOverAreRead → (script ps : Content) (h : List Event) (due : Option Access) (stands : Stands) (put : List ℕ) (kept : PutTally) → ps ≡ script → (p : IsPlaying P h due stands) →
-    PutSoFar ps.shape (so_far P p.list (open_access P h)) put kept → (puts : Puts) → FollowsPuts script.shape h puts → kept.full ≡ fulls (puts_over_in script.shape h puts)
-full_of read script ps h due stands put kept same p t puts follows =
-    let u : PutSoFar script.shape (subhistory P h) put kept = subst (λ (x : Content). PutSoFar x.shape (subhistory P h) put kept) same (subst (λ l. PutSoFar ps.shape l put kept) (sym p.own_is) t) in
-    let mine : FollowsPuts script.shape h u.puts = record { are = u.are; events = u.begins } in
-    sym u.over ∙ ap fulls (read script.shape h u.puts puts mine follows)
-
-pub stored_of :
-    PutsOverAreRead → (script ps : Content) (h : List Event) (due : Option Access) (stands : Stands) (put : List ℕ) (kept : PutTally) → ps ≡ script → (p : IsPlaying P h due stands) →
-    PutSoFar ps.shape (so_far P p.list (open_access P h)) put kept → (puts : Puts) → FollowsPuts script.shape h puts → kept.stored ≡ stored_in 0 (puts_over_in script.shape h puts)
-stored_of read script ps h due stands put kept same p t puts follows =
-    let u : PutSoFar script.shape (subhistory P h) put kept = subst (λ (x : Content). PutSoFar x.shape (subhistory P h) put kept) same (subst (λ l. PutSoFar ps.shape l put kept) (sym p.own_is) t) in
-    let mine : FollowsPuts script.shape h u.puts = record { are = u.are; events = u.begins } in
-    sym u.stored ∙ ap (stored_in 0) (read script.shape h u.puts puts mine follows)
 
 pub ended_of :
     TakesOverAreRead → (script cs : Content) (h : List Event) (due : Option Access) (stands : Stands) (taken : List ℕ) (told : Bool) (empty : ℕ) → cs ≡ script → (p : IsPlaying C h due stands) →

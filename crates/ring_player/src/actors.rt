@@ -8,12 +8,10 @@ ghost use Rattle.ring_player.specs.Actors.{IsAtTurn, IsMove, IsPlaying};
 ghost use Rattle.ring_player.specs.Plays.{IsProgram};
 
 use crate::faults::PlayFault;
-use bits_core::laws::{open_changes, subhistory_changes};
 use bits_core::{Access, Event, Memory, Oracle, Side, Store};
-use ring_core::laws::last_bit_is_one;
 
 /// What makes the calls of one side: its machine, and what the script asks of it.
-pub trait Actor {
+pub(crate) trait Actor {
     ghost use Rattle.std.specs.Prelude.{◌≡◌, ◌≢◌, ℕ, ◌+◌, ◌<◌, ◌≤◌, ◌^◌, true, Option, Some, None, List, [], ◌∷◌, ◌++◌, OnErr, OnOk, length};
     ghost use Rattle.bits_core.specs.declared.events.Access.{Access};
     ghost use Rattle.bits_core.specs.declared.events.Side.{Side};
@@ -151,9 +149,6 @@ fn end_read<M: Store<Event>, A: Actor, O: Oracle>(
     ensures turns { (turns : ℕ → Bool) → IsAtTurn turns memory.old.events (O.answers oracle.old) →
         IsAtTurn turns memory.new.events (O.answers oracle.new) }
 {
-    open_changes();
-    subhistory_changes();
-    last_bit_is_one();
     event_count(memory);
     actor.reserve()?;
     actor.last_bit();
@@ -185,8 +180,6 @@ fn end_write<M: Store<Event>, A: Actor>(
     ensures turns { (turns answers : ℕ → Bool) → IsAtTurn turns memory.old.events answers →
         IsAtTurn turns memory.new.events answers }
 {
-    open_changes();
-    subhistory_changes();
     event_count(memory);
     actor.reserve()?;
     memory.end_write(side)?;
@@ -195,6 +188,7 @@ fn end_write<M: Store<Event>, A: Actor>(
 }
 
 /// Begins the next access of the side, if it is not done.
+#[tactic(auto, using(bits_core::proofs::LawLemmas::open_changes, bits_core::proofs::LawLemmas::subhistory_changes))]
 fn go_on<M: Store<Event>, A: Actor>(
     memory: &mut Memory<M>,
     actor: &mut A,
@@ -217,8 +211,6 @@ fn go_on<M: Store<Event>, A: Actor>(
     ensures turns { (turns answers : ℕ → Bool) → IsAtTurn turns memory.old.events answers →
         IsAtTurn turns memory.new.events answers }
 {
-    open_changes();
-    subhistory_changes();
     match actor.next() {
         None => Ok(false),
         Some(access) => {

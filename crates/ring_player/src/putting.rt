@@ -13,7 +13,6 @@ ghost use Rattle.ring_script.specs.Borrowed.{content_of};
 use crate::actors::Actor;
 use crate::faults::PlayFault;
 use bits_core::{Access, Bit};
-use ring_core::laws::{calls_are_first, counts_are_written};
 use ring_core::{BatchReply, Producer};
 use ring_script::ScriptRef;
 
@@ -72,7 +71,7 @@ fn put_by(access: Option<Access>, written: u64, put: u64) -> u64
 
 /// Puts the items of a script in order, and then closes where it says so.
 #[derive(Drop)]
-pub struct PutActor<'a> {
+pub(crate) struct PutActor<'a> {
     script: ScriptRef<'a>,
     producer: Producer,
     stored: usize,
@@ -137,7 +136,6 @@ impl<'a> PutActor<'a> {
             (take self.now.put (content_of self.now.script).items)
             (record { stored = self.now.stored; full = self.now.full }) }
     {
-        counts_are_written();
         self.producer.next();
     }
 
@@ -193,7 +191,6 @@ impl<'a> Actor for PutActor<'a> {
     ghost room = { λ a. 1 };
 
     fn next(&mut self) -> Option<Access> {
-        calls_are_first();
         self.begin_call();
         self.producer.next()
     }

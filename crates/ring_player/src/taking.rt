@@ -14,7 +14,6 @@ ghost use Rattle.ring_script.specs.Borrowed.{content_of};
 use crate::actors::Actor;
 use crate::faults::PlayFault;
 use bits_core::{Access, Store};
-use ring_core::laws::calls_are_first;
 use ring_core::{Consumer, TakeBatchReply};
 use ring_script::ScriptRef;
 
@@ -31,7 +30,7 @@ fn add_all<T: Store<u64>>(store: &mut T, items: &[u64])
 
 /// Takes as many items as a script wants, or until it is told that the ring is closed.
 #[derive(Drop)]
-pub struct TakeActor<'a, T: Store<u64>> {
+pub(crate) struct TakeActor<'a, T: Store<u64>> {
     script: ScriptRef<'a>,
     consumer: Consumer,
     taken: T,
@@ -168,7 +167,6 @@ impl<'a, T: Store<u64>> Actor for TakeActor<'a, T> {
     ghost room = { λ a. T.room a.taken };
 
     fn next(&mut self) -> Option<Access> {
-        calls_are_first();
         self.begin_take();
         self.consumer.next()
     }

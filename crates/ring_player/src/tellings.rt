@@ -13,10 +13,8 @@ ghost use Rattle.ring_player.specs.Tellings.{AreAt, RecordsPlay, SaysPut, SaysTa
 
 use crate::faults::PlayFault;
 use crate::worlds::World;
-use bits_core::laws::subhistory_changes;
 use bits_core::{Event, Side, Store};
 use queue_calls::CallEvent;
-use ring_core::laws::{events_tell_by_one, recorded_is_linearizable};
 use ring_script::Script;
 use std::alloc::{AllocError, Allocator};
 
@@ -38,7 +36,7 @@ pub type PlayedCall = CallEvent<usize, TakenItems>;
 
 // Where the producer is in its calls: between two, in a put, in the close, behind it.
 #[derive(Clone, Copy)]
-pub enum PutStage {
+pub(crate) enum PutStage {
     Between,
     Putting,
     Closing,
@@ -47,7 +45,7 @@ pub enum PutStage {
 
 // Where the consumer is: between two calls, in a take, behind one that was told that the ring is closed.
 #[derive(Clone, Copy)]
-pub enum TakeStage {
+pub(crate) enum TakeStage {
     Between,
     Taking,
     Told,
@@ -71,7 +69,6 @@ fn put_says(
     ensures { SaysPut stage items (record { stored = before.stored; full = before.full })
         (record { stored = now.stored; full = now.full }) result.0 result.1 }
 {
-    events_tell_by_one();
     match stage {
         PutStage::Between => {
             if before.stored < items {
@@ -120,7 +117,6 @@ fn take_says(
     ensures { SaysTake stage wanted (record { taken = before.taken; empty = before.empty; told = before.told })
         (record { taken = now.taken; empty = now.empty; told = now.told }) result.0 result.1 }
 {
-    events_tell_by_one();
     match stage {
         TakeStage::Between => (TakeStage::Taking, Some(PlayedCall::TakeBegins(wanted))),
         TakeStage::Taking => {
@@ -194,7 +190,6 @@ fn put_step<E: Store<Event>, T: Store<u64>>(
     ensures letters { OnOk result ((letters : List Side) → Plays world.old.script letters world.old.history →
         Plays world.new.script (letters ++ side_is.P ∷ []) world.new.history) }
 {
-    subhistory_changes();
     let before = put_count(world);
     let moved = world.step(Side::P)?;
     if !moved {
@@ -220,7 +215,6 @@ fn take_step<E: Store<Event>, T: Store<u64>>(
     ensures letters { OnOk result ((letters : List Side) → Plays world.old.script letters world.old.history →
         Plays world.new.script (letters ++ side_is.C ∷ []) world.new.history) }
 {
-    subhistory_changes();
     let wanted = world.wanted() as usize;
     let before = take_count(world);
     let moved = world.step(Side::C)?;
@@ -310,7 +304,6 @@ pub fn play_calls<A: Allocator + Copy, B: Allocator>(
     ensures { IfOk result (λ told. (h : List Event) × IsPlayOf script.now script.now.letters h ×
         RecordsPlay script.now h told.items) }
 {
-    recorded_is_linearizable();
     let mut world = World::new(alloc, script);
     let mut at = Stages {
         put: PutStage::Between,

@@ -18,14 +18,9 @@ ghost use Rattle.ring_script.specs.Borrowed.{content_of};
 
 use crate::actors::advance;
 use crate::faults::PlayFault;
-use crate::laws::{every_play_fills, every_play_holds};
 use crate::putting::PutActor;
 use crate::taking::TakeActor;
-use bits_core::laws::{flicker_is_by_interval, open_changes, subhistory_changes};
 use bits_core::{Event, Memory, Side, Store, Tape};
-use ring_core::laws::{
-    calls_over_are_read, items_put_are_read, items_taken_are_read, ring_is_linearizable,
-};
 use ring_script::{Script, ScriptRef};
 use std::alloc::Allocator;
 use std::marker::Model;
@@ -107,19 +102,15 @@ impl<'a, E: Store<Event>, T: Store<u64>> World<'a, E, T> {
         ensures plays { IsPlayOf self.now.script (event_sides self.now.history) self.now.history }
         ensures linearizable { EachReadingIsLinearizable self.now.script.shape self.now.history }
     {
-        every_play_holds();
-        every_play_fills();
-        flicker_is_by_interval();
-        ring_is_linearizable();
         self.memory.events()
     }
 
     /// The items put so far: those of the puts whose count write has begun.
+    #[tactic(auto, using(ring_core::proofs::LawLemmas::items_put_are_read))]
     pub fn put_items(&self) -> &'a [u64]
         ensures { (puts : Puts) → FollowsPuts self.now.script.shape self.now.history puts →
             result.now ≡ items_put_in self.now.script.shape self.now.history puts }
     {
-        items_put_are_read();
         self.producer.look();
         self.producer.put()
     }
@@ -129,7 +120,6 @@ impl<'a, E: Store<Event>, T: Store<u64>> World<'a, E, T> {
         ensures { (takes : Takes) → FollowsTakes self.now.script.shape self.now.history takes →
             result.now ≡ items_taken_in self.now.script.shape self.now.history takes }
     {
-        items_taken_are_read();
         self.consumer.look();
         self.consumer.taken()
     }
@@ -139,7 +129,6 @@ impl<'a, E: Store<Event>, T: Store<u64>> World<'a, E, T> {
         ensures { (takes : Takes) → FollowsTakes self.now.script.shape self.now.history takes → (result ≡ true) ↔
             ToldIn self.now.script.shape self.now.history takes }
     {
-        items_taken_are_read();
         self.consumer.look();
         self.consumer.told()
     }
@@ -152,11 +141,11 @@ impl<'a, E: Store<Event>, T: Store<u64>> World<'a, E, T> {
     }
 
     /// How many items the puts that have ended stored.
+    #[tactic(auto, using(ring_core::proofs::LawLemmas::calls_over_are_read_puts))]
     pub fn stored(&self) -> usize
         ensures { (puts : Puts) → FollowsPuts self.now.script.shape self.now.history puts →
             result ≡ stored_in 0 (puts_over_in self.now.script.shape self.now.history puts) }
     {
-        calls_over_are_read();
         self.producer.look();
         self.producer.stored()
     }
@@ -167,7 +156,6 @@ impl<'a, E: Store<Event>, T: Store<u64>> World<'a, E, T> {
             result.now ≡ all_taken (takes_over_in self.now.script.shape self.now.history takes) }
         ensures first { IsPrefix result.now self.now.script.items }
     {
-        calls_over_are_read();
         self.history();
         self.producer.look();
         self.consumer.look();
@@ -175,21 +163,21 @@ impl<'a, E: Store<Event>, T: Store<u64>> World<'a, E, T> {
     }
 
     /// How many puts have ended that found the ring full.
+    #[tactic(auto, using(ring_core::proofs::LawLemmas::calls_over_are_read_puts))]
     pub fn full(&self) -> u64
         ensures { (puts : Puts) → FollowsPuts self.now.script.shape self.now.history puts →
             result ≡ fulls (puts_over_in self.now.script.shape self.now.history puts) }
     {
-        calls_over_are_read();
         self.producer.look();
         self.producer.full()
     }
 
     /// How many takes have ended that found the ring empty.
+    #[tactic(auto, using(ring_core::proofs::LawLemmas::calls_over_are_read_takes))]
     pub fn empty(&self) -> u64
         ensures { (takes : Takes) → FollowsTakes self.now.script.shape self.now.history takes →
             result ≡ empties (takes_over_in self.now.script.shape self.now.history takes) }
     {
-        calls_over_are_read();
         self.consumer.look();
         self.consumer.empty()
     }
@@ -201,7 +189,6 @@ impl<'a, E: Store<Event>, T: Store<u64>> World<'a, E, T> {
             (takes_over_in self.now.script.shape self.now.history takes))) }
         ensures small { result ≤ 64 }
     {
-        calls_over_are_read();
         self.consumer.look();
         self.consumer.wanted()
     }
@@ -211,8 +198,6 @@ impl<'a, E: Store<Event>, T: Store<u64>> World<'a, E, T> {
         ensures items { self.now.taken ≤ length self.now.script.items }
         ensures takes { self.now.taken ≤ self.now.script.takes }
     {
-        items_put_are_read();
-        items_taken_are_read();
         self.history();
         self.producer.look();
         self.consumer.look();
@@ -234,7 +219,6 @@ impl<'a, E: Store<Event>, T: Store<u64>> World<'a, E, T> {
             result.empty ≡ empties (takes_over_in self.entry.script.shape self.entry.history takes) }
         ensures flicker { result.flicker ≡ flicker_count self.entry.history }
     {
-        items_taken_are_read();
         self.history();
         self.consumer.look();
         let put = self.put_items();
@@ -303,8 +287,6 @@ impl<'a, E: Store<Event>, T: Store<u64>> World<'a, E, T> {
         ensures full { OnErr result ((self.old.event_room ≤ length self.old.history) ⊎
             (self.old.item_room < self.old.taken + wanted_at self.old.script self.old.taken)) }
     {
-        open_changes();
-        subhistory_changes();
         advance(
             &mut self.memory,
             &mut self.producer,
@@ -321,8 +303,6 @@ impl<'a, E: Store<Event>, T: Store<u64>> World<'a, E, T> {
         ensures full { OnErr result ((self.old.event_room ≤ length self.old.history) ⊎
             (self.old.item_room < self.old.taken + wanted_at self.old.script self.old.taken)) }
     {
-        open_changes();
-        subhistory_changes();
         advance(
             &mut self.memory,
             &mut self.consumer,
@@ -466,10 +446,6 @@ pub fn play_first<'a, E: Store<Event>, T: Store<u64>>(
         ((T.room taken < (content_of script.entry).takes) ×
         (T.room taken < length (content_of script.entry).items + take_batch_of (content_of script.entry).shape))) }
 {
-    every_play_holds();
-    every_play_fills();
-    flicker_is_by_interval();
-    ring_is_linearizable();
     let mut world = World::over(script, events, taken);
     let played = run_first(&mut world, script, letters);
     world.few_taken();

@@ -27,7 +27,7 @@ pub struct Exit {
 
 /// How a command that answered ends.
 #[derive(Clone, Copy)]
-pub enum Ending {
+pub(crate) enum Ending {
     /// The work was done: a script was played, a history is lawful, or a relay's taker was told that the ring is closed.
     Done,
     /// A relay reached a limit before its taker was told that the ring is closed.
@@ -51,7 +51,7 @@ impl Ending {
 
 /// What a command answers: the text for the output, whole, and how the program ends.
 #[derive(Drop)]
-pub struct Answer<A: Allocator> {
+pub(crate) struct Answer<A: Allocator> {
     pub text: String<A>,
     pub ending: Ending,
 }

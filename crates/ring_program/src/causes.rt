@@ -15,7 +15,7 @@ use std::fmt;
 
 /// What is wrong in the text of a trace, of recorded calls or of a script. It is printed in one line, with no line feed.
 #[derive(Drop)]
-pub enum TextCause<'a> {
+pub(crate) enum TextCause<'a> {
     /// The text of the trace is empty.
     NoTrace,
     /// The text of the recorded calls is empty.
@@ -151,7 +151,7 @@ fn cause_in_script<'a>(json: Global, bytes: &'a [u8], fault: ScriptFault) -> Opt
 
 /// What is known of a text that was refused.
 #[derive(Clone, Copy)]
-pub enum Source<'a> {
+pub(crate) enum Source<'a> {
     /// All of it.
     Input(&'a [u8]),
     /// The bad line of recorded calls, which are not kept.

@@ -137,7 +137,7 @@ Exit status:
 
 /// What of a trace an audit looks at.
 #[derive(Clone, Copy)]
-pub enum Audited {
+pub(crate) enum Audited {
     /// The bits, and the programs of the two sides.
     Programs,
     /// `--bits`: the bits alone.
@@ -146,7 +146,7 @@ pub enum Audited {
 
 /// What the text of a play tells.
 #[derive(Clone, Copy)]
-pub enum PlayText {
+pub(crate) enum PlayText {
     /// How many events and items there were.
     Report,
     /// `--trace`: the whole history; of a play by a near miss, where `--wrong` names one.
@@ -157,7 +157,7 @@ pub enum PlayText {
 
 /// What the words ask of an input that is kept.
 #[derive(Clone, Copy)]
-pub enum Question {
+pub(crate) enum Question {
     /// `audit`, of a trace; with `--why` it tells of a fault what was due.
     Audit { what: Audited, why: bool },
     /// `play`, of a script.
@@ -166,7 +166,7 @@ pub enum Question {
 
 /// What the words ask for.
 #[derive(Clone, Copy)]
-pub enum Request {
+pub(crate) enum Request {
     /// To read an input whole, and to answer of it.
     OnInput(Question),
     /// `audit --calls`, which reads its input in pieces; with `--stop` up to the first fault.

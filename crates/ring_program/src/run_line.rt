@@ -66,7 +66,7 @@ Exit status:
 
 /// Which ring a run goes through.
 #[derive(Clone, Copy)]
-pub enum RingKind {
+pub(crate) enum RingKind {
     /// A word for each bit, which flickers while it is written.
     Flicker,
     /// A word for each counter, each cell and the close bit.
@@ -75,7 +75,7 @@ pub enum RingKind {
 
 /// What the text of a run tells.
 #[derive(Clone, Copy)]
-pub enum RunText {
+pub(crate) enum RunText {
     /// How many items were put and taken, and whether the taker was told that the ring is closed.
     Totals,
     /// That, and what was counted and timed.
@@ -86,7 +86,7 @@ pub enum RunText {
 
 /// What `run` is asked for.
 #[derive(Clone, Copy)]
-pub struct Run {
+pub(crate) struct Run {
     pub ring: RingKind,
     /// The numbers of the ring's shape.
     pub capacity: u64,

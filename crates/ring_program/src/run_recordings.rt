@@ -14,7 +14,6 @@ use crate::call_writing::{begun_behind, push_event};
 use crate::faults::AppFault;
 use crate::lines::push_list;
 use bits_core::Shape;
-use queue_calls::laws::{history_has_a_recording, linearizable_is_in_turn};
 use queue_calls::{Begun, CallAuditor, Event, Fault, Word, event_told, exactly};
 use ring_run::{Outcome, Recorder};
 use std::alloc::Allocator;
@@ -236,8 +235,6 @@ pub fn recording_text<A: Allocator + Copy, B: Allocator>(
         outcome.now.takes outcome.now.empty outcome.now.closed) (string_bytes text)) }
     ensures refused { IfErr result (λ e. (e ≡ AppFault.OutOfMemory) ⊎ (e ≡ AppFault.NotOfRun)) }
 {
-    linearizable_is_in_turn();
-    history_has_a_recording();
     let capacity = shape.capacity();
     let is_cut = recorder.is_cut();
     let mut text = String::new(alloc);

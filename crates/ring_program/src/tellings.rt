@@ -15,7 +15,6 @@ use crate::call_writing::{begun_behind, push_event};
 use crate::faults::AppFault;
 use crate::lines::push_list;
 use near_misses::NearCall;
-use queue_calls::laws::{history_has_a_recording, linearizable_is_in_turn};
 use queue_calls::{Begun, CallEvent, Event, Word};
 use ring_player::{PlayedCall, Script, TakenItems};
 use std::alloc::Allocator;
@@ -32,7 +31,7 @@ fn offered<B: Allocator>(script: &Script<B>, stored: usize) -> &[u64]
 }
 
 // What tells the items that a take took.
-pub trait Took {
+pub(crate) trait Took {
     ghost use Rattle.std.specs.Prelude.{◌≡◌, ℕ, List};
 
     // The items, of these.
@@ -163,8 +162,6 @@ pub fn calls_text<A: Allocator, B: Allocator>(
         (call_events script.now told.now)) }
     ensures memory { IfErr result (λ e. e ≡ AppFault.OutOfMemory) }
 {
-    linearizable_is_in_turn();
-    history_has_a_recording();
     let _capacity = script.shape().capacity();
     let text = told_text(alloc, script, told)?;
     Ok(text)

@@ -8,14 +8,14 @@ const SHOWN_LIMIT: usize = 80;
 
 /// A line of a text without its line feed, and whether it has one.
 #[derive(Clone, Copy)]
-pub struct TextLine<'a> {
+pub(crate) struct TextLine<'a> {
     pub text: &'a [u8],
     pub has_feed: bool,
 }
 
 /// What is wrong with a line of a trace or of recorded calls.
 #[derive(Clone, Copy, Debug, Error)]
-pub enum LineFault {
+pub(crate) enum LineFault {
     #[error("begins with a byte order mark")]
     ByteOrderMark,
     #[error("is UTF-16 text")]
@@ -51,7 +51,7 @@ pub enum LineFault {
 /// A line as it is shown: between quotes, each byte that is no printable ASCII escaped, and cut behind
 /// `SHOWN_LIMIT` characters, with two dots where it was cut.
 #[derive(Clone, Copy)]
-pub struct Shown<'a> {
+pub(crate) struct Shown<'a> {
     pub line: &'a [u8],
 }
 

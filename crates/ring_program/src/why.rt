@@ -7,7 +7,6 @@ ghost use Rattle.ring_audit.specs.Audit.{statement};
 ghost use Rattle.ring_program.specs.Why.{AreDues, IsFaultThere, TellsReason, TellsWhy, due_line, due_lines, held_line, line_words, only_line, open_line, reason_line, side_letter, since_words, verdict_in};
 
 use crate::faults::AppFault;
-use bits_core::laws::{fault_breaks, lawful_by_one_more};
 use bits_core::{Access, Event, Kind, Reason, Shape, Side, Verdict, push_event, reason_behind};
 use itoa::Buffer;
 use ring_audit::{Dues, Finding, due_behind};
@@ -202,8 +201,6 @@ pub fn push_why<A: Allocator>(
         TellsWhy shape.now events.now verdict more) }
     ensures err { IfErr result (λ e. e ≡ AppFault.OutOfMemory) }
 {
-    fault_breaks();
-    lawful_by_one_more();
     match verdict {
         Verdict::Lawful => Ok(()),
         Verdict::Fault { place, kind } => {

@@ -10,7 +10,7 @@ use Rattle.bits_core.specs.declared.events.Event.{Event}
 use Rattle.bits_core.specs.declared.shapes.Shape.{Shape}
 use Rattle.bits_core.specs.Bits.{is_by}
 use Rattle.bits_core.specs.Intervals.{IsWrite}
-use Rattle.bits_core.specs.Laws.{MadeIsAccess}
+use Rattle.bits_core.proofs.Statements.{MadeIsAccess}
 use Rattle.bits_core.specs.Made.{Made, Write, events_of, subhistory, clock, place_of, IsPlaceOf, IsPrefix}
 use Rattle.ring_core.specs.declared.replies.TakeReply.{TakeReply}
 use Rattle.ring_core.specs.declared.replies.TakeReply.TheVariants as reply

@@ -1,5 +1,5 @@
 -- One put or take more of a relay.
-use Rattle.std.proofs.Common.{◌≡◌, ◌⊎◌, ⊎_elim, ℕ, zero, suc, ◌+◌, ◌-◌, ◌<◌, ◌≤◌, Bool, true, false, List, [], ◌∷◌, ◌++◌, length, take, ◌%◌, append_assoc, refl, ap, sym, subst, ◌∙◌, arith, append-nil, Result, Ok, Err}
+use Rattle.std.proofs.Common.{◌≡◌, ◌⊎◌, ⊎_elim, ℕ, zero, suc, ◌+◌, ◌-◌, ◌<◌, ◌≤◌, Bool, false, List, [], ◌∷◌, ◌++◌, length, take, ◌%◌, append_assoc, refl, ap, sym, subst, ◌∙◌, arith, append-nil, Result, Ok, Err}
 use Rattle.std.specs.Prelude.{IfErr}
 use Rattle.std.proofs.lemmas.List.{length-append}
 use Rattle.std.proofs.Math.Seq.{take-add, take-length, drop-nil}
@@ -15,9 +15,9 @@ use Rattle.ring_core.specs.Puts.{Put, Puts, IsBatch}
 use Rattle.ring_core.specs.Items.{all_put}
 use Rattle.ring_core.specs.Over.{fulls}
 use Rattle.ring_core.specs.Readings.{PutsAreRead}
-use Rattle.ring_core.specs.ProducerCalls.{and_put, and_close, no_puts, IsPutOf}
+use Rattle.ring_core.specs.ProducerCalls.{and_put, no_puts, IsPutOf}
 use Rattle.ring_core.specs.ProducerCalls as put_calls
-use Rattle.ring_ends.specs.Ends.{HasPuts, HasPutAll, PutAdds, HasClosed, CloseAdds}
+use Rattle.ring_ends.specs.Ends.{HasPuts, HasPutAll, PutAdds}
 use Rattle.ring_run.specs.Relays.{AreGiven, PutsAre, TakesAre}
 
 -- ---- lists
@@ -209,12 +209,6 @@ module _ (read : PutsAreRead) (shape : Shape) (list list' : List Event) (items :
       go : PutAdds false shape p.calls given batch_reply.Closed list list' → ⊥
       go (puts.Stored seen i, of, reply, has) = cc
       go (puts.Full seen, of, reply, has) = cc
-
-  pub now_closed : HasClosed shape list list' → PutsAre shape list' items put made full true
-  now_closed h =
-      let same : h.calls ≡ p.calls = same_puts read shape list h.calls p.calls h.before_is p.list_is in
-      let has : CloseAdds false shape p.calls list list' = subst (λ (z : Puts × Bool). CloseAdds z.1 shape z.0 list list') (λ i. (same i, (ap (λ (q : Puts). q.closes) same ∙ p.closes_is) i)) h.adds in
-      record { calls = and_close p.calls; list_is = has; given = p.given; in_order = p.in_order; within = p.within; made_is = p.made_is; full_is = p.full_is; closes_is = refl }
 
 -- ---- a fault, whatever it is
 

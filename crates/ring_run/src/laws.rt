@@ -1,8 +1,6 @@
 //! What a caller of the ends may rest on, each the contract of a function that does nothing.
 ghost use Rattle.ring_run.specs.Laws.{EmptyAfterMeeting, FullAfterMeeting, ItemEmptyAfterMeeting, ItemFullAfterMeeting, ItemTakesAdd, PutsAdd, TakesAdd};
 
-use bits_core::laws::made_is_access;
-use ring_core::laws::{calls_are_first, puts_are_read, ring_law, takes_are_read};
 pub use ring_seats::laws::{counts_are_shown, words_are_told};
 
 /// No take is answered `Empty` while an item of a put that a meeting showed is not taken, nor once a meeting showed
@@ -12,12 +10,7 @@ pub use ring_seats::laws::{counts_are_shown, words_are_told};
 pub fn empty_after_meeting()
     ensures several { EmptyAfterMeeting }
     ensures single { ItemEmptyAfterMeeting }
-{
-    ring_law();
-    calls_are_first();
-    takes_are_read();
-    made_is_access();
-}
+{}
 
 /// No put is answered `Full` while there is room by what a meeting showed: of a putter that knows a history whose takes
 /// are whole, and has made puts behind it, the next one finds the ring full only where the items that its puts stored,
@@ -26,11 +19,7 @@ pub fn empty_after_meeting()
 pub fn full_after_meeting()
     ensures several { FullAfterMeeting }
     ensures single { ItemFullAfterMeeting }
-{
-    ring_law();
-    calls_are_first();
-    puts_are_read();
-}
+{}
 
 /// A put leaves the putter's list as it was and adds to it. So the list of a putter begins with its side of what a
 /// meeting showed, however many puts it made since.

@@ -9,9 +9,6 @@ ghost use Rattle.ring_run.specs.Relays.{HasMadePuts, HasRelayedPuts, HasRelayedT
 use crate::gates::Gate;
 use bits_core::{Oracle, Shape, Side};
 use queue_calls::Event;
-use ring_core::laws::{
-    programs_by_one_call, puts_are_read, ring_law, takes_are_read, whole_calls_count,
-};
 use ring_core::{BatchReply, TakeBatchReply, TakeReply};
 use ring_ends::{CounterRing, FlickerRing, PutEnd, RingOf, RunFault, TakeEnd};
 use std::alloc::{AllocError, Allocator};
@@ -52,6 +49,7 @@ fn next_batch(shape: &Shape, left: usize) -> usize
 // Puts the items in order, as many at a time as the shape's batch has, each again while the ring is full, and
 // closes behind the last. Tells how many items were stored, how many puts were made, and how many found the
 // ring full.
+#[tactic(auto, using(ring_core::proofs::LawLemmas::puts_are_read))]
 fn put_in_order<E: PutEnd, G: Gate>(
     putter: &mut E,
     items: &[u64],
@@ -66,7 +64,6 @@ fn put_in_order<E: PutEnd, G: Gate>(
     ensures puts { HasRelayedPuts (E.end putter.new).ring.shape (E.end putter.new).list items.now limit result.0
         result.1 result.2 }
 {
-    puts_are_read();
     let shape = putter.shape();
     let mut put = 0;
     let mut made = 0;
@@ -122,7 +119,6 @@ fn take_one<E: TakeEnd>(taker: &mut E, place: &mut u64) -> TakeBatchReply
         (E.end taker.old).list (E.end taker.new).list result (place.new ∷ []) }
     ensures within { number_brought result ≤ 1 }
 {
-    programs_by_one_call();
     match taker.take() {
         TakeReply::Item(item) => {
             *place = item;
@@ -187,7 +183,6 @@ fn take_all<A: Allocator, E: TakeEnd, G: Gate>(
     ensures fault { IfErr result (λ _. HasTakenMore (E.end taker.new).ring.shape (E.end taker.new).list limit
         (vec_capacity items.old)) }
 {
-    takes_are_read();
     let shape = taker.shape();
     let mut room = [0; 64];
     let mut made = 0;
@@ -379,8 +374,6 @@ fn relay_through<
     ensures all { result.closed ≡ true → (result.put ≡ length items.now) × (result.taken.items ≡ items.now) }
     ensures within { result.put ≤ length result.taken.items + capacity_of (E.end putter).ring.shape }
 {
-    ring_law();
-    whole_calls_count();
     let outcome = relay_into(rt, taken, &mut putter, &mut taker, items, limits, gate);
     let _finished = K::finish(putter, taker);
     match outcome {

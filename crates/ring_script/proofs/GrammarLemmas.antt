@@ -97,10 +97,6 @@ letter_stands : (before : ℕ) (s : Side) → may_stand before (letter_of s) ≡
 letter_stands before P = refl
 letter_stands before C = refl
 
-letter_is : (s : Side) → is_letter (letter_of s) ≡ true
-letter_is P = refl
-letter_is C = refl
-
 letter_no_digit : (s : Side) → is_digit (letter_of s) ≡ false
 letter_no_digit P = refl
 letter_no_digit C = refl
@@ -108,10 +104,6 @@ letter_no_digit C = refl
 side_letter : (s : Side) → letter_side (letter_of s) ≡ s
 side_letter P = refl
 side_letter C = refl
-
-or_true : (a : Bool) → (if a then true else true) ≡ true
-or_true true = refl
-or_true false = refl
 
 digit_after_digit : (before c : ℕ) → is_digit before ≡ true → is_digit c ≡ true → may_stand before c ≡ true
 digit_after_digit before c b d = grind arith

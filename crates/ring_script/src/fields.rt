@@ -14,7 +14,7 @@ use std::alloc::Allocator;
 
 /// The JSON values of a script's fields.
 #[derive(Clone, Copy)]
-pub struct Values<'v> {
+pub(crate) struct Values<'v> {
     pub capacity: &'v Value,
     pub modulus: &'v Value,
     pub width: &'v Value,
@@ -29,7 +29,7 @@ pub struct Values<'v> {
 
 /// The numbers, lists and texts that the fields of a script hold.
 #[derive(Drop)]
-pub struct Typed<'v, A: Allocator> {
+pub(crate) struct Typed<'v, A: Allocator> {
     pub capacity: u64,
     pub modulus: u64,
     pub width: u64,

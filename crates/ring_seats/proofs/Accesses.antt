@@ -16,7 +16,7 @@ use Rattle.ring_seats.specs.declared.views.View.{View}
 use Rattle.ring_seats.specs.Rule.{Added, Stands, and_event, event, list_of, may_step}
 use Rattle.ring_seats.specs.Words.{answer_of}
 use Rattle.ring_seats.specs.Steppers.{Grows, HasMade}
-use Rattle.ring_seats.specs.Below.{LawsBelow}
+use Rattle.ring_seats.proofs.Below.{LawsBelow}
 use Rattle.ring_seats.proofs.Moves.{list_of-mine, may_step-more, opened_by}
 
 -- an end by its ring, its side and what its seat knows

@@ -17,7 +17,7 @@ use Rattle.bits_core.specs.Steps.{MayFollow}
 use Rattle.bits_core.specs.Open.{IsOpenRight}
 use Rattle.bits_core.specs.Made.{Made, Read, Write, access_of, begin_event, end_event, events_of, subhistory}
 use Rattle.ring_seats.specs.Programs.{Follows, IsRing}
-use Rattle.ring_seats.specs.Below.{LawsBelow}
+use Rattle.ring_seats.proofs.Below.{LawsBelow}
 use Rattle.ring_seats.specs.Counters.{value_left}
 use Rattle.ring_seats.proofs.Histories.{by_case, same_side-same, same_side-true, either_side, before_last-mine, own-mine, own-theirs, open-mine, open-theirs}
 use Rattle.ring_seats.proofs.Rights.{AllRight}
@@ -91,10 +91,6 @@ begun_begin s (Write b v) = refl
 begun_end : (s : Side) (x : Made) → begun_by (end_event s x) ≡ None
 begun_end s (Read b v) = refl
 begun_end s (Write b v) = refl
-
-not_same_sides : (s : Side) → same_side s (other s) ≡ false
-not_same_sides P = refl
-not_same_sides C = refl
 
 -- the list that follows a program, cut
 pub follows_shorter : (shape : Shape) (x : Side) (xs ys : List Event) → Follows shape x (xs ++ ys) → Follows shape x xs

@@ -25,7 +25,7 @@ use Rattle.ring_seats.specs.declared.views.View.{View}
 use Rattle.ring_seats.specs.Words as bits
 use Rattle.ring_seats.specs.Programs.{Follows, IsRing}
 use Rattle.ring_seats.specs.Rule.{joint, may_step, list_of, SeatKnows, SeatsKnow}
-use Rattle.ring_seats.specs.Below.{LawsBelow}
+use Rattle.ring_seats.proofs.Below.{LawsBelow}
 use Rattle.ring_seats.specs.Counters.{count_place, their_place, cell_place, words_of, first_counts, value_left, unary_over, IsLastCount, IsLastItem, ShowsWords, KeptWords, and_events, AddedAll, TellsNothing, IsBelow}
 use Rattle.ring_seats.proofs.Histories.{either_side}
 use Rattle.ring_seats.proofs.Rights.{AllRight, scan_right, unary_right, word_write_right, reads_right}

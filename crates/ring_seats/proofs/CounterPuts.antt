@@ -19,7 +19,7 @@ use Rattle.ring_core.specs.Counts.{Count, first_count, number_past, count_bits, 
 use Rattle.ring_core.specs.Puts.{Put, Stored, Full, Puts, stored_after, stored_count, words_phrase, put_phrase, put_phrases, close_phrase, put_program, IsPut, IsBatch}
 use Rattle.ring_core.specs.ProducerCalls.{count_of, and_put, and_close}
 use Rattle.ring_core.specs.OneCallMore.{HasPutMore}
-use Rattle.ring_seats.specs.Below.{LawsBelow}
+use Rattle.ring_seats.proofs.Below.{LawsBelow}
 use Rattle.ring_seats.specs.Programs.{Follows}
 use Rattle.ring_seats.specs.Calls.{HasPuts}
 use Rattle.ring_seats.specs.Counters.{value_left, unary_over}

@@ -19,7 +19,7 @@ use Rattle.ring_core.specs.Takes.{Take, Item, ItemAfterClose, Empty, End, Open, 
 use Rattle.ring_core.specs.Items.{taken_of}
 use Rattle.ring_core.specs.ConsumerCalls.{count_taken, and_take, and_end, items_reply, take_reply_to, IsTakeOf, Finding, Once, Twice, finding_phrase, Finds}
 use Rattle.ring_core.specs.OneCallMore.{HasOneTakeMore, HasEndMore}
-use Rattle.ring_seats.specs.Below.{LawsBelow}
+use Rattle.ring_seats.proofs.Below.{LawsBelow}
 use Rattle.ring_seats.specs.Programs.{Follows}
 use Rattle.ring_seats.specs.Calls.{HasTakes}
 use Rattle.ring_seats.specs.Counters.{value_left, unary_over}

@@ -20,7 +20,7 @@ use Rattle.bits_core.specs.Steps.{MayFollow, IsAnswer}
 use Rattle.bits_core.specs.Made.{subhistory}
 use Rattle.ring_seats.specs.Words.{value_word, word_shown, shown, answer_of}
 use Rattle.ring_seats.specs.Rule.{event}
-use Rattle.ring_seats.specs.Below.{LawsBelow}
+use Rattle.ring_seats.proofs.Below.{LawsBelow}
 
 pub by_case : {G : Type 0} → (b : Bool) → (b ≡ true → G) → (b ≡ false → G) → G
 by_case true if_true if_false = if_true refl

@@ -23,7 +23,7 @@ use Rattle.register_core.specs.Unary.{unary_phrase}
 use Rattle.register_core.specs.Word.{digit, digit_writes, word_write}
 use Rattle.ring_core.specs.Counts.{Count}
 use Rattle.ring_core.specs.CountWrites.{CountsShowNumbers}
-use Rattle.ring_seats.specs.Below.{LawsBelow}
+use Rattle.ring_seats.proofs.Below.{LawsBelow}
 use Rattle.ring_seats.specs.Counters.{value_left, unary_over, NoWriteOf, AreLast, IsLastCount, IsLastItem}
 use Rattle.ring_seats.proofs.Blocks.{wrote, after, after-append, last_append, left_by-made}
 

@@ -27,7 +27,7 @@ use Rattle.ring_seats.specs.declared.layout.TheConstants.{FIRST_S}
 use Rattle.ring_seats.specs.Words.{value_word, shown, answer_of, first_r, word_place, word_count, first_words, Shows}
 use Rattle.ring_seats.specs.Programs.{Follows, IsRing, GoesOn}
 use Rattle.ring_seats.specs.Rule.{event, joint, spent, putter_of, taker_of, joined, may_step, list_of, kept_load, and_event, IsIdle, FirstLoad, SeatKnows, SeatsKnow, HasSeats, KeptBy, KeepsFlickerRule, IsWordFound, Added, Learned}
-use Rattle.ring_seats.specs.Below.{LawsBelow}
+use Rattle.ring_seats.proofs.Below.{LawsBelow}
 use Rattle.ring_seats.proofs.Places.{one_or_apart, place_below, shows_first}
 use Rattle.ring_seats.proofs.Histories.{same_side-same, either_side, before_last-mine, before_last-theirs, own-mine, own-theirs, open-mine, open-theirs, shown-read_begin, shown-read_end, shown-apart, shown-write_begin, shown-write_end, permitted}
 

@@ -1,5 +1,5 @@
 -- What a caller of the seats may rest on.
-use Rattle.std.specs.Prelude.{◌≡◌, ℕ, ◌%◌, ◌<◌, Bool, List, length, slice_index}
+use Rattle.std.specs.Prelude.{◌≡◌, ℕ, ◌%◌, ◌<◌, List, length, slice_index}
 use Rattle.bits_core.specs.declared.shapes.Shape.{Shape}
 use Rattle.bits_core.specs.declared.events.Side.TheVariants.{P, C}
 use Rattle.bits_core.specs.declared.events.Event.{Event}
@@ -8,14 +8,8 @@ use Rattle.bits_core.specs.Made.{subhistory}
 use Rattle.ring_core.specs.Puts.{Puts}
 use Rattle.ring_core.specs.Takes.{Takes}
 use Rattle.ring_core.specs.Items.{all_put, all_taken}
-use Rattle.ring_seats.specs.Ring.{RingEnd}
-use Rattle.ring_seats.specs.Steppers.{AreAnswered}
 use Rattle.ring_seats.specs.Calls.{HasPuts, HasTakes}
 use Rattle.ring_seats.specs.Counters.{count_place, ShowsWords, words_of}
-
--- the reads of two stretches of an end's steps, one behind the other, are answered as those of each
-abbrev pub AnswersAdd : Type 0
-AnswersAdd = (a b c : RingEnd) (first then_on last : ℕ → Bool) → AreAnswered a b first then_on → AreAnswered b c then_on last → AreAnswered a c first last
 
 -- words of a counter ring that show one history are the same
 abbrev pub WordsAreTold : Type 0

@@ -1,6 +1,4 @@
-pub mod Below
 pub mod Calls
-pub mod CounterEnds
 pub mod Counters
 pub mod Laws
 pub mod Meetings

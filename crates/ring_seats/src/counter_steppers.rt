@@ -13,55 +13,52 @@ ghost use Rattle.ring_seats.specs.Programs.{Follows};
 ghost use Rattle.ring_seats.specs.Counters.{GrowsBy, unary_over, count_place, their_place};
 
 use crate::counter_words::Counting;
-use crate::laws::laws_below;
 use crate::steppers::Stepper;
 use bits_core::Side;
+use ring_core::past_in;
 use std::marker::Brand;
 
 impl<'a> Stepper<'a, Counting> {
-    // One load: a whole scan of the other side's count.
-    pub(crate) fn scan(&mut self) -> u64
+    /// One load: a whole scan of the other side's count.
+    pub fn scan(&mut self) -> u64
         requires program { (c : ℕ) → c < modulus_of self.old.ring.shape →
             Follows self.old.ring.shape self.old.side (self.old.list ++ events_of self.old.side
             (scan_phrase (row_read_by self.old.side) c)) }
         ensures grows { GrowsBy self.old self.new (scan_phrase (row_read_by self.old.side) result) }
         ensures below { result < modulus_of self.old.ring.shape }
     {
-        laws_below();
         let side = self.side;
         self.ring
             .load::<Brand, _>(&mut self.seat, theirs(side), &side)
     }
 
-    // One store: a whole unary write of the side's own count.
-    pub(crate) fn write_count(&mut self, new: u64)
+    /// One store: a whole unary write of the side's own count.
+    pub fn write_count(&mut self, new: u64)
         requires below { new < modulus_of self.old.ring.shape }
         requires program { Follows self.old.ring.shape self.old.side
             (self.old.list ++ events_of self.old.side (unary_over self.old.side self.old.list new)) }
         ensures { GrowsBy self.old self.new (unary_over self.old.side self.old.list new) }
     {
-        laws_below();
         let side = self.side;
         self.ring
             .store::<Brand, _>(&mut self.seat, ours(side), &side, new);
     }
 
-    // One store: a whole word write.
-    pub(crate) fn write_cell(&mut self, cell: u64, item: u64)
+    /// One store: a whole word write.
+    pub fn write_cell(&mut self, cell: u64, item: u64)
         requires side { self.old.side ≡ P }
         requires below { (cell < capacity_of self.old.ring.shape) × (item < 2 ^ width_of self.old.ring.shape) }
         requires program { Follows self.old.ring.shape P (self.old.list ++ events_of P
             (word_write (width_of self.old.ring.shape) cell item)) }
         ensures { GrowsBy self.old self.new (word_write (width_of self.old.ring.shape) cell item) }
     {
-        laws_below();
         let word = 3 + cell as usize;
         self.ring
             .store::<Brand, _>(&mut self.seat, word, &cell, item);
     }
 
-    // A store for each item, to the cells one behind the other from this one on: their word writes.
-    pub(crate) fn write_items(&mut self, cell: u64, items: &[u64])
+    /// A store for each item, to the cells one behind the other from this one on: their word writes.
+    pub fn write_items(&mut self, cell: u64, items: &[u64])
         requires stands { StandsAs P self.old × (self.old.side ≡ P) }
         requires below { cell < capacity_of self.old.ring.shape }
         requires fit { AllFit self.old.ring.shape items.now }
@@ -79,18 +76,17 @@ impl<'a> Stepper<'a, Counting> {
         }
     }
 
-    // One store: the close.
-    pub(crate) fn write_close(&mut self)
+    /// One store: the close.
+    pub fn write_close(&mut self)
         requires side { self.old.side ≡ P }
         requires program { Follows self.old.ring.shape P (self.old.list ++ events_of P (Write X true ∷ [])) }
         ensures { GrowsBy self.old self.new (Write X true ∷ []) }
     {
-        laws_below();
         self.ring.store::<Brand, _>(&mut self.seat, 0, &(), 1);
     }
 
-    // One load: a whole word read.
-    pub(crate) fn read_cell(&mut self, cell: u64) -> u64
+    /// One load: a whole word read.
+    pub fn read_cell(&mut self, cell: u64) -> u64
         requires side { self.old.side ≡ C }
         requires below { cell < capacity_of self.old.ring.shape }
         requires program { (item : ℕ) → item < 2 ^ width_of self.old.ring.shape →
@@ -99,13 +95,12 @@ impl<'a> Stepper<'a, Counting> {
         ensures grows { GrowsBy self.old self.new (word_read (width_of self.old.ring.shape) cell result) }
         ensures fits { result < 2 ^ width_of self.old.ring.shape }
     {
-        laws_below();
         let word = 3 + cell as usize;
         self.ring.load::<Brand, _>(&mut self.seat, word, &cell)
     }
 
-    // A load for each place, of the cells one behind the other from this one on: their word reads.
-    pub(crate) fn read_items(&mut self, cell: u64, into: &mut [u64])
+    /// A load for each place, of the cells one behind the other from this one on: their word reads.
+    pub fn read_items(&mut self, cell: u64, into: &mut [u64])
         requires stands { StandsAs C self.old × (self.old.side ≡ C) }
         requires below { cell < capacity_of self.old.ring.shape }
         requires program { (items : List ℕ) → length items ≡ length into.old → AllFit self.old.ring.shape items →
@@ -114,7 +109,6 @@ impl<'a> Stepper<'a, Counting> {
         ensures fit { AllFit self.old.ring.shape into.new }
         ensures grows { GrowsBy self.old self.new (words_read self.old.ring.shape cell into.new) }
     {
-        laws_below();
         let capacity = self.ring.shape().capacity();
         let mut index = 0;
         let mut place = cell;
@@ -125,13 +119,12 @@ impl<'a> Stepper<'a, Counting> {
         }
     }
 
-    // One load: a read of the close bit.
-    pub(crate) fn read_close(&mut self) -> bool
+    /// One load: a read of the close bit.
+    pub fn read_close(&mut self) -> bool
         requires side { self.old.side ≡ C }
         requires program { (v : Bool) → Follows self.old.ring.shape C (self.old.list ++ events_of C (Read X v ∷ [])) }
         ensures { GrowsBy self.old self.new (Read X result ∷ []) }
     {
-        laws_below();
         let found = self.ring.load::<Brand, _>(&mut self.seat, 0, &());
         found == 1
     }
@@ -154,13 +147,4 @@ fn theirs(side: Side) -> usize
         Side::P => 2,
         Side::C => 1,
     }
-}
-
-// So many more, and from 0 on again behind the last.
-pub(crate) fn past_in(n: u64, more: u64, size: u64) -> u64
-    requires { (n < size) × (more ≤ size) × (size < 1000) }
-    ensures { result ≡ (n + more) % size }
-{
-    let sum = n + more;
-    if sum < size { sum } else { sum - size }
 }

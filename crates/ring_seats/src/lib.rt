@@ -3,7 +3,6 @@
 //! and what they show; the steps of a seat, each of which keeps the rule; how two seats are made, meet and are joined.
 #![tactic(auto)]
 
-mod counter_calls;
 mod counter_steppers;
 mod counter_words;
 mod endings;
@@ -15,7 +14,6 @@ mod tables;
 mod views;
 mod words;
 
-pub use counter_calls::{close_open, put_open, take_all_open, take_open};
 pub use counter_words::{CounterRule, Counting};
 pub use endings::{LastWords, close_table};
 pub use meetings::{first_steppers, join_steppers, meet_steppers};

@@ -6,7 +6,6 @@ ghost use Rattle.ring_seats.specs.Rule.{IsIdle, joint, list_of, may_step};
 ghost use Rattle.ring_seats.specs.Meetings.{KeepsEnd, KnowsAll, Meets};
 ghost use Rattle.ring_seats.specs.Steppers.{StandsAs};
 
-use crate::laws::laws_below;
 use crate::steppers::Stepper;
 use crate::views::{Keeping, View};
 use crate::words::Words;
@@ -25,7 +24,6 @@ pub fn first_steppers<'a, K: Keeping>(
     ensures taker { result.1 ≡ record { ring = ring.entry; side = C; list = []; known = []; loads = [] } }
     ensures lawful { StandsAs P result.0 × StandsAs C result.1 }
 {
-    laws_below();
     let other = ring.part(&mut seat);
     let same = ring.again();
     (stepper(same, seat, Side::P), stepper(ring, other, Side::C))

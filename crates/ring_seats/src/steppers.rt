@@ -10,7 +10,6 @@ ghost use Rattle.ring_seats.specs.Programs.{Follows, GoesOn, begin_of, ending_ev
 ghost use Rattle.ring_seats.specs.Rule.{IsIdle};
 ghost use Rattle.ring_seats.specs.Steppers.{AreAnswered, Grows, CanMake, CanStep, HasMade, HasStepped, IsAskedOnce};
 
-use crate::laws::laws_below;
 use crate::views::{Flickering, Keeping, View};
 use crate::words::Words;
 use atomic_table::Seat;
@@ -75,7 +74,6 @@ impl<'a> Stepper<'a, Flickering> {
         ensures grows { Grows self.old self.new (begin_of self.old.side access) }
         ensures quiet { (said : ℕ → Bool) → AreAnswered self.old self.new said said }
     {
-        laws_below();
         let side = self.side;
         self.kept.access = Some(access);
         match access {
@@ -102,7 +100,6 @@ impl<'a> Stepper<'a, Flickering> {
         ensures oracle { IsAskedOnce O.answers oracle.old oracle.new }
         ensures answered { AreAnswered self.old self.new (O.answers oracle.old) (O.answers oracle.new) }
     {
-        laws_below();
         let side = self.side;
         self.kept.access = None;
         match access {
@@ -134,7 +131,6 @@ impl<'a> Stepper<'a, Flickering> {
         ensures oracle { IsAskedOnce O.answers oracle.old oracle.new }
         ensures answered { AreAnswered self.old self.new (O.answers oracle.old) (O.answers oracle.new) }
     {
-        laws_below();
         let side = self.side;
         let word = ring.word_of(bit);
         let first = ring.load::<Brand, _>(&mut self.seat, word, &(side, bit));
@@ -152,7 +148,6 @@ impl<'a> Stepper<'a, Flickering> {
         ensures made { HasMade self.old self.new (Write bit value) value }
         ensures quiet { (said : ℕ → Bool) → AreAnswered self.old self.new said said }
     {
-        laws_below();
         let side = self.side;
         let word = ring.word_of(bit);
         let new = word_of(value);

@@ -5,7 +5,6 @@ ghost use Rattle.ring_seats.specs.Rule.{joint};
 ghost use Rattle.ring_seats.specs.Words.{first_words, word_count as count_of_words};
 
 use crate::counter_words::Counting;
-use crate::laws::laws_below;
 use crate::layout::{FIRST_S, first_r, word_count};
 use crate::views::{Flickering, RuleOf, View};
 use atomic_table::{Seat, Table};
@@ -26,7 +25,6 @@ pub fn flicker_table<A: Allocator + Copy>(alloc: A, shape: Shape) -> NewTable<Fl
         (t.0.shared.table_id.slots ≡ 0) × (0 < count_of_words shape) × (t.1.table_id ≡ t.0.shared.table_id) ×
         (t.1.me ≡ (joint [] [] [] [], []))) }
 {
-    laws_below();
     let words = starting_words(alloc, shape)?;
     Table::of_words(alloc, words.as_slice(), &shape)
 }
@@ -38,7 +36,6 @@ pub fn counter_table<A: Allocator + Copy>(alloc: A, shape: Shape) -> NewTable<Co
         (t.0.shared.table_id.slots ≡ 0) × (0 < words_of shape) × (t.1.table_id ≡ t.0.shared.table_id) ×
         (t.1.me ≡ (joint [] [] [] [], []))) }
 {
-    laws_below();
     let words = starting_counts(alloc, shape)?;
     Table::of_words(alloc, words.as_slice(), &shape)
 }

@@ -7,7 +7,6 @@ ghost use Rattle.bits_core.specs.Shape.{belongs};
 ghost use Rattle.ring_seats.specs.Rule.{KeepsFlickerRule, KeptBy, Learned, Holds, IsWordFound, IsIdle, joint, joined, putter_of, taker_of};
 ghost use Rattle.ring_seats.specs.Words.{word_place};
 
-use crate::laws::laws_below;
 use crate::layout::place_of;
 use crate::views::{Both, Flickering, Halves, RuleOf, View, WordKind};
 use atomic_table::{Play, Seat, Shared};
@@ -121,7 +120,6 @@ impl<'a, K: WordKind> Words<'a, K> {
         requires idle { IsIdle P seat.old.me.0.put × IsIdle C seat.old.me.0.taken }
         ensures { (seat.new.table_id ≡ seat.old.table_id) × Learned self.now.shape seat.old.me seat.new.me }
     {
-        laws_below();
         let _ = self.shared.load::<Brand>(seat, 0);
     }
 
@@ -135,7 +133,6 @@ impl<'a, K: WordKind> Words<'a, K> {
             seat.new.me.0.known }
         ensures holds { Holds self.now.shape seat.new.me.0.known (joined seat.old.me.0 other.me.0) }
     {
-        laws_below();
         self.shared.join_seat::<Both>(seat, other);
         self.learn(seat);
     }

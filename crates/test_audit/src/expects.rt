@@ -6,7 +6,7 @@ use std::test::Fail;
 
 /// What is to be found: the items put, the items taken and whether the end was told, or the place of a fault and its kind.
 #[derive(Clone, Copy)]
-pub enum Expected<'a> {
+pub(crate) enum Expected<'a> {
     Lawful(&'a [u64], &'a [u64], bool),
     Fault(usize, Kind),
 }

@@ -8,7 +8,7 @@ use std::process::Abort;
 
 // What a side is to do: to end the access that it has open, or else to begin one of the bit, which
 // writes the value where the side is the bit's writer.
-pub type Choice = (Side, Bit, bool);
+pub(crate) type Choice = (Side, Bit, bool);
 
 // What a side is to do, the answer where that ends a read, and the access that it has open then.
 type Step = (Side, bool, Option<bool>, Option<Access>);

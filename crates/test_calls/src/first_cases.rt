@@ -2,7 +2,7 @@
 use queue_calls::{Capacity, Event, Fault};
 
 // A history of a queue of this capacity, and the place and fault of its last event, where it is refused.
-pub struct Case {
+pub(crate) struct Case {
     pub capacity: Capacity,
     pub events: &'static [Event<'static>],
     pub fault: Option<Fault>,

@@ -16,7 +16,7 @@ pub const WRAPPED: Wanted<'static> = (63, &[1, 0, 1], &[1, 0, 1], false, [0, 1, 
 const MANY: u64 = 1_000_000;
 
 // What is seen of a world: its events, items put, items taken; the last one taken; told; full, empty, flickers.
-pub type Seen = ([usize; 3], Option<u64>, bool, [u64; 3]);
+pub(crate) type Seen = ([usize; 3], Option<u64>, bool, [u64; 3]);
 
 pub fn seen<E: Store<Event>, T: Store<u64>>(world: &World<E, T>) -> Seen {
     (

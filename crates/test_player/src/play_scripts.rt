@@ -5,16 +5,16 @@ use std::alloc::{AllocError, AllocGlobal, Allocator, Global};
 use std::process::Abort;
 
 /// A shape: capacity, modulus, width, batch, take batch.
-pub type Numbers = [u64; 5];
+pub(crate) type Numbers = [u64; 5];
 
 /// What a script says beside its shape: items, takes, close, schedule, oracle.
-pub type Asked<'a> = (&'a str, u64, bool, &'a str, &'a str);
+pub(crate) type Asked<'a> = (&'a str, u64, bool, &'a str, &'a str);
 
 /// What a report says: events, items put, items taken, told, and how often full, empty and flicker.
-pub type Wanted<'a> = (usize, &'a [u64], &'a [u64], bool, [u64; 3]);
+pub(crate) type Wanted<'a> = (usize, &'a [u64], &'a [u64], bool, [u64; 3]);
 
 /// A name, a script and its report.
-pub type Case<'a> = (&'a str, Numbers, Asked<'a>, Wanted<'a>);
+pub(crate) type Case<'a> = (&'a str, Numbers, Asked<'a>, Wanted<'a>);
 
 /// One cell of one bit, and puts and takes of one item.
 pub const ONE: Numbers = [1, 3, 1, 1, 1];

@@ -31,7 +31,7 @@ pub const CALLS: &[&str] = &["lamport_ring", "play", "--calls"];
 /// What a run has answered: its status, whether the standard error took what it was to be told, and the texts that it has
 /// written.
 #[derive(Drop)]
-pub struct Ended {
+pub(crate) struct Ended {
     pub status: u8,
     pub is_told: bool,
     pub out: Vec<u8>,
@@ -143,7 +143,7 @@ pub fn expect_relay_text(
 }
 
 /// A relay that came to some numbers, with the time that it took, and the text of its report.
-pub struct Reported {
+pub(crate) struct Reported {
     pub put: u64,
     pub calls: u64,
     pub full: u64,

@@ -98,7 +98,7 @@ pub fn expect_failed_writes(
 }
 
 /// A command line, an input, the status of a run on them, and what the standard error is to be told.
-pub type Unheard = (&'static [&'static str], &'static str, u8, &'static str);
+pub(crate) type Unheard = (&'static [&'static str], &'static str, u8, &'static str);
 
 /// A standard error that fails after so many writes changes no status, has a front of what it was to be told, and is said to
 /// have been told just where that was all.
@@ -131,7 +131,7 @@ pub fn expect_unflushed(rt: &(impl Abort + AllocGlobal + Threads + Clock), row: 
 }
 
 /// A command line and an input, the status of a run on them, and how many growths it has at least.
-pub type Growing = (&'static [&'static str], &'static str, u8, u64);
+pub(crate) type Growing = (&'static [&'static str], &'static str, u8, u64);
 
 // A run without the growth that comes after so many: whether there was one to refuse.
 fn expect_growth(
@@ -208,7 +208,7 @@ pub fn expect_refused_or_right(
 }
 
 /// A command line, an input that is refused, and what the standard error is told.
-pub type Told = (&'static [&'static str], &'static str, &'static str);
+pub(crate) type Told = (&'static [&'static str], &'static str, &'static str);
 
 // A run without the growth that comes after so many: whether there was one to refuse. The standard error is told that
 // memory ran out, or why the input is refused.

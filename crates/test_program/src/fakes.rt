@@ -4,7 +4,7 @@ use std::io::{ErrorKind, Read, Write};
 
 /// Gives one byte a read, and fails at the read that comes after so many.
 #[derive(Drop)]
-pub struct HaltingReader<'a> {
+pub(crate) struct HaltingReader<'a> {
     pub bytes: &'a [u8],
     pub reads_before: u64,
     pub kind: ErrorKind,
@@ -29,7 +29,7 @@ impl Read for HaltingReader<'_> {
 
 /// Takes one byte a write, and fails at the write that comes after so many, or at each flush.
 #[derive(Drop)]
-pub struct HaltingWriter {
+pub(crate) struct HaltingWriter {
     pub taken: usize,
     pub writes_before: u64,
     pub flushes: bool,

@@ -7,7 +7,7 @@ use ring_steps::{Step, next_event};
 use std::process::Abort;
 
 /// A machine of one side: the access that is due, and its answer.
-pub trait Machine {
+pub(crate) trait Machine {
     fn due(&self) -> Option<Access>;
 
     fn answered(&mut self, answer: bool);
@@ -64,7 +64,7 @@ impl Machine for UnaryScan {
 
 /// A writer of a side's count, with the modulus that its values stay below.
 #[derive(Drop)]
-pub struct Count {
+pub(crate) struct Count {
     writer: UnaryWriter,
     modulus: u64,
     ghost of_modulus: { writer.modulus ≡ modulus },

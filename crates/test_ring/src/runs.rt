@@ -9,7 +9,7 @@ use std::process::Abort;
 
 // Both machines of a ring, and what is still to be put and taken.
 #[derive(Drop)]
-pub struct Ring<'a> {
+pub(crate) struct Ring<'a> {
     pub shape: Shape,
     pub producer: Producer,
     pub consumer: Consumer,
@@ -165,7 +165,7 @@ impl<'a> Ring<'a> {
 // What a run ends with: how many events, items stored and taken, calls answered full and empty, whether the
 // consumer was told that the ring is closed, and how many reads were overlapped.
 #[derive(Clone, Copy, PartialEq, Eq, Debug)]
-pub struct Report {
+pub(crate) struct Report {
     pub events: usize,
     pub stored: usize,
     pub taken: usize,

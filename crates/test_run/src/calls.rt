@@ -12,7 +12,7 @@ use std::process::Abort;
 
 // A call, and how it is answered.
 #[derive(Clone, Copy)]
-pub enum Call {
+pub(crate) enum Call {
     Put(u64, PutReply),
     PutAll(&'static [u64], BatchReply),
     Close,

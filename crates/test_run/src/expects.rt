@@ -20,7 +20,7 @@ pub const ITEMS: [u64; 64] = [
 ];
 
 /// A shape: capacity, modulus, width, batch.
-pub type Numbers = [u64; 4];
+pub(crate) type Numbers = [u64; 4];
 
 /// One cell of one bit.
 pub const ONE: Numbers = [1, 3, 1, 1];
@@ -54,7 +54,7 @@ pub fn shape_of(rt: &impl Abort, numbers: &Numbers) -> Shape {
 
 /// A ring of either kind.
 #[derive(Clone, Copy)]
-pub enum Kind {
+pub(crate) enum Kind {
     Flicker,
     Counter,
 }

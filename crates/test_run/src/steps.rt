@@ -25,7 +25,7 @@ enum Duty {
 
 /// Puts the items in order, each again while the ring is full, and closes behind the last where it is to.
 #[derive(Drop)]
-pub struct Producing<'a> {
+pub(crate) struct Producing<'a> {
     putter: Putter<'a, Tape<'a>>,
     shape: Shape,
     // not stored yet
@@ -128,7 +128,7 @@ impl<'a> Producing<'a> {
 
 /// Takes until it has so many items, or was told that the ring is closed.
 #[derive(Drop)]
-pub struct Consuming<'a> {
+pub(crate) struct Consuming<'a> {
     taker: Taker<'a, Tape<'a>>,
     // the items that are wanted
     wanted: &'a [u64],
@@ -161,7 +161,7 @@ impl<'a> Consuming<'a> {
 }
 
 /// What two ends are to do: the items to put, whether to close behind them, how many items to take, and the oracle of each.
-pub type Script<'a> = (&'a [u64], bool, usize, &'a [bool]);
+pub(crate) type Script<'a> = (&'a [u64], bool, usize, &'a [bool]);
 
 /// The two ends of the ring, at the beginning of the script. These items are to be taken.
 pub fn begin<'a>(

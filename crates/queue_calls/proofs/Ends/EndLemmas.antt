@@ -5,11 +5,11 @@ use Rattle.std.proofs.Math.Seq.{take-length}
 use Rattle.std.proofs.lemmas.Option.{none-some, same_Some}
 use Rattle.queue_calls.specs.Queue.{Capacity, LacksRoom}
 use Rattle.queue_calls.specs.Calls.{Event, PutStored, PutFull, PutShort, PutNothing, TakeItems, TakeEmpty, TakeShort, TakeNothing, short_of}
-use Rattle.queue_calls.specs.declared.turns.PutTurn.TheVariants.{Free, Offers, Late}
+use Rattle.queue_calls.specs.declared.turns.PutTurn.TheVariants.{Offers, Late}
 use Rattle.queue_calls.specs.declared.turns.TakeTurn.TheVariants.{Waits}
 use Rattle.queue_calls.specs.InTurn.{NoCall, APut, ATake, Sides, sides, MovesSides}
 use Rattle.queue_calls.specs.State.{MayLack, AreNext, CanEndPut, CanEndTake, offered_by, asked_by, call_of_put, call_of_take, sides_of}
-use Rattle.queue_calls.specs.Counting.{Kept, kept, Counts, EndsPut, EndsTake}
+use Rattle.queue_calls.specs.Counting.{Kept, Counts, EndsPut, EndsTake}
 use Rattle.queue_calls.specs.Insides.{Moves}
 use Rattle.queue_calls.specs.Noting.{items_got}
 use Rattle.queue_calls.specs.Deciding.{passed, outcome_of, EndsAPut, EndsATake}
@@ -93,20 +93,6 @@ module _ (capacity : Capacity) (k : Kept) where
       inl (offered, before, is, subst E (omega (arith, none)) fits)
   put_counts _ offered before x after ends is says lacks fits = absurd ends
 
-  pub late_counts : (e : Event) (offered : ℕ) → EndsAPut e → k.put ≡ Late offered → outcome_of e offered ≡ Some (0, 0) → Counts capacity k e (kept k.inside Free k.take k.shut)
-  late_counts (PutStored count why) offered ends is says =
-      let (some, few, same) = passes why count offered (0, 0) says in
-      let none : count ≡ 0 = ap (λ z. z.0) same in
-      absurd (omega (arith, some, none))
-  late_counts PutFull offered ends is says = let same : (0, 1) ≡ (0, 0) = same_Some (0, 1) (0, 0) says in let one : 1 ≡ 0 = ap (λ z. z.1) same in absurd (omega (arith, one))
-  late_counts PutShort offered ends is says =
-      let (several, same) = if_some (nat_lt 1 offered) (0, offered) (0, 0) says in
-      let more : 1 < offered = ltb-true 1 offered several in
-      let none : offered ≡ 0 = ap (λ z. z.1) same in
-      absurd (omega (arith, more, none))
-  late_counts PutNothing offered ends is says = inr (offered, is, refl)
-  late_counts _ offered ends is says = absurd ends
-
   -- what is so of a put that can be counted
   abbrev PutWas : Event → Type 0
   PutWas e =
@@ -188,16 +174,6 @@ module _ (capacity : Capacity) (k : Kept) where
   put_turn PutShort t ends (offered, is, several, m) = (offered, (0, offered), is, if_true (nat_lt 1 offered) (0, offered) (lt-ltb 1 offered several))
   put_turn PutNothing t ends (offered, is, m) = (offered, (0, 0), is, refl)
   put_turn _ t ends m = absurd ends
-
-  pub put_away : (e : Event) (offered : ℕ) (t : Sides) → EndsAPut e → call_of_put k.put ≡ APut offered → outcome_of e offered ≡ None → ¬ (MovesSides (sides_of k.put k.take) e t)
-  put_away e offered t ends is says m =
-      let (offered', x, is', says') = put_turn e t ends m in
-      let call : APut offered' ≡ APut offered = sym is' ∙ is in
-      let same : offered' ≡ offered = cc in
-      none-some x (sym says ∙ (ap (λ n. outcome_of e n) (sym same) ∙ says'))
-
-  pub no_put_away : (e : Event) (t : Sides) → EndsAPut e → ((n : ℕ) → call_of_put k.put ≡ APut n → ⊥) → ¬ (MovesSides (sides_of k.put k.take) e t)
-  no_put_away e t ends none m = let (offered, x, is, says) = put_turn e t ends m in none offered is
 
   -- ---- takes
 
@@ -302,13 +278,3 @@ module _ (capacity : Capacity) (k : Kept) where
   take_turn TakeShort t ends (wanted, is, several, m) = (wanted, (0, wanted), is, if_true (nat_lt 1 wanted) (0, wanted) (lt-ltb 1 wanted several))
   take_turn TakeNothing t ends (wanted, is, m) = (wanted, (0, 0), is, refl)
   take_turn _ t ends m = absurd ends
-
-  pub take_away : (e : Event) (wanted : ℕ) (t : Sides) → EndsATake e → call_of_take k.take ≡ ATake wanted → outcome_of e wanted ≡ None → ¬ (MovesSides (sides_of k.put k.take) e t)
-  take_away e wanted t ends is says m =
-      let (wanted', x, is', says') = take_turn e t ends m in
-      let call : ATake wanted' ≡ ATake wanted = sym is' ∙ is in
-      let same : wanted' ≡ wanted = cc in
-      none-some x (sym says ∙ (ap (λ n. outcome_of e n) (sym same) ∙ says'))
-
-  pub no_take_away : (e : Event) (t : Sides) → EndsATake e → ((n : ℕ) → call_of_take k.take ≡ ATake n → ⊥) → ¬ (MovesSides (sides_of k.put k.take) e t)
-  no_take_away e t ends none m = let (wanted, x, is, says) = take_turn e t ends m in none wanted is

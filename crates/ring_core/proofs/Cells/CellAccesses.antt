@@ -14,7 +14,7 @@ use Rattle.bits_core.specs.declared.shapes.Shape.{Shape}
 use Rattle.bits_core.specs.Shape.{capacity_of, width_of}
 use Rattle.bits_core.specs.Bits.{is_by}
 use Rattle.bits_core.specs.Intervals.{IsAccess, Overlap, first_place}
-use Rattle.bits_core.specs.Laws.{SubhistoryHasPlace}
+use Rattle.bits_core.proofs.Statements.{SubhistoryHasPlace}
 use Rattle.bits_core.specs.Made.{Made, Read, Write, access_of, subhistory, place_of, IsPlaceOf, IsMadeAt}
 use Rattle.register_core.specs.Row.{RowWrite, row_bit, writes_in}
 use Rattle.register_core.specs.Word.{digit, digit_reads, digit_writes, word_read, word_write}
@@ -119,9 +119,6 @@ in_cell_read k item (suc n) m j at = elim (at_parts (digit_reads k item n) (Read
   | inl (l, before) ↦ in_cell_read k item n m j before
   | inr (i, e, last) ↦ in_one_read k n (digit n item) i j last
 ]
-
-at_within : (made : List Made) (m j : ℕ) → AtCell made m j → m < length made
-at_within made m j (x, e, f) = slice_get_within made m x e
 
 length-word : (shape : Shape) (n item : ℕ) → length (word_write (width_of shape) (n % capacity_of shape) item) ≡ width_of shape
 length-word shape n item =

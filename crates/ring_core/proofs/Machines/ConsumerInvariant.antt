@@ -1,9 +1,6 @@
 -- What holds at each stage of the consumer's machine holds after an access.
-use Rattle.std.proofs.Common.{◌≡◌, ◌≢◌, ℕ, ◌+◌, ◌%◌, ◌<◌, ◌≤◌, Bool, true, false, Option, Some, None, List, [], ◌∷◌, ◌++◌, length, length-append, if◌then◌else◌, nat_lt, refl, sym, ap, subst, ◌∙◌, arith}
-use Rattle.std.proofs.Math.Nat.{mod-eq_of_lt}
-use Rattle.std.proofs.lemmas.Bool.Decides.{nat_tests}
+use Rattle.std.proofs.Common.{◌≡◌, ◌≢◌, ℕ, ◌+◌, ◌%◌, ◌<◌, ◌≤◌, Bool, true, false, Option, Some, None, List, [], ◌∷◌, ◌++◌, length, length-append, refl, sym, ap, subst, ◌∙◌, arith}
 use Rattle.bits_core.specs.declared.events.Side.TheVariants.{C}
-use Rattle.bits_core.specs.declared.events.Access.TheVariants.{Read}
 use Rattle.bits_core.specs.declared.events.Access.TheVariants as begins
 use Rattle.bits_core.specs.declared.events.Bit.TheVariants.{R}
 use Rattle.bits_core.specs.Shape.{capacity_of, modulus_of, width_of}
@@ -59,47 +56,6 @@ pub rescan_keeps :
     (p : ConsumerState) (s : ScanState) (answer : Bool) → IsConsumer p → p.stage ≡ Rescanning → (LastBitIsDue p.shape C (due_take p) → answer ≡ true) →
     s ≡ scan_read p.scan answer → s.found ≡ false → IsConsumer (record p { scan = s })
 rescan_keeps p s answer is e = still_scans p Rescanning s answer is e refl (at_stage p Rescanning is e) (λ at. at)
-
--- a reader without a value has digits to read
-pub no_item : (r : ReaderState) (value : Option ℕ) → value ≡ (if nat_lt r.read r.width then None else Some r.value) → value ≡ None → r.read < r.width
-no_item r value is none = by_test (nat_lt r.read r.width) refl
-  where
-    by_test : (b : Bool) → nat_lt r.read r.width ≡ b → r.read < r.width
-    by_test true e = grind (arith, nat_tests)
-    by_test false e = absurd (let clash : None ≡ Some r.value = sym none ∙ is ∙ ap (λ b. if b then None else Some r.value) e in cc)
-
--- a scan that showed items: the first word begins
-found_keeps :
-    (p : ConsumerState) (s : ScanState) (w : ReaderState) (most : ℕ) → IsConsumer p → AtScan p → 1 ≤ most → most ≤ p.wanted →
-    w ≡ record { width = width_of p.shape; cell = p.cell; read = 0; value = 0 } → IsConsumer (record p { stage = Loading; scan = s; word = w; most = most })
-found_keeps p s w most is (counted, taking, fresh, scans) some few w_is =
-    let none : length p.items ≡ 0 = ap length fresh in
-    let here : p.cell + length p.items ≡ p.cell = omega (arith, none) in
-    let same : p.cell ≡ (p.cell + length p.items) % capacity_of p.shape = sym (ap (λ k. k % capacity_of p.shape) here ∙ mod-eq_of_lt is.cell_below) in
-    record {
-      count_below = is.count_below;
-      cell_below = is.cell_below;
-      row_side = is.row_side;
-      row_modulus = is.row_modulus;
-      at = (
-        counted,
-        same_taking p Loading s w p.row p.items most taking,
-        record { width_is = ap (λ (x : ReaderState). x.width) w_is; cell_is = ap (λ (x : ReaderState). x.cell) w_is ∙ same },
-        omega (arith, none, some),
-        few,
-        omega (arith, ap (λ (x : ReaderState). x.read) w_is, ap (λ (x : ReaderState). x.width) w_is, p.shape.has_digits),
-      );
-    }
-
-pub scan_finds :
-    (p : ConsumerState) (s : ScanState) (w : ReaderState) (most : ℕ) → IsConsumer p → p.stage ≡ Scanning → 1 ≤ most → most ≤ p.wanted →
-    w ≡ record { width = width_of p.shape; cell = p.cell; read = 0; value = 0 } → IsConsumer (record p { stage = Loading; scan = s; word = w; most = most })
-scan_finds p s w most is e = found_keeps p s w most is (at_stage p Scanning is e)
-
-pub rescan_finds :
-    (p : ConsumerState) (s : ScanState) (w : ReaderState) (most : ℕ) → IsConsumer p → p.stage ≡ Rescanning → 1 ≤ most → most ≤ p.wanted →
-    w ≡ record { width = width_of p.shape; cell = p.cell; read = 0; value = 0 } → IsConsumer (record p { stage = Loading; scan = s; word = w; most = most })
-rescan_finds p s w most is e = found_keeps p s w most is (at_stage p Rescanning is e)
 
 -- a word read that goes on
 pub word_stays :

@@ -1,22 +1,21 @@
 -- The machines that both sides are made of: what holds of them while they are at work, and once they are done.
 use Rattle.std.proofs.Common.{◌≡◌, inl, inr, ℕ, zero, suc, ◌+◌, ◌%◌, ◌<◌, ◌≤◌, Bool, true, false, cond, not, is_some, Option, Some, None, List, [], ◌∷◌, ◌++◌, length, if◌then◌else◌, refl, sym, ap, subst, ◌∙◌, arith, append_assoc}
 use Rattle.std.proofs.Math.Nat.{mod-eq_of_lt}
-use Rattle.std.proofs.lemmas.List.{map-append}
 use Rattle.bits_core.specs.declared.events.Side.{Side}
 use Rattle.bits_core.specs.declared.events.Bit.{Bit}
 use Rattle.bits_core.specs.declared.events.Access.{Access}
 use Rattle.bits_core.specs.declared.events.Access.TheVariants.{Read}
 use Rattle.bits_core.specs.declared.shapes.Shape.{Shape}
 use Rattle.bits_core.specs.Shape.{modulus_of}
-use Rattle.bits_core.specs.Made.{Made, Write, answered}
-use Rattle.register_core.specs.Row.{RowWrite, row_bit, writes_in}
+use Rattle.bits_core.specs.Made.{Made, answered}
+use Rattle.register_core.specs.Row.{RowWrite, row_bit}
 use Rattle.register_core.specs.ScanState.{ScanState, ScanStands, IsScanOf, IsValueRead, scan_read, due_scan, row_read_by}
 use Rattle.register_core.specs.Machine.{IsNext}
-use Rattle.register_core.specs.Unary.{setting, clearing, unary_phrase, count_writes, writes_of}
+use Rattle.register_core.specs.Unary.{setting, clearing, unary_phrase, count_writes}
 use Rattle.register_core.specs.UnaryState.{UnaryState, bit_in, due_writes, due_unary, first_access, UnaryStands}
 use Rattle.ring_core.specs.Calls.{LastBitIsDue, IsScanning, IsCounted, IsBeingCounted, IsBeingCountedOn}
-use Rattle.ring_core.specs.Counts.{bits_held, counted, count_phrase, number_past, Count, IsCount}
-use Rattle.ring_core.proofs.CountRow.{next_modulo, counted_writes, past_is, bits_long}
+use Rattle.ring_core.specs.Counts.{number_past, Count, IsCount}
+use Rattle.ring_core.proofs.CountRow.{next_modulo, past_is, bits_long}
 use Rattle.ring_core.proofs.Readings.Phrases.{at_or_below}
 
 -- ---- the scan
@@ -156,16 +155,6 @@ pub row_whole :
     (values : List ℕ) (made : List Made) → UnaryStands new values made → made ≡ count_writes side values
 row_whole side row new due is same none next values made stands =
     subst (λ d. IsNext (count_writes new.side values) made d) none (next values made stands) ∙ ap (λ s. count_writes s values) (same ∙ is)
-
--- the number after a count, as the machines count it
-pub next_count : (n m modulus : ℕ) → m ≡ modulus → (n + 1) % m ≡ suc n % modulus
-next_count n m modulus e = let up : n + 1 ≡ suc n = omega arith in ap (λ k. k % m) up ∙ ap (λ k. suc n % k) e
-
--- the writes of one count more
-pub count_writes-push : (shape : Shape) (s : Side) (n : ℕ) → count_writes s (counted shape (suc n)) ≡ count_writes s (counted shape n) ++ count_phrase shape s n
-count_writes-push shape s n =
-    ap (writes_in (row_bit s)) (counted_writes shape n) ∙
-    map-append (λ (w : RowWrite). Write (row_bit s w.bit) w.value) (writes_of (counted shape n)) (unary_phrase (bits_held shape n) (suc n % modulus_of shape))
 
 -- ---- an access more
 

@@ -1,5 +1,5 @@
 -- What holds at each stage of the producer's machine holds after an access.
-use Rattle.std.proofs.Common.{◌≡◌, ℕ, suc, ◌+◌, ◌%◌, ◌<◌, ◌≤◌, Bool, true, false, Option, Some, None, List, length, take, refl, sym, ap, subst, ◌∙◌, arith}
+use Rattle.std.proofs.Common.{◌≡◌, ℕ, suc, ◌+◌, ◌%◌, ◌<◌, Bool, true, false, Option, Some, None, List, length, take, refl, sym, ap, subst, ◌∙◌, arith}
 use Rattle.std.specs.Prelude.{slice_get}
 use Rattle.bits_core.specs.declared.events.Side.TheVariants.{P}
 use Rattle.bits_core.specs.declared.events.Access.{Access}
@@ -45,25 +45,6 @@ scan_keeps p s answer is e one fed open_still =
       row_modulus = is.row_modulus;
       at = subst (λ st. ProducerIsAt st (record p { stage = st; scan = s })) (sym e)
           (counted, same_putting p Scanning s p.word p.row p.most putting refl refl refl, fresh, start, scanning p.shape P p.scan s answer scans one' fed open_still);
-    }
-
--- a scan that gave a count which leaves room
-pub room_keeps :
-    (p : ProducerState) (s : ScanState) (most : ℕ) → IsProducer p → p.stage ≡ Scanning → 1 ≤ most → most ≤ length p.items →
-    IsProducer (record p { stage = Storing; scan = s; most = most })
-room_keeps p s most is e some few =
-    let (counted, putting, fresh, start, scans) = at_stage p Scanning is e in
-    record {
-      count_below = is.count_below;
-      cell_below = is.cell_below;
-      row_side = is.row_side;
-      row_modulus = is.row_modulus;
-      at = (
-        counted,
-        same_putting p Storing s p.word p.row most putting refl refl refl,
-        (omega (arith, start, some), few),
-        omega (arith, fresh, putting.writes.width_is, p.shape.has_digits),
-      );
     }
 
 -- a word write that goes on

@@ -13,7 +13,7 @@ use Rattle.ring_core.specs.declared.replies.TakeReply.{TakeReply}
 use Rattle.ring_core.specs.Counts.{number_past, Count, first_count, count_bits, batch_phrase, IsCount}
 use Rattle.ring_core.specs.Takes.{Take, Takes, Item, ItemAfterClose, Empty, Open, Closed, count_after, taken_count, words_read, items_phrase, take_phrase, take_phrases, end_phrase, take_program, IsTake, SeesNone, IsTakeBatch, AreTakes}
 use Rattle.ring_core.specs.Items.{taken_of}
-use Rattle.ring_core.specs.OneWordMore.{WordsGoOn}
+use Rattle.ring_core.proofs.Machines.OneWordMore.{WordsGoOn}
 use Rattle.ring_core.specs.ConsumerCalls.{Finding, Once, Twice, finding_phrase, Finds, IsTakeOf, count_taken, take_values, values_taken, and_take, items_reply, take_reply_to, last_take_reply, last_items, reply_at_end, take_batch_reply, IsReplyToTake, AreItemsOfTake, IsBatchReplyToTake}
 use Rattle.ring_core.proofs.CountRow.{bits_after-append, row_writes-push, first_is_count, counted_is_count}
 

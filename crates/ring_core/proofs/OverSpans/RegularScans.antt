@@ -9,7 +9,7 @@ use Rattle.bits_core.specs.declared.shapes.Shape.{Shape}
 use Rattle.bits_core.specs.Shape.{batch_of, modulus_of, take_batch_of}
 use Rattle.bits_core.specs.Bits.{other}
 use Rattle.bits_core.specs.Lawful.{IsLawful}
-use Rattle.bits_core.specs.Laws.{SubhistoryHasPlace}
+use Rattle.bits_core.proofs.Statements.{SubhistoryHasPlace}
 use Rattle.bits_core.specs.Made.{Made, subhistory, clock, place_of, events_of, IsPrefix}
 use Rattle.register_core.specs.UnaryLaw.{count_write, count_begun, count_ended, WritesUnary, ended_before, begun_before, IsScan, IsRegularValue, UnaryIsRegular}
 use Rattle.register_core.specs.MadeReads.{begin_place, end_place, ScansAreMade}

@@ -5,6 +5,7 @@ use Rattle.bits_core.specs.Memory.{MemoryState}
 use Rattle.ring_script.specs.Borrowed.{content_of}
 use Rattle.near_misses.specs.NearPlays.{asked_by_script}
 use Rattle.near_misses.proofs.NearLemmas.{has_at_first, near_play, ready_at_first}
+use Rattle.ring_player.proofs.LawLemmas.{turns_are_by_interval}
 use Rattle.near_misses.proofs.plays.play_near_first.Goals as goal
 
 pub run_first-requires-clause-ready : goal.run_first-requires-clause-ready
@@ -15,7 +16,7 @@ returns-clause-plays g c =
     let script = content_of c.args.script in
     let asked = asked_by_script script in
     let letters : List Side = take c.args.letters script.letters in
-    near_play g.T.Store.items g.I.Store.items c.run_first.new.world script letters _ c.turns_are_by_interval.ensures (c.run_first.ensures.shape ∙ ap (λ (m : MemoryState). m.shape) c.over.ensures ∙ c.shape-shape.ensures)
+    near_play g.T.Store.items g.I.Store.items c.run_first.new.world script letters _ turns_are_by_interval (c.run_first.ensures.shape ∙ ap (λ (m : MemoryState). m.shape) c.over.ensures ∙ c.shape-shape.ensures)
     c.into_events.ensures.events c.into_events.ensures.lawful
     (c.in_ok-run_first.ensures.has asked script.oracle
     (has_at_first g.T.Store.items g.I.Store.items _ c.shape-shape.result (g.E.Store.room c.args.events) asked script.oracle c.over.ensures c.requires.none_told c.requires.none_taken c.new.ensures.starts c.new-2.ensures.starts

@@ -1,5 +1,5 @@
-use Rattle.register_core.proofs.Items.{same_item}
+use Rattle.register_core.proofs.LawLemmas.{digits_tell_items as the_law}
 use Rattle.register_core.proofs.laws.digits_tell_items.Goals as goal
 
 pub returns : goal.returns
-returns c = same_item
+returns c = the_law

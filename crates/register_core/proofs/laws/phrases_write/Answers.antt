@@ -1,14 +1,14 @@
-use Rattle.register_core.proofs.MadeWrites.{words-write, counts-write, bits-write, parts-write}
+use Rattle.register_core.proofs.LawLemmas as law
 use Rattle.register_core.proofs.laws.phrases_write.Goals as goal
 
 pub returns-clause-words : goal.returns-clause-words
-returns-clause-words c = words-write
+returns-clause-words c = law.phrases_write_words
 
 pub returns-clause-counts : goal.returns-clause-counts
-returns-clause-counts c = counts-write
+returns-clause-counts c = law.phrases_write_counts
 
 pub returns-clause-bits : goal.returns-clause-bits
-returns-clause-bits c = bits-write
+returns-clause-bits c = law.phrases_write_bits
 
 pub returns-clause-parts : goal.returns-clause-parts
-returns-clause-parts c = parts-write
+returns-clause-parts c = law.phrases_write_parts

@@ -3,6 +3,7 @@ use Rattle.ring_audit.specs.Audit.{statement_in}
 use Rattle.ring_audit.proofs.Breaks.{exact_finding}
 use Rattle.ring_audit.proofs.Rooms.{in_slots}
 use Rattle.ring_audit.proofs.Sentences.{says_sentence}
+use Rattle.ring_core.proofs.LawLemmas.{closed_stays, ring_law}
 use Rattle.ring_audit.proofs.audits.find_filled.Goals as goal
 
 pub returns-clause-exact : goal.returns-clause-exact
@@ -18,20 +19,5 @@ returns-clause-sentence c =
     let put = c.find_in.new.put in
     let taken = c.find_in.new.taken in
     let found = c.in_ok-found.found in
-    let law = c.ring_law.ensures in
-    let holds : InEveryRun RingLaw = λ shape h puts takes run. record {
-      within = law.within shape h puts takes run;
-      put_range = law.put_range shape h puts takes run;
-      take_range = law.take_range shape h puts takes run;
-      words = law.words shape h puts takes run;
-      cells = law.cells shape h puts takes run;
-      prefix = law.prefix shape h puts takes run;
-      items = law.items shape h puts takes run;
-      empty = law.empty shape h puts takes run;
-      full = law.full shape h puts takes run;
-      fill = law.fill shape h puts takes run;
-      drain = law.drain shape h puts takes run;
-      closed = law.closed shape h puts takes run;
-    } in
-    says_sentence holds c.closed_stays.ensures c.args.shape.now c.args.events.now (statement_in put.slots.now taken.slots.now found)
+    says_sentence ring_law closed_stays c.args.shape.now c.args.events.now (statement_in put.slots.now taken.slots.now found)
     (in_slots c.args.shape.now c.args.events.now put.slots.now taken.slots.now put.used taken.used found put.within taken.within c.in_ok-found.ensures.within c.in_ok-found.ensures.found)

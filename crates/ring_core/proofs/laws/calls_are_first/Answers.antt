@@ -1,9 +1,8 @@
-use Rattle.ring_core.proofs.Readings.ItemsRead.{puts-are_first}
-use Rattle.ring_core.proofs.Readings.TakenRead.{takes-are_first}
+use Rattle.ring_core.proofs.LawLemmas as law
 use Rattle.ring_core.proofs.laws.calls_are_first.Goals as goal
 
 pub returns-clause-puts : goal.returns-clause-puts
-returns-clause-puts c = puts-are_first c.digits_tell_items.ensures
+returns-clause-puts c = law.calls_are_first_puts
 
 pub returns-clause-takes : goal.returns-clause-takes
-returns-clause-takes c = takes-are_first c.digits_tell_items.ensures
+returns-clause-takes c = law.calls_are_first_takes

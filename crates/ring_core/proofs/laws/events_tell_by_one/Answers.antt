@@ -1,8 +1,8 @@
-use Rattle.ring_core.proofs.Recorded.RecordedByOne.{puts-tell, takes-tell}
+use Rattle.ring_core.proofs.LawLemmas as law
 use Rattle.ring_core.proofs.laws.events_tell_by_one.Goals as goal
 
 pub returns-clause-puts : goal.returns-clause-puts
-returns-clause-puts c = puts-tell
+returns-clause-puts c = law.events_tell_by_one_puts
 
 pub returns-clause-takes : goal.returns-clause-takes
-returns-clause-takes c = takes-tell
+returns-clause-takes c = law.events_tell_by_one_takes

@@ -1,5 +1,5 @@
-use Rattle.ring_core.proofs.Readings.ItemsRead.{items-are_read}
+use Rattle.ring_core.proofs.LawLemmas.{items_put_are_read as the_law}
 use Rattle.ring_core.proofs.laws.items_put_are_read.Goals as goal
 
 pub returns : goal.returns
-returns c = items-are_read c.digits_tell_items.ensures
+returns c = the_law

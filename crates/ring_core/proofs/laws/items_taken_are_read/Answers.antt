@@ -1,5 +1,5 @@
-use Rattle.ring_core.proofs.Readings.TakenRead.{taken-are_read}
+use Rattle.ring_core.proofs.LawLemmas.{items_taken_are_read as the_law}
 use Rattle.ring_core.proofs.laws.items_taken_are_read.Goals as goal
 
 pub returns : goal.returns
-returns c = taken-are_read c.digits_tell_items.ensures
+returns c = the_law

@@ -1,9 +1,8 @@
-use Rattle.ring_core.proofs.Machines.PutParts.{last-puts_read_one}
-use Rattle.ring_core.proofs.LastBits.{last-takes_read_one}
+use Rattle.ring_core.proofs.LawLemmas as law
 use Rattle.ring_core.proofs.laws.last_reads_are_one.Goals as goal
 
 pub returns-clause-puts : goal.returns-clause-puts
-returns-clause-puts c = last-puts_read_one
+returns-clause-puts c = law.last_reads_are_one_puts
 
 pub returns-clause-takes : goal.returns-clause-takes
-returns-clause-takes c = last-takes_read_one
+returns-clause-takes c = law.last_reads_are_one_takes

@@ -1,5 +1,5 @@
-use Rattle.ring_core.proofs.Machines.TakeParts.{takes-go_on}
+use Rattle.ring_core.proofs.LawLemmas.{takes_go_on as the_law}
 use Rattle.ring_core.proofs.laws.takes_go_on.Goals as goal
 
 pub returns : goal.returns
-returns c = takes-go_on c.digits_tell_items.ensures
+returns c = the_law

@@ -1,5 +1,5 @@
-use Rattle.ring_core.proofs.Machines.TakeParts.{takes-go_on_alike}
+use Rattle.ring_core.proofs.LawLemmas.{takes_go_on_alike as the_law}
 use Rattle.ring_core.proofs.laws.takes_go_on_alike.Goals as goal
 
 pub returns : goal.returns
-returns c = takes-go_on_alike
+returns c = the_law

@@ -15,6 +15,8 @@ use Rattle.ring_player.specs.Plays.{IsProgram}
 use Rattle.ring_script.specs.Content.{Content}
 use Rattle.ring_player.proofs.Steps.{accesses_few, after_end, answers_one, end_move, playing_on, reading, there_with}
 use Rattle.ring_player.proofs.Turns.{turn_read}
+use Rattle.bits_core.proofs.LawLemmas.{open_changes, subhistory_changes}
+use Rattle.ring_core.proofs.LawLemmas.{last_bit_is_one_puts, last_bit_is_one_takes}
 use Rattle.ring_player.proofs.actors.end_read.Goals as goal
 
 pub end-requires-clause-one : goal.end-requires-clause-one
@@ -28,7 +30,7 @@ end-requires-clause-one g c last =
     let side_is : g.A.Actor.side a ≡ s = c.reserve.ensures.side ∙ c.requires.side in
     let ok = c.in_ok-answer.ensures.ok in
     let shape_is = ap (λ (m : MemoryState). m.shape) ok ∙ c.requires.shape ∙ ap (λ (t : Content). t.shape) (sym c.reserve.ensures.script) in
-    answers_one c.last_bit_is_one.ensures.puts c.last_bit_is_one.ensures.takes c.subhistory_changes.ensures script s h c.end_read.new.self.events (g.A.Actor.due a) (g.A.Actor.stands a)
+    answers_one last_bit_is_one_puts last_bit_is_one_takes subhistory_changes script s h c.end_read.new.self.events (g.A.Actor.due a) (g.A.Actor.stands a)
     (bit_of (open_access s h)) c.in_ok-answer.answer p (reading (open_access s h) c.requires.open) (ap (λ (m : MemoryState). m.events) ok)
     (subst (λ t. IsLawful t c.end_read.new.self.events) shape_is c.events.ensures.lawful)
     (subst (λ (t : Content). IsProgram t (other s) (subhistory (other s) h)) (sym c.reserve.ensures.script) c.requires.other)
@@ -47,7 +49,7 @@ returns-clause-playing g c =
     let o = reading (open_access s h) c.requires.open in
     let v = c.in_ok-answer.answer in
     let e : Event = record { side = s; bit = b; act = ReadEnd v } in
-    after_end c.open_changes.ensures c.subhistory_changes.ensures s h c.end_read.new.self.events (g.A.Actor.due a) (g.A.Actor.due c.end.new.self) (g.A.Actor.stands a) (g.A.Actor.stands c.end.new.self)
+    after_end open_changes subhistory_changes s h c.end_read.new.self.events (g.A.Actor.due a) (g.A.Actor.due c.end.new.self) (g.A.Actor.stands a) (g.A.Actor.stands c.end.new.self)
     (access.Read b) v e p o (ap (λ (m : MemoryState). m.events) c.in_ok-answer.ensures.ok) refl refl refl
     (c.end.ensures.stands p.list (access.Read b) (p.is_due (access.Read b) o) (there_with s h (g.A.Actor.due a) (g.A.Actor.stands a) (Some (access.Read b)) p o))
 

@@ -8,6 +8,7 @@ use Rattle.bits_core.specs.Open.{bit_of}
 use Rattle.ring_player.specs.Actors.{IsPlaying}
 use Rattle.ring_player.proofs.Steps.{accesses_few, after_end, end_move, playing_on, there_with, writing}
 use Rattle.ring_player.proofs.Turns.{turn_quiet}
+use Rattle.bits_core.proofs.LawLemmas.{open_changes, subhistory_changes}
 use Rattle.ring_player.proofs.actors.end_write.Goals as goal
 
 pub returns-clause-playing : goal.returns-clause-playing
@@ -20,7 +21,7 @@ returns-clause-playing g c =
     playing_on s h _ (g.A.Actor.due a) (g.A.Actor.stands c.args.actor.now) (g.A.Actor.stands a) c.requires.playing c.reserve.ensures.due c.reserve.ensures.stands in
     let (v, o) = writing (open_access s h) c.requires.open in
     let e : Event = record { side = s; bit = b; act = WriteEnd } in
-    after_end c.open_changes.ensures c.subhistory_changes.ensures s h c.end_write.new.self.events (g.A.Actor.due a) (g.A.Actor.due c.end.new.self) (g.A.Actor.stands a) (g.A.Actor.stands c.end.new.self)
+    after_end open_changes subhistory_changes s h c.end_write.new.self.events (g.A.Actor.due a) (g.A.Actor.due c.end.new.self) (g.A.Actor.stands a) (g.A.Actor.stands c.end.new.self)
     (access.Write b v) true e p o (ap (λ (m : MemoryState). m.events) c.in_ok-end_write.ensures.ok) refl refl refl
     (c.end.ensures.stands p.list (access.Write b v) (p.is_due (access.Write b v) o) (there_with s h (g.A.Actor.due a) (g.A.Actor.stands a) (Some (access.Write b v)) p o))
 

@@ -1,5 +1,5 @@
-use Rattle.ring_player.proofs.Flickers.{counted_by_marks}
+use Rattle.ring_player.proofs.LawLemmas.{flickers_are_counted as the_law}
 use Rattle.ring_player.proofs.laws.flickers_are_counted.Goals as goal
 
 pub returns : goal.returns
-returns c = counted_by_marks c.flicker_is_by_interval.ensures
+returns c = the_law

@@ -16,6 +16,7 @@ use Rattle.ring_player.specs.declared.tellings.TakenItems.{TakenItems}
 use Rattle.ring_player.proofs.TellingMoves.{at_first, nothing_told}
 use Rattle.ring_player.proofs.TellingRecords.{play_records}
 use Rattle.ring_player.proofs.WorldParts.{spelled-more, spelled-none}
+use Rattle.ring_core.proofs.LawLemmas.{recorded_is_linearizable}
 use Rattle.ring_player.proofs.tellings.play_calls.Goals as goal
 
 pub loop-run-init : goal.loop-run-init
@@ -66,5 +67,5 @@ returns g c =
     let l = c.loop-run.invariant in
     let runs : List LetterRun = c.runs-run-items.result.now in
     let whole : spelled (take c.loop-run.run-index runs) ≡ c.args.script.now.letters = ap spelled (take_all c.loop-run.run-index runs (omega (arith, c.loop-run-test.false))) ∙ l.all in
-    play_records c.recorded_is_linearizable.ensures c.loop-run.world.script c.args.script.now (event_sides c.loop-run.world.history) c.loop-run.world.history c.loop-run.told.items l.script
+    play_records recorded_is_linearizable c.loop-run.world.script c.args.script.now (event_sides c.loop-run.world.history) c.loop-run.world.history c.loop-run.told.items l.script
     c.history-2.ensures.plays (subst (λ (t : List Side). Plays c.args.script.now t c.loop-run.world.history) whole l.plays) l.told

@@ -5,6 +5,7 @@ use Rattle.ring_player.specs.Actors.{IsMove}
 use Rattle.ring_player.specs.Tellings.{TakeTally}
 use Rattle.ring_player.specs.declared.tellings.TakeCount.{TakeCount}
 use Rattle.ring_player.proofs.TellingMoves.{not_stepped, take_stepped, Stepped}
+use Rattle.bits_core.proofs.LawLemmas.{subhistory_changes}
 use Rattle.ring_player.proofs.tellings.take_step.Goals as goal
 
 abbrev tally : TakeCount → TakeTally
@@ -26,7 +27,7 @@ goes :
     Stepped c.args.world.now.script c.step.new.self.script c.args.world.now.history c.step.new.self.history c.args.at.now.put c.take_says-said.result.0 c.take_says-said.result.1
 goes g c =
     let script = c.args.world.now.script in
-    take_stepped c.subhistory_changes.ensures script c.step.new.self.script c.args.world.now.history c.step.new.self.history c.args.at.now.put c.args.at.now.take c.take_says-said.result.0
+    take_stepped subhistory_changes script c.step.new.self.script c.args.world.now.history c.step.new.self.history c.args.at.now.put c.args.at.now.take c.take_says-said.result.0
     c.wanted-wanted.result (tally c.take_count-before.result) (tally c.take_count-now.result) c.take_says-said.result.1 c.in_ok-moved.ensures.script
     (subst (λ b. IsMove script C b c.args.world.now.history c.step.new.self.history) c.if-not-moved.false c.in_ok-moved.ensures.ok) c.take_says-said.ensures c.wanted-wanted.ensures.wanted c.requires.at
     (c.take_count-before.ensures.taken, c.take_count-before.ensures.empty, c.take_count-before.ensures.told)

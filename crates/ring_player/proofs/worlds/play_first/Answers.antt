@@ -12,6 +12,9 @@ use Rattle.ring_player.specs.Headline.{IsPlayOf}
 use Rattle.ring_player.specs.Plays.{HasFlickers}
 use Rattle.ring_player.proofs.Flickers.{has_flickers}
 use Rattle.ring_player.proofs.WorldParts.{is_play}
+use Rattle.bits_core.proofs.LawLemmas.{flicker_is_by_interval}
+use Rattle.ring_core.proofs.LawLemmas.{ring_is_linearizable}
+use Rattle.ring_player.proofs.LawLemmas.{every_play_fills, every_play_holds}
 use Rattle.ring_player.proofs.worlds.play_first.Goals as goal
 
 pub returns-clause-plays : goal.returns-clause-plays
@@ -19,13 +22,13 @@ returns-clause-plays g c =
     let script = content_of c.args.script in
     let letters : List Side = take c.args.letters script.letters in
     subst (λ (l : List Event). IsPlayOf script letters l) (sym c.report.ensures.history)
-    (is_play c.every_play_holds.ensures c.every_play_fills.ensures script letters c.run_first-played.new.world.history c.in_ok-played.ensures.plays)
+    (is_play every_play_holds every_play_fills script letters c.run_first-played.new.world.history c.in_ok-played.ensures.plays)
 
 pub returns-clause-flicker : goal.returns-clause-flicker
 returns-clause-flicker g c =
     let w = c.run_first-played.new.world in
     subst (λ (l : List Event). HasFlickers l c.report.result.flicker) (sym c.report.ensures.history)
-    (subst (HasFlickers w.history) (sym c.report.ensures.flicker) (has_flickers c.flicker_is_by_interval.ensures (content_of c.args.script).shape w.history c.in_ok-played.ensures.plays.played.lawful))
+    (subst (HasFlickers w.history) (sym c.report.ensures.flicker) (has_flickers flicker_is_by_interval (content_of c.args.script).shape w.history c.in_ok-played.ensures.plays.played.lawful))
 
 pub returns-clause-taken : goal.returns-clause-taken
 returns-clause-taken g c takes =
@@ -64,4 +67,4 @@ returns-clause-empty g c takes =
 
 pub returns-clause-linearizable : goal.returns-clause-linearizable
 returns-clause-linearizable g c puts takes run =
-    c.ring_is_linearizable.ensures (content_of c.args.script).shape (g.E.Store.items c.report.result.history) puts takes run
+    ring_is_linearizable (content_of c.args.script).shape (g.E.Store.items c.report.result.history) puts takes run

@@ -4,6 +4,7 @@ use Rattle.call_lines.specs.Lines.{word_text}
 use Rattle.queue_calls.specs.Told.{told}
 use Rattle.ring_program.specs.RunRecordings.{run_counts}
 use Rattle.ring_program.proofs.RunText.{audits_more, begins_run, leaves_less, meant_exactly, records_run, writes_more}
+use Rattle.queue_calls.proofs.LawLemmas.{history_has_a_recording, linearizable_is_in_turn}
 use Rattle.ring_program.proofs.run_recordings.recording_text.Goals as goal
 
 pub lines-init : goal.lines-init
@@ -40,7 +41,7 @@ returns-clause-text g c =
     let o = c.args.outcome.now in
     let items = c.args.items.now in
     records_run (λ q. q.items) c.is_cut-is_cut.result shape c.capacity-capacity.result items (run_counts items o.put o.calls o.full o.taken.items o.takes o.empty o.closed) _ c.lines.auditor c.lines.untold
-    c.lines.room c.lines.begun c.history_has_a_recording.ensures c.linearizable_is_in_turn.ensures c.capacity-capacity.ensures.value c.capacity-capacity.ensures.some
+    c.lines.room c.lines.begun history_has_a_recording linearizable_is_in_turn c.capacity-capacity.ensures.value c.capacity-capacity.ensures.some
     c.capacity-capacity.ensures.few
     (c.lacks_lines.ensures.cut c.if-lacks_lines.false)
     (c.lacks_lines.ensures.whole c.if-lacks_lines.false) c.lines.invariant

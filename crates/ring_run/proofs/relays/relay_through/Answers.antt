@@ -1,6 +1,7 @@
 use Rattle.std.proofs.Common.{◌≡◌, ap, ◌∙◌, sym}
 use Rattle.ring_seats.specs.Ring.{Ring}
 use Rattle.ring_run.proofs.Relayed.{relayed, relayed_all, relayed_prefix, relayed_within, none_past}
+use Rattle.ring_core.proofs.LawLemmas.{ring_law_closed, ring_law_prefix, ring_law_within, whole_calls_count_puts, whole_calls_count_takes}
 use Rattle.ring_run.proofs.relays.relay_through.Goals as goal
 
 pub unreachable-requires : goal.unreachable-requires
@@ -9,7 +10,7 @@ unreachable-requires g c =
     let t = g.F.TakeEnd.end c.relay_into-outcome.new.taker in
     let f = c.in-Err.ensures in
     let same : t.ring ≡ p.ring = f.same.1.ring ∙ sym c.requires.ring ∙ sym f.same.0.ring in
-    none_past c.ring_law.ensures.prefix c.whole_calls_count.ensures.puts c.whole_calls_count.ensures.takes c.args.items.now c.args.limits.puts c.args.limits.takes p t same c.finish-finished.result.history c.finish-finished.ensures.meets f.fault.0 f.fault.1
+    none_past ring_law_prefix whole_calls_count_puts whole_calls_count_takes c.args.items.now c.args.limits.puts c.args.limits.takes p t same c.finish-finished.result.history c.finish-finished.ensures.meets f.fault.0 f.fault.1
 
 pub returns : goal.returns
 returns g c =
@@ -21,11 +22,9 @@ returns g c =
     let p_is : p.ring.shape ≡ shape = ap (λ (r : Ring). r.shape) f.same.0.ring in
     let t_is : t.ring.shape ≡ shape = ap (λ (r : Ring). r.shape) (f.same.1.ring ∙ sym c.requires.ring) in
     let counted = relayed shape c.args.items.now c.args.limits.puts c.args.limits.takes o.put o.calls o.full o.taken.items o.takes o.empty o.closed p t p_is t_is c.finish-finished.result.history c.finish-finished.ensures.meets c.finish-finished.ensures.linearizable f.puts f.takes in
-    let law = c.ring_law.ensures in
-    let count = c.whole_calls_count.ensures in
     record {
       counted = counted;
-      prefix = relayed_prefix law.within law.prefix law.closed count.puts count.takes shape c.args.items.now c.args.limits.puts c.args.limits.takes o.put o.calls o.full o.taken.items o.takes o.empty o.closed counted;
-      all = relayed_all law.within law.prefix law.closed count.puts count.takes shape c.args.items.now c.args.limits.puts c.args.limits.takes o.put o.calls o.full o.taken.items o.takes o.empty o.closed counted;
-      within = relayed_within law.within law.prefix law.closed count.puts count.takes shape c.args.items.now c.args.limits.puts c.args.limits.takes o.put o.calls o.full o.taken.items o.takes o.empty o.closed counted;
+      prefix = relayed_prefix ring_law_within ring_law_prefix ring_law_closed whole_calls_count_puts whole_calls_count_takes shape c.args.items.now c.args.limits.puts c.args.limits.takes o.put o.calls o.full o.taken.items o.takes o.empty o.closed counted;
+      all = relayed_all ring_law_within ring_law_prefix ring_law_closed whole_calls_count_puts whole_calls_count_takes shape c.args.items.now c.args.limits.puts c.args.limits.takes o.put o.calls o.full o.taken.items o.takes o.empty o.closed counted;
+      within = relayed_within ring_law_within ring_law_prefix ring_law_closed whole_calls_count_puts whole_calls_count_takes shape c.args.items.now c.args.limits.puts c.args.limits.takes o.put o.calls o.full o.taken.items o.takes o.empty o.closed counted;
     }

@@ -1,8 +1,8 @@
-use Rattle.ring_seats.proofs.CounterTold.{puts-shown, takes-shown}
+use Rattle.ring_seats.proofs.LawLemmas as law
 use Rattle.ring_seats.proofs.laws.counts_are_shown.Goals as goal
 
 pub returns-clause-puts : goal.returns-clause-puts
-returns-clause-puts c = puts-shown c.counts_are_written.ensures.numbers
+returns-clause-puts c = law.counts_are_shown_puts
 
 pub returns-clause-takes : goal.returns-clause-takes
-returns-clause-takes c = takes-shown c.counts_are_written.ensures.numbers
+returns-clause-takes c = law.counts_are_shown_takes

@@ -3,9 +3,10 @@ use Rattle.bits_core.specs.declared.events.Side.TheVariants.{P, C}
 use Rattle.ring_seats.specs.Steppers.{StandsAs}
 use Rattle.bits_core.specs.declared.shapes.Shape.{Shape}
 use Rattle.ring_seats.specs.declared.views.View.{View}
-use Rattle.ring_seats.specs.Below.{LawsBelow}
+use Rattle.ring_seats.proofs.Below.{LawsBelow}
 use Rattle.ring_seats.specs.Rule.{Stands, joint, list_of, putter_of, taker_of}
 use Rattle.ring_seats.proofs.Moves.{ring_empty}
+use Rattle.ring_seats.proofs.LawLemmas.{laws_below}
 use Rattle.ring_seats.proofs.meetings.first_steppers.Goals as goal
 
 -- at first both ends stand in the history with no event
@@ -19,6 +20,6 @@ pub returns-clause-lawful : goal.returns-clause-lawful
 returns-clause-lawful g c =
     let start = c.requires.1 in
     let part = c.part-other.ensures in (
-      subst (StandsAs P) (sym c.stepper.ensures) (putter_starts c.laws_below.ensures c.again-same.result.shape c.part-other.new.seat.me.0 (ap (λ m. m.0) part.putter.1 ∙ ap (λ m. putter_of m.0) start)),
-      subst (StandsAs C) (sym c.stepper-2.ensures) (taker_starts c.laws_below.ensures c.args.ring.shape c.part-other.result.me.0 (ap (λ m. m.0) part.taker.1 ∙ ap (λ m. taker_of m.0) start)),
+      subst (StandsAs P) (sym c.stepper.ensures) (putter_starts laws_below c.again-same.result.shape c.part-other.new.seat.me.0 (ap (λ m. m.0) part.putter.1 ∙ ap (λ m. putter_of m.0) start)),
+      subst (StandsAs C) (sym c.stepper-2.ensures) (taker_starts laws_below c.args.ring.shape c.part-other.result.me.0 (ap (λ m. m.0) part.taker.1 ∙ ap (λ m. taker_of m.0) start)),
     )

@@ -3,6 +3,7 @@ use Rattle.bits_core.specs.declared.events.Side.TheVariants.{P}
 use Rattle.near_misses.specs.NearPlays.{NearAsked, NearStands, near_starts}
 use Rattle.near_misses.specs.NearSides.{put_stand, take_stand}
 use Rattle.near_misses.proofs.NearLemmas.{makes_more, moves_open, moves_other, none_told, other_due}
+use Rattle.bits_core.proofs.LawLemmas.{open_changes}
 use Rattle.near_misses.proofs.plays.NearWorld.step_putter.Goals as goal
 
 pub returns-clause-ready : goal.returns-clause-ready
@@ -13,9 +14,9 @@ returns-clause-ready g c =
     record {
       put_shape = c.in_ok-event.ensures.side.1;
       take_shape = c.requires.take_shape ∙ sym c.in_ok-event.ensures.shape;
-      put_open = moves_open c.open_changes.ensures asked P w.memory.events (put_stand w.putter) _ _ _ moves;
-      take_open = moves_other c.open_changes.ensures asked P w.memory.events (put_stand w.putter) _ _ _ (take_stand w.taker) moves c.requires.take_open;
-      take_due = other_due _ c.open_changes.ensures asked P w.memory.events (put_stand w.putter) _ _ _ moves c.requires.take_due;
+      put_open = moves_open open_changes asked P w.memory.events (put_stand w.putter) _ _ _ moves;
+      take_open = moves_other open_changes asked P w.memory.events (put_stand w.putter) _ _ _ (take_stand w.taker) moves c.requires.take_open;
+      take_due = other_due _ open_changes asked P w.memory.events (put_stand w.putter) _ _ _ moves c.requires.take_due;
     }
 
 pub returns-clause-has : goal.returns-clause-has

@@ -5,6 +5,7 @@ use Rattle.near_misses.specs.NearPlays.{NearAsked, NearStands, items_told, near_
 use Rattle.near_misses.specs.NearSides.{put_stand, take_stand}
 use Rattle.ring_player.proofs.WorldParts.{on_err}
 use Rattle.near_misses.proofs.NearLemmas.{makes_more, moves_held, moves_open, moves_other}
+use Rattle.bits_core.proofs.LawLemmas.{open_changes}
 use Rattle.near_misses.proofs.plays.NearWorld.step_taker.Goals as goal
 
 pub returns-clause-ready : goal.returns-clause-ready
@@ -15,8 +16,8 @@ returns-clause-ready g c =
     record {
       take_shape = c.in_ok-event.ensures.side.1;
       put_shape = c.requires.put_shape ∙ sym c.in_ok-event.ensures.shape;
-      take_open = moves_open c.open_changes.ensures asked C w.memory.events (take_stand w.taker) _ _ _ moves;
-      put_open = moves_other c.open_changes.ensures asked C w.memory.events (take_stand w.taker) _ _ _ (put_stand w.putter) moves c.requires.put_open;
+      take_open = moves_open open_changes asked C w.memory.events (take_stand w.taker) _ _ _ moves;
+      put_open = moves_other open_changes asked C w.memory.events (take_stand w.taker) _ _ _ (put_stand w.putter) moves c.requires.put_open;
       take_due = c.in_ok-event.ensures.due;
     }
 

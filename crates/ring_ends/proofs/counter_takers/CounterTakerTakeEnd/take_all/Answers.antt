@@ -1,5 +1,5 @@
 use Rattle.std.proofs.Common.{length, sym, subst, ◌∙◌}
-use Rattle.ring_seats.specs.CounterEnds.{TakeAllKept}
+use Rattle.ring_ends.specs.CounterEnds.{TakeAllKept}
 use Rattle.ring_seats.specs.Ring.{RingEnd}
 use Rattle.ring_ends.specs.Ends.{HasTakenAll}
 use Rattle.ring_ends.proofs.TakesAll.{kept_all, kept_within, still_open}

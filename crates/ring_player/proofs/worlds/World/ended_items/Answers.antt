@@ -10,6 +10,7 @@ use Rattle.ring_core.specs.Takes.{FollowsTakes}
 use Rattle.ring_player.proofs.WorldParts.{ended_of, first_of, front_of}
 use Rattle.ring_script.specs.Borrowed.{content_of}
 use Rattle.ring_script.specs.Content.{Content}
+use Rattle.ring_core.proofs.LawLemmas.{calls_over_are_read_takes}
 use Rattle.ring_player.proofs.worlds.World.ended_items.Goals as goal
 
 pub returns-clause-items : goal.returns-clause-items
@@ -17,7 +18,7 @@ returns-clause-items g c takes =
     let w = c.self.inside in
     let i = c.self.invariant in
     subst (λ (t : Played). FollowsTakes t.script.shape t.history takes → c.taken.result.now ≡ all_taken (takes_over_in t.script.shape t.history takes)) c.self.view_is
-    (λ f. c.taken.ensures ∙ ended_of c.calls_over_are_read.ensures.takes (content_of w.script) (content_of w.consumer.script) w.memory.events _ _ (g.T.Store.items w.consumer.taken) w.consumer.told w.consumer.empty i.take_script_is i.takes (c.look-2.ensures i.takes.list (open_access C w.memory.events) i.takes.there i.takes.is_due) takes f)
+    (λ f. c.taken.ensures ∙ ended_of calls_over_are_read_takes (content_of w.script) (content_of w.consumer.script) w.memory.events _ _ (g.T.Store.items w.consumer.taken) w.consumer.told w.consumer.empty i.take_script_is i.takes (c.look-2.ensures i.takes.list (open_access C w.memory.events) i.takes.there i.takes.is_due) takes f)
 
 pub returns-clause-first : goal.returns-clause-first
 returns-clause-first g c =

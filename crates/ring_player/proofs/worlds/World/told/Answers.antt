@@ -9,6 +9,7 @@ use Rattle.ring_player.specs.Actors.{TakeActorStands}
 use Rattle.ring_player.specs.Worlds.{Played}
 use Rattle.ring_player.proofs.WorldParts.{taken_of}
 use Rattle.ring_script.specs.Borrowed.{content_of}
+use Rattle.ring_core.proofs.LawLemmas.{items_taken_are_read}
 use Rattle.ring_player.proofs.worlds.World.told.Goals as goal
 
 pub returns : goal.returns
@@ -16,5 +17,5 @@ returns g c takes =
     let w = c.self.inside in
     let i = c.self.invariant in
     subst (λ (t : Played). FollowsTakes t.script.shape t.history takes → (c.told.result ≡ true) ↔ ToldIn t.script.shape t.history takes) c.self.view_is
-    (λ f. subst (λ b. (b ≡ true) ↔ ToldIn (content_of w.script).shape w.memory.events takes) (sym c.told.ensures) ((taken_of c.items_taken_are_read.ensures (content_of w.script) (content_of w.consumer.script) w.memory.events (due_take w.consumer.consumer) (TakeActorStands (content_of w.consumer.script) w.consumer.consumer (g.T.Store.items w.consumer.taken) w.consumer.told w.consumer.empty)
+    (λ f. subst (λ b. (b ≡ true) ↔ ToldIn (content_of w.script).shape w.memory.events takes) (sym c.told.ensures) ((taken_of items_taken_are_read (content_of w.script) (content_of w.consumer.script) w.memory.events (due_take w.consumer.consumer) (TakeActorStands (content_of w.consumer.script) w.consumer.consumer (g.T.Store.items w.consumer.taken) w.consumer.told w.consumer.empty)
     (g.T.Store.items w.consumer.taken) w.consumer.told w.consumer.empty i.take_script_is i.takes (c.look.ensures i.takes.list (open_access C w.memory.events) i.takes.there i.takes.is_due) takes f).1))

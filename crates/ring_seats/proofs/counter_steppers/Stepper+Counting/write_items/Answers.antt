@@ -5,7 +5,7 @@ use Rattle.bits_core.specs.Shape.{capacity_of, width_of}
 use Rattle.ring_core.specs.Puts.{words_phrase}
 use Rattle.ring_seats.specs.Counters.{GrowsBy}
 use Rattle.ring_seats.proofs.CounterPuts.{fit_at}
-use Rattle.ring_seats.proofs.CounterPutterCalls.{same_shape, next_store, stored_one, next_place}
+use Rattle.ring_seats.proofs.CounterSteps.{same_shape, next_store, stored_one, next_place}
 use Rattle.ring_seats.proofs.counter_steppers.Stepper+Counting.write_items.Goals as goal
 
 pub write_cell-requires-clause-below : goal.write_cell-requires-clause-below

@@ -1,0 +1,201 @@
+//! The whole calls of a counter ring, by its seats.
+ghost use Rattle.std.specs.Prelude.{◌≡◌, ◌⊎◌, ℕ, ◌<◌, ◌≤◌, true, false, Some, [], ◌∷◌, length, drop};
+ghost use Rattle.bits_core.specs.Shape.{modulus_of, take_batch_of};
+ghost use Rattle.bits_core.specs.declared.events.Side.TheVariants.{P};
+ghost use Rattle.ring_core.specs.declared.replies.TakeReply.TheVariants.{Item};
+ghost use Rattle.ring_core.specs.Puts.{Puts, IsBatch};
+ghost use Rattle.ring_core.specs.Takes.{Takes, Open};
+ghost use Rattle.ring_core.specs.ProducerCalls.{and_close, room_in};
+ghost use Rattle.ring_core.specs.ConsumerCalls.{take_batch_reply, items_reply, reply_items};
+ghost use Rattle.ring_seats.specs.Calls.{HasPuts};
+ghost use Rattle.ring_ends.specs.CounterEnds.{PutterList, PutKept, TakerList, TakeKept, TakeAllKept, LookMade, HasLooked, number_brought};
+ghost use Rattle.ring_seats.specs.Ring.{RingEnd};
+ghost use Rattle.ring_seats.specs.Steppers.{IsSameEnd, StandsAs};
+
+use bits_core::Shape;
+use ring_core::{TakeBatchReply, TakeReply, distance, has_item, items_shown, past_in};
+use ring_seats::{Counting, Stepper};
+
+// How many of so many items a producer that has put `n` stores, where it read the consumer's count `seen`.
+fn fitting(shape: &Shape, n: u64, seen: u64, offered: usize) -> usize
+    requires n { n < modulus_of shape.now }
+    requires seen { seen < modulus_of shape.now }
+    ensures few { result ≤ offered }
+    ensures room { result ≤ room_in shape.now n seen }
+    ensures all { (result ≡ offered) ⊎ (result ≡ room_in shape.now n seen) }
+{
+    let ahead = distance(n, seen, shape.modulus());
+    if ahead >= shape.capacity() {
+        return 0;
+    }
+    let room = (shape.capacity() - ahead) as usize;
+    if room < offered { room } else { offered }
+}
+
+/// A put to a ring that is not closed: one load, and where there is room a store for each item that fits it, and one store. The
+/// count and the cell are those of the puts that the seat has made, and go on with the items. Tells how many were stored, the
+/// first of them, 0 where the ring was full. There are 1 to as many items as the shape's batch, and each has to fit the width.
+/// For example, a putter of a counter ring puts so.
+pub(crate) fn put_open<'a>(
+    stepper: &mut Stepper<'a, Counting>,
+    items: &[u64],
+    count: &mut u64,
+    cell: &mut u64,
+) -> usize
+    requires at { (calls : Puts) × PutterList stepper.old count.old cell.old calls × (calls.closes ≡ false) }
+    requires batch { IsBatch stepper.old.ring.shape items.now }
+    ensures { (calls : Puts) → PutterList stepper.old count.old cell.old calls → calls.closes ≡ false →
+        PutKept stepper.old stepper.new count.new cell.new calls items.now result }
+{
+    let shape = stepper.shape();
+    let seen = stepper.scan(); // (how far the takes are)
+    let most = fitting(&shape, *count, seen, items.len());
+    if most == 0 {
+        return 0;
+    }
+    stepper.write_items(*cell, &items[..most]);
+    *count = past_in(*count, most as u64, shape.modulus());
+    stepper.write_count(*count); // (behind the cells)
+    *cell = past_in(*cell, most as u64, shape.capacity());
+    most
+}
+
+/// A close of a ring that is not closed: one store. For example, a putter of a counter ring closes so.
+pub(crate) fn close_open<'a>(stepper: &mut Stepper<'a, Counting>)
+    requires at { (calls : Puts) × (stepper.old.side ≡ P) × HasPuts stepper.old.ring.shape stepper.old.list calls ×
+        (calls.closes ≡ false) }
+    ensures same { IsSameEnd stepper.old stepper.new }
+    ensures stands { StandsAs P stepper.new }
+    ensures has { (calls : Puts) → HasPuts stepper.old.ring.shape stepper.old.list calls → calls.closes ≡ false →
+        HasPuts stepper.new.ring.shape stepper.new.list (and_close calls) }
+{
+    stepper.write_close();
+}
+
+// What the scans of a take came to.
+#[derive(Clone, Copy)]
+enum Scanned {
+    // It takes so many items.
+    Shows(usize),
+    // It is over, and was answered so.
+    Over(TakeReply),
+}
+
+// The scans of a take of at most so many items. One load, and where it shows no item one of the close word; where that is 1,
+// one load more.
+fn look<'a>(stepper: &mut Stepper<'a, Counting>, count: u64, cell: u64, wanted: usize) -> Scanned
+    requires at { (calls : Takes) × TakerList stepper.old count cell calls × (calls.end ≡ Open) }
+    requires some { 1 ≤ wanted }
+    ensures { (calls : Takes) → TakerList stepper.old count cell calls → calls.end ≡ Open →
+        LookMade stepper.old stepper.new calls wanted result }
+{
+    let shape = stepper.shape();
+    let seen = stepper.scan();
+    if has_item(&shape, seen, count) {
+        return Scanned::Shows(items_shown(&shape, seen, count, wanted));
+    }
+    if !stepper.read_close() {
+        return Scanned::Over(TakeReply::Empty);
+    }
+    let again = stepper.scan();
+    if has_item(&shape, again, count) {
+        return Scanned::Shows(items_shown(&shape, again, count, wanted));
+    }
+    Scanned::Over(TakeReply::Closed)
+}
+
+// Behind the scans of a take of one that found an item: one load of its cell, and one store of the count.
+fn fetch<'a>(stepper: &mut Stepper<'a, Counting>, count: &mut u64, cell: &mut u64) -> u64
+    requires at { (before : RingEnd) × (calls : Takes) × HasLooked before stepper.old count.old cell.old calls 1 1 }
+    ensures { (before : RingEnd) (calls : Takes) → HasLooked before stepper.old count.old cell.old calls 1 1 →
+        TakeKept before stepper.new count.new cell.new calls 1 (Item result) (result ∷ []) }
+{
+    let shape = stepper.shape();
+    let item = stepper.read_cell(*cell);
+    *count = past_in(*count, 1, shape.modulus());
+    stepper.write_count(*count);
+    *cell = past_in(*cell, 1, shape.capacity());
+    item
+}
+
+/// A take by a seat that was not told that the ring is closed: one load, and with an item one of its cell and one store; without
+/// one, a load of the close word, and where that is 1 one load more. The count and the cell are those of the takes that the seat
+/// has made, and go on with the item.
+/// For example, a taker of a counter ring takes so.
+pub(crate) fn take_open<'a>(
+    stepper: &mut Stepper<'a, Counting>,
+    count: &mut u64,
+    cell: &mut u64,
+) -> TakeReply
+    requires at { (calls : Takes) × TakerList stepper.old count.old cell.old calls × (calls.end ≡ Open) }
+    ensures { (calls : Takes) → TakerList stepper.old count.old cell.old calls → calls.end ≡ Open →
+        TakeKept stepper.old stepper.new count.new cell.new calls 1 result (reply_items result) }
+{
+    match look(stepper, *count, *cell, 1) {
+        Scanned::Over(reply) => reply,
+        Scanned::Shows(_) => TakeReply::Item(fetch(stepper, count, cell)),
+    }
+}
+
+// Behind the scans of a take that found as many items as there are places: a load of each one's cell, and one store of the
+// count.
+fn fetch_all<'a>(
+    stepper: &mut Stepper<'a, Counting>,
+    count: &mut u64,
+    cell: &mut u64,
+    into: &mut [u64],
+)
+    requires at { (before : RingEnd) × (calls : Takes) × (wanted : ℕ) ×
+        HasLooked before stepper.old count.old cell.old calls wanted (length into.old) }
+    ensures long { length into.new ≡ length into.old }
+    ensures kept { (before : RingEnd) (calls : Takes) (wanted : ℕ) →
+        HasLooked before stepper.old count.old cell.old calls wanted (length into.old) →
+        TakeKept before stepper.new count.new cell.new calls wanted (items_reply into.new) into.new }
+{
+    let shape = stepper.shape();
+    stepper.read_items(*cell, into);
+    *count = past_in(*count, into.len() as u64, shape.modulus());
+    stepper.write_count(*count); // (behind the loads)
+    *cell = past_in(*cell, into.len() as u64, shape.capacity());
+}
+
+// What a take that brought no item was answered, by how many it brought.
+fn of_none(reply: TakeReply) -> TakeBatchReply
+    ensures reply { Some result ≡ take_batch_reply (Some reply) [] }
+    ensures none { number_brought result ≡ 0 }
+{
+    match reply {
+        TakeReply::Item(_) => TakeBatchReply::Taken(0),
+        TakeReply::Empty => TakeBatchReply::Empty,
+        TakeReply::Closed => TakeBatchReply::Closed,
+    }
+}
+
+/// A take of several items under one count write, by a seat that was not told that the ring is closed: one load, and with
+/// items one of each one's cell and one store; without one, a load of the close word, and where that is 1 one load more. It
+/// takes those that the producer's count shows, from the first on, at most as many as there are places, and tells how many;
+/// they are in the first places, and the others stay as they were. There are 1 to as many places as the shape's take batch.
+/// The count and the cell are those of the takes that the seat has made, and go on with the items.
+/// For example, a taker of a counter ring takes several items so.
+pub(crate) fn take_all_open<'a>(
+    stepper: &mut Stepper<'a, Counting>,
+    into: &mut [u64],
+    count: &mut u64,
+    cell: &mut u64,
+) -> TakeBatchReply
+    requires at { (calls : Takes) × TakerList stepper.old count.old cell.old calls × (calls.end ≡ Open) }
+    requires some { 1 ≤ length into.old }
+    requires few { length into.old ≤ take_batch_of stepper.old.ring.shape }
+    ensures long { length into.new ≡ length into.old }
+    ensures others { drop (number_brought result) into.new ≡ drop (number_brought result) into.old }
+    ensures taken { (calls : Takes) → TakerList stepper.old count.old cell.old calls → calls.end ≡ Open →
+        TakeAllKept stepper.old stepper.new count.new cell.new calls (length into.old) result into.new }
+{
+    match look(stepper, *count, *cell, into.len()) {
+        Scanned::Over(reply) => of_none(reply),
+        Scanned::Shows(most) => {
+            fetch_all(stepper, count, cell, &mut into[..most]);
+            TakeBatchReply::Taken(most as u64)
+        }
+    }
+}
