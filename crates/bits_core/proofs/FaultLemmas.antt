@@ -1,5 +1,5 @@
 -- What an audit finds.
-use Rattle.std.proofs.Common.{◌≡◌, ℕ, suc, Some, List, ◌<◌, ◌≤◌, sym, length, take, refl, ap₂, subst, inl, inr, arith, get_or}
+use Rattle.std.proofs.Common.{◌≡◌, ℕ, suc, Option, None, Some, IfSome, List, ◌<◌, ◌≤◌, sym, length, take, refl, ap₂, subst, inl, inr, arith, get_or}
 use Rattle.std.proofs.lemmas.Bool.{cases_order}
 use Rattle.std.specs.Prelude.{slice_get}
 use Rattle.std.proofs.lemmas.Option.{slice_get-get_or, slice_get_within}
@@ -10,7 +10,9 @@ use Rattle.bits_core.specs.declared.audits.Kind.{Kind}
 use Rattle.bits_core.specs.declared.audits.Kind.TheVariants.{WrongSide, OutOfTurn, NotPermitted, NotProgram}
 use Rattle.bits_core.specs.declared.audits.Verdict.{Verdict}
 use Rattle.bits_core.specs.declared.audits.Verdict.TheVariants.{Lawful, Fault}
+use Rattle.bits_core.specs.declared.reasons.Reason.{Reason}
 use Rattle.bits_core.specs.Audit.{IsFault, IsFirstFault, IsFaultAfter, IsVerdict}
+use Rattle.bits_core.specs.Reasons.{IsReasonBehind, TellsWhy}
 use Rattle.bits_core.specs.Steps.{MayFollow, EachMayFollow}
 use Rattle.bits_core.specs.Lawful.{TakesTurn, IsLawfulEvent, IsLawful}
 use Rattle.bits_core.specs.Laws.{FaultBreaks}
@@ -113,3 +115,20 @@ fault_breaks shape h place kind fault =
           not_IsLawfulEvent shape h place fault.event kind fault.fault
           (IsLawfulEvent-from shape h place fault.event sides fault.at_place (subst (λ t. MayFollow shape t fault.event) (before_it h place (suc place) (omega arith)) follows))),
     )
+
+-- ---- why an event may not follow
+
+not_MayFollow : (shape : Shape) (past : List Event) (e : Event) (kind : Kind) → IsFaultAfter shape past e kind → ¬ MayFollow shape past e
+not_MayFollow shape past e WrongSide fault follows = fault follows.right_side
+not_MayFollow shape past e OutOfTurn fault follows = fault.1 follows.in_turn
+not_MayFollow shape past e NotPermitted fault follows = fault.2 follows.permitted
+not_MayFollow shape past e NotProgram fault follows = fault
+
+-- a reason that is none only of an event that may follow tells why the one at fault may not
+pub TellsWhy-at : (shape : Shape) (h : List Event) (place : ℕ) (d : Event) (kind : Kind) (why : Option Reason) → place < length h → IsFaultAfter shape (take place h) (get_or h place d) kind →
+    (why ≡ None → MayFollow shape (take place h) (get_or h place d)) →
+    IfSome why (λ reason. (¬ MayFollow shape (take place h) (get_or h place d)) × IsReasonBehind shape (take place h) (get_or h place d) reason) →
+    TellsWhy shape h (Fault place kind) why
+TellsWhy-at shape h place d kind None within fault none some e at = absurd (not_MayFollow shape (take place h) (get_or h place d) kind fault (none refl))
+TellsWhy-at shape h place d kind (Some reason) within fault none some e at =
+    (reason, refl, subst (λ f. IsReasonBehind shape (take place h) f reason) (same_event h place (get_or h place d) e (slice_get-get_or h place d within) at) some.1)

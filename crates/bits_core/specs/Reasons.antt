@@ -1,6 +1,8 @@
 -- Why an event may not follow the events before it, said so that it can be looked up there.
 use Rattle.std.specs.Prelude.{◌≡◌, ◌≢◌, ℕ, ◌+◌, Bool, true, false, Option, Some, None, List, drop, slice_get, take}
 use Rattle.std.specs.List.{list_any}
+use Rattle.bits_core.specs.declared.audits.Verdict.{Verdict}
+use Rattle.bits_core.specs.declared.audits.Verdict.TheVariants.{Lawful, Fault}
 use Rattle.bits_core.specs.declared.events.Bit.{Bit}
 use Rattle.bits_core.specs.declared.events.Act.{Act}
 use Rattle.bits_core.specs.declared.events.Act.TheVariants.{WriteEnd}
@@ -43,3 +45,9 @@ IsReasonBehind shape past e (StillOpen access begun) =
 IsReasonBehind shape past e NothingOpen = IsByRightSide shape e × (¬ IsInTurn past e) × (open_access e.side past ≡ None)
 IsReasonBehind shape past e (Held value since begun) =
     IsByRightSide shape e × IsInTurn past e × (¬ IsPermitted past e) × IsLastPlace e.side past begun × IsHeldSince e.bit (take begun past) value since
+
+-- why the event at fault may not follow those before it; none of a lawful history
+abbrev pub TellsWhy : Shape → List Event → Verdict → Option Reason → Type 0
+TellsWhy shape h Lawful why = why ≡ None
+TellsWhy shape h (Fault place kind) why =
+    (e : Event) → slice_get h place ≡ Some e → (reason : Reason) × (why ≡ Some reason) × IsReasonBehind shape (take place h) e reason

@@ -9,10 +9,12 @@ ghost use Rattle.bits_core.specs.Lawful.{IsLawful};
 ghost use Rattle.bits_core.specs.Audit.{IsFaultAfter, IsVerdict};
 ghost use Rattle.bits_core.specs.Marks.{AreMarks, IsInTable};
 ghost use Rattle.bits_core.specs.Memory.{is_flicker};
+ghost use Rattle.bits_core.specs.Reasons.{TellsWhy};
 ghost use Rattle.bits_core.specs.Seen.{AreSeen, IsSeen, sound_count};
 
 use crate::events::{Access, Act, Bit, Event, Side};
 use crate::marks::Marks;
+use crate::reasons::{Reason, reason_by};
 use crate::shapes::Shape;
 use std::fmt;
 
@@ -271,21 +273,27 @@ fn tell(seen: &mut [Seen], place: usize, found: Seen)
     }
 }
 
-/// The audit of [`audit_bits`], which also tells what is seen at each event before the first that is
-/// at fault, or at each event where none is: in the order of the events, for as many as there is
-/// room for. The rest of the room stays as it was. It takes no memory.
+/// The audit of [`audit_bits`], which also tells why the event at fault may not follow those before it, and what is seen at
+/// each event before it, or at each event where none is at fault: in the order of the events, for as many as there is room
+/// for. The rest of the room stays as it was. It takes no memory.
 ///
 /// In use: the page, which has room for so many events and no allocator.
-pub fn audit_bits_into(shape: &Shape, events: &[Event], seen: &mut [Seen]) -> Verdict
-    ensures verdict { IsVerdict shape.now events.now result }
-    ensures seen { AreSeen events.now (sound_count events.now result) seen.old seen.new }
+pub fn audit_bits_into(
+    shape: &Shape,
+    events: &[Event],
+    seen: &mut [Seen],
+) -> (Verdict, Option<Reason>)
+    ensures verdict { IsVerdict shape.now events.now result.0 }
+    ensures why { TellsWhy shape.now events.now result.0 result.1 }
+    ensures seen { AreSeen events.now (sound_count events.now result.0) seen.old seen.new }
 {
     let mut marks = Marks::new();
     for (place, event) in events.iter().enumerate() {
         if let Some(kind) = fault_of(shape, &marks, *event) {
-            return Verdict::Fault { place, kind };
+            let why = reason_by(shape, &marks, &events[..place], *event);
+            return (Verdict::Fault { place, kind }, why);
         }
         tell(seen, place, see(&mut marks, *event));
     }
-    Verdict::Lawful
+    (Verdict::Lawful, None)
 }

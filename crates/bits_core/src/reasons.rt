@@ -134,6 +134,25 @@ fn answer_reason(shape: &Shape, marks: &Marks, past: &[Event], event: Event) -> 
     })
 }
 
+// Why the event may not follow these, whose marks these are.
+pub fn reason_by(shape: &Shape, marks: &Marks, past: &[Event], event: Event) -> Option<Reason>
+    requires marks { AreMarks shape.now past.now marks.now }
+    ensures none { result ≡ None → MayFollow shape.now past.now event }
+    ensures reason { IfSome result (λ reason. (¬ MayFollow shape.now past.now event) ×
+        IsReasonBehind shape.now past.now event reason) }
+{
+    if !is_by_right_side(shape, event) {
+        return Some(side_reason(shape, event));
+    }
+    if !is_in_turn(marks, event) {
+        return turn_reason(shape, marks, past, event);
+    }
+    if is_permitted(marks, event) {
+        return None;
+    }
+    answer_reason(shape, marks, past, event)
+}
+
 /// Why the event may not follow these, said so that it can be looked up in them. `None` where it may follow, or where
 /// these are not lawful.
 ///
@@ -147,14 +166,5 @@ pub fn reason_behind(shape: &Shape, past: &[Event], event: Event) -> Option<Reas
         IsReasonBehind shape.now past.now event reason) }
 {
     let marks = marks_of(shape, past)?;
-    if !is_by_right_side(shape, event) {
-        return Some(side_reason(shape, event));
-    }
-    if !is_in_turn(&marks, event) {
-        return turn_reason(shape, &marks, past, event);
-    }
-    if is_permitted(&marks, event) {
-        return None;
-    }
-    answer_reason(shape, &marks, past, event)
+    reason_by(shape, &marks, past, event)
 }

@@ -64,33 +64,11 @@ impl Model for PutReader {
 
     ghost Value = { PutReading };
 
-    ghost view = { λ r. record {
-      shape = r.shape;
-      count = r.count;
-      next = r.next;
-      cell = r.cell;
-      stage = r.stage;
-      scan = r.scan;
-      word = r.word;
-      room = r.room;
-      some = r.some;
-      row = r.row;
-      open_access = r.open_access;
-    } };
+    ghost use Rattle.ring_audit.specs.Insides.{put_reading_of};
 
-    ghost invariant = { λ r. IsPutReading (record {
-      shape = r.shape;
-      count = r.count;
-      next = r.next;
-      cell = r.cell;
-      stage = r.stage;
-      scan = r.scan;
-      word = r.word;
-      room = r.room;
-      some = r.some;
-      row = r.row;
-      open_access = r.open_access;
-    }) };
+    ghost view = { put_reading_of };
+
+    ghost invariant = { λ r. IsPutReading (put_reading_of r) };
 }
 
 // By hand, as a derived one clones each field, which costs the proof ten times as much.

@@ -1,5 +1,5 @@
 -- The programs of small runs, access by access: one cell, modulus 3, items of one digit.
-use Rattle.std.proofs.Common.{◌≡◌, true, false, [], ◌∷◌, ◌++◌, refl, arith}
+use Rattle.std.proofs.Common.{◌≡◌, ℕ, ◌+◌, ◌<◌, ◌≤◌, true, false, [], ◌∷◌, ◌++◌, refl, arith}
 use Rattle.bits_core.specs.declared.events.Side.TheVariants.{C}
 use Rattle.bits_core.specs.declared.events.Bit.TheVariants.{S, R, X, Cell}
 use Rattle.bits_core.specs.declared.shapes.Shape.{Shape}
@@ -12,26 +12,30 @@ use Rattle.ring_core.specs.Items.{items_put, items_taken, IsTold}
 use Rattle.ring_core.specs.CallsAt.{IsPutAt, IsTakeAt, IsPartAt, puts_ended, takes_begun}
 use Rattle.ring_core.proofs.Cells.ItemPlaces.{StoresItem, TakesItem}
 
--- one cell, modulus 3, items of one digit
-unfoldable pub one_cell : Shape
-one_cell = record {
-  capacity = 1;
-  modulus = 3;
+-- items of one digit, and takes of one item
+abbrev pub narrow : (capacity modulus batch : ℕ) → (1 ≤ capacity) × (capacity ≤ 64) × (1 ≤ batch) × (batch ≤ capacity) × (capacity + batch < modulus) × (modulus ≤ 256) → Shape
+narrow capacity modulus batch (cells, few, some, fits, room, small) = record {
+  capacity = capacity;
+  modulus = modulus;
   width = 1;
-  batch = 1;
+  batch = batch;
   take_batch = 1;
-  has_cells = omega arith;
-  few_cells = omega arith;
-  room_to_count = omega arith;
-  room_to_take = omega arith;
-  small_modulus = omega arith;
+  has_cells = omega (arith, cells);
+  few_cells = omega (arith, few);
+  room_to_count = omega (arith, room);
+  room_to_take = omega (arith, some, room);
+  small_modulus = omega (arith, small);
   has_digits = omega arith;
   few_digits = omega arith;
-  has_batch = omega arith;
-  small_batch = omega arith;
+  has_batch = omega (arith, some);
+  small_batch = omega (arith, fits);
   has_take_batch = omega arith;
-  small_take_batch = omega arith;
+  small_take_batch = omega (arith, cells);
 }
+
+-- one cell, modulus 3
+unfoldable pub one_cell : Shape
+one_cell = narrow 1 3 1 (omega arith, omega arith, omega arith, omega arith, omega arith, omega arith)
 
 -- ---- an item goes through: 8 events of the producer and 10 of the consumer
 
@@ -121,24 +125,7 @@ second_scan-told = ((λ (tells, all). omega (arith, all)), (record {}, omega ari
 -- ---- a batch of three items under one count write: three cells, modulus 7
 
 unfoldable pub three_cells : Shape
-three_cells = record {
-  capacity = 3;
-  modulus = 7;
-  width = 1;
-  batch = 3;
-  take_batch = 1;
-  has_cells = omega arith;
-  few_cells = omega arith;
-  room_to_count = omega arith;
-  room_to_take = omega arith;
-  small_modulus = omega arith;
-  has_digits = omega arith;
-  few_digits = omega arith;
-  has_batch = omega arith;
-  small_batch = omega arith;
-  has_take_batch = omega arith;
-  small_take_batch = omega arith;
-}
+three_cells = narrow 3 7 3 (omega arith, omega arith, omega arith, omega arith, omega arith, omega arith)
 
 abbrev pub three_at_once : Puts
 three_at_once = record { puts = Stored 0 (1 ∷ 0 ∷ 1 ∷ []) ∷ []; closes = false }

@@ -20,7 +20,7 @@ use Rattle.ring_core.specs.Counts.{distance, Count, first_count, number_past}
 use Rattle.ring_core.specs.Takes.{Take, Item, ItemAfterClose, Empty, End, Open, Closed, Takes, taken_count, words_read, take_phrases, take_program, SeesItems, SeesNone, AreTakes}
 use Rattle.ring_core.specs.Items.{taken_of}
 use Rattle.ring_core.specs.Calls.{LastBitIsDue}
-use Rattle.ring_core.specs.ConsumerState.{ConsumerState, is_taking}
+use Rattle.ring_core.specs.ConsumerState.{ConsumerState, due_take, is_taking}
 
 -- no calls
 abbrev pub no_takes : Takes
@@ -226,3 +226,12 @@ IsAfterTake shape wanted true false calls more = HasTakeMore shape wanted calls 
 -- once the due access was made, the consumer stands after the accesses made, with the same calls or one more
 abbrev pub ConsumerHasMoved : ConsumerState → ConsumerState → Takes → List Made → Type 0
 ConsumerHasMoved old new calls made = (more : Takes) × ConsumerStands new more made × IsAfterTake old.shape old.wanted (is_taking old) (is_taking new) calls more
+
+-- whatever calls the accesses made were of, they are of these yet
+abbrev pub ConsumerStays : ConsumerState → ConsumerState → Type 0
+ConsumerStays old new = (calls : Takes) (made : List Made) → ConsumerStands old calls made → ConsumerStands new calls made
+
+-- the due access was made and answered so
+abbrev pub ConsumerMoves : ConsumerState → (answer : Bool) → ConsumerState → Type 0
+ConsumerMoves old answer new =
+    (calls : Takes) (made : List Made) (access : Access) → ConsumerStands old calls made → due_take old ≡ Some access → ConsumerHasMoved old new calls (made ++ answered access answer ∷ [])

@@ -16,6 +16,7 @@ pub mod ProducerState
 pub mod ProducerCalls
 pub mod ConsumerState
 pub mod ConsumerCalls
+pub mod Insides
 pub mod GoingOn
 pub mod Ranges
 pub mod RingLaw

@@ -18,7 +18,7 @@ use Rattle.ring_core.specs.Puts as puts
 use Rattle.ring_core.specs.Puts.{Puts, Stored, Full, stored_count, put_values, words_phrase, put_phrases, put_program, ArePuts}
 use Rattle.ring_core.specs.Calls.{LastBitIsDue}
 use Rattle.ring_core.specs.Lengths.{longest_put, longest_batch}
-use Rattle.ring_core.specs.ProducerState.{ProducerState, Call, Put, Close, call_of}
+use Rattle.ring_core.specs.ProducerState.{ProducerState, Call, Put, Close, call_of, due_put}
 pub use Rattle.ring_core.specs.Puts.{room_in, IsPutOf}
 
 -- no calls
@@ -175,3 +175,12 @@ IsAfterCall shape (Some c) None calls more answer = HasCallMore shape c calls mo
 -- once the due access was made, the producer stands after the accesses made, with the same calls or one more
 abbrev pub ProducerHasMoved : ProducerState → ProducerState → Puts → List Made → Type 0
 ProducerHasMoved old new calls made = (more : Puts) × ProducerStands new more made × IsAfterCall old.shape (call_of old) (call_of new) calls more new.reply
+
+-- whatever calls the accesses made were of, they are of these yet
+abbrev pub ProducerStays : ProducerState → ProducerState → Type 0
+ProducerStays old new = (calls : Puts) (made : List Made) → ProducerStands old calls made → ProducerStands new calls made
+
+-- the due access was made and answered so
+abbrev pub ProducerMoves : ProducerState → (answer : Bool) → ProducerState → Type 0
+ProducerMoves old answer new =
+    (calls : Puts) (made : List Made) (access : Access) → ProducerStands old calls made → due_put old ≡ Some access → ProducerHasMoved old new calls (made ++ answered access answer ∷ [])

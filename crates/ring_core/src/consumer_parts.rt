@@ -45,7 +45,7 @@ impl TakeScan {
     ghost use Rattle.ring_core.specs.ConsumerState.{due_take, is_taking};
     ghost use Rattle.register_core.specs.ScanState.{scan_read};
     ghost use Rattle.bits_core.specs.Shape.{modulus_of};
-    ghost use Rattle.ring_core.specs.ConsumerCalls.{ConsumerStands, TakeGoesOn, ConsumerHasMoved};
+    ghost use Rattle.ring_core.specs.ConsumerCalls.{ConsumerStands, TakeGoesOn, ConsumerMoves};
 
     /// The read that is due, as [`Consumer::next`] tells it.
     #[inline(always)]
@@ -81,9 +81,7 @@ impl TakeScan {
     pub fn zero(&mut self)
         requires not_last { LastBitIsDue self.old.shape C (due_take self.old) → false ≡ true }
         ensures state { self.new ≡ record self.old { scan = scan_read self.old.scan false } }
-        ensures stands { (calls : Takes) (made : List Made) (access : Access) → ConsumerStands self.old calls made →
-            due_take self.old ≡ Some access →
-            ConsumerHasMoved self.old self.new calls (made ++ answered access false ∷ []) }
+        ensures stands { ConsumerMoves self.old false self.new }
     {
         self.scan.feed(false);
     }
@@ -119,7 +117,7 @@ impl TakeWord {
     ghost use Rattle.ring_core.specs.Lengths.{longest_taking};
     ghost use Rattle.ring_core.specs.ConsumerState.{due_take, is_taking};
     ghost use Rattle.register_core.specs.WordState.{read_digit};
-    ghost use Rattle.ring_core.specs.ConsumerCalls.{ConsumerStands, TakeGoesOn, ConsumerHasMoved};
+    ghost use Rattle.ring_core.specs.ConsumerCalls.{ConsumerStands, TakeGoesOn, ConsumerMoves};
 
     /// The read that is due, as [`Consumer::next`] tells it.
     #[inline(always)]
@@ -154,9 +152,7 @@ impl TakeWord {
     pub fn feed(&mut self, answer: bool)
         requires not_last { suc self.old.word.read ≢ self.old.word.width }
         ensures state { self.new ≡ record self.old { word = read_digit self.old.word answer } }
-        ensures stands { (calls : Takes) (made : List Made) (access : Access) → ConsumerStands self.old calls made →
-            due_take self.old ≡ Some access →
-            ConsumerHasMoved self.old self.new calls (made ++ answered access answer ∷ []) }
+        ensures stands { ConsumerMoves self.old answer self.new }
     {
         self.word.feed(answer);
     }

@@ -48,40 +48,16 @@ pub struct Consumer {
 }
 
 impl Model for Consumer {
-    ghost use Rattle.std.specs.Prelude.{◌≤◌, take};
+    ghost use Rattle.std.specs.Prelude.{◌≤◌};
     ghost use Rattle.ring_core.specs.ConsumerState.{ConsumerState, IsConsumer};
 
     ghost Value = { ConsumerState };
 
-    ghost view = { λ p. record {
-      shape = p.shape;
-      count = p.count;
-      cell = p.cell;
-      stage = p.stage;
-      scan = p.scan;
-      word = p.word;
-      row = p.row;
-      told = p.told;
-      items = take p.taken p.items;
-      wanted = p.wanted;
-      most = p.most;
-      reply = p.reply;
-    } };
+    ghost use Rattle.ring_core.specs.Insides.{consumer_of};
 
-    ghost invariant = { λ p. IsConsumer (record {
-      shape = p.shape;
-      count = p.count;
-      cell = p.cell;
-      stage = p.stage;
-      scan = p.scan;
-      word = p.word;
-      row = p.row;
-      told = p.told;
-      items = take p.taken p.items;
-      wanted = p.wanted;
-      most = p.most;
-      reply = p.reply;
-    }) × (p.taken ≤ 64) × (p.wanted ≤ 64) × (p.most ≤ 64) };
+    ghost view = { consumer_of };
+
+    ghost invariant = { λ p. IsConsumer (consumer_of p) × (p.taken ≤ 64) × (p.wanted ≤ 64) × (p.most ≤ 64) };
 }
 
 // By hand, as a derived one clones each field, which costs the proof ten times as much.
@@ -107,7 +83,7 @@ impl Consumer {
     ghost use Rattle.ring_core.specs.Takes.{Takes, take_program};
     ghost use Rattle.ring_core.specs.Lengths.{longest_taking};
     ghost use Rattle.ring_core.specs.ConsumerState.{IsBetweenWords, IsConsumerButScan, IsConsumerButWord, due_take, is_taking};
-    ghost use Rattle.ring_core.specs.ConsumerCalls.{new_consumer, no_takes, ConsumerStands, TakeGoesOn, ConsumerHasMoved, IsReplyToTake, IsBatchReplyToTake, AreItemsOfTake};
+    ghost use Rattle.ring_core.specs.ConsumerCalls.{new_consumer, no_takes, ConsumerStands, TakeGoesOn, ConsumerMoves, ConsumerStays, IsReplyToTake, IsBatchReplyToTake, AreItemsOfTake};
 
     /// The consumer of a ring of this shape that has made no access.
     pub fn new(shape: Shape) -> Self
@@ -138,8 +114,7 @@ impl Consumer {
         ensures shape { self.new.shape ≡ self.old.shape }
         ensures begun { self.old.told ≡ false → (is_taking self.new ≡ true) × (self.new.wanted ≡ 1) }
         ensures refused { self.old.told ≡ true → self.new ≡ record self.old { reply = Some Closed } }
-        ensures stands { (calls : Takes) (made : List Made) → ConsumerStands self.old calls made →
-            ConsumerStands self.new calls made }
+        ensures stands { ConsumerStays self.old self.new }
     {
         self.take_all(1);
     }
@@ -155,8 +130,7 @@ impl Consumer {
         ensures shape { self.new.shape ≡ self.old.shape }
         ensures begun { self.old.told ≡ false → (is_taking self.new ≡ true) × (self.new.wanted ≡ most) }
         ensures refused { self.old.told ≡ true → self.new ≡ record self.old { reply = Some Closed } }
-        ensures stands { (calls : Takes) (made : List Made) → ConsumerStands self.old calls made →
-            ConsumerStands self.new calls made }
+        ensures stands { ConsumerStays self.old self.new }
     {
         if self.told {
             self.reply = Some(TakeReply::Closed);
@@ -207,9 +181,7 @@ impl Consumer {
         ensures shape { self.new.shape ≡ self.old.shape }
         ensures wanted { self.new.wanted ≡ self.old.wanted }
         ensures counting { self.old.stage ≡ Counting → is_taking self.new ≡ true → self.new.stage ≡ Counting }
-        ensures stands { (calls : Takes) (made : List Made) (access : Access) → ConsumerStands self.old calls made →
-            due_take self.old ≡ Some access →
-            ConsumerHasMoved self.old self.new calls (made ++ answered access answer ∷ []) }
+        ensures stands { ConsumerMoves self.old answer self.new }
     {
         match self.stage {
             Stage::Idle => {}
@@ -227,9 +199,7 @@ impl Consumer {
         requires one { LastBitIsDue self.old.shape C (due_take self.old) → answer ≡ true }
         ensures shape { self.new.shape ≡ self.old.shape }
         ensures wanted { self.new.wanted ≡ self.old.wanted }
-        ensures stands { (calls : Takes) (made : List Made) (access : Access) → ConsumerStands self.old calls made →
-            due_take self.old ≡ Some access →
-            ConsumerHasMoved self.old self.new calls (made ++ answered access answer ∷ []) }
+        ensures stands { ConsumerMoves self.old answer self.new }
     {
         self.scan.feed(answer);
         match self.scan.value() {
@@ -251,9 +221,7 @@ impl Consumer {
         requires stage { self.old.stage ≡ Checking }
         ensures shape { self.new.shape ≡ self.old.shape }
         ensures wanted { self.new.wanted ≡ self.old.wanted }
-        ensures stands { (calls : Takes) (made : List Made) (access : Access) → ConsumerStands self.old calls made →
-            due_take self.old ≡ Some access →
-            ConsumerHasMoved self.old self.new calls (made ++ answered access answer ∷ []) }
+        ensures stands { ConsumerMoves self.old answer self.new }
     {
         if answer {
             self.scan = UnaryScan::new(&self.shape, Side::C);
@@ -270,9 +238,7 @@ impl Consumer {
         requires one { LastBitIsDue self.old.shape C (due_take self.old) → answer ≡ true }
         ensures shape { self.new.shape ≡ self.old.shape }
         ensures wanted { self.new.wanted ≡ self.old.wanted }
-        ensures stands { (calls : Takes) (made : List Made) (access : Access) → ConsumerStands self.old calls made →
-            due_take self.old ≡ Some access →
-            ConsumerHasMoved self.old self.new calls (made ++ answered access answer ∷ []) }
+        ensures stands { ConsumerMoves self.old answer self.new }
     {
         self.scan.feed(answer);
         match self.scan.value() {
@@ -297,9 +263,7 @@ impl Consumer {
         requires stage { self.old.stage ≡ Loading }
         ensures shape { self.new.shape ≡ self.old.shape }
         ensures wanted { self.new.wanted ≡ self.old.wanted }
-        ensures stands { (calls : Takes) (made : List Made) (access : Access) → ConsumerStands self.old calls made →
-            due_take self.old ≡ Some access →
-            ConsumerHasMoved self.old self.new calls (made ++ answered access answer ∷ []) }
+        ensures stands { ConsumerMoves self.old answer self.new }
     {
         self.word.feed(answer);
         match self.word.value() {
@@ -327,9 +291,7 @@ impl Consumer {
         ensures counting { is_taking self.new ≡ true → self.new.stage ≡ Counting }
         ensures left { (x : RowWrite) (rest : List RowWrite) → due_writes self.old.row ≡ x ∷ rest →
             due_writes self.new.row ≡ rest }
-        ensures stands { (calls : Takes) (made : List Made) (access : Access) → ConsumerStands self.old calls made →
-            due_take self.old ≡ Some access →
-            ConsumerHasMoved self.old self.new calls (made ++ answered access answer ∷ []) }
+        ensures stands { ConsumerMoves self.old answer self.new }
     {
         self.row.feed(answer);
         if self.row.next().is_none() {
@@ -404,8 +366,7 @@ impl Consumer {
         ensures wanted { self.new.wanted ≡ length self.old.items }
         ensures stage { self.new.stage ≡ Counting }
         ensures due { (i : ℕ) × (v : Bool) × (due_take self.new ≡ Some (Access.Write (R i) v)) }
-        ensures stands { (calls : Takes) (made : List Made) → ConsumerStands self.old calls made →
-            ConsumerStands self.new calls made }
+        ensures stands { ConsumerStays self.old self.new }
     {
         self.row.write(past_in(self.count, self.taken as u64, self.shape.modulus()));
         self.wanted = self.taken;

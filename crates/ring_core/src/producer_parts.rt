@@ -38,7 +38,7 @@ impl Model for PutScan {
 impl PutScan {
     ghost use Rattle.ring_core.specs.Calls.{LastBitIsDue, EndsInZeros};
     ghost use Rattle.ring_core.specs.Puts.{Puts, put_program};
-    ghost use Rattle.ring_core.specs.ProducerCalls.{ProducerStands, PutGoesOn, ProducerHasMoved, longest};
+    ghost use Rattle.ring_core.specs.ProducerCalls.{ProducerStands, PutGoesOn, ProducerMoves, longest};
     ghost use Rattle.ring_core.specs.ProducerState.{Call, due_put, call_of};
     ghost use Rattle.register_core.specs.ScanState.{scan_read};
 
@@ -76,9 +76,7 @@ impl PutScan {
     pub fn zero(&mut self)
         requires not_last { LastBitIsDue self.old.shape P (due_put self.old) → false ≡ true }
         ensures state { self.new ≡ record self.old { scan = scan_read self.old.scan false } }
-        ensures stands { (calls : Puts) (made : List Made) (access : Access) → ProducerStands self.old calls made →
-            due_put self.old ≡ Some access →
-            ProducerHasMoved self.old self.new calls (made ++ answered access false ∷ []) }
+        ensures stands { ProducerMoves self.old false self.new }
     {
         self.scan.feed(false);
     }
@@ -111,7 +109,7 @@ impl Model for PutWord {
 impl PutWord {
     ghost use Rattle.ring_core.specs.Calls.{LastBitIsDue};
     ghost use Rattle.ring_core.specs.Puts.{Puts, put_program};
-    ghost use Rattle.ring_core.specs.ProducerCalls.{ProducerStands, PutGoesOn, ProducerHasMoved, longest};
+    ghost use Rattle.ring_core.specs.ProducerCalls.{ProducerStands, PutGoesOn, ProducerMoves, longest};
     ghost use Rattle.ring_core.specs.ProducerState.{Call, due_put, call_of};
 
     /// The write that is due, as [`Producer::next`] tells it.
@@ -150,9 +148,7 @@ impl PutWord {
           word = record
               self.old.word { written = suc self.old.word.written };
         } }
-        ensures stands { (calls : Puts) (made : List Made) (access : Access) → ProducerStands self.old calls made →
-            due_put self.old ≡ Some access →
-            ProducerHasMoved self.old self.new calls (made ++ answered access answer ∷ []) }
+        ensures stands { ProducerMoves self.old answer self.new }
     {
         self.word.feed(answer);
     }

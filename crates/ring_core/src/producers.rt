@@ -76,42 +76,16 @@ pub struct Producer {
 }
 
 impl Model for Producer {
-    ghost use Rattle.std.specs.Prelude.{◌≤◌, take};
+    ghost use Rattle.std.specs.Prelude.{◌≤◌};
     ghost use Rattle.ring_core.specs.ProducerState.{ProducerState, IsProducer};
 
     ghost Value = { ProducerState };
 
-    ghost view = { λ p. record {
-      shape = p.shape;
-      count = p.count;
-      cell = p.cell;
-      stage = p.stage;
-      scan = p.scan;
-      word = p.word;
-      row = p.row;
-      closed = p.closed;
-      items = take p.offered p.items;
-      most = p.most;
-      index = p.index;
-      batched = p.batched;
-      reply = p.reply;
-    } };
+    ghost use Rattle.ring_core.specs.Insides.{producer_of};
 
-    ghost invariant = { λ p. IsProducer (record {
-      shape = p.shape;
-      count = p.count;
-      cell = p.cell;
-      stage = p.stage;
-      scan = p.scan;
-      word = p.word;
-      row = p.row;
-      closed = p.closed;
-      items = take p.offered p.items;
-      most = p.most;
-      index = p.index;
-      batched = p.batched;
-      reply = p.reply;
-    }) × (p.offered ≤ 64) × (p.most ≤ 64) × (p.index ≤ 64) };
+    ghost view = { producer_of };
+
+    ghost invariant = { λ p. IsProducer (producer_of p) × (p.offered ≤ 64) × (p.most ≤ 64) × (p.index ≤ 64) };
 }
 
 // By hand, as a derived one clones each field, which costs the proof ten times as much.
@@ -136,7 +110,7 @@ impl Producer {
     ghost use Rattle.ring_core.specs.declared.replies.BatchReply.{BatchReply};
     ghost use Rattle.ring_core.specs.declared.replies.BatchReply.TheVariants.{Closed};
     ghost use Rattle.ring_core.specs.Puts.{IsBatch, Puts, put_program};
-    ghost use Rattle.ring_core.specs.ProducerCalls.{new_producer, no_puts, ProducerStands, PutGoesOn, ProducerHasMoved, IsReplyToCall, longest, closes_with};
+    ghost use Rattle.ring_core.specs.ProducerCalls.{new_producer, no_puts, ProducerStands, PutGoesOn, ProducerMoves, ProducerStays, IsReplyToCall, longest, closes_with};
     ghost use Rattle.ring_core.specs.ProducerState.{Call, Put, Close, IsProducerButScan, IsProducerButWord, due_put, call_of, item_reply, put_reply, batch_reply};
 
     /// The producer of a ring of this shape that has made no access.
@@ -172,8 +146,7 @@ impl Producer {
             (self.new.closed ≡ false) }
         ensures kind { self.new.batched ≡ false }
         ensures refused { self.old.closed ≡ true → self.new ≡ record self.old { batched = false; reply = Some Closed } }
-        ensures stands { (calls : Puts) (made : List Made) → ProducerStands self.old calls made →
-            ProducerStands self.new calls made }
+        ensures stands { ProducerStays self.old self.new }
     {
         self.batched = false;
         self.offer(&[item]);
@@ -191,8 +164,7 @@ impl Producer {
             (self.new.closed ≡ false) }
         ensures kind { self.new.batched ≡ true }
         ensures refused { self.old.closed ≡ true → self.new ≡ record self.old { batched = true; reply = Some Closed } }
-        ensures stands { (calls : Puts) (made : List Made) → ProducerStands self.old calls made →
-            ProducerStands self.new calls made }
+        ensures stands { ProducerStays self.old self.new }
     {
         self.batched = true;
         self.offer(items);
@@ -208,8 +180,7 @@ impl Producer {
         ensures begun { self.old.closed ≡ false → (call_of self.new ≡ Some (Put items.now)) ×
             (self.new.closed ≡ false) }
         ensures refused { self.old.closed ≡ true → self.new ≡ record self.old { reply = Some Closed } }
-        ensures stands { (calls : Puts) (made : List Made) → ProducerStands self.old calls made →
-            ProducerStands self.new calls made }
+        ensures stands { ProducerStays self.old self.new }
     {
         if self.closed {
             self.reply = Some(BatchReply::Closed);
@@ -231,8 +202,7 @@ impl Producer {
         ensures shape { self.new.shape ≡ self.old.shape }
         ensures begun { self.old.closed ≡ false → call_of self.new ≡ Some Close }
         ensures again { self.old.closed ≡ true → self.new ≡ record self.old { reply = None } }
-        ensures stands { (calls : Puts) (made : List Made) → ProducerStands self.old calls made →
-            ProducerStands self.new calls made }
+        ensures stands { ProducerStays self.old self.new }
     {
         self.reply = None;
         if !self.closed {
@@ -275,9 +245,7 @@ impl Producer {
         requires one { LastBitIsDue self.old.shape P (due_put self.old) → answer ≡ true }
         ensures shape { self.new.shape ≡ self.old.shape }
         ensures kind { self.new.batched ≡ self.old.batched }
-        ensures stands { (calls : Puts) (made : List Made) (access : Access) → ProducerStands self.old calls made →
-            due_put self.old ≡ Some access →
-            ProducerHasMoved self.old self.new calls (made ++ answered access answer ∷ []) }
+        ensures stands { ProducerMoves self.old answer self.new }
     {
         match self.stage {
             Stage::Idle => {}
@@ -295,9 +263,7 @@ impl Producer {
         requires one { LastBitIsDue self.old.shape P (due_put self.old) → answer ≡ true }
         ensures shape { self.new.shape ≡ self.old.shape }
         ensures kind { self.new.batched ≡ self.old.batched }
-        ensures stands { (calls : Puts) (made : List Made) (access : Access) → ProducerStands self.old calls made →
-            due_put self.old ≡ Some access →
-            ProducerHasMoved self.old self.new calls (made ++ answered access answer ∷ []) }
+        ensures stands { ProducerMoves self.old answer self.new }
     {
         self.scan.feed(answer);
         match self.scan.value() {
@@ -320,9 +286,7 @@ impl Producer {
         requires stage { self.old.stage ≡ Storing }
         ensures shape { self.new.shape ≡ self.old.shape }
         ensures kind { self.new.batched ≡ self.old.batched }
-        ensures stands { (calls : Puts) (made : List Made) (access : Access) → ProducerStands self.old calls made →
-            due_put self.old ≡ Some access →
-            ProducerHasMoved self.old self.new calls (made ++ answered access answer ∷ []) }
+        ensures stands { ProducerMoves self.old answer self.new }
     {
         self.word.feed(answer);
         if self.word.next().is_none() {
@@ -345,9 +309,7 @@ impl Producer {
         ensures kind { self.new.batched ≡ self.old.batched }
         ensures left { (x : RowWrite) (rest : List RowWrite) → due_writes self.old.row ≡ x ∷ rest →
             due_writes self.new.row ≡ rest }
-        ensures stands { (calls : Puts) (made : List Made) (access : Access) → ProducerStands self.old calls made →
-            due_put self.old ≡ Some access →
-            ProducerHasMoved self.old self.new calls (made ++ answered access answer ∷ []) }
+        ensures stands { ProducerMoves self.old answer self.new }
     {
         self.row.feed(answer);
         if self.row.next().is_none() {

@@ -28,7 +28,8 @@ use Rattle.ring_ends.specs.CounterEnds.{TakerList, TakeMade, TakeKept, HasFound,
 use Rattle.ring_seats.proofs.Blocks.{events_of-append}
 use Rattle.ring_seats.proofs.CounterPuts.{past_is}
 use Rattle.ring_ends.proofs.CounterPutterCalls.{counted_on, stands_still}
-use Rattle.ring_seats.proofs.CounterTakes.{take_of, take_of-takes, take_of-items, take_of-replies, reads_same, take_more, whole_take, whole_end, can_scan, can_ask, can_rescan, can_read, can_count, is_take, taken_is}
+use Rattle.ring_core.proofs.Machines.TakeCalls.{take_of, take_of-items, take_of-replies}
+use Rattle.ring_seats.proofs.CounterTakes.{take_of-takes, reads_same, take_more, whole_take, whole_end, can_scan, can_ask, can_rescan, can_read, can_count, is_take, taken_is}
 use Rattle.ring_seats.proofs.CounterSteps.{same_shape, same_end, stands_as}
 
 -- ---- a take that is over

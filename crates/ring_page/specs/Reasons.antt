@@ -1,8 +1,6 @@
 -- Why an answer was not permitted.
-use Rattle.std.specs.Prelude.{◌≡◌, ℕ, suc, ◌<◌, Option, Some, None, List, take, slice_get}
-use Rattle.bits_core.specs.Lawful.{IsLawful}
+use Rattle.std.specs.Prelude.{◌≡◌, ℕ, suc, Option, Some, None, List, take, slice_get}
 use Rattle.bits_core.specs.Reasons.{IsReasonBehind}
-use Rattle.bits_core.specs.Steps.{MayFollow}
 use Rattle.bits_core.specs.declared.audits.Verdict.{Verdict}
 use Rattle.bits_core.specs.declared.audits.Verdict.TheVariants.{Lawful, Fault}
 use Rattle.bits_core.specs.declared.events.Event.{Event}
@@ -25,18 +23,8 @@ since_in (Some (StillOpen access begun)) = 0
 since_in (Some NothingOpen) = 0
 since_in (Some (Held value since begun)) = behind since
 
--- this is why the event may not follow lawful ones, and it is none only where it may
-abbrev pub IsReasonOf : Shape → List Event → Event → Option Reason → Type 0
-IsReasonOf shape past e None = IsLawful shape past → MayFollow shape past e
-IsReasonOf shape past e (Some reason) = IsReasonBehind shape past e reason
-
 -- since when the bit held what it had to be, where a verdict tells a fault; 0 of a lawful history
 abbrev pub TellsSince : Shape → List Event → Verdict → ℕ → Type 0
 TellsSince shape h Lawful since = since ≡ 0
 TellsSince shape h (Fault place kind) since =
-    (e : Event) → slice_get h place ≡ Some e → (reason : Option Reason) × IsReasonOf shape (take place h) e reason × (since ≡ since_in reason)
-
--- a fault is at one of so many events
-abbrev pub FaultIsWithin : ℕ → Verdict → Type 0
-FaultIsWithin count Lawful = Unit {0}
-FaultIsWithin count (Fault place kind) = place < count
+    (e : Event) → slice_get h place ≡ Some e → (reason : Reason) × IsReasonBehind shape (take place h) e reason × (since ≡ since_in (Some reason))

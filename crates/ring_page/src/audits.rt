@@ -113,9 +113,9 @@ fn audited(
     match read_trace_into(text, events) {
         Ok((shape, count)) => {
             let read = &events[..count];
-            let verdict = audit_bits_into(&shape, read, seen);
+            let (verdict, why) = audit_bits_into(&shape, read, seen);
             put_marks(read, seen, marks);
-            let since = since_when(&shape, read, verdict);
+            let since = since_when(why);
             let programs = tell_programs(&shape, read, put, taken);
             told_verdict(verdict, &shape, count, since, programs)
         }

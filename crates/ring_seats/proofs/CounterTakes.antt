@@ -19,6 +19,7 @@ use Rattle.ring_core.specs.Takes.{Take, Item, ItemAfterClose, Empty, End, Open, 
 use Rattle.ring_core.specs.Items.{taken_of}
 use Rattle.ring_core.specs.ConsumerCalls.{count_taken, and_take, and_end, items_reply, take_reply_to, IsTakeOf, Finding, Once, Twice, finding_phrase, Finds}
 use Rattle.ring_core.specs.OneCallMore.{HasOneTakeMore, HasEndMore}
+use Rattle.ring_core.proofs.Machines.TakeCalls.{take_of, take_of-is, take_of-phrase}
 use Rattle.ring_seats.proofs.Below.{LawsBelow}
 use Rattle.ring_seats.specs.Programs.{Follows}
 use Rattle.ring_seats.specs.Calls.{HasTakes}
@@ -27,33 +28,10 @@ use Rattle.ring_seats.proofs.Blocks.{after, left_by-made}
 use Rattle.ring_seats.proofs.LastWrites.{Spares, spares-append, row_written, row_tells}
 use Rattle.ring_seats.proofs.CounterPuts.{RowIs, begins, counted, makes, scan_spares, first_row, row_spared, row_both}
 
--- ---- a take that found items
-
-abbrev pub take_of : Finding → List ℕ → Take
-take_of (Once seen) items = Item seen items
-take_of (Twice seen again) items = ItemAfterClose seen again items
-
-pub take_of-is :
-    (shape : Shape) (k wanted : ℕ) (look : Finding) (items : List ℕ) → Finds shape k wanted look (length items) → IsTakeBatch shape items →
-    IsTake shape k (take_of look items) × IsTakeOf shape k wanted (take_of look items)
-take_of-is shape k wanted (Once seen) items (sees, all) batch = ((sees, batch), all)
-take_of-is shape k wanted (Twice seen again) items (none, sees, all) batch = ((none, sees, batch), all)
-
+-- the items taken behind a take that found items
 pub take_of-takes : (k : ℕ) (look : Finding) (items : List ℕ) → taken_after k (take_of look items) ≡ number_past k items
 take_of-takes k (Once seen) items = refl
 take_of-takes k (Twice seen again) items = refl
-
-pub take_of-items : (look : Finding) (items : List ℕ) → taken_of (take_of look items) ≡ items
-take_of-items (Once seen) items = refl
-take_of-items (Twice seen again) items = refl
-
-pub take_of-replies : (look : Finding) (items : List ℕ) → take_reply_to (take_of look items) ≡ items_reply items
-take_of-replies (Once seen) items = refl
-take_of-replies (Twice seen again) items = refl
-
-take_of-phrase : (shape : Shape) (c : Count) (look : Finding) (items : List ℕ) → take_phrase shape c (take_of look items) ≡ finding_phrase look ++ items_phrase shape c items
-take_of-phrase shape c (Once seen) items = refl
-take_of-phrase shape c (Twice seen again) items = refl
 
 -- ---- the words of several items
 

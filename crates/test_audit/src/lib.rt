@@ -2,14 +2,4 @@
 #![tactic(auto)]
 
 #[cfg(test)]
-mod dues;
-#[cfg(test)]
-mod expects;
-#[cfg(test)]
-mod growths;
-#[cfg(test)]
-mod plays;
-#[cfg(test)]
-mod slots;
-#[cfg(test)]
-mod traces;
+mod tests;

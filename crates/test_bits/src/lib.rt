@@ -2,14 +2,4 @@
 #![tactic(auto)]
 
 #[cfg(test)]
-mod audits;
-#[cfg(test)]
-mod memories;
-#[cfg(test)]
-mod shapes;
-#[cfg(test)]
-mod stores;
-#[cfg(test)]
-mod trace_audits;
-#[cfg(test)]
-mod traces;
+mod tests;

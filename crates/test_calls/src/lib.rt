@@ -2,14 +2,4 @@
 #![tactic(auto)]
 
 #[cfg(test)]
-mod first_cases;
-#[cfg(test)]
-mod growths;
-#[cfg(test)]
-mod histories;
-#[cfg(test)]
-mod more_cases;
-#[cfg(test)]
-mod recordings;
-#[cfg(test)]
-mod slots;
+mod tests;

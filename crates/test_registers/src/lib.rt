@@ -2,8 +2,4 @@
 #![tactic(auto)]
 
 #[cfg(test)]
-mod driving;
-#[cfg(test)]
-mod machines;
-#[cfg(test)]
-mod memories;
+mod tests;

@@ -2,14 +2,4 @@
 #![tactic(auto)]
 
 #[cfg(test)]
-mod batches;
-#[cfg(test)]
-mod calls;
-#[cfg(test)]
-mod counts;
-#[cfg(test)]
-mod handing;
-#[cfg(test)]
-mod near_misses;
-#[cfg(test)]
-mod runs;
+mod tests;

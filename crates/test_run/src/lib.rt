@@ -3,30 +3,4 @@
 #![tactic(auto)]
 
 #[cfg(test)]
-mod both_sides;
-#[cfg(test)]
-mod calls;
-#[cfg(test)]
-mod expects;
-#[cfg(test)]
-mod gates;
-#[cfg(test)]
-mod growths;
-#[cfg(test)]
-mod limits;
-#[cfg(test)]
-mod observed;
-#[cfg(test)]
-mod oracles;
-#[cfg(test)]
-mod recordings;
-#[cfg(test)]
-mod relay_growths;
-#[cfg(test)]
-mod room;
-#[cfg(test)]
-mod scripts;
-#[cfg(test)]
-mod steps;
-#[cfg(test)]
-mod stops;
+mod tests;

@@ -2,8 +2,4 @@
 #![tactic(auto)]
 
 #[cfg(test)]
-mod histories;
-#[cfg(test)]
-mod machines;
-#[cfg(test)]
-mod rings;
+mod tests;

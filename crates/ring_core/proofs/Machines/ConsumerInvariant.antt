@@ -57,26 +57,28 @@ pub rescan_keeps :
     s ≡ scan_read p.scan answer → s.found ≡ false → IsConsumer (record p { scan = s })
 rescan_keeps p s answer is e = still_scans p Rescanning s answer is e refl (at_stage p Rescanning is e) (λ at. at)
 
+-- a word that is read
+loads_so :
+    (p : ConsumerState) (w : ReaderState) (items : List ℕ) → IsConsumer p → p.stage ≡ Loading → length items < p.most →
+    w.width ≡ width_of p.shape → w.cell ≡ (p.cell + length items) % capacity_of p.shape → w.read < w.width → IsConsumer (record p { word = w; items = items })
+loads_so p w items is e more width cell unread =
+    let (counted, taking, loads, less, few, rest) = at_stage p Loading is e in
+    record {
+      count_below = is.count_below;
+      cell_below = is.cell_below;
+      row_side = is.row_side;
+      row_modulus = is.row_modulus;
+      at = subst (λ st. ConsumerIsAt st (record p { stage = st; word = w; items = items })) (sym e)
+          (counted, same_taking p Loading p.scan w p.row items p.most taking, record { width_is = width; cell_is = cell }, more, few, unread);
+    }
+
 -- a word read that goes on
 pub word_stays :
     (p : ConsumerState) (w : ReaderState) (answer : Bool) → IsConsumer p → p.stage ≡ Loading → w ≡ read_digit p.word answer → w.read < w.width →
     IsConsumer (record p { word = w })
 word_stays p w answer is e fed more =
     let (counted, taking, loads, less, few, unread) = at_stage p Loading is e in
-    record {
-      count_below = is.count_below;
-      cell_below = is.cell_below;
-      row_side = is.row_side;
-      row_modulus = is.row_modulus;
-      at = subst (λ st. ConsumerIsAt st (record p { stage = st; word = w })) (sym e) (
-        counted,
-        same_taking p Loading p.scan w p.row p.items p.most taking,
-        record { width_is = ap (λ (x : ReaderState). x.width) fed ∙ loads.width_is; cell_is = ap (λ (x : ReaderState). x.cell) fed ∙ loads.cell_is },
-        less,
-        few,
-        more,
-      );
-    }
+    loads_so p w p.items is e less (ap (λ (x : ReaderState). x.width) fed ∙ loads.width_is) (ap (λ (x : ReaderState). x.cell) fed ∙ loads.cell_is) more
 
 -- the next word
 pub next_keeps :
@@ -84,21 +86,8 @@ pub next_keeps :
     w ≡ record { width = width_of p.shape; cell = (p.cell + length items) % capacity_of p.shape; read = 0; value = 0 } →
     IsConsumer (record p { word = w; items = items })
 next_keeps p w items is e more w_is =
-    let (counted, taking, loads, less, few, unread) = at_stage p Loading is e in
-    record {
-      count_below = is.count_below;
-      cell_below = is.cell_below;
-      row_side = is.row_side;
-      row_modulus = is.row_modulus;
-      at = subst (λ st. ConsumerIsAt st (record p { stage = st; word = w; items = items })) (sym e) (
-        counted,
-        same_taking p Loading p.scan w p.row items p.most taking,
-        record { width_is = ap (λ (x : ReaderState). x.width) w_is; cell_is = ap (λ (x : ReaderState). x.cell) w_is },
-        more,
-        few,
-        omega (arith, ap (λ (x : ReaderState). x.read) w_is, ap (λ (x : ReaderState). x.width) w_is, p.shape.has_digits),
-      );
-    }
+    loads_so p w items is e more (ap (λ (x : ReaderState). x.width) w_is) (ap (λ (x : ReaderState). x.cell) w_is)
+        (omega (arith, ap (λ (x : ReaderState). x.read) w_is, ap (λ (x : ReaderState). x.width) w_is, p.shape.has_digits))
 
 -- the last of the items is kept
 pub kept_size :

@@ -47,24 +47,29 @@ scan_keeps p s answer is e one fed open_still =
           (counted, same_putting p Scanning s p.word p.row p.most putting refl refl refl, fresh, start, scanning p.shape P p.scan s answer scans one' fed open_still);
     }
 
+-- a word that is written
+stores_so :
+    (p : ProducerState) (w : WriterState) (index : ℕ) → IsProducer p → p.stage ≡ Storing → IsPutting (record p { stage = Storing; word = w; index = index }) → index < p.most →
+    w.written < w.width → IsProducer (record p { word = w; index = index })
+stores_so p w index is e putting less more =
+    let (counted, was, keeping, unwritten) = at_stage p Storing is e in
+    record {
+      count_below = is.count_below;
+      cell_below = is.cell_below;
+      row_side = is.row_side;
+      row_modulus = is.row_modulus;
+      at = subst (λ st. ProducerIsAt st (record p { stage = st; word = w; index = index })) (sym e) (counted, putting, (less, keeping.1), more);
+    }
+
 -- a word write that goes on
 pub word_stays :
     (p : ProducerState) (w : WriterState) → IsProducer p → p.stage ≡ Storing → w ≡ record p.word { written = suc p.word.written } →
     w.written < w.width → IsProducer (record p { word = w })
 word_stays p w is e fed more =
     let (counted, putting, keeping, less) = at_stage p Storing is e in
-    record {
-      count_below = is.count_below;
-      cell_below = is.cell_below;
-      row_side = is.row_side;
-      row_modulus = is.row_modulus;
-      at = subst (λ st. ProducerIsAt st (record p { stage = st; word = w })) (sym e) (
-        counted,
-        same_putting p Storing p.scan w p.row p.most putting (ap (λ (x : WriterState). x.width) fed) (ap (λ (x : WriterState). x.cell) fed) (ap (λ (x : WriterState). x.item) fed),
-        keeping,
-        more,
-      );
-    }
+    stores_so p w p.index is e
+        (same_putting p Storing p.scan w p.row p.most putting (ap (λ (x : WriterState). x.width) fed) (ap (λ (x : WriterState). x.cell) fed) (ap (λ (x : WriterState). x.item) fed))
+        keeping.0 more
 
 -- the next word
 pub next_keeps :
@@ -73,27 +78,18 @@ pub next_keeps :
     w ≡ record { width = width_of p.shape; cell = cell; item = item; written = 0 } → IsProducer (record p { word = w; index = suc p.index })
 next_keeps p w cell item is e more cell_is item_is w_is =
     let (counted, putting, keeping, less) = at_stage p Storing is e in
+    let begins : IsPutting (record p { stage = Storing; word = w; index = suc p.index }) =
     record {
-      count_below = is.count_below;
-      cell_below = is.cell_below;
-      row_side = is.row_side;
-      row_modulus = is.row_modulus;
-      at = subst (λ st. ProducerIsAt st (record p { stage = st; word = w; index = suc p.index })) (sym e) (
-        counted,
-        record {
-          not_closed = putting.not_closed;
-          not_answered = putting.not_answered;
-          offers = putting.offers;
-          writes = record {
-            width_is = ap (λ (x : WriterState). x.width) w_is;
-            cell_is = ap (λ (x : WriterState). x.cell) w_is ∙ cell_is;
-            item_is = item_is ∙ ap Some (sym (ap (λ (x : WriterState). x.item) w_is));
-          };
-        },
-        (more, keeping.1),
-        omega (arith, ap (λ (x : WriterState). x.written) w_is, ap (λ (x : WriterState). x.width) w_is, p.shape.has_digits),
-      );
-    }
+      not_closed = putting.not_closed;
+      not_answered = putting.not_answered;
+      offers = putting.offers;
+      writes = record {
+        width_is = ap (λ (x : WriterState). x.width) w_is;
+        cell_is = ap (λ (x : WriterState). x.cell) w_is ∙ cell_is;
+        item_is = item_is ∙ ap Some (sym (ap (λ (x : WriterState). x.item) w_is));
+      };
+    } in
+    stores_so p w (suc p.index) is e begins more (omega (arith, ap (λ (x : WriterState). x.written) w_is, ap (λ (x : WriterState). x.width) w_is, p.shape.has_digits))
 
 pub next_so :
     (p : ProducerState) (w : WriterState) (cell item i : ℕ) → i ≡ suc p.index → IsProducer p → p.stage ≡ Storing → i < p.most →

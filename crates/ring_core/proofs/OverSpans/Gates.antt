@@ -112,6 +112,33 @@ read_of modulus own other ho hw most most' scans writes ps pw regular t s n x px
       tallies = law.tallies;
     }
 
+-- what it has read, between these bounds
+pub record Reads (modulus : ℕ) (own other : ℕ → ℕ) (writes : List Span) (Low High : ℕ → Type 0) (t s : ℕ) (x : Span) : Type 0 where
+  pub number : ℕ
+  pub value : x.seen ≡ number % modulus
+  pub low : Low number
+  pub high : High number
+  pub now : number ≤ counts_begun writes (other t)
+  pub since : (first : ℕ) → IsPlace own s first → counts_ended writes (other first) ≤ number
+  pub until : (last : ℕ) → IsPlace own (s + (x.scan - 1)) last → number ≤ counts_begun writes (other last)
+  pub write : ℕ
+  pub tallies : number ≡ tally (sizes writes) write
+
+reads_so :
+    (modulus : ℕ) (own other : ℕ → ℕ) → Clock own → (scans writes : List Span) (Low High : ℕ → Type 0) (t s n : ℕ) (x : Span) → (r : Read modulus own other scans writes t s n x) →
+    Low r.number → High r.number → Reads modulus own other writes Low High t s x
+reads_so modulus own other ho scans writes Low High t s n x r low high = record {
+  number = r.number;
+  value = r.value;
+  low = low;
+  high = high;
+  now = omega (arith, r.not_newer, r.still);
+  since = λ first is. rw (place_unique own ho s first r.first is r.first_is) r.not_older;
+  until = λ last is. rw (place_unique own ho (s + (x.scan - 1)) last r.last is r.last_is) r.not_newer;
+  write = r.write;
+  tallies = r.tallies;
+}
+
 -- each span that stands is proper
 pub proper_at : (most : ℕ) (xs : List Span) → AllProper most xs → (s n : ℕ) (x : Span) → IsSpanAt xs s n x → Proper most x
 proper_at most [] h s n x st = elim st [ ]
@@ -131,16 +158,8 @@ module _ (modulus capacity batch more word : ℕ) (p c : ℕ → ℕ) (puts take
   Within t = (counts_begun takes (c t) ≤ counts_begun puts (p t)) × (counts_begun puts (p t) ≤ counts_begun takes (c t) + capacity)
 
   -- what a scan of the consumer reads
-  pub record Shown (t s k : ℕ) (x : Span) : Type 0 where
-    pub number : ℕ
-    pub value : x.seen ≡ number % modulus
-    pub low : k ≤ number + batch
-    pub high : number ≤ k + capacity
-    pub now : number ≤ counts_begun puts (p t)
-    pub since : (first : ℕ) → IsPlace c s first → counts_ended puts (p first) ≤ number
-    pub until : (last : ℕ) → IsPlace c (s + (x.scan - 1)) last → number ≤ counts_begun puts (p last)
-    pub write : ℕ
-    pub tallies : number ≡ tally (sizes puts) write
+  abbrev pub Shown : (t s k : ℕ) → Span → Type 0
+  Shown t s k x = Reads modulus c p puts (λ number. k ≤ number + batch) (λ number. number ≤ k + capacity) t s x
 
   -- each scan of the consumer that has ended has read so, where the counts were right up to now
   shown : (t : ℕ) → ((u : ℕ) → u ≤ t → Within u) → (s k : ℕ) (x : Span) → IsSpanAt takes s k x → s + x.scan ≤ c t → Shown t s k x
@@ -149,29 +168,11 @@ module _ (modulus capacity batch more word : ℕ) (p c : ℕ → ℕ) (puts take
       let a = within r.first (omega (arith, r.in_order, r.by_now)) in
       let z = within r.last r.by_now in
       let o = ended_begun batch puts proper_puts (p r.first) in
-      record {
-        number = r.number;
-        value = r.value;
-        low = omega (arith, a, o, r.at_first, r.not_older);
-        high = omega (arith, z, r.at_last, r.not_newer);
-        now = omega (arith, r.not_newer, r.still);
-        since = λ first is. rw (place_unique c hc s first r.first is r.first_is) r.not_older;
-        until = λ last is. rw (place_unique c hc (s + (x.scan - 1)) last r.last is r.last_is) r.not_newer;
-        write = r.write;
-        tallies = r.tallies;
-      }
+      reads_so modulus c p hc takes puts _ _ t s k x r (omega (arith, a, o, r.at_first, r.not_older)) (omega (arith, z, r.at_last, r.not_newer))
 
   -- what a scan of the producer reads
-  pub record Left (t s n : ℕ) (x : Span) : Type 0 where
-    pub number : ℕ
-    pub value : x.seen ≡ number % modulus
-    pub low : n ≤ number + capacity + more
-    pub high : number ≤ n
-    pub now : number ≤ counts_begun takes (c t)
-    pub since : (first : ℕ) → IsPlace p s first → counts_ended takes (c first) ≤ number
-    pub until : (last : ℕ) → IsPlace p (s + (x.scan - 1)) last → number ≤ counts_begun takes (c last)
-    pub write : ℕ
-    pub tallies : number ≡ tally (sizes takes) write
+  abbrev pub Left : (t s n : ℕ) → Span → Type 0
+  Left t s n x = Reads modulus p c takes (λ number. n ≤ number + capacity + more) (λ number. number ≤ n) t s x
 
   -- the same of a scan of the producer
   left : (t : ℕ) → ((u : ℕ) → u ≤ t → Within u) → (s n : ℕ) (x : Span) → IsSpanAt puts s n x → s + x.scan ≤ p t → Left t s n x
@@ -180,17 +181,7 @@ module _ (modulus capacity batch more word : ℕ) (p c : ℕ → ℕ) (puts take
       let a = within r.first (omega (arith, r.in_order, r.by_now)) in
       let z = within r.last r.by_now in
       let o = ended_begun more takes proper_takes (c r.first) in
-      record {
-        number = r.number;
-        value = r.value;
-        low = omega (arith, a, o, r.at_first, r.not_older);
-        high = omega (arith, z, r.at_last, r.not_newer);
-        now = omega (arith, r.not_newer, r.still);
-        since = λ first is. rw (place_unique p hp s first r.first is r.first_is) r.not_older;
-        until = λ last is. rw (place_unique p hp (s + (x.scan - 1)) last r.last is r.last_is) r.not_newer;
-        write = r.write;
-        tallies = r.tallies;
-      }
+      reads_so modulus p c hp puts takes _ _ t s n x r (omega (arith, a, o, r.at_first, r.not_older)) (omega (arith, z, r.at_last, r.not_newer))
 
   -- a take that takes items has read a count that shows them
   shows_items : (t s k : ℕ) (x : Span) → IsSpanAt takes s k x → (r : Shown t s k x) → 1 ≤ counts x.outcome → k + counts x.outcome ≤ r.number

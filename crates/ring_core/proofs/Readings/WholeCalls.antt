@@ -1,5 +1,5 @@
 -- Whole calls: all their items are put or taken, and are counted by count writes that have begun.
-use Rattle.std.proofs.Common.{◌≡◌, ℕ, zero, ◌-◌, ◌<◌, ◌≤◌, Bool, true, false, nat_lt, nat_le, if◌then◌else◌, List, [], ◌∷◌, ◌++◌, length, refl, ap, ◌∙◌, arith, length-append}
+use Rattle.std.proofs.Common.{◌≡◌, ℕ, zero, ◌+◌, ◌-◌, ◌<◌, ◌≤◌, Bool, true, false, nat_lt, nat_le, if◌then◌else◌, List, [], ◌∷◌, ◌++◌, length, refl, ap, ◌∙◌, arith, length-append}
 use Rattle.std.proofs.lemmas.Bool.Decides.{nat_tests}
 use Rattle.bits_core.specs.declared.events.Side.TheVariants.{P, C}
 use Rattle.bits_core.specs.declared.shapes.Shape.{Shape}
@@ -70,25 +70,28 @@ all-taken shape c (Empty seen ∷ takes) t l =
     let x : Take = Empty seen in
     all-taken shape (count_after shape c x) takes (t - events_in (take_phrase shape c x)) (two_parts (take_phrase shape c x) (take_phrases shape (count_after shape c x) takes) t l).1
 
+-- behind a whole take its items are counted
+counted_first : (shape : Shape) (c : Count) (items : List ℕ) (looks : List Made) (t more : ℕ) (all : List ℕ) → IsCount shape c → IsTakeBatch shape items →
+    events_in (looks ++ items_phrase shape c items) ≤ t → more ≡ length all →
+    (if nat_lt (events_in (looks ++ words_read shape c.number items)) t then length items else 0) + more ≡ length (items ++ all)
+counted_first shape c items looks t more all is batch whole rest =
+    let begun : ℕ = events_in (looks ++ words_read shape c.number items) in
+    let first = chosen {A = ℕ} (nat_lt begun t) (length items) 0 (is_below begun t (omega (arith, whole, before_whole shape c items looks is batch))) in
+    omega (arith, first, rest, length-append items all)
+
 pub all-counted : (shape : Shape) (c : Count) (takes : List Take) (end : End) (t : ℕ) → IsCount shape c → AreTakes shape c.number takes end →
     events_in (take_phrases shape c takes) ≤ t → taken_begun shape c takes t ≡ length (all_taken takes)
 all-counted shape c [] end t is are l = refl
 all-counted shape c (Item seen items ∷ takes) end t is ((sees, batch), are) l =
     let x : Take = Item seen items in
-    let next : Count = count_after shape c x in
-    let parts = two_parts (take_phrase shape c x) (take_phrases shape next takes) t l in
-    let begun : ℕ = events_in (take_before_count shape c x) in
-    let first = chosen {A = ℕ} (nat_lt begun t) (length items) 0 (is_below begun t (omega (arith, parts.0, before_whole shape c items (accesses_before_word x) is batch))) in
-    let rest = all-counted shape next takes end (t - events_in (take_phrase shape c x)) (counted_is_count shape c items) are parts.1 in
-    omega (arith, first, rest, length-append items (all_taken takes))
+    let parts = two_parts (take_phrase shape c x) (take_phrases shape (count_after shape c x) takes) t l in
+    counted_first shape c items (accesses_before_word x) t _ (all_taken takes) is batch parts.0
+        (all-counted shape (count_after shape c x) takes end (t - events_in (take_phrase shape c x)) (counted_is_count shape c items) are parts.1)
 all-counted shape c (ItemAfterClose seen again items ∷ takes) end t is ((none, sees, batch), are) l =
     let x : Take = ItemAfterClose seen again items in
-    let next : Count = count_after shape c x in
-    let parts = two_parts (take_phrase shape c x) (take_phrases shape next takes) t l in
-    let begun : ℕ = events_in (take_before_count shape c x) in
-    let first = chosen {A = ℕ} (nat_lt begun t) (length items) 0 (is_below begun t (omega (arith, parts.0, before_whole shape c items (accesses_before_word x) is batch))) in
-    let rest = all-counted shape next takes end (t - events_in (take_phrase shape c x)) (counted_is_count shape c items) are parts.1 in
-    omega (arith, first, rest, length-append items (all_taken takes))
+    let parts = two_parts (take_phrase shape c x) (take_phrases shape (count_after shape c x) takes) t l in
+    counted_first shape c items (accesses_before_word x) t _ (all_taken takes) is batch parts.0
+        (all-counted shape (count_after shape c x) takes end (t - events_in (take_phrase shape c x)) (counted_is_count shape c items) are parts.1)
 all-counted shape c (Empty seen ∷ takes) end t is (none, are) l =
     let x : Take = Empty seen in
     let next : Count = count_after shape c x in

@@ -58,29 +58,18 @@ stands_next most all start passed x rest b =
 -- ---- what had begun and ended
 
 -- no fewer had than were passed
+passed_at : (of : ℕ → List ℕ) (n start i : ℕ) (passed more : List ℕ) → start ≤ i → n ≡ length (of i) → of (start + (i - start)) ≡ passed ++ more → length passed ≤ n
+passed_at of n start i passed more l size parts =
+    let at : start + (i - start) ≡ i = omega (arith, l) in
+    omega (arith, size, ap (λ j. length (of j)) at, ap length parts, length-append passed more)
+
 pub passed_begun : (most : ℕ) (all : List Span) (start : ℕ) (passed : List ℕ) (rest : List Span) (i : ℕ) → start ≤ i →
     SpansBehind most all start passed rest → length passed ≤ counts_begun all i
-passed_begun most all start passed rest i l b =
-    let at : start + (i - start) ≡ i = omega (arith, l) in
-    omega (
-      arith,
-      length-begun_items all i,
-      ap (λ j. length (begun_items all j)) at,
-      ap length (b.begun (i - start)),
-      length-append passed (begun_items rest (i - start)),
-    )
+passed_begun most all start passed rest i l b = passed_at (begun_items all) (counts_begun all i) start i passed _ l (sym (length-begun_items all i)) (b.begun (i - start))
 
 pub passed_ended : (most : ℕ) (all : List Span) (start : ℕ) (passed : List ℕ) (rest : List Span) (i : ℕ) → start ≤ i →
     SpansBehind most all start passed rest → length passed ≤ counts_ended all i
-passed_ended most all start passed rest i l b =
-    let at : start + (i - start) ≡ i = omega (arith, l) in
-    omega (
-      arith,
-      length-ended_items all i,
-      ap (λ j. length (ended_items all j)) at,
-      ap length (b.ended (i - start)),
-      length-append passed (ended_items rest (i - start)),
-    )
+passed_ended most all start passed rest i l b = passed_at (ended_items all) (counts_ended all i) start i passed _ l (sym (length-ended_items all i)) (b.ended (i - start))
 
 -- between two, just those
 pub begun_here : (most : ℕ) (all : List Span) (start : ℕ) (passed : List ℕ) (rest : List Span) →

@@ -12,7 +12,7 @@ returns c =
     let h = c.args.history.now in
     let old = c.nothing_seen-seen.result in
     let new = c.audit_bits_into.new.seen in
-    let is : c.audit_bits_into.result ≡ Lawful = one_verdict shape h c.audit_bits_into.result Lawful c.audit_bits_into.ensures.verdict c.requires.lawful in
+    let is : c.audit_bits_into.result.0 ≡ Lawful = one_verdict shape h c.audit_bits_into.result.0 Lawful c.audit_bits_into.ensures.verdict c.requires.lawful in
     let seen : AreSeen h (length h) old new = subst (λ (v : Verdict). AreSeen h (sound_count h v) old new) is c.audit_bits_into.ensures.seen in
     let few : length h ≤ length new = omega (arith, c.requires.few, seen.room, c.nothing_seen-seen.ensures.size) in
     AreMarksOf-audited fault_breaks flicker_is_by_interval shape h Lawful old new c.put_marks.new.marks c.requires.lawful c.nothing_seen-seen.ensures.nothing seen few c.put_marks.ensures

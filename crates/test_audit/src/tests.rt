@@ -1,0 +1,6 @@
+mod dues;
+mod expects;
+mod growths;
+mod plays;
+mod slots;
+mod traces;

@@ -1,0 +1,6 @@
+mod audits;
+mod memories;
+mod shapes;
+mod stores;
+mod trace_audits;
+mod traces;

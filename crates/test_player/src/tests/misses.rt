@@ -1,0 +1,249 @@
+use crate::tests::play_scripts::{Asked, Numbers, ONE, expect, script_of};
+use bits_core::{Verdict, audit_bits};
+use near_misses::{NearCall, NearFault, NearMiss, play_near};
+use refusing::Refusing;
+use ring_player::play;
+use std::alloc::{AllocGlobal, Global};
+use std::process::Abort;
+
+// What a near miss is to tell of a script, and the items taken.
+type Near<'a> = (NearMiss, Numbers, Asked<'a>, &'a [NearCall], &'a [u64]);
+
+// Two are put and taken, and C's write of 0 to r0 is open. Two more are put by the new count, and the fifth put sees the old one: modulo
+// 4 the ring looks empty, and two digits of the fifth item are written over the third when C takes.
+const OVERWRITTEN: Asked<'static> = ("[1,2,3,5,4]", 4, false, "P24C21P36C27", "001");
+
+static CASES: [Near<'static>; 9] = [
+    // The count write spans the take, which reads the cell before the item is there: 0 for 1.
+    (
+        NearMiss::CountBeforeCell,
+        ONE,
+        ("[1]", 1, false, "P5C10", ""),
+        &[
+            NearCall::PutBegins(0),
+            NearCall::TakeBegins(1),
+            NearCall::TakeItems(1),
+        ],
+        &[0],
+    ),
+    // Item 1 is stored, and the take that began before is told Closed.
+    (
+        NearMiss::NoSecondScan,
+        ONE,
+        ("[1]", 2, true, "C2P10C2", ""),
+        &[
+            NearCall::TakeBegins(1),
+            NearCall::PutBegins(0),
+            NearCall::PutStored(1),
+            NearCall::CloseBegins,
+            NearCall::CloseEnds,
+            NearCall::TakeClosed,
+        ],
+        &[],
+    ),
+    // The count write is open: it is seen new, and then old, which looks like a round more, and item 1 is taken twice.
+    (
+        NearMiss::SmallModulus,
+        [1, 3, 2, 1, 1],
+        ("[1,2,3]", 3, false, "P9C20", "01"),
+        &[
+            NearCall::PutBegins(0),
+            NearCall::TakeBegins(1),
+            NearCall::TakeItems(1),
+            NearCall::TakeBegins(1),
+            NearCall::TakeItems(1),
+        ],
+        &[1, 1],
+    ),
+    // The fifth put has cleared s0 and not yet set s1, so a scan finds s3, which was set a round ago: Empty, with the fourth item inside.
+    (
+        NearMiss::ClearsFirst,
+        [2, 4, 2, 1, 1],
+        ("[1,2,3,1,2]", 5, false, "P10C12P12C14P14C16P27C10", ""),
+        &[
+            NearCall::PutBegins(0),
+            NearCall::PutStored(1),
+            NearCall::TakeBegins(1),
+            NearCall::TakeItems(1),
+            NearCall::PutBegins(1),
+            NearCall::PutStored(1),
+            NearCall::TakeBegins(1),
+            NearCall::TakeItems(1),
+            NearCall::PutBegins(2),
+            NearCall::PutStored(1),
+            NearCall::TakeBegins(1),
+            NearCall::TakeItems(1),
+            NearCall::PutBegins(3),
+            NearCall::PutStored(1),
+            NearCall::PutBegins(4),
+            NearCall::TakeBegins(1),
+            NearCall::TakeEmpty,
+        ],
+        &[1, 2, 3],
+    ),
+    // Where nothing overlaps, it is as with a ring: a batch of two, of which the second put finds room for one.
+    (
+        NearMiss::ClearsUpwards,
+        [3, 6, 2, 2, 1],
+        ("[1,2,3,1]", 1, false, "P26", ""),
+        &[
+            NearCall::PutBegins(0),
+            NearCall::PutStored(2),
+            NearCall::PutBegins(2),
+            NearCall::PutStored(1),
+            NearCall::PutBegins(3),
+            NearCall::PutFull,
+        ],
+        &[],
+    ),
+    (
+        NearMiss::SmallModulus,
+        [2, 5, 3, 1, 2],
+        OVERWRITTEN,
+        &[
+            NearCall::PutBegins(0),
+            NearCall::PutStored(1),
+            NearCall::PutBegins(1),
+            NearCall::PutStored(1),
+            NearCall::TakeBegins(2),
+            NearCall::PutBegins(2),
+            NearCall::PutStored(1),
+            NearCall::PutBegins(3),
+            NearCall::PutStored(1),
+            NearCall::PutBegins(4),
+            NearCall::TakeItems(2),
+            NearCall::TakeBegins(2),
+            NearCall::TakeItems(2),
+        ],
+        &[1, 2, 0, 5],
+    ),
+    // One item is there of two that the take wants, and then none: a take that finds the ring empty uses up one of three, and the last one
+    // wants what is left.
+    (
+        NearMiss::ClearsUpwards,
+        [2, 5, 1, 1, 2],
+        ("[1,0]", 3, false, "P8C16P10C12", ""),
+        &[
+            NearCall::PutBegins(0),
+            NearCall::PutStored(1),
+            NearCall::TakeBegins(2),
+            NearCall::TakeItems(1),
+            NearCall::TakeBegins(2),
+            NearCall::TakeEmpty,
+            NearCall::PutBegins(1),
+            NearCall::PutStored(1),
+            NearCall::TakeBegins(1),
+            NearCall::TakeItems(1),
+        ],
+        &[1, 0],
+    ),
+    // The last event of the count write is missing, so the take has not ended, and its items are not told.
+    (
+        NearMiss::CountBeforeCell,
+        [2, 5, 1, 1, 2],
+        ("[1,1]", 2, false, "P16C13", ""),
+        &[
+            NearCall::PutBegins(0),
+            NearCall::PutStored(1),
+            NearCall::PutBegins(1),
+            NearCall::PutStored(1),
+            NearCall::TakeBegins(2),
+        ],
+        &[],
+    ),
+    // With its last event it has.
+    (
+        NearMiss::CountBeforeCell,
+        [2, 5, 1, 1, 2],
+        ("[1,1]", 2, false, "P16C14", ""),
+        &[
+            NearCall::PutBegins(0),
+            NearCall::PutStored(1),
+            NearCall::PutBegins(1),
+            NearCall::PutStored(1),
+            NearCall::TakeBegins(2),
+            NearCall::TakeItems(2),
+        ],
+        &[1, 1],
+    ),
+];
+
+fn expect_told(rt: &(impl Abort + AllocGlobal), cases: &[Near]) {
+    for (miss, shape, asked, wanted, taken) in cases {
+        let script = script_of(rt, rt.alloc(), shape, asked);
+        let played = play_near(rt.alloc(), *miss, &script).expect(rt, "memory for the play");
+        expect(
+            rt,
+            played.told.as_slice() == *wanted,
+            "what is told",
+            miss.name(),
+        );
+        expect(
+            rt,
+            played.taken.as_slice() == *taken,
+            "the items taken",
+            miss.name(),
+        );
+        let verdict = audit_bits(&script.shape(), played.history.as_slice());
+        expect(rt, verdict == Verdict::Lawful, "history", miss.name());
+    }
+}
+
+#[test]
+fn near_misses_lose_double_and_tell_too_soon(rt: HostRuntime) {
+    expect_told(&rt, &CASES);
+}
+
+#[test]
+fn the_ring_itself_takes_several_in_order(rt: HostRuntime) {
+    let script = script_of(&rt, rt.alloc(), &[2, 5, 3, 1, 2], &OVERWRITTEN);
+    let report = play(rt.alloc(), &script).expect(&rt, "memory for the play");
+    assert!(rt; report.taken.as_slice() == [1, 2, 3, 5].as_slice() && report.full == 1);
+}
+
+#[test]
+fn near_misses_have_their_names(rt: HostRuntime) {
+    for (miss, name) in [
+        (NearMiss::CountBeforeCell, "count-before-cell"),
+        (NearMiss::NoSecondScan, "no-second-scan"),
+        (NearMiss::SmallModulus, "small-modulus"),
+        (NearMiss::ClearsFirst, "clears-first"),
+        (NearMiss::ClearsUpwards, "clears-upwards"),
+    ] {
+        assert!(rt; miss.name() == name && NearMiss::named(name) == Some(miss));
+    }
+    assert!(rt; NearMiss::named("torus").is_none());
+}
+
+// As many allocations as none makes.
+const MANY: u64 = 1_000_000;
+
+// Whether the play was refused, where the allocation after so many is.
+fn is_refused(rt: &(impl Abort + AllocGlobal), allocations: u64) -> bool {
+    let alloc: Refusing<Global> = Refusing::after(rt.alloc(), MANY);
+    let (miss, shape, asked, wanted, taken) = &CASES[2];
+    let script = script_of(rt, &alloc, shape, asked);
+    alloc.refuse_after(allocations);
+    let (is_right, is_refused) = match play_near(&alloc, *miss, &script) {
+        Err(fault) => (fault == NearFault::OutOfMemory && fault.number() == 1, true),
+        Ok(played) => (
+            played.told.as_slice() == *wanted && played.taken.as_slice() == *taken,
+            false,
+        ),
+    };
+    assert!(rt; is_right && is_refused == alloc.has_refused());
+    is_refused
+}
+
+#[test]
+fn each_growth_of_a_near_miss_may_be_refused(rt: HostRuntime) {
+    let mut refused: u64 = 0;
+    for allocations in 0..40 {
+        if !is_refused(&rt, allocations) {
+            break;
+        }
+        refused = refused.saturating_add(1);
+    }
+    // the first growths of the history, of what is told and of the items taken
+    assert!(rt; 3 <= refused && refused < 40);
+}

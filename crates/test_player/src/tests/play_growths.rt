@@ -1,0 +1,126 @@
+use crate::tests::play_scripts::{Asked, ONE, Wanted, expect_report, script_of};
+use bits_core::{Event, Side, Store};
+use refusing::Refusing;
+use ring_player::{PlayFault, World, play};
+use ring_script::LetterRun;
+use std::alloc::{AllocGlobal, Global};
+use std::process::Abort;
+use std::test::Fail;
+
+// Wrap under an open count write.
+pub const WRAP: Asked<'static> = ("[1,0,1]", 3, false, "P8C10P10C12P9C14", "01");
+
+pub const WRAPPED: Wanted<'static> = (63, &[1, 0, 1], &[1, 0, 1], false, [0, 1, 2]);
+
+// As many allocations as none makes.
+const MANY: u64 = 1_000_000;
+
+// What is seen of a world: its events, items put, items taken; the last one taken; told; full, empty, flickers.
+pub(crate) type Seen = ([usize; 3], Option<u64>, bool, [u64; 3]);
+
+pub fn seen<E: Store<Event>, T: Store<u64>>(world: &World<E, T>) -> Seen {
+    (
+        [
+            world.history().len(),
+            world.put_items().len(),
+            world.taken_items().len(),
+        ],
+        world.taken_items().last().copied(),
+        world.told(),
+        [world.full(), world.empty(), world.flickers()],
+    )
+}
+
+// A step whose growth is refused leaves the world as it was, and is then made again.
+// Answers whether it was refused.
+fn step_again<E: Store<Event>, T: Store<u64>>(
+    rt: &impl Abort,
+    alloc: &Refusing<Global>,
+    world: &mut World<E, T>,
+    side: Side,
+) -> bool {
+    let before = seen(world);
+    alloc.refuse_after(0);
+    let step = world.step(side);
+    let refused = alloc.has_refused();
+    alloc.refuse_after(MANY);
+    match step {
+        Ok(moved) => {
+            assert!(rt; moved && !refused);
+            false
+        }
+        Err(fault) => {
+            assert!(rt; fault == PlayFault::OutOfMemory && refused);
+            assert!(rt; seen(world) == before);
+            assert!(rt; world.step(side) == Ok(true));
+            true
+        }
+    }
+}
+
+// Makes the steps of the schedule. Answers how many were refused first.
+fn steps_again<E: Store<Event>, T: Store<u64>>(
+    rt: &impl Abort,
+    alloc: &Refusing<Global>,
+    world: &mut World<E, T>,
+    runs: &[LetterRun],
+) -> u64 {
+    let mut refused: u64 = 0;
+    for run in runs {
+        for made in 0..run.count {
+            if step_again(rt, alloc, world, run.side) {
+                refused = refused.saturating_add(1);
+            }
+        }
+    }
+    refused
+}
+
+#[test]
+fn steps_that_were_refused_can_be_made_again(rt: HostRuntime) {
+    let alloc = Refusing::after(rt.alloc(), MANY);
+    let script = script_of(&rt, &alloc, &ONE, &WRAP);
+    let mut world = World::new(&alloc, &script);
+    // the first growths of the history and of the items taken
+    assert!(rt; 2 <= steps_again(&rt, &alloc, &mut world, script.runs()));
+    expect_report(&rt, "a world refused", &script, &world.report(), &WRAPPED);
+}
+
+// Plays the wrap, where the allocation after so many is refused, and answers whether one was.
+fn is_refused(rt: &(impl Abort + AllocGlobal), allocations: u64) -> bool {
+    let alloc = Refusing::after(rt.alloc(), MANY);
+    let script = script_of(rt, &alloc, &ONE, &WRAP);
+    alloc.refuse_after(allocations);
+    match play(&alloc, &script) {
+        Err(fault) => {
+            assert!(rt; fault == PlayFault::OutOfMemory && alloc.has_refused());
+            true
+        }
+        Ok(report) => {
+            assert!(rt; !alloc.has_refused());
+            expect_report(rt, "a play", &script, &report, &WRAPPED);
+            false
+        }
+    }
+}
+
+#[test]
+fn each_growth_of_a_play_may_be_refused(rt: HostRuntime) {
+    let mut refused: u64 = 0;
+    for allocations in 0..40 {
+        if !is_refused(&rt, allocations) {
+            break;
+        }
+        refused = refused.saturating_add(1);
+    }
+    // the first growths of the history and of the items taken
+    assert!(rt; 2 <= refused && refused < 40);
+}
+
+#[test]
+fn the_fault_has_its_number_and_words(rt: HostRuntime) -> Result<(), Fail> {
+    let fault = PlayFault::OutOfMemory;
+    let words = fault.to_string(rt.alloc())?;
+    assert!(rt; fault.number() == 1 && words.as_str() == "out of memory");
+    Ok(())
+}

@@ -1,0 +1,13 @@
+mod audits;
+mod expects;
+mod failure_expects;
+mod failures;
+mod fakes;
+mod plays;
+mod recorded;
+mod refusals;
+mod run_words;
+mod runs;
+mod whys;
+mod words;
+mod wrong_plays;

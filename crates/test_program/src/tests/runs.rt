@@ -1,0 +1,242 @@
+use crate::tests::expects::{
+    Reported, expect_relay_reports, expect_relay_text, expect_reported_runs, expect_runs,
+};
+
+const ALL: &str = "put 64\ntaken 64\nclosed yes\n";
+
+const LIMIT: &str = "refused: limit reached\n";
+
+const SMALL: &str = "lamport_ring run --capacity 1 --modulus 3 --width 6";
+
+// What follows the options of the shape, the status, the output and the standard error.
+static RUNS: [(&str, u8, &str, &str); 12] = [
+    ("--count 64 --limit 1000000000", 0, ALL, ""),
+    ("--count 64 --limit 1000000000 --ring flicker", 0, ALL, ""),
+    (
+        "--count 64 --limit 18446744073709551615 --ring=counter",
+        0,
+        ALL,
+        "",
+    ),
+    (
+        "--count 2 --limit 5 --takes 0 --ring counter",
+        1,
+        "put 1\ntaken 0\nclosed no\n",
+        LIMIT,
+    ),
+    // no put and no take
+    (
+        "--count 3 --limit 0",
+        1,
+        "put 0\ntaken 0\nclosed no\n",
+        LIMIT,
+    ),
+    // the putter closes, and the taker makes no call
+    (
+        "--count 0 --limit 0",
+        1,
+        "put 0\ntaken 0\nclosed no\n",
+        LIMIT,
+    ),
+    // one item is put, and the ring stays full
+    (
+        "--count 2 --limit 5 --takes 0",
+        1,
+        "put 1\ntaken 0\nclosed no\n",
+        LIMIT,
+    ),
+    // no item, and takes until the close is seen
+    (
+        "--count 0 --limit 0 --takes 1000000000",
+        0,
+        "put 0\ntaken 0\nclosed yes\n",
+        "",
+    ),
+    (
+        "--count 1 --limit 1 --batch 0",
+        1,
+        "",
+        "refused: batch must be from 1 to capacity\n",
+    ),
+    (
+        "--count 1 --limit 1 --batch=2",
+        1,
+        "",
+        "refused: batch must be from 1 to capacity\n",
+    ),
+    (
+        "--count 1 --limit 1 --take-batch=2",
+        1,
+        "",
+        "refused: take batch must be from 1 to capacity\n",
+    ),
+    (
+        "--count 1 --limit 1 --take-batch 0",
+        1,
+        "",
+        "refused: take batch must be from 1 to capacity\n",
+    ),
+];
+
+#[test]
+fn relays_items_through_two_threads(rt: HostRuntime) {
+    expect_runs(&rt, SMALL, &RUNS);
+}
+
+const BATCHED: &str = "lamport_ring run --capacity 3 --modulus 7 --width 6 --batch 3";
+
+static BATCHED_RUNS: [(&str, u8, &str, &str); 5] = [
+    ("--count 64 --limit 1000000000", 0, ALL, ""),
+    (
+        "--count 64 --limit 18446744073709551615 --ring counter",
+        0,
+        ALL,
+        "",
+    ),
+    // takes of several, on both rings
+    ("--count=64 --limit=1000000000 --take-batch=3", 0, ALL, ""),
+    (
+        "--count=64 --limit=1000000000 --take-batch=2 --ring=counter",
+        0,
+        ALL,
+        "",
+    ),
+    // a limit of takes counts the items that they bring
+    (
+        "--count=3 --limit=1000000000 --takes=0 --take-batch=3",
+        1,
+        "put 3\ntaken 0\nclosed no\n",
+        LIMIT,
+    ),
+];
+
+#[test]
+fn relays_batches(rt: HostRuntime) {
+    expect_runs(&rt, BATCHED, &BATCHED_RUNS);
+}
+
+// The widest items, of which each is its number.
+const WIDE: &str = "lamport_ring run --capacity 2 --modulus 4 --width 64";
+
+static WIDE_RUNS: [(&str, u8, &str, &str); 1] = [(
+    "--count 20 --limit 1000000000",
+    0,
+    "put 20\ntaken 20\nclosed yes\n",
+    "",
+)];
+
+#[test]
+fn relays_the_widest_items(rt: HostRuntime) {
+    expect_runs(&rt, WIDE, &WIDE_RUNS);
+}
+
+#[test]
+fn relays_have_their_text(rt: HostRuntime) {
+    expect_relay_text(
+        &rt,
+        u64::MAX,
+        &[],
+        false,
+        "put 18446744073709551615\ntaken 0\nclosed no\n",
+    );
+    expect_relay_text(&rt, 2, &[5, 6], true, "put 2\ntaken 2\nclosed yes\n");
+}
+
+static REPORTS: [Reported; 6] = [
+    Reported {
+        put: 3,
+        calls: 10,
+        full: 7,
+        taken: &[5, 6, 5],
+        empty: 4,
+        closed: true,
+        nanos: Some(2_000_000_000),
+        text: "put 3\ntaken 3\nclosed yes\ncalls 10\nfull 7\nempty 4\nitems a second 1\n",
+    },
+    Reported {
+        put: 2,
+        calls: 1,
+        full: 0,
+        taken: &[5],
+        empty: 0,
+        closed: false,
+        nanos: Some(1),
+        text: "put 2\ntaken 1\nclosed no\ncalls 1\nfull 0\nempty 0\nitems a second 1000000000\n",
+    },
+    Reported {
+        put: 2,
+        calls: 2,
+        full: 0,
+        taken: &[5, 6],
+        empty: 9,
+        closed: true,
+        nanos: Some(3),
+        text: "put 2\ntaken 2\nclosed yes\ncalls 2\nfull 0\nempty 9\nitems a second 666666666\n",
+    },
+    Reported {
+        put: 18446744073709551615,
+        calls: 18446744073709551614,
+        full: 18446744073709551613,
+        taken: &[],
+        empty: 18446744073709551612,
+        closed: false,
+        nanos: Some(18446744073709551615),
+        text: "put 18446744073709551615\ntaken 0\nclosed no\ncalls 18446744073709551614\nfull 18446744073709551613\nempty 18446744073709551612\nitems a second 0\n",
+    },
+    // no time passed
+    Reported {
+        put: 1,
+        calls: 1,
+        full: 0,
+        taken: &[1],
+        empty: 0,
+        closed: true,
+        nanos: Some(0),
+        text: "put 1\ntaken 1\nclosed yes\ncalls 1\nfull 0\nempty 0\nitems a second unknown\n",
+    },
+    // the clock told none
+    Reported {
+        put: 1,
+        calls: 1,
+        full: 0,
+        taken: &[1],
+        empty: 0,
+        closed: true,
+        nanos: None,
+        text: "put 1\ntaken 1\nclosed yes\ncalls 1\nfull 0\nempty 0\nitems a second unknown\n",
+    },
+];
+
+#[test]
+fn reports_of_relays_have_their_text(rt: HostRuntime) {
+    expect_relay_reports(&rt, &REPORTS);
+}
+
+const COUNTS: &[&str] = &["calls", "full", "empty", "items a second"];
+
+static REPORTED: [(&str, u8, &str, &[&str]); 3] = [
+    (
+        "lamport_ring run --capacity=3 --modulus=7 --width=6 --batch=3 --count=64 --limit=1000000000 --report",
+        0,
+        ALL,
+        COUNTS,
+    ),
+    (
+        "lamport_ring run --report --ring=counter --capacity=3 --modulus=5 --width=6 --count=64 --limit=1000000000",
+        0,
+        ALL,
+        COUNTS,
+    ),
+    // one item is put, the other four puts find the ring full, and no take is made
+    (
+        "lamport_ring run --report --capacity=1 --modulus=3 --width=6 --count=2 --limit=5 --takes=0",
+        1,
+        "put 1\ntaken 0\nclosed no\ncalls 5\nfull 4\nempty 0\n",
+        &["items a second"],
+    ),
+];
+
+#[test]
+fn runs_tell_their_report(rt: HostRuntime) {
+    expect_reported_runs(&rt, &REPORTED);
+}

@@ -1,0 +1,97 @@
+use crate::tests::expects::{expect_run_on, expect_runs, words_of};
+
+const PLAIN: &str =
+    "{\"capacity\":1,\"modulus\":3,\"width\":1,\"items\":[1],\"takes\":1,\"close\":false,\"schedule\":\"P5C10\",\"oracle\":\"\"}";
+
+const TRACE: &str =
+    "shape 1 3 1\nP read r0\nP got r0 1\nP write s1 1\nP wrote s1\nP write s0 0\nC read s0\nC got s0 0\nC read s1\nC got s1 1\nC read c0.0\nC got c0.0 0\nC write r1 1\nC wrote r1\nC write r0 0\nC wrote r0\n";
+
+const CALLS: &str = "queue 1\nP put 1\nC take\nC item 0\n";
+
+const WRONG: &str = "lamport_ring play --wrong count-before-cell";
+
+#[test]
+fn plays_a_script_by_a_near_miss(rt: HostRuntime) {
+    for (option, out) in [("--trace", TRACE), ("--calls", CALLS)] {
+        let mut words = words_of(&rt, WRONG);
+        words.push(option).expect(&rt, "memory for words");
+        let mut bytes = PLAIN.as_bytes();
+        expect_run_on(&rt, words.as_slice(), &mut bytes, 0, out, "");
+    }
+}
+
+const SEVERAL: &str =
+    "{\"capacity\":2,\"modulus\":5,\"width\":3,\"take_batch\":2,\"items\":[1,2,3,5,4],\"takes\":4,\"close\":false,\"schedule\":\"P24C21P36C27\",\"oracle\":\"001\"}";
+
+const SEVERAL_CALLS: &str =
+    "queue 2\nP put 1\nP stored\nP put 2\nP stored\nC take 2\nP put 3\nP stored\nP put 5\nP stored\nP put 4\nC item 1 2\nC take 2\nC item 0 5\n";
+
+#[test]
+fn a_take_of_several_tells_its_items(rt: HostRuntime) {
+    let words = words_of(&rt, "lamport_ring play --wrong small-modulus --calls");
+    let mut bytes = SEVERAL.as_bytes();
+    expect_run_on(&rt, words.as_slice(), &mut bytes, 0, SEVERAL_CALLS, "");
+}
+
+// Words behind the program's name that do not go together.
+static CLASHES: [(&str, u8, &str, &str); 9] = [
+    (
+        "play --wrong torus --calls",
+        2,
+        "",
+        "error: no near miss is called 'torus': there are count-before-cell, no-second-scan, small-modulus, clears-first and clears-upwards\n\nFor more information, try '--help'.\n",
+    ),
+    (
+        "play --wrong=small-modulus",
+        2,
+        "",
+        "error: a play by a near miss prints its trace or its calls: --wrong goes with --trace or with --calls\n\nFor more information, try '--help'.\n",
+    ),
+    (
+        "play --wrong small-modulus --calls --trace",
+        2,
+        "",
+        "error: a play by a near miss prints its trace or its calls: --wrong goes with --trace or with --calls\n\nFor more information, try '--help'.\n",
+    ),
+    (
+        "audit --why --calls",
+        2,
+        "",
+        "error: --why goes with a trace that is kept, so neither with --long nor with --calls\n\nFor more information, try '--help'.\n",
+    ),
+    (
+        "audit --bits --long --why",
+        2,
+        "",
+        "error: --why goes with a trace that is kept, so neither with --long nor with --calls\n\nFor more information, try '--help'.\n",
+    ),
+    (
+        "audit --calls --stop --why",
+        2,
+        "",
+        "error: --why goes with a trace that is kept, so neither with --long nor with --calls\n\nFor more information, try '--help'.\n",
+    ),
+    (
+        "audit --stop",
+        2,
+        "",
+        "error: an audit of recorded calls may stop at the first fault: --stop goes with --calls\n\nFor more information, try '--help'.\n",
+    ),
+    (
+        "audit --stop --bits --why",
+        2,
+        "",
+        "error: an audit of recorded calls may stop at the first fault: --stop goes with --calls\n\nFor more information, try '--help'.\n",
+    ),
+    (
+        "play --trace --calls",
+        2,
+        "",
+        "error: a play prints a trace or its calls: --trace and --calls do not go together\n\nFor more information, try '--help'.\n",
+    ),
+];
+
+#[test]
+fn refuses_words_that_do_not_go_together(rt: HostRuntime) {
+    expect_runs(&rt, "lamport_ring", &CLASHES);
+}

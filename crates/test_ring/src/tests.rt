@@ -1,0 +1,6 @@
+mod batches;
+mod calls;
+mod counts;
+mod handing;
+mod near_misses;
+mod runs;

@@ -1,0 +1,14 @@
+mod both_sides;
+mod calls;
+mod expects;
+mod gates;
+mod growths;
+mod limits;
+mod observed;
+mod oracles;
+mod recordings;
+mod relay_growths;
+mod room;
+mod scripts;
+mod steps;
+mod stops;

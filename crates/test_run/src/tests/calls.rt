@@ -1,0 +1,376 @@
+// Whole calls of both ends in one thread, in a given order, on a ring of either kind.
+ghost use Rattle.std.specs.Prelude.{◌≡◌, None, false};
+
+use crate::tests::expects::shape_of;
+use bits_core::{Flip, Shape};
+use ring_core::{BatchReply, PutReply, TakeBatchReply, TakeReply};
+use ring_run::{
+    CounterPutter, CounterRing, CounterTaker, FlickerRing, PutEnd, Putter, RingOf, TakeEnd, Taker,
+};
+use std::alloc::AllocGlobal;
+use std::process::Abort;
+
+// A call, and how it is answered.
+#[derive(Clone, Copy)]
+pub(crate) enum Call {
+    Put(u64, PutReply),
+    PutAll(&'static [u64], BatchReply),
+    Close,
+    Take(TakeReply),
+    // of so many items at most; and what it brings
+    TakeAll(usize, TakeBatchReply, &'static [u64]),
+    Meet,
+}
+
+// A shape, by its capacity, modulus, width and batch; calls in their order; and at the end: closed, told.
+type Case = ([u64; 4], &'static [Call], bool, bool);
+
+// The put of this item, or of it and more, is answered as is wanted.
+fn expect_reply(rt: &impl Abort, is_wanted: bool, item: u64) {
+    assert!(rt; is_wanted, "put {item}");
+}
+
+// The take of so many items at most is answered so and brings these; the other places stay as they were.
+fn expect_taken<T: TakeEnd>(
+    rt: &impl Abort,
+    taker: &mut T,
+    wanted: usize,
+    reply: TakeBatchReply,
+    items: &[u64],
+)
+    requires idle { T.idle taker.old }
+    ensures idle { T.idle taker.new }
+    ensures taker { (T.end taker.new).ring ≡ (T.end taker.old).ring }
+{
+    let shape = taker.shape();
+    assert!(rt; 1 <= wanted && wanted <= 64);
+    assert!(rt; wanted as u64 <= shape.take_batch());
+    let mut room = [77; 64];
+    let told = taker.take_all(&mut room[..wanted]);
+    assert!(rt; told == reply);
+    assert!(rt; room.get(..items.len()) == Some(items));
+    let others = room.get(items.len()..).unwrap_or(&[]);
+    assert!(rt; others.iter().all(|place| *place == 77));
+}
+
+// The call is answered so. It is no meeting.
+fn expect_answer<P: PutEnd, T: TakeEnd>(rt: &impl Abort, putter: &mut P, taker: &mut T, call: &Call)
+    requires idle { P.idle putter.old × T.idle taker.old }
+    ensures idle { P.idle putter.new × T.idle taker.new }
+    ensures putter { (P.end putter.new).ring ≡ (P.end putter.old).ring }
+    ensures taker { (T.end taker.new).ring ≡ (T.end taker.old).ring }
+{
+    let shape = putter.shape();
+    match *call {
+        Call::Put(item, wanted) => {
+            assert!(rt; shape.fits(item));
+            let reply = putter.put(item);
+            expect_reply(rt, reply == wanted, item);
+        }
+        Call::PutAll(items, wanted) => {
+            assert!(rt; !items.is_empty() && items.len() as u64 <= shape.batch());
+            assert!(rt; shape.fits_all(items));
+            let reply = putter.put_all(items);
+            expect_reply(rt, reply == wanted, items[0]);
+        }
+        Call::Close => putter.close(),
+        Call::Take(wanted) => {
+            assert!(rt; taker.take() == wanted);
+        }
+        Call::TakeAll(wanted, reply, items) => expect_taken(rt, taker, wanted, reply, items),
+        Call::Meet => {}
+    }
+}
+
+/// The calls are answered so. None of them is a meeting.
+pub fn expect_each<P: PutEnd, T: TakeEnd>(
+    rt: &impl Abort,
+    putter: &mut P,
+    taker: &mut T,
+    calls: &[Call],
+)
+    requires idle { P.idle putter.old × T.idle taker.old }
+    ensures idle { P.idle putter.new × T.idle taker.new }
+    ensures putter { (P.end putter.new).ring ≡ (P.end putter.old).ring }
+    ensures taker { (T.end taker.new).ring ≡ (T.end taker.old).ring }
+{
+    for call in calls {
+        expect_answer(rt, putter, taker, call);
+    }
+}
+
+// Two ends of one ring that no call is under way at.
+trait Ends: Sized {
+    // The call is answered so.
+    fn expect(self, rt: &impl Abort, call: &Call) -> Self;
+
+    // Closed, told.
+    fn finish(self) -> (bool, bool);
+}
+
+#[derive(Drop)]
+struct FlickerEnds<'a> {
+    putter: Putter<'a, Flip>,
+    taker: Taker<'a, Flip>,
+    ghost of_one_ring: { putter.end.ring ≡ taker.end.ring },
+    ghost idle: { (putter.call ≡ None) × (taker.taking ≡ false) },
+}
+
+impl<'a> Ends for FlickerEnds<'a> {
+    fn expect(self, rt: &impl Abort, call: &Call) -> FlickerEnds<'a> {
+        let FlickerEnds {
+            mut putter,
+            mut taker,
+        } = self;
+        if matches!(call, Call::Meet) {
+            let (putter, taker) = FlickerRing::meet(putter, taker);
+            return FlickerEnds { putter, taker };
+        }
+        expect_answer(rt, &mut putter, &mut taker, call);
+        FlickerEnds { putter, taker }
+    }
+
+    fn finish(self) -> (bool, bool) {
+        let finished = FlickerRing::finish(self.putter, self.taker);
+        (finished.closed(), finished.told())
+    }
+}
+
+#[derive(Drop)]
+struct CounterEnds<'a> {
+    putter: CounterPutter<'a>,
+    taker: CounterTaker<'a>,
+    ghost of_one_ring: { putter.ring ≡ taker.ring },
+}
+
+impl<'a> Ends for CounterEnds<'a> {
+    fn expect(self, rt: &impl Abort, call: &Call) -> CounterEnds<'a> {
+        let CounterEnds {
+            mut putter,
+            mut taker,
+        } = self;
+        if matches!(call, Call::Meet) {
+            let (putter, taker) = CounterRing::meet(putter, taker);
+            return CounterEnds { putter, taker };
+        }
+        expect_answer(rt, &mut putter, &mut taker, call);
+        CounterEnds { putter, taker }
+    }
+
+    fn finish(self) -> (bool, bool) {
+        let finished = CounterRing::finish(self.putter, self.taker);
+        (finished.closed(), finished.told())
+    }
+}
+
+// The calls are answered so, and so the run ends.
+fn expect_run<E: Ends>(rt: &impl Abort, first: E, case: &Case) {
+    let (_, calls, closed, told) = *case;
+    let mut ends = first;
+    for call in calls {
+        ends = ends.expect(rt, call);
+    }
+    assert_eq!(rt; ends.finish(), (closed, told));
+}
+
+fn expect_flicker(rt: &(impl Abort + AllocGlobal), shape: Shape, case: &Case) {
+    let made = FlickerRing::new(rt.alloc(), shape);
+    let (ring, start) = made.expect(rt, "memory for the ring");
+    let (putter, taker) = ring.ends(start, Flip::new(), Flip::new());
+    expect_run(rt, FlickerEnds { putter, taker }, case);
+}
+
+fn expect_counter(rt: &(impl Abort + AllocGlobal), shape: Shape, case: &Case) {
+    let made = CounterRing::new(rt.alloc(), shape);
+    let (ring, start) = made.expect(rt, "memory for the ring");
+    let (putter, taker) = ring.ends(start);
+    expect_run(rt, CounterEnds { putter, taker }, case);
+}
+
+// So it is on a ring of either kind.
+fn expect_calls(rt: &(impl Abort + AllocGlobal), case: &Case) {
+    let shape = shape_of(rt, &case.0);
+    expect_flicker(rt, shape, case);
+    expect_counter(rt, shape, case);
+}
+
+// Ends of one ring of this kind meet, a take finds the ring empty, and so the run ends.
+fn expect_empty<K: RingOf<P, T>, P: PutEnd, T: TakeEnd>(
+    rt: &impl Abort,
+    _ring: &K,
+    putter: P,
+    taker: T,
+)
+    requires ring { (P.end putter).ring ≡ (T.end taker).ring }
+    requires idle { P.idle putter × T.idle taker }
+{
+    let (mut putter, mut taker) = K::meet(putter, taker);
+    expect_answer(rt, &mut putter, &mut taker, &Call::Take(TakeReply::Empty));
+    let finished = K::finish(putter, taker);
+    assert!(rt; !finished.closed() && !finished.told());
+}
+
+#[test]
+fn ends_of_either_kind_meet_and_end_alike(rt: HostRuntime) {
+    let shape = shape_of(&rt, &[1, 3, 1, 1]);
+    let made = FlickerRing::new(rt.alloc(), shape);
+    let (ring, start) = made.expect(&rt, "memory for the ring");
+    let (putter, taker) = ring.ends(start, Flip::new(), Flip::new());
+    expect_empty(&rt, &ring, putter, taker);
+    let made = CounterRing::new(rt.alloc(), shape);
+    let (ring, start) = made.expect(&rt, "memory for the ring");
+    let (putter, taker) = ring.ends(start);
+    expect_empty(&rt, &ring, putter, taker);
+}
+
+static MEETING: Case = (
+    [1, 3, 1, 1],
+    &[
+        Call::Put(1, PutReply::Stored),
+        Call::Meet,
+        Call::Take(TakeReply::Item(1)),
+        Call::Take(TakeReply::Empty),
+        Call::Close,
+        Call::Meet,
+        Call::Take(TakeReply::Closed),
+        Call::Take(TakeReply::Closed),
+    ],
+    true,
+    true,
+);
+
+#[test]
+fn ends_that_meet_between_their_calls_hand_items_over(rt: HostRuntime) {
+    expect_calls(&rt, &MEETING);
+}
+
+static UNMET: Case = (
+    [1, 3, 1, 1],
+    &[
+        Call::Put(1, PutReply::Stored),
+        Call::Put(0, PutReply::Full),
+        Call::Take(TakeReply::Item(1)),
+        Call::Take(TakeReply::Empty),
+        Call::Put(0, PutReply::Stored),
+        Call::Take(TakeReply::Item(0)),
+        Call::Close,
+        Call::Take(TakeReply::Closed),
+    ],
+    true,
+    true,
+);
+
+#[test]
+fn ends_that_never_meet_hand_items_over(rt: HostRuntime) {
+    expect_calls(&rt, &UNMET);
+}
+
+static ENDINGS: [Case; 5] = [
+    // no call at all
+    ([1, 3, 1, 1], &[], false, false),
+    (
+        [1, 3, 1, 1],
+        &[
+            Call::Put(1, PutReply::Stored),
+            Call::Take(TakeReply::Item(1)),
+            Call::Take(TakeReply::Empty),
+        ],
+        false,
+        false,
+    ),
+    // a close that no take was told of
+    ([1, 3, 1, 1], &[Call::Close], true, false),
+    (
+        [1, 3, 1, 1],
+        &[
+            Call::Take(TakeReply::Empty),
+            Call::Put(0, PutReply::Stored),
+            Call::Close,
+            Call::Take(TakeReply::Item(0)),
+        ],
+        true,
+        false,
+    ),
+    (
+        [1, 3, 1, 1],
+        &[Call::Close, Call::Take(TakeReply::Closed)],
+        true,
+        true,
+    ),
+];
+
+#[test]
+fn a_run_ends_closed_and_told_as_it_was(rt: HostRuntime) {
+    for case in ENDINGS.iter() {
+        expect_calls(&rt, case);
+    }
+}
+
+static ALONE: Case = (
+    [2, 4, 2, 1],
+    &[
+        Call::Put(2, PutReply::Stored),
+        Call::Put(1, PutReply::Stored),
+        Call::Put(3, PutReply::Full),
+        Call::Close,
+        Call::Put(0, PutReply::Closed),
+        Call::PutAll(&[0], BatchReply::Closed),
+        Call::Close,
+    ],
+    true,
+    false,
+);
+
+#[test]
+fn a_putter_alone_fills_the_ring_and_closes_it(rt: HostRuntime) {
+    expect_calls(&rt, &ALONE);
+}
+
+static PARTIAL: Case = (
+    [3, 6, 1, 2],
+    &[
+        Call::PutAll(&[1, 0], BatchReply::Stored(2)),
+        Call::PutAll(&[1, 1], BatchReply::Stored(1)),
+        Call::PutAll(&[1], BatchReply::Full),
+    ],
+    false,
+    false,
+);
+
+#[test]
+fn a_batch_is_stored_as_far_as_there_is_room(rt: HostRuntime) {
+    expect_calls(&rt, &PARTIAL);
+}
+
+// Takes of up to two items, of a ring of three cells.
+static TAKES: Case = (
+    [3, 7, 3, 3],
+    &[
+        Call::TakeAll(2, TakeBatchReply::Empty, &[]),
+        Call::PutAll(&[1, 2, 3], BatchReply::Stored(3)),
+        Call::TakeAll(2, TakeBatchReply::Taken(2), &[1, 2]),
+        Call::PutAll(&[4, 5, 6], BatchReply::Stored(2)),
+        Call::TakeAll(2, TakeBatchReply::Taken(2), &[3, 4]),
+        Call::Take(TakeReply::Item(5)),
+        Call::Meet,
+        Call::TakeAll(2, TakeBatchReply::Empty, &[]),
+        Call::Put(6, PutReply::Stored),
+        Call::TakeAll(2, TakeBatchReply::Taken(1), &[6]),
+        Call::PutAll(&[7, 0], BatchReply::Stored(2)),
+        Call::Close,
+        Call::TakeAll(1, TakeBatchReply::Taken(1), &[7]),
+        Call::TakeAll(2, TakeBatchReply::Taken(1), &[0]),
+        Call::TakeAll(2, TakeBatchReply::Closed, &[]),
+        Call::Take(TakeReply::Closed),
+        Call::TakeAll(1, TakeBatchReply::Closed, &[]),
+    ],
+    true,
+    true,
+);
+
+#[test]
+fn a_take_brings_as_many_items_as_are_shown_and_there_are_places(rt: HostRuntime) {
+    let shape = Shape::with_batches(3, 7, 3, 3, 2).expect(&rt, "a shape");
+    expect_flicker(&rt, shape, &TAKES);
+    expect_counter(&rt, shape, &TAKES);
+}

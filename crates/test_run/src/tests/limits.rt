@@ -1,0 +1,185 @@
+ghost use Rattle.std.specs.Prelude.{◌≡◌, ◌∷◌, []};
+ghost use Rattle.bits_core.specs.Shape.{AllFit};
+ghost use Rattle.ring_run.specs.Steppers.{IsSameEnd};
+
+use crate::tests::expects::{ITEMS, Kind, Numbers, ONE, expect, expect_relay, shape_of};
+use bits_core::{Flip, Shape};
+use ring_run::{CounterRing, FlickerRing, FreeGate, Limits, Outcome, PutEnd, relay};
+use std::alloc::{AllocGlobal, Allocator};
+use std::process::Abort;
+use std::thread::Threads;
+
+// What a relay comes to: items put, puts made, items taken, closed, and how often full and empty.
+type Wanted = (u64, u64, &'static [u64], bool, [u64; 2]);
+
+// A name, a shape, the items, the most puts and the most takes, and all that it may come to.
+type Case = (
+    &'static str,
+    Numbers,
+    &'static [u64],
+    (u64, u64),
+    &'static [Wanted],
+);
+
+// Whether it came to one of these.
+fn is_one_of<A: Allocator>(outcome: &Outcome<A>, wanted: &[Wanted]) -> bool {
+    for (put, calls, taken, closed, counts) in wanted {
+        if (outcome.put, outcome.calls, outcome.closed) == (*put, *calls, *closed)
+            && outcome.taken.as_slice() == *taken
+            && [outcome.full, outcome.empty] == *counts
+        {
+            return true;
+        }
+    }
+    false
+}
+
+// Each relay on a ring of the kind comes to one of what it may come to.
+fn expect_cases(rt: &(impl Abort + AllocGlobal + Threads), kind: Kind, cases: &[Case]) {
+    for (name, numbers, items, (puts, takes), wanted) in cases {
+        let limits = Limits {
+            puts: *puts,
+            takes: *takes,
+        };
+        let outcome = expect_relay(rt, kind, numbers, items, limits, &FreeGate);
+        expect(rt, is_one_of(&outcome, wanted), name, kind.name());
+    }
+}
+
+// One cell of six bits.
+const SIX: Numbers = [1, 3, 6, 1];
+
+static LIMITED: [Case; 6] = [
+    (
+        "no call",
+        SIX,
+        &[0, 1, 2],
+        (0, 0),
+        &[(0, 0, &[], false, [0, 0])],
+    ),
+    (
+        "no call but the close, as there is no item",
+        SIX,
+        &[],
+        (0, 0),
+        &[(0, 0, &[], false, [0, 0])],
+    ),
+    (
+        "a take before the put, or after it",
+        SIX,
+        &ITEMS,
+        (1, 1),
+        &[(1, 1, &[0], false, [0, 0]), (1, 1, &[], false, [0, 1])],
+    ),
+    (
+        "takes alone",
+        ONE,
+        &[1, 0, 1],
+        (0, 5),
+        &[(0, 0, &[], false, [0, 5])],
+    ),
+    (
+        "puts alone",
+        ONE,
+        &[1, 0],
+        (5, 0),
+        &[(1, 5, &[], false, [4, 0])],
+    ),
+    (
+        "a take before the close, or after it",
+        ONE,
+        &[],
+        (0, 1),
+        &[(0, 0, &[], true, [0, 0]), (0, 0, &[], false, [0, 1])],
+    ),
+];
+
+#[test]
+fn a_relay_stops_at_its_limits(rt: HostRuntime) {
+    expect_cases(&rt, Kind::Flicker, &LIMITED);
+    expect_cases(&rt, Kind::Counter, &LIMITED);
+}
+
+#[test]
+fn limits_may_be_the_same_for_both(rt: HostRuntime) {
+    for n in [0, 1, u64::MAX] {
+        let limits = Limits { puts: n, takes: n };
+        assert!(rt; Limits::both(n) == limits);
+    }
+}
+
+fn expect_all(rt: &(impl Abort + AllocGlobal + Threads), kind: Kind) {
+    let limits = Limits::both(u64::MAX);
+    let outcome = expect_relay(rt, kind, &SIX, &ITEMS, limits, &FreeGate);
+    let is_whole = outcome.put == 64 && outcome.closed;
+    let is_all = is_whole && outcome.taken.as_slice() == ITEMS.as_slice();
+    expect(rt, is_all, "all items", kind.name());
+}
+
+#[test]
+fn all_items_go_through_one_cell(rt: HostRuntime) {
+    expect_all(&rt, Kind::Flicker);
+    expect_all(&rt, Kind::Counter);
+}
+
+// What came of two items put by the end of one ring while an end of another, closed and empty, takes.
+fn expect_apart<A: Allocator>(rt: &impl Abort, outcome: &Outcome<A>) {
+    assert!(rt; outcome.put == 2 && outcome.calls == 2 && outcome.full == 0);
+    assert!(rt; outcome.taken.is_empty() && outcome.empty == 0 && outcome.closed);
+}
+
+// Puts two items by this end, with the taker of another ring, which was closed before.
+fn relay_apart<E: PutEnd + Send>(rt: &(impl Abort + AllocGlobal + Threads), putter: &mut E)
+    requires idle { E.idle putter.old }
+    requires fresh { (E.end putter.old).list ≡ [] }
+    requires wide { AllFit (E.end putter.old).ring.shape (0 ∷ 1 ∷ []) }
+    ensures idle { E.idle putter.new }
+    ensures same { IsSameEnd (E.end putter.old) (E.end putter.new) }
+{
+    let made = FlickerRing::new(rt.alloc(), shape_of(rt, &ONE));
+    let (other, start) = made.expect(rt, "memory for the ring");
+    let (mut closer, mut told) = other.ends(start, Flip::new(), Flip::new());
+    closer.close();
+    let limits = Limits::both(5);
+    let outcome = relay(
+        rt,
+        rt.alloc(),
+        putter,
+        &mut told,
+        &[0, 1],
+        limits,
+        &FreeGate,
+    );
+    expect_apart(rt, &outcome.expect(rt, "memory for the relay"));
+    let ended = FlickerRing::finish(closer, told);
+    assert!(rt; ended.closed() && ended.told());
+}
+
+// Two cells of one bit.
+fn two_cells(rt: &impl Abort) -> Shape
+    ensures { AllFit result (0 ∷ 1 ∷ []) }
+{
+    Shape::new(2, 4, 1).expect(rt, "a shape")
+}
+
+// The putter of one ring and the taker of another.
+#[test]
+fn ends_of_two_rings_are_worked_alike(rt: HostRuntime) {
+    let made = FlickerRing::new(rt.alloc(), two_cells(&rt));
+    let (ring, start) = made.expect(&rt, "memory for the ring");
+    let (mut putter, taker) = ring.ends(start, Flip::new(), Flip::new());
+    relay_apart(&rt, &mut putter);
+    let ended = FlickerRing::finish(putter, taker);
+    assert!(rt; ended.closed() && !ended.told());
+}
+
+// The putter of a counter ring and the taker of a flickering ring.
+#[test]
+fn ends_of_rings_of_both_kinds_are_worked_alike(rt: HostRuntime) {
+    let made = CounterRing::new(rt.alloc(), two_cells(&rt));
+    let (ring, start) = made.expect(&rt, "memory for the ring");
+    let (mut putter, taker) = ring.ends(start);
+    relay_apart(&rt, &mut putter);
+    let ended = CounterRing::finish(putter, taker);
+    assert!(rt; ended.closed() && !ended.told());
+}

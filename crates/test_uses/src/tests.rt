@@ -1,0 +1,3 @@
+mod histories;
+mod machines;
+mod rings;
