@@ -19,7 +19,7 @@ use Rattle.bits_core.proofs.LawProofs.{lawful_by_one_more}
 use Rattle.bits_core.proofs.OpenAccesses.{IsAnswer-from, open_right}
 use Rattle.bits_core.proofs.Places.{slice_get-last}
 
-count_below-same : (n : ℕ) (f g : ℕ → Bool) → ((p : ℕ) → p < n → f p ≡ g p) → count_below n f ≡ count_below n g
+pub count_below-same : (n : ℕ) (f g : ℕ → Bool) → ((p : ℕ) → p < n → f p ≡ g p) → count_below n f ≡ count_below n g
 count_below-same zero f g same = refl
 count_below-same (suc n) f g same =
     ap₂ (λ (c : ℕ) (b : Bool). c + (if b then 1 else 0)) (count_below-same n f g (λ p below. same p (omega arith))) (same n (omega arith))
@@ -31,12 +31,12 @@ count_below-le (suc n) f =
     elim (f n) as (λ t. count_below n f + (if t then 1 else 0) ≤ suc n) [ true ↦ omega arith | false ↦ omega arith ]
 
 -- an event more at the end changes no place before it
-slice_get-front : (h : List Event) (e : Event) (p : ℕ) → p < length h → slice_get (h ++ e ∷ []) p ≡ slice_get h p
+pub slice_get-front : (h : List Event) (e : Event) (p : ℕ) → p < length h → slice_get (h ++ e ∷ []) p ≡ slice_get h p
 slice_get-front [] e p below = absurd (omega arith)
 slice_get-front (x ∷ h) e zero below = refl
 slice_get-front (x ∷ h) e (suc p) below = slice_get-front h e p (omega arith)
 
-is_flicker_at-front : (h : List Event) (e : Event) (p : ℕ) → p < length h → is_flicker_at (h ++ e ∷ []) p ≡ is_flicker_at h p
+pub is_flicker_at-front : (h : List Event) (e : Event) (p : ℕ) → p < length h → is_flicker_at (h ++ e ∷ []) p ≡ is_flicker_at h p
 is_flicker_at-front h e p below =
     let within : p ≤ length h = omega arith in
     ap₂ (λ (past : List Event) (o : Option Event). option_map_or (is_flicker past) o false) (take-append-le p h (e ∷ []) within) (slice_get-front h e p below)

@@ -15,8 +15,7 @@ use Rattle.bits_core.specs.declared.events.Act.TheVariants.{ReadBegin, ReadEnd, 
 use Rattle.bits_core.specs.declared.shapes.Shape.{Shape}
 use Rattle.bits_core.specs.Steps.{FitsOpen, IsAnswer, IsPermittedAct, MayFollow, EachMayFollow}
 use Rattle.bits_core.specs.Lawful.{TakesTurn, AnswersSafely, IsLawfulEvent, IsLawful}
-use Rattle.bits_core.specs.Intervals.{IsRead}
-use Rattle.bits_core.specs.Intervals.{end_of, IsAccess, IsHeld, HasOverlap, IsOpenAt}
+use Rattle.bits_core.specs.Intervals.{IsRead, end_of, IsAccess, IsHeld, HasOverlap, IsOpenAt}
 use Rattle.bits_core.proofs.Changes.{same_side-same}
 use Rattle.bits_core.proofs.IntervalLemmas.{between_none, IsLastPlace-access, open_access-from, IsOpenAt-from, has_event-found}
 use Rattle.bits_core.proofs.Places.{slice_get-take, slice_get-drop}

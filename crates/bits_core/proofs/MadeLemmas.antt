@@ -14,15 +14,15 @@ use Rattle.bits_core.proofs.Changes.{same_side-same}
 use Rattle.bits_core.proofs.OwnEvents.{subhistory_has_place, subhistory_has_one_place, place-next, IsOwn, own_at}
 
 -- the two events of an access
-begin_by : (s : Side) (x : Made) → (begin_event s x).side ≡ s
+pub begin_by : (s : Side) (x : Made) → (begin_event s x).side ≡ s
 begin_by s (Read b v) = refl
 begin_by s (Write b v) = refl
 
-begin_begins : (s : Side) (x : Made) → begun_by (begin_event s x) ≡ Some (access_of x)
+pub begin_begins : (s : Side) (x : Made) → begun_by (begin_event s x) ≡ Some (access_of x)
 begin_begins s (Read b v) = refl
 begin_begins s (Write b v) = refl
 
-end_begins_none : (s : Side) (x : Made) → begun_by (end_event s x) ≡ None
+pub end_begins_none : (s : Side) (x : Made) → begun_by (end_event s x) ≡ None
 end_begins_none s (Read b v) = refl
 end_begins_none s (Write b v) = refl
 

@@ -276,7 +276,7 @@ with_value-at : (values : List Bool) (c b : Bit) (o : Option Bool) → length va
 with_value-at values c b None size room there = sym (both (same_bit b c) (get_or values (table_place b) false))
 with_value-at values c b (Some v) size room there = set-values values c b v size room there
 
-by_other : (s : Side) → same_side (other s) s ≡ false
+pub by_other : (s : Side) → same_side (other s) s ≡ false
 by_other P = refl
 by_other C = refl
 

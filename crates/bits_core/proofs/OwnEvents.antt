@@ -69,7 +69,7 @@ subhistory_has_place s (e ∷ h) (suc i) within =
     (λ by. rw by (behind_own s e h i (place_of s h i) by (subhistory_has_place s h i (omega (arith, ap length (own-yes s e h by))))))
     (λ by. rw by (behind_other s e h (suc i) (place_of s h (suc i)) by (subhistory_has_place s h (suc i) (omega (arith, ap length (own-no s e h by))))))
 
-clock_within : (s : Side) (h : List Event) (t : ℕ) → clock s h t ≤ length (subhistory s h)
+pub clock_within : (s : Side) (h : List Event) (t : ℕ) → clock s h t ≤ length (subhistory s h)
 clock_within s [] zero = omega arith
 clock_within s [] (suc t) = omega arith
 clock_within s (e ∷ h) zero = omega (arith, clock_rises s (e ∷ h) 0 0)

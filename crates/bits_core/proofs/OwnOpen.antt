@@ -17,6 +17,7 @@ use Rattle.bits_core.proofs.Histories.{before_last-push, open_access-push}
 use Rattle.bits_core.proofs.Changes.{same_side-same, open_write-push, is_overlapped-push}
 use Rattle.bits_core.proofs.LawProofs.{lawful_by_one_more, held_changes}
 use Rattle.bits_core.proofs.OwnEvents.{by_case, subhistory_changes}
+use Rattle.bits_core.proofs.MadeLemmas.{end_begins_none as begun_end}
 
 -- by one event more
 grow : (Q : List Event → Type 0) → ((h : List Event) (e : Event) → Q h → Q (h ++ e ∷ [])) → (h more : List Event) → Q h → Q (h ++ more)
@@ -41,13 +42,9 @@ open_from_own s = by_events (λ h. open_access s h ≡ open_access s (subhistory
     sym (ap (open_access s) (subhistory_changes s h e ∙ pick (is_by s e) false (subhistory s h ++ e ∷ []) (subhistory s h) by))))
 
 -- whole accesses
-by_end : (s : Side) (x : Made) → is_by s (end_event s x) ≡ true
+pub by_end : (s : Side) (x : Made) → is_by s (end_event s x) ≡ true
 by_end s (Read b v) = same_side-same s
 by_end s (Write b v) = same_side-same s
-
-begun_end : (s : Side) (x : Made) → begun_by (end_event s x) ≡ None
-begun_end s (Read b v) = refl
-begun_end s (Write b v) = refl
 
 none_behind : (s : Side) (before : List Event) (made : List Made) → open_access s before ≡ None → open_access s (before ++ events_of s made) ≡ None
 none_behind s before [] is = ap (open_access s) (append-nil before) ∙ is
@@ -63,7 +60,7 @@ made_leave_none_open s made = none_behind s [] made refl
 
 -- ---- while nothing overlaps
 
-not_open : {A : Type 0} → (o : Option A) → is_some o ≡ false → o ≡ None
+pub not_open : {A : Type 0} → (o : Option A) → is_some o ≡ false → o ≡ None
 not_open None e = refl
 not_open (Some v) e = absurd (false≢true (sym e))
 
@@ -74,7 +71,7 @@ reads_not b s is = ap (same_side (writer b)) is ∙ go (writer b)
     go P = refl
     go C = refl
 
-same_true : (x y : Side) → same_side x y ≡ true → x ≡ y
+pub same_true : (x y : Side) → same_side x y ≡ true → x ≡ y
 same_true P P e = refl
 same_true P C e = absurd (false≢true e)
 same_true C P e = absurd (false≢true e)

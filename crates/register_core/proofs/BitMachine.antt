@@ -6,11 +6,7 @@ use Rattle.bits_core.specs.History.{last_value}
 use Rattle.bits_core.specs.Made.{Made, Write}
 use Rattle.register_core.specs.BitLaw.{logical_write, logical_writes}
 use Rattle.register_core.specs.BitState.{BitState, due_change, writes_to, first_write_to, bit_writes, BitStands}
-
--- one value more
-last-more : (v : Bool) (values : List Bool) (w : Bool) → last_value v (values ++ w ∷ []) ≡ w
-last-more v [] w = refl
-last-more v (u ∷ values) w = last-more u values w
+use Rattle.bits_core.proofs.Histories.{last_value-push as last-more}
 
 writes-more : (v : Bool) (values : List Bool) (w : Bool) → logical_writes v (values ++ w ∷ []) ≡ logical_writes v values ++ logical_write (last_value v values) w
 writes-more v [] w = append-nil (logical_write v w)

@@ -16,16 +16,13 @@ use Rattle.register_core.specs.ScanState.{zero_reads, scan_phrase, row_read_by}
 use Rattle.register_core.specs.MadeReads.{begin_place, end_place, ScansAreMade, ZerosAreMade, WordReadsAreMade}
 use Rattle.register_core.proofs.Digits.{length-reads}
 use Rattle.register_core.proofs.ScanMachine.{length-zeros}
+use Rattle.bits_core.proofs.Places.{slice_get-append as get_before}
+use Rattle.bits_core.proofs.LawLemmas.{clock_counts_places, made_is_access, subhistory_has_one_place, subhistory_has_place}
 
 -- elements of lists
 get_behind : {A : Type 0} (xs ys : List A) (i : ℕ) → slice_get (xs ++ ys) (length xs + i) ≡ slice_get ys i
 get_behind [] ys i = let e : 0 + i ≡ i = omega arith in ap (slice_get ys) e
 get_behind (x ∷ xs) ys i = let e : suc (length xs) + i ≡ suc (length xs + i) = omega arith in ap (slice_get (x ∷ (xs ++ ys))) e ∙ get_behind xs ys i
-
-get_before : {A : Type 0} (xs ys : List A) (i : ℕ) (x : A) → slice_get xs i ≡ Some x → slice_get (xs ++ ys) i ≡ Some x
-get_before [] ys i x at = absurd (cc)
-get_before (y ∷ xs) ys zero x at = at
-get_before (y ∷ xs) ys (suc i) x at = get_before xs ys i x at
 
 split : (i n : ℕ) → i < suc n → (i < n) ⊎ (i ≡ n)
 split i n l = grind arith
@@ -53,55 +50,54 @@ get_digit j item (suc n) i l = elim (split i n l) [
       ap (slice_get (digit_reads j item n ++ Read (Cell j n) (digit n item) ∷ [])) (sym at) ∙ get_behind (digit_reads j item n) (Read (Cell j n) (digit n item) ∷ []) 0 ∙ ap (λ k. Some (Read (Cell j k) (digit k item))) (sym e)
 ]
 
-module _ (is_access : MadeIsAccess) (has_place : SubhistoryHasPlace) (one_place : SubhistoryHasOnePlace) (counts : ClockCountsPlaces) where
-  -- places of own events rise with their numbers
-  rise : (s : Side) (h : List Event) (i k : ℕ) → i < k → k < length (subhistory s h) → place_of s h i < place_of s h k
-  rise s h i k l m = (counts s h i (place_of s h k) (omega arith)).1 (omega (arith, (has_place s h k m).before))
+-- places of own events rise with their numbers
+rise : (s : Side) (h : List Event) (i k : ℕ) → i < k → k < length (subhistory s h) → place_of s h i < place_of s h k
+rise s h i k l m = (clock_counts_places s h i (place_of s h k) (omega arith)).1 (omega (arith, (subhistory_has_place s h k m).before))
 
-  module _ (s : Side) (h : List Event) (made : List Made) (follows : IsPrefix (subhistory s h) (events_of s made)) where
-    read_at : (n : ℕ) (b : Bit) (v : Bool) → slice_get made n ≡ Some (Read b v) → suc (2 * n) < length (subhistory s h) → IsRead h s b (place_of s h (2 * n)) (place_of s h (suc (2 * n))) v
-    read_at n b v at l =
-        let r = is_access s h made follows n (Read b v) at (omega arith) in
-        let e = r.1.ended l in
-        let same : r.0 ≡ place_of s h (suc (2 * n)) = one_place s h (suc (2 * n)) r.0 e.0 in
-        subst (λ stop. IsRead h s b (place_of s h (2 * n)) stop v) same (record { access = r.1.access; ends = e.1 })
+module _ (s : Side) (h : List Event) (made : List Made) (follows : IsPrefix (subhistory s h) (events_of s made)) where
+  read_at : (n : ℕ) (b : Bit) (v : Bool) → slice_get made n ≡ Some (Read b v) → suc (2 * n) < length (subhistory s h) → IsRead h s b (place_of s h (2 * n)) (place_of s h (suc (2 * n))) v
+  read_at n b v at l =
+      let r = made_is_access s h made follows n (Read b v) at (omega arith) in
+      let e = r.1.ended l in
+      let same : r.0 ≡ place_of s h (suc (2 * n)) = subhistory_has_one_place s h (suc (2 * n)) r.0 e.0 in
+      subst (λ stop. IsRead h s b (place_of s h (2 * n)) stop v) same (record { access = r.1.access; ends = e.1 })
 
-    module _ (before after phrase : List Made) (is : made ≡ before ++ (phrase ++ after)) where
-      in_phrase : (i : ℕ) (x : Made) → slice_get phrase i ≡ Some x → slice_get made (length before + i) ≡ Some x
-      in_phrase i x at = ap (λ l. slice_get l (length before + i)) is ∙ get_behind before (phrase ++ after) i ∙ get_before phrase after i x at
+  module _ (before after phrase : List Made) (is : made ≡ before ++ (phrase ++ after)) where
+    in_phrase : (i : ℕ) (x : Made) → slice_get phrase i ≡ Some x → slice_get made (length before + i) ≡ Some x
+    in_phrase i x at = ap (λ l. slice_get l (length before + i)) is ∙ get_behind before (phrase ++ after) i ∙ get_before phrase after i x at
 
-      read_in : (i : ℕ) (b : Bit) (v : Bool) → slice_get phrase i ≡ Some (Read b v) → suc (2 * (length before + i)) < length (subhistory s h) →
-          IsRead h s b (begin_place s h (length before) i) (end_place s h (length before) i) v
-      read_in i b v at l = read_at (length before + i) b v (in_phrase i (Read b v) at) l
+    read_in : (i : ℕ) (b : Bit) (v : Bool) → slice_get phrase i ≡ Some (Read b v) → suc (2 * (length before + i)) < length (subhistory s h) →
+        IsRead h s b (begin_place s h (length before) i) (end_place s h (length before) i) v
+    read_in i b v at l = read_at (length before + i) b v (in_phrase i (Read b v) at) l
 
-    turn : (n i : ℕ) → 2 * (n + suc i) < length (subhistory s h) → end_place s h n i < begin_place s h n (suc i)
-    turn n i l = rise s h (suc (2 * (n + i))) (2 * (n + suc i)) (omega arith) l
+  turn : (n i : ℕ) → 2 * (n + suc i) < length (subhistory s h) → end_place s h n i < begin_place s h n (suc i)
+  turn n i l = rise s h (suc (2 * (n + i))) (2 * (n + suc i)) (omega arith) l
 
-  other_other : (s : Side) → other (other s) ≡ s
-  other_other P = refl
-  other_other C = refl
+other_other : (s : Side) → other (other s) ≡ s
+other_other P = refl
+other_other C = refl
 
-  pub zeros-are_made : ZerosAreMade
-  zeros-are_made s h made follows before after n is l = record {
-    in_turn = λ i m. turn s h made follows (length before) i (omega arith);
-    each = λ i m. subst (λ t. IsRead h t (row_bit (other s) i) (begin_place s h (length before) i) (end_place s h (length before) i) false) (sym (other_other s))
-        (read_in s h made follows before after (zero_reads (row_read_by s) n) is i (row_read_by s i) false (get_zero (row_read_by s) n i m) (omega arith));
-  }
+pub zeros-are_made : ZerosAreMade
+zeros-are_made s h made follows before after n is l = record {
+  in_turn = λ i m. turn s h made follows (length before) i (omega arith);
+  each = λ i m. subst (λ t. IsRead h t (row_bit (other s) i) (begin_place s h (length before) i) (end_place s h (length before) i) false) (sym (other_other s))
+      (read_in s h made follows before after (zero_reads (row_read_by s) n) is i (row_read_by s i) false (get_zero (row_read_by s) n i m) (omega arith));
+}
 
-  pub scans-are_made : ScansAreMade
-  scans-are_made s h made follows before after c is l =
-      let row : ℕ → Bit = row_read_by s in
-      let zeros : made ≡ before ++ (zero_reads row c ++ (Read (row c) true ∷ after)) =
-      is ∙ ap (λ l. before ++ l) (append_assoc (zero_reads row c) (Read (row c) true ∷ []) after) in
-      record {
-        zeros = zeros-are_made s h made follows before (Read (row c) true ∷ after) c zeros (omega arith);
-        one = subst (λ t. IsRead h t (row_bit (other s) c) (begin_place s h (length before) c) (end_place s h (length before) c) true) (sym (other_other s))
-            (read_in s h made follows before after (scan_phrase row c) is c (row c) true (get_one row c) l);
-      }
+pub scans-are_made : ScansAreMade
+scans-are_made s h made follows before after c is l =
+    let row : ℕ → Bit = row_read_by s in
+    let zeros : made ≡ before ++ (zero_reads row c ++ (Read (row c) true ∷ after)) =
+    is ∙ ap (λ l. before ++ l) (append_assoc (zero_reads row c) (Read (row c) true ∷ []) after) in
+    record {
+      zeros = zeros-are_made s h made follows before (Read (row c) true ∷ after) c zeros (omega arith);
+      one = subst (λ t. IsRead h t (row_bit (other s) c) (begin_place s h (length before) c) (end_place s h (length before) c) true) (sym (other_other s))
+          (read_in s h made follows before after (scan_phrase row c) is c (row c) true (get_one row c) l);
+    }
 
-  pub words-are_made : WordReadsAreMade
-  words-are_made h made follows before after width j item fits is l = record {
-    in_turn = λ i m. turn C h made follows (length before) i (omega arith);
-    each = λ i m. read_in C h made follows before after (digit_reads j item width) is i (Cell j i) (digit i item) (get_digit j item width i m) (omega arith);
-    fits = fits;
-  }
+pub words-are_made : WordReadsAreMade
+words-are_made h made follows before after width j item fits is l = record {
+  in_turn = λ i m. turn C h made follows (length before) i (omega arith);
+  each = λ i m. read_in C h made follows before after (digit_reads j item width) is i (Cell j i) (digit i item) (get_digit j item width i m) (omega arith);
+  fits = fits;
+}

@@ -25,14 +25,8 @@ use Rattle.register_core.proofs.Writes.{write_of-from, write_of-to, by_writer}
 use Rattle.register_core.proofs.Turns.{BeginsWrites}
 use Rattle.register_core.proofs.Cells.{cell_write-to, cell_write-from}
 use Rattle.register_core.proofs.Counts.{count_write-to, count_write-its}
-
-side_same : (s : Side) → same_side s s ≡ true
-side_same P = refl
-side_same C = refl
-
-end_begins_none : (s : Side) (x : Made) → begun_by (end_event s x) ≡ None
-end_begins_none s (Read b v) = refl
-end_begins_none s (Write b v) = refl
+use Rattle.bits_core.proofs.Changes.{same_side-same as side_same}
+use Rattle.bits_core.proofs.MadeLemmas.{end_begins_none}
 
 module _ {W : Type 0} (begins : Event → Option W) (s : Side) (its : BeginsWrites begins s) where
   none : (e : Event) → ((w : W) → begins e ≡ Some w → ⊥) → begins e ≡ None

@@ -9,13 +9,16 @@ use Rattle.bits_core.specs.Bits.{is_by}
 use Rattle.bits_core.specs.History.{has_event, before_last}
 use Rattle.bits_core.specs.Intervals.{first_place, end_of}
 use Rattle.bits_core.specs.Made.{IsPrefix}
+use Rattle.bits_core.proofs.IntervalLemmas.{none-first_place as none_within}
+use Rattle.bits_core.proofs.Histories.{before_last-none as before_last-empty}
+pub use Rattle.bits_core.proofs.Places.{slice_get-append as slice_get-begin}
 
 -- ---- the events before a side's last one
 
-before_last-more : (s : Side) (x : Event) (k : List Event) → has_event s k ≡ true → before_last s (x ∷ k) ≡ x ∷ before_last s k
+pub before_last-more : (s : Side) (x : Event) (k : List Event) → has_event s k ≡ true → before_last s (x ∷ k) ≡ x ∷ before_last s k
 before_last-more s x k e = ap (λ b. cond b (x ∷ before_last s k) []) e
 
-before_last-none : (s : Side) (x : Event) (k : List Event) → has_event s k ≡ false → before_last s (x ∷ k) ≡ []
+pub before_last-none : (s : Side) (x : Event) (k : List Event) → has_event s k ≡ false → before_last s (x ∷ k) ≡ []
 before_last-none s x k e = ap (λ b. cond b (x ∷ before_last s k) []) e
 
 before_last-begins : (s : Side) (k : List Event) → IsPrefix (before_last s k) k
@@ -25,19 +28,6 @@ before_last-begins s (x ∷ k) =
       | true ↦ let r = before_last-begins s k in (r.0, ap (λ l. x ∷ l) r.1)
       | false ↦ (x ∷ k, refl)
     ]
-
-before_last-empty : (s : Side) (k : List Event) → has_event s k ≡ false → before_last s k ≡ []
-before_last-empty s [] e = refl
-before_last-empty s (x ∷ k) e = before_last-none s x k (or_parts (is_by s x) (has_event s k) e).1
-
-none_within : (s : Side) (xs : List Event) (n : ℕ) → n ≤ first_place s xs → has_event s (take n xs) ≡ false
-none_within s xs zero le = refl
-none_within s [] (suc n) le = refl
-none_within s (x ∷ xs) (suc n) le =
-    elim (is_by s x) as (λ t. suc n ≤ (cond t 0 (suc (first_place s xs))) → (t || has_event s (take n xs)) ≡ false) [
-      | true ↦ λ l. absurd (omega arith)
-      | false ↦ λ l. none_within s xs n (omega arith)
-    ] le
 
 some_within : (s : Side) (xs : List Event) (n : ℕ) → first_place s xs < n → n ≤ length xs → has_event s (take n xs) ≡ true
 some_within s xs zero l fits = absurd (omega arith)
@@ -56,12 +46,6 @@ end_of-suc s x h p =
     ap (λ (n : ℕ). n + first_place s (drop n (x ∷ h))) e ∙ f
 
 -- ---- numbers
-
--- what stands in a list stands in a longer one
-pub slice_get-begin : {A : Type 0} (xs ys : List A) (n : ℕ) (x : A) → slice_get xs n ≡ Some x → slice_get (xs ++ ys) n ≡ Some x
-slice_get-begin [] ys n x e = absurd (cc)
-slice_get-begin (y ∷ xs) ys zero x e = e
-slice_get-begin (y ∷ xs) ys (suc n) x e = slice_get-begin xs ys n x e
 
 -- number n of what began before place q
 pub record IsNumbered {W : Type 0} (begins : Event → Option W) (h : List Event) (q n : ℕ) : Type 0 where

@@ -18,6 +18,7 @@ use Rattle.register_core.specs.BitLaw.{logical_writes, WritesLogically, IsOverla
 use Rattle.register_core.proofs.Numbers.{IsNumbered, begun, ended, begun_at, begun_rises, begun_least, numbered, ended_le, ended_more, take-ended, all_ended, slice_get-begin}
 use Rattle.register_core.proofs.Writes.{write_of-from, write_of-to, by_writer, begins_before}
 use Rattle.register_core.proofs.Turns.{each_ended}
+use Rattle.bits_core.proofs.LawLemmas.{held_is_by_interval}
 
 -- a logical write writes another value than the one before it
 logical_changes : (values : List Bool) (v : Bool) (n : ℕ) (x : Bool) → slice_get (logical_writes v values) n ≡ Some x → x ≢ last_value v (take n (logical_writes v values))
@@ -38,7 +39,7 @@ one_of_two true false false apart = inr refl
 one_of_two false true true apart = inr refl
 one_of_two false true false apart = inl refl
 
-module _ (law : HeldIsByInterval) (shape : Shape) (h : List Event) (lawful : IsLawful shape h) (b : Bit) (values : List Bool) (writes : WritesLogically b h values) (s : Side) (start stop : ℕ) (v : Bool) (read : IsRead h s b start stop v) where
+module _ (shape : Shape) (h : List Event) (lawful : IsLawful shape h) (b : Bit) (values : List Bool) (writes : WritesLogically b h values) (s : Side) (start stop : ℕ) (v : Bool) (read : IsRead h s b start stop v) where
   -- how many writes of the bit had ended where the read began
   abbrev had_ended : ℕ
   had_ended = ended (write_of b) (writer b) h start
@@ -114,7 +115,7 @@ module _ (law : HeldIsByInterval) (shape : Shape) (h : List Event) (lawful : IsL
 
     answer : ((first : ℕ) × IsFirstOverlapping h b start stop first × IsHeld h b first v) ⊎ ((start' : ℕ) × (stop' : ℕ) × IsOverlapping h b start stop v start' stop')
     answer = elim (one_of_two (last_value (first_value b) (take had_ended (writes_begun b h))) r.what v changes) [
-      | inl e ↦ inl (r.place, is_first, (law shape h lawful b r.place (omega (arith, place_within)) v).1 (e ∙ sym held_there))
+      | inl e ↦ inl (r.place, is_first, (held_is_by_interval shape h lawful b r.place (omega (arith, place_within)) v).1 (e ∙ sym held_there))
       | inr e ↦ inr (r.place, end_of (writer b) h r.place, subst (λ x. IsOverlapping h b start stop x r.place (end_of (writer b) h r.place)) (sym e) first_overlaps)
     ]
 
@@ -127,5 +128,5 @@ module _ (law : HeldIsByInterval) (shape : Shape) (h : List Event) (lawful : IsL
     ];
   }
 
-pub bit-is_regular : HeldIsByInterval → BitIsRegular
-bit-is_regular law shape h lawful b values writes s start stop v read = regular_answer law shape h lawful b values writes s start stop v read
+pub bit-is_regular : BitIsRegular
+bit-is_regular shape h lawful b values writes s start stop v read = regular_answer shape h lawful b values writes s start stop v read

@@ -13,15 +13,15 @@ use Rattle.bits_core.specs.History.{last_value}
 use Rattle.register_core.specs.Row.{RowWrite, bits_with, bits_after, row_write}
 use Rattle.register_core.proofs.Writes.{same_bit-true, same_bit-same}
 
-row_write-read : (o : Option ℕ) → row_write o ReadBegin ≡ None
+pub row_write-read : (o : Option ℕ) → row_write o ReadBegin ≡ None
 row_write-read None = refl
 row_write-read (Some i) = refl
 
-row_write-got : (o : Option ℕ) (v : Bool) → row_write o (ReadEnd v) ≡ None
+pub row_write-got : (o : Option ℕ) (v : Bool) → row_write o (ReadEnd v) ≡ None
 row_write-got None v = refl
 row_write-got (Some i) v = refl
 
-row_write-wrote : (o : Option ℕ) → row_write o WriteEnd ≡ None
+pub row_write-wrote : (o : Option ℕ) → row_write o WriteEnd ≡ None
 row_write-wrote None = refl
 row_write-wrote (Some i) = refl
 

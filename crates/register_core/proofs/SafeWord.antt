@@ -21,6 +21,7 @@ use Rattle.register_core.proofs.Numbers.{IsNumbered, begun, ended, begun_at, beg
 use Rattle.register_core.proofs.Writes.{by_writer, begins_before}
 use Rattle.register_core.proofs.Items.{digit_of_zero, same_item, length-word_writes, take-word_writes, words_left}
 use Rattle.register_core.proofs.Cells.{clear_bits, held_digit, cell_write-to, cell_write-from}
+use Rattle.bits_core.proofs.LawLemmas.{held_is_by_interval}
 
 -- a word write that began before a place
 record BegunWord (width j : ℕ) (h : List Event) (q n : ℕ) : Type 0 where
@@ -75,7 +76,7 @@ module _ (shape : Shape) (h : List Event) (lawful : IsLawful shape h) (width j :
         }
       ]
 
-module _ (law : HeldIsByInterval) (shape : Shape) (h : List Event) (lawful : IsLawful shape h) (width j : ℕ) (wide : 0 < width) (items : List ℕ) (fit : All (λ v. v < 2 ^ width) items) (writes : WritesWords width j h items) (count : ℕ) (some_read : 0 < count) (few_read : count ≤ width) (start stop : ℕ → ℕ) (answer : ℕ → Bool) (read : ReadsDigits j h count start stop answer) (place : ℕ) (read_end : IsReadEnd width h count stop place) (quiet : (n start' stop' : ℕ) → IsWordWrite width j h n start' stop' → ¬ Overlap (start 0) place start' stop') where
+module _ (shape : Shape) (h : List Event) (lawful : IsLawful shape h) (width j : ℕ) (wide : 0 < width) (items : List ℕ) (fit : All (λ v. v < 2 ^ width) items) (writes : WritesWords width j h items) (count : ℕ) (some_read : 0 < count) (few_read : count ≤ width) (start stop : ℕ → ℕ) (answer : ℕ → Bool) (read : ReadsDigits j h count start stop answer) (place : ℕ) (read_end : IsReadEnd width h count stop place) (quiet : (n start' stop' : ℕ) → IsWordWrite width j h n start' stop' → ¬ Overlap (start 0) place start' stop') where
   -- how many digit writes had ended where the word read began, and how many had begun where it ended
   abbrev had_ended : ℕ
   had_ended = ended (cell_write j) P h (start 0)
@@ -181,7 +182,7 @@ module _ (law : HeldIsByInterval) (shape : Shape) (h : List Event) (lawful : IsL
         elim ((lawful.each (stop i) (record { side = C; bit = Cell j i; act = ReadEnd (answer i) }) r.ends).permitted (start i) r.access) [
           | inl o ↦ absurd (none_overlaps i l o)
           | inr held ↦
-              (law shape h lawful (Cell j i) (start i) (omega (arith, here.1)) (answer i)).0 held
+              (held_is_by_interval shape h lawful (Cell j i) (start i) (omega (arith, here.1)) (answer i)).0 held
               ∙ held_digit j i (take (start i) h)
               ∙ ap (λ ws. bits_after clear_bits ws i) (first_words i l)
         ]
@@ -237,14 +238,14 @@ module _ (law : HeldIsByInterval) (shape : Shape) (h : List Event) (lawful : IsL
       let few : had_begun ≤ n * width = begun_le n high in
       safe_by_words n (omega (arith, ended_le_had_begun)) (omega (arith, ended_le_had_begun))
 
-pub digits-are_safe : HeldIsByInterval → DigitsAreSafe
-digits-are_safe law shape h lawful width j wide items fit writes count some_read few_read start stop answer read place read_end quiet =
-    safe_digits law shape h lawful width j wide items fit writes count some_read few_read start stop answer read place read_end quiet
+pub digits-are_safe : DigitsAreSafe
+digits-are_safe shape h lawful width j wide items fit writes count some_read few_read start stop answer read place read_end quiet =
+    safe_digits shape h lawful width j wide items fit writes count some_read few_read start stop answer read place read_end quiet
 
 -- a word read that has ended is one of all digits, and its item is told by them
-pub word-is_safe : HeldIsByInterval → WordIsSafe
-word-is_safe law shape h lawful width j wide items fit writes start stop item read quiet =
-    elim (digits-are_safe law shape h lawful width j wide items fit writes width wide (omega arith) start stop (λ i. digit i item)
+pub word-is_safe : WordIsSafe
+word-is_safe shape h lawful width j wide items fit writes start stop item read quiet =
+    elim (digits-are_safe shape h lawful width j wide items fit writes width wide (omega arith) start stop (λ i. digit i item)
     (record { in_turn = read.in_turn; each = read.each }) (stop (width - 1)) (inl (refl, refl)) quiet) [
       | inl r ↦
           let is : item ≡ r.0 = same_item width item r.0 read.fits (last_fits items fit r.1.number r.0 r.1.writes) r.2 in

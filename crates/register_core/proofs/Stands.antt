@@ -96,7 +96,7 @@ bit_in-set bits x fits = fun_ext (λ k. at k (cases_eq k x.bit))
     at k (inr n) = get_or-set_other bits x.bit k x.value false n ∙ sym (other_bit (bit_in bits) k x.bit x.value n)
 
 -- The writes of one more value.
-row_writes-more :
+pub row_writes-more :
     (values : List ℕ) (v : ℕ) (bits : ℕ → Bool) →
     row_writes (unary_writes bits (values ++ v ∷ [])) ≡
     row_writes (unary_writes bits values) ++ unary_phrase (bits_after bits (row_writes (unary_writes bits values))) v
@@ -122,7 +122,7 @@ pub stands-new : (side : Side) (modulus : ℕ) → UnaryStands (new_row side mod
 stands-new side modulus = record { writes = []; made_is = refl; within = omega arith; remembered = new_bits; goes_on = refl }
 
 -- nothing is due where no access is
-idle : (row : ℕ → Bit) (writes : List RowWrite) → first_access row writes ≡ None → writes ≡ []
+pub idle : (row : ℕ → Bit) (writes : List RowWrite) → first_access row writes ≡ None → writes ≡ []
 idle row [] none = refl
 idle row (x ∷ writes) none = absurd (cc)
 

@@ -21,9 +21,10 @@ use Rattle.register_core.proofs.Writes.{begins_before}
 use Rattle.register_core.proofs.Turns.{one_open}
 use Rattle.register_core.proofs.Counts.{row_writer, count_write-to, count_write-its, held_count}
 use Rattle.register_core.proofs.UnaryMoments.{moments-are_regular, moments-have_one, bits-are_regular}
+use Rattle.bits_core.proofs.LawLemmas.{held_is_by_interval}
 
 -- reads of the bits below the last that answer 0, and a read of the last bit
-module _ (law : HeldIsByInterval) (shape : Shape) (h : List Event) (lawful : IsLawful shape h) (s : Side) (values : List ℕ) (writes : WritesUnary s h values) (last : ℕ) (start stop : ℕ → ℕ) (zeros : ReadsZeros s h last start stop) (answer : Bool) (final : IsRead h (other s) (row_bit s last) (start last) (stop last) answer) where
+module _ (shape : Shape) (h : List Event) (lawful : IsLawful shape h) (s : Side) (values : List ℕ) (writes : WritesUnary s h values) (last : ℕ) (start stop : ℕ → ℕ) (zeros : ReadsZeros s h last start stop) (answer : Bool) (final : IsRead h (other s) (row_bit s last) (start last) (stop last) answer) where
   -- how many writes of the count had ended where the read of a bit begins, and how many had begun where it ends
   abbrev from : ℕ → ℕ
   from i = ended (count_write s) s h (start i)
@@ -85,7 +86,7 @@ module _ (law : HeldIsByInterval) (shape : Shape) (h : List Event) (lawful : IsL
       let e : bits_after first_bits (take (from i) (writes_of values)) i ≡ v =
       ap (λ ws. bits_after first_bits ws i) (first_writes i)
       ∙ sym (held_count s i (take (start i) h))
-      ∙ sym ((law shape h lawful (row_bit s i) (start i) fits v).0 is) in
+      ∙ sym ((held_is_by_interval shape h lawful (row_bit s i) (start i) fits v).0 is) in
       inl e
 
   answered : (i : ℕ) (v : Bool) → i ≤ last → IsRead h (other s) (row_bit s i) (start i) (stop i) v → Answered (writes_of values) from till i v
@@ -102,11 +103,11 @@ module _ (law : HeldIsByInterval) (shape : Shape) (h : List Event) (lawful : IsL
   pub last_answered : Answered (writes_of values) from till last answer
   last_answered = answered last answer (omega arith) final
 
-pub unary-is_regular : HeldIsByInterval → UnaryIsRegular
-unary-is_regular law shape h lawful s values writes c start stop scan =
-    let r = moments-are_regular values c _ _ (scanned law shape h lawful s values writes c start stop scan.zeros true scan.one) (last_answered law shape h lawful s values writes c start stop scan.zeros true scan.one) in
+pub unary-is_regular : UnaryIsRegular
+unary-is_regular shape h lawful s values writes c start stop scan =
+    let r = moments-are_regular values c _ _ (scanned shape h lawful s values writes c start stop scan.zeros true scan.one) (last_answered shape h lawful s values writes c start stop scan.zeros true scan.one) in
     record { number = r.number; not_overwritten = r.not_overwritten; has_begun = r.has_begun; has_value = r.has_value }
 
-pub unary-has_one : HeldIsByInterval → UnaryHasOne
-unary-has_one law shape h lawful s values writes last start stop within zeros final =
-    moments-have_one values last _ _ within (scanned law shape h lawful s values writes last start stop zeros false final) (last_answered law shape h lawful s values writes last start stop zeros false final)
+pub unary-has_one : UnaryHasOne
+unary-has_one shape h lawful s values writes last start stop within zeros final =
+    moments-have_one values last _ _ within (scanned shape h lawful s values writes last start stop zeros false final) (last_answered shape h lawful s values writes last start stop zeros false final)

@@ -15,28 +15,9 @@ use Rattle.bits_core.specs.declared.shapes.Shape.{Shape}
 use Rattle.bits_core.specs.Bits.{writer, same_bit, doer, begun_access, begun_by, value_written, write_of}
 use Rattle.bits_core.specs.Intervals.{IsAccess, IsRead, IsOpenAt}
 use Rattle.bits_core.specs.Lawful.{TakesTurn, IsLawful}
-
-pub same_bit-true : (a b : Bit) → same_bit a b ≡ true → a ≡ b
-same_bit-true (S i) (S j) e = grind (arith, nat_tests)
-same_bit-true (R i) (R j) e = grind (arith, nat_tests)
-same_bit-true X X e = refl
-same_bit-true (Cell i l) (Cell j k) e = grind (arith, nat_tests)
-same_bit-true a b e = cc
-
-pub same_bit-same : (b : Bit) → same_bit b b ≡ true
-same_bit-same (S i) = eq-eqb i i refl
-same_bit-same (R i) = eq-eqb i i refl
-same_bit-same X = refl
-same_bit-same (Cell j i) = and_from _ _ (eq-eqb j j refl) (eq-eqb i i refl)
-
-written : (b : Bit) (o : Option Access) (v : Bool) → value_written b o ≡ Some v → o ≡ Some (Write b v)
-written b None v e = cc
-written b (Some (Read c)) v e = cc
-written b (Some (Write c w)) v e =
-    elim (same_bit b c) as (λ t. same_bit b c ≡ t → (if t then Some w else None) ≡ Some v → Some (Write c w) ≡ Some (Write b v)) [
-      | true ↦ λ same k. let bits : b ≡ c = same_bit-true b c same in let values : w ≡ v = cc in cc
-      | false ↦ λ same k. cc
-    ] refl e
+use Rattle.bits_core.proofs.IntervalLemmas.{begins_write as doer-writes, value_written-from as written}
+pub use Rattle.bits_core.proofs.Changes.{same_bit-true}
+pub use Rattle.bits_core.proofs.IntervalLemmas.{same_bit-same}
 
 -- the write of a bit that an event begins, as an access
 pub write_of-from : (b : Bit) (e : Event) (v : Bool) → write_of b e ≡ Some v → begun_by e ≡ Some (Write b v)
@@ -44,12 +25,6 @@ write_of-from b e v is = written b (begun_by e) v is
 
 pub write_of-to : (b : Bit) (e : Event) (v : Bool) → begun_by e ≡ Some (Write b v) → write_of b e ≡ Some v
 write_of-to b e v is = ap (value_written b) is ∙ ap (λ t. if t then Some v else None) (same_bit-same b)
-
-doer-writes : (b c : Bit) (a : Act) (v : Bool) → begun_access c a ≡ Some (Write b v) → doer c a ≡ writer b
-doer-writes b c ReadBegin v e = cc
-doer-writes b c (ReadEnd w) v e = cc
-doer-writes b c (WriteBegin w) v e = let bits : c ≡ b = cc in ap writer bits
-doer-writes b c WriteEnd v e = cc
 
 -- in a lawful history the writer of a bit begins its writes
 pub by_writer : (shape : Shape) (h : List Event) → IsLawful shape h → (place : ℕ) (e : Event) → slice_get h place ≡ Some e → (b : Bit) (v : Bool) → begun_by e ≡ Some (Write b v) → e.side ≡ writer b

@@ -14,18 +14,13 @@ use Rattle.ring_core.proofs.Machines.Lengths.{length-scan}
 use Rattle.ring_core.proofs.OverSpans.Timeline.{ended_past}
 use Rattle.ring_core.proofs.OverSpans.Spans.{Span, Passes, Stops, Asks, whole, before_count, counts_begun, counts_ended, sizes, tally, IsSpanAt, counts}
 use Rattle.ring_core.proofs.OverSpans.LookSpans.{look, put_looks, take_looks, span_of, spans}
-use Rattle.ring_core.proofs.EndedCounts.{stored_ended, taken_begun, take_before_count}
+use Rattle.ring_core.proofs.EndedCounts.{stored_ended, taken_begun, take_before_count, none_or as no_count}
 use Rattle.ring_core.proofs.CountRow.{past_is}
 use Rattle.ring_core.proofs.OverSpans.CallSpans.{three, take_phrase-item, take_phrase-after, take_phrase-empty}
 
 -- counts where the same test holds, before the same counts
 same_count : (a b : Bool) (n l m : ℕ) → a ≡ b → l ≡ m → (if a then n else 0) + l ≡ (if b then n else 0) + m
 same_count a b n l m e f = cc
-
--- nothing is counted, whatever the test
-no_count : (b : Bool) (n : ℕ) → n ≡ (if b then 0 else 0) + n
-no_count true n = omega arith
-no_count false n = omega arith
 
 -- the puts that have ended
 pub stored_ended_is : (shape : Shape) (c : Count) (puts : List Put) (t : ℕ) → stored_ended shape c puts t ≡ counts_ended (spans P shape c (put_looks puts)) t

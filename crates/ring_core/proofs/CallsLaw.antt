@@ -22,8 +22,7 @@ use Rattle.ring_core.specs.Items as taken
 use Rattle.ring_core.proofs.OverSpans.LookSpans.{put_looks, take_looks, put_spans, take_spans}
 use Rattle.ring_core.specs.CallsAt.{IsTakeAt, scan_events, puts_begun, puts_ended, takes_begun, takes_ended}
 use Rattle.ring_core.proofs.Cells.ItemPlaces.{ItemsAreQuiet}
-use Rattle.ring_core.proofs.Cells.WordPlaces.{WordSpan, word_there}
-use Rattle.ring_core.proofs.Cells.WordPlaces.{none-close as no_word}
+use Rattle.ring_core.proofs.Cells.WordPlaces.{WordSpan, word_there, none-close as no_word}
 use Rattle.ring_core.specs.RingLaw.{IsRun, IsInterval, IsWithin, WordsAreQuiet, TakenArePrefix, TakesMatchPuts, EmptyIsFresh, FullIsFresh, FillIsFresh, DrainIsFresh, ClosedIsTrue}
 use Rattle.ring_core.specs.Ranges.{ReadsCount, PutsAreInRange, TakesAreInRange}
 use Rattle.ring_core.proofs.OverSpans.RingOfSpans as by_span
@@ -31,12 +30,12 @@ use Rattle.ring_core.proofs.OverSpans.Timeline.{AllProper, begun_at, length-begu
 use Rattle.ring_core.proofs.OverSpans.SpanItems.{within_items}
 use Rattle.ring_core.proofs.OverSpans.Looks.{puts_as_looks, takes_as_looks, proper_puts, proper_takes, puts_items, takes_items, asks_word}
 use Rattle.ring_core.proofs.Machines.Lengths.{length-scan}
-use Rattle.ring_core.proofs.CloseReads.{OwnFacts}
 use Rattle.ring_core.proofs.CloseEnds.{place_within, not_ended}
 use Rattle.ring_core.proofs.OverSpans.CallSpans.{second_scan, stands_at, put_has_span, item_has_span, empty_has_span, after_has_second}
 use Rattle.ring_core.proofs.EndedCounts.{puts_ended_is, takes_begun_is}
 use Rattle.ring_core.proofs.ScanPlaces.{ScanSpan, scan_there, none-close}
 use Rattle.ring_core.proofs.CallCounts.{stored_ended_is, taken_begun_is, put_tally, take_tally}
+use Rattle.bits_core.proofs.LawLemmas.{subhistory_has_place}
 
 interval_at : (s : Side) (h : List Event) (i i' e e' start stop : ℕ) → i ≡ i' → e ≡ e' → IsInterval s h i e start stop → IsInterval s h i' e' start stop
 interval_at s h i i' e e' start stop p q r = subst (λ m. IsInterval s h m e' start stop) p (subst (λ m. IsInterval s h i m start stop) q r)
@@ -87,7 +86,7 @@ has_word shape calls (ItemAfterClose seen again items) n start stop index item w
     }
 has_word shape calls (Empty seen) n start stop index item word at e f = absurd (cc)
 
-module _ (facts : OwnFacts) (shape : Shape) (h : List Event) (puts : Puts) (takes : Takes) (run : IsRun shape h puts takes)
+module _ (shape : Shape) (h : List Event) (puts : Puts) (takes : Takes) (run : IsRun shape h puts takes)
     (law : by_span.LawOfSpans shape h puts takes) where
   -- ---- the counts
 
@@ -134,8 +133,8 @@ module _ (facts : OwnFacts) (shape : Shape) (h : List Event) (puts : Puts) (take
       let e : ℕ = start + scan_events s seen - 1 in
       let first : ℕ = place_of s h start in
       let last : ℕ = place_of s h e in
-      let at_first : IsPlaceOf s h start first = facts.has_place s h start (omega (arith, l, some)) in
-      let at_last : IsPlaceOf s h e last = facts.has_place s h e (omega (arith, l, some)) in
+      let at_first : IsPlaceOf s h start first = subhistory_has_place s h start (omega (arith, l, some)) in
+      let at_last : IsPlaceOf s h e last = subhistory_has_place s h e (omega (arith, l, some)) in
       let same : start + (x.scan - 1) ≡ e = omega (arith, scan_is, some) in
       let (counted, are_first, tallies) = numbers r.write in
       let number_is : r.number ≡ items counted = r.tallies ∙ tallies in
@@ -245,12 +244,12 @@ module _ (facts : OwnFacts) (shape : Shape) (h : List Event) (puts : Puts) (take
       let long = asks_word C shape (take_looks takes.takes takes.end) start k z.span false z.stands z.outcome_is in
       let some : 1 ≤ scan_events C seen = scan_some C seen in
       let first : ℕ = place_of C h start in
-      let is_first : IsPlaceOf C h start first = facts.has_place C h start (omega (arith, l, z.stop_is, long)) in
+      let is_first : IsPlaceOf C h start first = subhistory_has_place C h start (omega (arith, l, z.stop_is, long)) in
       let (few, not_closed) = law.empty start k z.span z.stands z.outcome_is (omega (arith, l, z.stop_is)) first is_first in (
         first,
         is_first,
         omega (arith, few, puts_ended_are (clock P h first), takes_ended_are (clock C h first)),
-        not_ended facts shape h puts run.puts_follow.events first not_closed (omega (arith, place_within C h start first is_first)),
+        not_ended shape h puts run.puts_follow.events first not_closed (omega (arith, place_within C h start first is_first)),
       )
 
   pub full : FullIsFresh shape h puts takes
@@ -258,7 +257,7 @@ module _ (facts : OwnFacts) (shape : Shape) (h : List Event) (puts : Puts) (take
       let z = put_has_span shape puts (Full seen) n start stop at in
       let some : 1 ≤ scan_events P seen = scan_some P seen in
       let first : ℕ = place_of P h start in
-      let is_first : IsPlaceOf P h start first = facts.has_place P h start (omega (arith, l, z.stop_is, z.scan_is, some)) in
+      let is_first : IsPlaceOf P h start first = subhistory_has_place P h start (omega (arith, l, z.stop_is, z.scan_is, some)) in
       let few = law.full start n z.span z.stands (ap counts z.outcome_is) (omega (arith, l, z.stop_is)) first is_first in
       (first, is_first, omega (arith, few, takes_ended_are (clock C h first)))
 
@@ -267,7 +266,7 @@ module _ (facts : OwnFacts) (shape : Shape) (h : List Event) (puts : Puts) (take
       let z = put_has_span shape puts (Stored seen stored) n start stop at in
       let some : 1 ≤ scan_events P seen = scan_some P seen in
       let first : ℕ = place_of P h start in
-      let is_first : IsPlaceOf P h start first = facts.has_place P h start (omega (arith, l, some)) in
+      let is_first : IsPlaceOf P h start first = subhistory_has_place P h start (omega (arith, l, some)) in
       let size : counts z.span.outcome ≡ length stored = ap counts z.outcome_is in
       let d : ℕ → ℕ = λ v. distance (modulus_of shape) (n % modulus_of shape) v in
       let filled : d z.span.seen + counts z.span.outcome ≡ capacity_of shape = ap (λ v. d v + counts z.span.outcome) z.seen_is ∙ ap (λ m. d seen + m) size ∙ fills in
@@ -279,7 +278,7 @@ module _ (facts : OwnFacts) (shape : Shape) (h : List Event) (puts : Puts) (take
       let z = item_has_span shape takes seen items k start stop at in
       let some : 1 ≤ scan_events C seen = scan_some C seen in
       let first : ℕ = place_of C h start in
-      let is_first : IsPlaceOf C h start first = facts.has_place C h start (omega (arith, l, some)) in
+      let is_first : IsPlaceOf C h start first = subhistory_has_place C h start (omega (arith, l, some)) in
       let size : counts z.span.outcome ≡ length items = ap counts z.outcome_is in
       let d : ℕ → ℕ = λ v. distance (modulus_of shape) v (k % modulus_of shape) in
       let drained : d z.span.seen ≡ counts z.span.outcome = ap d z.seen_is ∙ drains ∙ sym size in

@@ -16,7 +16,8 @@ use Rattle.ring_core.proofs.Readings.Cuts.{at_most_or_above}
 use Rattle.ring_core.proofs.OverSpans.Gates.{clock_up, clock_p}
 use Rattle.ring_core.proofs.HistoryClocks.{clock-yes, clock-no, clock-zero, clocks_of}
 use Rattle.ring_core.proofs.OwnEvents.{by_case}
-use Rattle.ring_core.proofs.CloseReads.{OwnFacts, only_close, no_close-puts}
+use Rattle.ring_core.proofs.CloseReads.{only_close, no_close-puts}
+use Rattle.bits_core.proofs.LawLemmas.{access_is_made}
 
 first-yes : (s : Side) (e : Event) (h : List Event) → is_by s e ≡ true → first_place s (e ∷ h) ≡ 0
 first-yes s e h f = ap (λ (b : Bool). if b then 0 else suc (first_place s h)) f
@@ -69,12 +70,12 @@ place_within s h i place q = elim (at_most_or_above (length h) place) [
 ]
 
 pub not_ended :
-    OwnFacts → (shape : Shape) (h : List Event) (puts : Puts) → IsPrefix (subhistory P h) (events_of P (put_program shape puts)) →
+    (shape : Shape) (h : List Event) (puts : Puts) → IsPrefix (subhistory P h) (events_of P (put_program shape puts)) →
     (place : ℕ) → clock P h place < events_in (put_phrases shape first_count puts.puts) + 2 → place ≤ length h →
     (v : Bool) (start stop : ℕ) → IsWrite h X v start stop → ¬ (stop < place)
-not_ended facts shape h puts follows place few within v start stop w ended =
+not_ended shape h puts follows place few within v start stop w ended =
     let front = put_phrases shape first_count puts.puts in
-    let (n, x, x_at, x_is, made) = facts.accesses P h (put_program shape puts) follows (begins.Write X v) start stop w in
+    let (n, x, x_at, x_is, made) = access_is_made P h (put_program shape puts) follows (begins.Write X v) start stop w in
     let (at_end, is_true, closes) = only_close front (no_close-puts shape first_count puts.puts) puts.closes n x v x_at x_is in
     let i : ℕ = start + 1 in
     let goes : GoesOn P h (i + first_place P (drop i h)) = goes_on_behind P h i (omega (arith, w.ends, ended, within)) in

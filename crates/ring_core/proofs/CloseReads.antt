@@ -23,6 +23,7 @@ use Rattle.ring_core.proofs.Readings.Cuts.{at_most_or_above}
 use Rattle.ring_core.proofs.OverSpans.Gates.{Clock, clock_up, clock_p, clock_c}
 use Rattle.ring_core.proofs.HistoryClocks.{clocks_of}
 use Rattle.ring_core.proofs.OwnEvents.{clock_within}
+use Rattle.bits_core.proofs.LawLemmas.{access_is_made, made_is_access, subhistory_has_one_place}
 
 -- ---- the only write of the close bit
 
@@ -92,15 +93,7 @@ close_there (x ∷ xs) = close_there xs
 
 -- ---- reads of it
 
--- the published facts of the own events of a side
-pub record OwnFacts : Type 0 where
-  pub has_place : SubhistoryHasPlace
-  pub one_place : SubhistoryHasOnePlace
-  pub counts : ClockCountsPlaces
-  pub made : MadeIsAccess
-  pub accesses : AccessIsMade
-
-module _ (facts : OwnFacts) (shape : Shape) (h : List Event) (lawful : IsLawful shape h) (puts : List Put) (closes : Bool)
+module _ (shape : Shape) (h : List Event) (lawful : IsLawful shape h) (puts : List Put) (closes : Bool)
     (follows : IsPrefix (subhistory P h) (events_of P (put_phrases shape first_count puts ++ close_phrase closes))) where
   abbrev front : List Made
   front = put_phrases shape first_count puts
@@ -117,7 +110,7 @@ module _ (facts : OwnFacts) (shape : Shape) (h : List Event) (lawful : IsLawful 
   -- each write of the close bit is the close, which begins behind all puts
   close_is : (v : Bool) (start stop : ℕ) → IsWrite h X v start stop → (v ≡ true) × IsPlaceOf P h (2 * length front) start
   close_is v start stop w =
-      let (n, x, x_at, x_is, place) = facts.accesses P h all follows (begins.Write X v) start stop w in
+      let (n, x, x_at, x_is, place) = access_is_made P h all follows (begins.Write X v) start stop w in
       let (at_end, is_true, closed) = only_close front (no_close-puts shape first_count puts) closes n x v x_at x_is in
       (is_true, subst (λ k. IsPlaceOf P h (2 * k) start) at_end place.start_is)
 
@@ -134,7 +127,7 @@ module _ (facts : OwnFacts) (shape : Shape) (h : List Event) (lawful : IsLawful 
       let (rest, e) = follows in
       let total : length (subhistory P h) ≤ 2 * length all = omega (arith, length-append (subhistory P h) rest, ap length e, length-events P all) in
       let there : slice_get all (length front) ≡ Some (Write X true) = by_closing closes total longer in
-      let (stop, made_at) = facts.made P h all follows (length front) (Write X true) there (omega arith) in
+      let (stop, made_at) = made_is_access P h all follows (length front) (Write X true) there (omega arith) in
       let (stop_is, ends) = made_at.ended (omega arith) in
       let before : stop < place =
       elim (at_most_or_above place stop) [
@@ -190,7 +183,7 @@ module _ (facts : OwnFacts) (shape : Shape) (h : List Event) (lawful : IsLawful 
                 elim either [
                   | inl o ↦ (let (is_true, at_start) = close_is o.value o.start' o.stop' o.write in
                       let (is_true', at_start') = close_is true start stop w in
-                      let same : o.start' ≡ start = facts.one_place P h (2 * length front) o.start' at_start ∙ sym (facts.one_place P h (2 * length front) start at_start') in
+                      let same : o.start' ≡ start = subhistory_has_one_place P h (2 * length front) o.start' at_start ∙ sym (subhistory_has_one_place P h (2 * length front) start at_start') in
                       let stops : o.stop' ≡ stop = o.write.ends ∙ ap (end_of P h) same ∙ sym w.ends in
                       o.overlap.1 (omega (arith, stops, ended)))
                   | inr (inl held) ↦ (let (is_true, at_start) = close_is answer held.start held.stop held.write in absurd (let e : true ≡ false = sym is_true ∙ f in cc))

@@ -10,9 +10,11 @@ use Rattle.bits_core.specs.Made.{subhistory, clock, IsPrefix}
 use Rattle.ring_core.specs.Counts.{first_count}
 use Rattle.ring_core.specs.Puts.{FollowsPuts}
 use Rattle.ring_core.specs.Takes.{FollowsTakes}
-use Rattle.ring_core.specs.Items.{items_put, items_taken, items_put_in, IsTold, ItemsAreRead, TakenAreRead}
+use Rattle.ring_core.specs.Items.{items_put, items_taken, items_put_in, IsTold}
 use Rattle.ring_core.specs.RingLaw.{RingLaw, InEveryRun}
 use Rattle.ring_core.specs.RunLaws.{ClosedStays}
+use Rattle.ring_core.proofs.Readings.ItemsRead.{items-are_read}
+use Rattle.ring_core.proofs.Readings.TakenRead.{taken-are_read}
 
 -- the own events of a beginning begin those of the whole
 own_begins : (s : Side) (h h' : List Event) (program : List Event) → IsPrefix h h' → IsPrefix (subhistory s h') program → IsPrefix (subhistory s h) program
@@ -25,12 +27,12 @@ own_begins s h h' program (later, e) (rest, f) = (
 clock_there : (s : Side) (h h' : List Event) → IsPrefix h h' → clock s h' (length h) ≡ length (subhistory s h)
 clock_there s h h' (later, e) = ap (λ l. length (subhistory s (take (length h) l))) (sym e) ∙ ap (λ l. length (subhistory s l)) (take-append_seam h later)
 
-pub closed-stays : InEveryRun RingLaw → ItemsAreRead → TakenAreRead → ClosedStays
-closed-stays holds puts_read takes_read shape h h' puts puts' takes takes' run run' begins told =
+pub closed-stays : InEveryRun RingLaw → ClosedStays
+closed-stays holds shape h h' puts puts' takes takes' run run' begins told =
     let follows_puts : FollowsPuts shape h puts' = record { are = run'.puts_follow.are; events = own_begins P h h' _ begins run'.puts_follow.events } in
     let follows_takes : FollowsTakes shape h takes' = record { are = run'.takes_follow.are; events = own_begins C h h' _ begins run'.takes_follow.events } in
-    let put_same : items_put_in shape h puts ≡ items_put_in shape h puts' = puts_read shape h puts puts' run.puts_follow follows_puts in
-    let (taken_same, told_same) = takes_read shape h takes takes' run.takes_follow follows_takes in
+    let put_same : items_put_in shape h puts ≡ items_put_in shape h puts' = items-are_read shape h puts puts' run.puts_follow follows_puts in
+    let (taken_same, told_same) = taken-are_read shape h takes takes' run.takes_follow follows_takes in
     let at : ℕ = length h in
     let told' : IsTold shape takes' (clock C h' at) = subst (λ t. IsTold shape takes' t) (sym (clock_there C h h' begins)) (told_same told) in
     let law = holds shape h' puts' takes' run' in

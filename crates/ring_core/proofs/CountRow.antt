@@ -14,21 +14,12 @@ use Rattle.register_core.specs.Row.{RowWrite, row_bit, first_bits, bits_with, bi
 use Rattle.register_core.specs.Unary.{clearing, setting, unary_phrase, unary_writes, row_writes, writes_of}
 use Rattle.ring_core.specs.Counts.{bits_held, counted, number_past, Count, first_count, count_bits, batch_phrase, batch_by, IsCount}
 use Rattle.ring_core.proofs.OverSpans.Distances.{apart}
+use Rattle.register_core.proofs.Rows.{other_bit, same_bit}
+use Rattle.ring_core.proofs.Readings.Phrases.{at_or_below}
+pub use Rattle.register_core.proofs.Rows.{bits_after-append}
+pub use Rattle.register_core.proofs.Stands.{row_writes-more as row_writes-push}
 
 -- ---- a unary write over any bits
-
--- a write leaves the other bits
-other_bit : (bits : ℕ → Bool) (k j : ℕ) (b : Bool) → (k ≡ j → ⊥) → cond (nat_eq k j) b (bits k) ≡ bits k
-other_bit bits k j b h = grind (arith, nat_tests)
-
--- a write sets its own bit
-same_bit : (bits : ℕ → Bool) (k j : ℕ) (b : Bool) → k ≡ j → cond (nat_eq k j) b (bits k) ≡ b
-same_bit bits k j b h = grind (arith, nat_tests)
-
--- the bits after two lists of writes
-pub bits_after-append : (xs ys : List RowWrite) (bits : ℕ → Bool) → bits_after bits (xs ++ ys) ≡ bits_after (bits_after bits xs) ys
-bits_after-append [] ys bits = refl
-bits_after-append (w ∷ xs) ys bits = bits_after-append xs ys (bits_with bits w)
 
 -- the write of 1 to a bit, and of 0
 abbrev set_to_1 : ℕ → RowWrite
@@ -68,10 +59,6 @@ clears_step old j rest true e bits same k (inr below) =
     rest (bits_with bits (set_to_0 j)) (λ i h. other_bit bits i j false (omega arith) ∙ same i (omega arith)) k below
 clears_step old j rest false e bits same k (inl q) = clearing_keeps old j bits k (omega arith) ∙ same k (omega arith) ∙ ap old q ∙ e
 clears_step old j rest false e bits same k (inr below) = rest bits (λ i h. same i (omega arith)) k below
-
--- below the next place is at this one or below it
-at_or_below : (i n : ℕ) → i < suc n → (i ≡ n) ⊎ (i < n)
-at_or_below i n l = grind arith
 
 -- so they do, where the bits below are those that were remembered
 clearing_clears : (old : ℕ → Bool) (j : ℕ) → ClearsBelow old j
@@ -194,20 +181,6 @@ next_length shape n = count (next_modulo n (modulus_of shape) (omega (arith, som
 
 -- ---- the unary writes of a count, one after the other
 
--- one more unary write, over the bits after the others
-pub row_writes-push :
-    (values : List ℕ) (v : ℕ) (bits : ℕ → Bool) →
-    row_writes (unary_writes bits (values ++ v ∷ [])) ≡
-    row_writes (unary_writes bits values) ++ unary_phrase (bits_after bits (row_writes (unary_writes bits values))) v
-row_writes-push [] v bits = append-nil (unary_phrase bits v)
-row_writes-push (u ∷ values) v bits =
-    let first : List RowWrite = unary_phrase bits u in
-    let after : ℕ → Bool = bits_after bits first in
-    let rest : List RowWrite = row_writes (unary_writes after values) in
-    ap (λ l. first ++ l) (row_writes-push values v after) ∙
-    sym (append_assoc first rest (unary_phrase (bits_after after rest) v)) ∙
-    ap (λ b. (first ++ rest) ++ unary_phrase b v) (sym (bits_after-append first rest bits))
-
 -- one more unary write of a count, once the bits before it are known
 held_step :
     (shape : Shape) (n : ℕ) → bits_after first_bits (writes_of (counted shape n)) ≡ bits_held shape n →
@@ -224,8 +197,6 @@ counted_holds shape (suc n) =
     ap (bits_after first_bits) (held_step shape n (counted_holds shape n)) ∙
     bits_after-append (writes_of (counted shape n)) next first_bits ∙
     ap (λ b. bits_after b next) (counted_holds shape n)
-
--- ---- the accesses of the next unary write
 
 -- ---- a count whose writes count several items
 

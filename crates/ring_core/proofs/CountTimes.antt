@@ -29,6 +29,7 @@ use Rattle.ring_core.proofs.CountRow.{past_is, first_is_count, bits_long}
 use Rattle.ring_core.proofs.Machines.Following.{events_of-append, length-events}
 use Rattle.ring_core.proofs.OverSpans.Timeline.{AllProper, ended_zero}
 use Rattle.ring_core.proofs.OverSpans.Looks.{Passing, AllPassing, look_is_count, all_proper}
+use Rattle.register_core.proofs.RowWrites.{row_write-got as got_none, row_write-read as read_none, row_write-wrote as wrote_none}
 
 -- ---- the bit writes of a count among events
 
@@ -68,18 +69,6 @@ made-append s xs ys i =
     ap (λ k. bit_writes s (events_of s xs) i + bit_writes s (events_of s ys) (i - k)) (length-events s xs)
 
 -- ---- accesses without writes of the count
-
-read_none : (o : Option ℕ) → row_write o ReadBegin ≡ None
-read_none None = refl
-read_none (Some i) = refl
-
-got_none : (o : Option ℕ) (v : Bool) → row_write o (ReadEnd v) ≡ None
-got_none None v = refl
-got_none (Some i) v = refl
-
-wrote_none : (o : Option ℕ) → row_write o WriteEnd ≡ None
-wrote_none None = refl
-wrote_none (Some i) = refl
 
 -- the end of an access begins no write
 end_none : (s : Side) (x : Made) → count_write s (end_event s x) ≡ None

@@ -54,7 +54,7 @@ ended_are shape c (x ∷ puts) t =
 pub puts_ended_is : (shape : Shape) (calls : Puts) (t : ℕ) → puts_ended shape calls t ≡ stored_ended shape first_count calls.puts t
 puts_ended_is shape calls t = ended_are shape first_count calls.puts t
 
-none_or : (b : Bool) (n : ℕ) → n ≡ (if b then 0 else 0) + n
+pub none_or : (b : Bool) (n : ℕ) → n ≡ (if b then 0 else 0) + n
 none_or true n = omega arith
 none_or false n = omega arith
 

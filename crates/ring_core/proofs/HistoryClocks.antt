@@ -6,16 +6,11 @@ use Rattle.bits_core.specs.declared.events.Event.{Event}
 use Rattle.bits_core.specs.Bits.{same_side, is_by}
 use Rattle.bits_core.specs.Made.{subhistory, clock}
 use Rattle.ring_core.proofs.OverSpans.Clocks.{Clocks}
+pub use Rattle.bits_core.proofs.OwnEvents.{clock-no, clock-yes}
 
 -- a side's own events behind a first event, which is its own or not
 own-first : (s : Side) (e : Event) (h : List Event) (b : Bool) → is_by s e ≡ b → subhistory s (e ∷ h) ≡ (if b then e ∷ subhistory s h else subhistory s h)
 own-first s e h b by = rw by refl
-
-pub clock-yes : (s : Side) (e : Event) (h : List Event) (place : ℕ) → is_by s e ≡ true → clock s (e ∷ h) (suc place) ≡ suc (clock s h place)
-clock-yes s e h place by = ap length (own-first s e (take place h) true by)
-
-pub clock-no : (s : Side) (e : Event) (h : List Event) (place : ℕ) → is_by s e ≡ false → clock s (e ∷ h) (suc place) ≡ clock s h place
-clock-no s e h place by = ap length (own-first s e (take place h) false by)
 
 -- a clock begins at 0
 pub clock-zero : (s : Side) (h : List Event) → clock s h 0 ≡ 0

@@ -26,6 +26,8 @@ use Rattle.ring_core.proofs.Readings.Cuts.{at_most_or_above}
 use Rattle.ring_core.proofs.CountTimes.{IsQuiet, quiet_close, values_from, value_of, counted_in}
 use Rattle.ring_core.proofs.Machines.Lengths.{length-zero_reads}
 use Rattle.ring_core.proofs.OverSpans.RegularScans.{writes_unary, put_events, take_events}
+use Rattle.register_core.proofs.LawLemmas.{numbered_stay_within, reads_are_made_zeros, unary_has_one}
+use Rattle.bits_core.proofs.LawLemmas.{made_is_access, subhistory_has_one_place}
 
 -- ---- the values of a count
 
@@ -50,11 +52,11 @@ counted_within shape n (l ∷ looks) last e =
 
 -- so the last bit is not read as 0 behind all others
 never_reads :
-    UnaryHasOne → NumberedStayWithin → (shape : Shape) (h : List Event) → IsLawful shape h → (s : Side) (looks : List Look) (behind : List Made) → IsQuiet s behind →
+    (shape : Shape) (h : List Event) → IsLawful shape h → (s : Side) (looks : List Look) (behind : List Made) → IsQuiet s behind →
     IsPrefix (subhistory s h) (events_of s (look_accesses s shape first_count looks behind)) → NeverReadsAll s shape h
-never_reads has_one stay_within shape h lawful s looks behind quiet follows last e start stop zeros =
-    has_one shape h lawful s (counted_in shape looks) (writes_unary shape h lawful s looks behind follows quiet) last start stop
-    (λ n _. stay_within (counted_in shape looks) last (counted_within shape 0 looks last e) n) zeros
+never_reads shape h lawful s looks behind quiet follows last e start stop zeros =
+    unary_has_one shape h lawful s (counted_in shape looks) (writes_unary shape h lawful s looks behind follows quiet) last start stop
+    (λ n _. numbered_stay_within (counted_in shape looks) last (counted_within shape 0 looks last e) n) zeros
 
 -- ---- the reads of a list of accesses
 
@@ -68,62 +70,61 @@ behind_list [] ys i n x e at = let same : n ≡ i = omega (arith, e) in ap (slic
 behind_list (y ∷ xs) ys i zero x e at = absurd (omega (arith, e))
 behind_list (y ∷ xs) ys i (suc n) x e at = behind_list xs ys i n x (omega (arith, e)) at
 
-module _ (has_one : UnaryHasOne) (stay_within : NumberedStayWithin) (zeros_made : ZerosAreMade) (made_is : MadeIsAccess) (one_place : SubhistoryHasOnePlace) where
-  module _ (s : Side) (h : List Event) (made : List Made) (follows : IsPrefix (subhistory (other s) h) (events_of (other s) made))
-      (before after : List Made) (last : ℕ) (parts : made ≡ before ++ (zero_reads (row_bit s) last ++ Read (row_bit s last) false ∷ after))
-      (ended : 2 * (length before + suc last) ≤ length (subhistory (other s) h)) where
-    -- the reads of 0 below the last bit are reads of the history
-    zeros_there : ReadsZeros s h last (begin_place (other s) h (length before)) (end_place (other s) h (length before))
-    zeros_there =
-        let parts' : made ≡ before ++ (zero_reads (row_read_by (other s)) last ++ Read (row_bit s last) false ∷ after) =
-        subst (λ (w : Side). made ≡ before ++ (zero_reads (row_bit w) last ++ Read (row_bit s last) false ∷ after)) (sym (other_twice s)) parts in
-        subst (λ (w : Side). ReadsZeros w h last (begin_place (other s) h (length before)) (end_place (other s) h (length before))) (other_twice s)
-        (zeros_made (other s) h made follows before (Read (row_bit s last) false ∷ after) last parts' (omega (arith, ended)))
+module _ (s : Side) (h : List Event) (made : List Made) (follows : IsPrefix (subhistory (other s) h) (events_of (other s) made))
+    (before after : List Made) (last : ℕ) (parts : made ≡ before ++ (zero_reads (row_bit s) last ++ Read (row_bit s last) false ∷ after))
+    (ended : 2 * (length before + suc last) ≤ length (subhistory (other s) h)) where
+  -- the reads of 0 below the last bit are reads of the history
+  zeros_there : ReadsZeros s h last (begin_place (other s) h (length before)) (end_place (other s) h (length before))
+  zeros_there =
+      let parts' : made ≡ before ++ (zero_reads (row_read_by (other s)) last ++ Read (row_bit s last) false ∷ after) =
+      subst (λ (w : Side). made ≡ before ++ (zero_reads (row_bit w) last ++ Read (row_bit s last) false ∷ after)) (sym (other_twice s)) parts in
+      subst (λ (w : Side). ReadsZeros w h last (begin_place (other s) h (length before)) (end_place (other s) h (length before))) (other_twice s)
+      (reads_are_made_zeros (other s) h made follows before (Read (row_bit s last) false ∷ after) last parts' (omega (arith, ended)))
 
-    -- and so is that of the last bit
-    last_there :
-        IsRead h (other s) (row_bit s last) (begin_place (other s) h (length before) last) (end_place (other s) h (length before) last) false
-    last_there =
-        let n : ℕ = length before + last in
-        let x : Made = Read (row_bit s last) false in
-        let zeros : List Made = zero_reads (row_bit s) last in
-        let there : slice_get made n ≡ Some x =
-        ap (λ l. slice_get l n) parts ∙
-        behind_list before (zeros ++ x ∷ after) last n x refl
-        (behind_list zeros (x ∷ after) 0 last x (omega (arith, length-zero_reads (row_bit s) last)) refl) in
-        let (stop, there_at) = made_is (other s) h made follows n x there (omega (arith, ended)) in
-        let (stop_is, ends) = there_at.ended (omega (arith, ended)) in
-        let read : IsRead h (other s) (row_bit s last) (begin_place (other s) h (length before) last) stop false =
-        record { access = there_at.access; ends = ends } in
-        subst (λ (p : ℕ). IsRead h (other s) (row_bit s last) (begin_place (other s) h (length before) last) p false)
-        (one_place (other s) h (suc (2 * n)) stop stop_is) read
+  -- and so is that of the last bit
+  last_there :
+      IsRead h (other s) (row_bit s last) (begin_place (other s) h (length before) last) (end_place (other s) h (length before) last) false
+  last_there =
+      let n : ℕ = length before + last in
+      let x : Made = Read (row_bit s last) false in
+      let zeros : List Made = zero_reads (row_bit s) last in
+      let there : slice_get made n ≡ Some x =
+      ap (λ l. slice_get l n) parts ∙
+      behind_list before (zeros ++ x ∷ after) last n x refl
+      (behind_list zeros (x ∷ after) 0 last x (omega (arith, length-zero_reads (row_bit s) last)) refl) in
+      let (stop, there_at) = made_is_access (other s) h made follows n x there (omega (arith, ended)) in
+      let (stop_is, ends) = there_at.ended (omega (arith, ended)) in
+      let read : IsRead h (other s) (row_bit s last) (begin_place (other s) h (length before) last) stop false =
+      record { access = there_at.access; ends = ends } in
+      subst (λ (p : ℕ). IsRead h (other s) (row_bit s last) (begin_place (other s) h (length before) last) p false)
+      (subhistory_has_one_place (other s) h (suc (2 * n)) stop stop_is) read
 
-  -- so these reads have not all ended
-  never_misses : (s : Side) (shape : Shape) (h : List Event) → NeverReadsAll s shape h → NeverMisses s shape h
-  never_misses s shape h never made before after follows parts =
-      let last : ℕ = modulus_of shape - 1 in
-      let size : suc last ≡ modulus_of shape = omega (arith, shape.room_to_count) in
-      let parts' : made ≡ before ++ (zero_reads (row_bit s) last ++ Read (row_bit s last) false ∷ after) =
-      parts ∙ ap (λ n. before ++ (zero_reads (row_bit s) n ++ after)) (sym size) ∙
-      ap (λ l. before ++ l) (append_assoc (zero_reads (row_bit s) last) (Read (row_bit s last) false ∷ []) after) in
-      elim (at_most_or_above (2 * (length before + modulus_of shape)) (length (subhistory (other s) h))) [
-        | inr m ↦ m
-        | inl m ↦ absurd (
-            let ended : 2 * (length before + suc last) ≤ length (subhistory (other s) h) = omega (arith, m, size) in
-            never last size (begin_place (other s) h (length before)) (end_place (other s) h (length before))
-            (zeros_there s h made follows before after last parts' ended) (last_there s h made follows before after last parts' ended))
-      ]
+-- so these reads have not all ended
+never_misses : (s : Side) (shape : Shape) (h : List Event) → NeverReadsAll s shape h → NeverMisses s shape h
+never_misses s shape h never made before after follows parts =
+    let last : ℕ = modulus_of shape - 1 in
+    let size : suc last ≡ modulus_of shape = omega (arith, shape.room_to_count) in
+    let parts' : made ≡ before ++ (zero_reads (row_bit s) last ++ Read (row_bit s last) false ∷ after) =
+    parts ∙ ap (λ n. before ++ (zero_reads (row_bit s) n ++ after)) (sym size) ∙
+    ap (λ l. before ++ l) (append_assoc (zero_reads (row_bit s) last) (Read (row_bit s last) false ∷ []) after) in
+    elim (at_most_or_above (2 * (length before + modulus_of shape)) (length (subhistory (other s) h))) [
+      | inr m ↦ m
+      | inl m ↦ absurd (
+          let ended : 2 * (length before + suc last) ≤ length (subhistory (other s) h) = omega (arith, m, size) in
+          never last size (begin_place (other s) h (length before)) (end_place (other s) h (length before))
+          (zeros_there s h made follows before after last parts' ended) (last_there s h made follows before after last parts' ended))
+    ]
 
-  -- a consumer does not read the producer's count as 0 in all bits
-  pub puts-are_seen : PutsAreSeen
-  puts-are_seen shape h puts lawful follows =
-      let never : NeverReadsAll P shape h =
-      never_reads has_one stay_within shape h lawful P (put_looks puts.puts) (close_phrase puts.closes) (quiet_close puts.closes) (put_events shape h puts follows) in
-      (never, never_misses P shape h never)
+-- a consumer does not read the producer's count as 0 in all bits
+pub puts-are_seen : PutsAreSeen
+puts-are_seen shape h puts lawful follows =
+    let never : NeverReadsAll P shape h =
+    never_reads shape h lawful P (put_looks puts.puts) (close_phrase puts.closes) (quiet_close puts.closes) (put_events shape h puts follows) in
+    (never, never_misses P shape h never)
 
-  -- a producer does not read the consumer's count as 0 in all bits
-  pub takes-are_seen : TakesAreSeen
-  takes-are_seen shape h takes lawful follows =
-      let never : NeverReadsAll C shape h =
-      never_reads has_one stay_within shape h lawful C (take_looks takes.takes takes.end) [] tt (take_events shape h takes follows) in
-      (never, never_misses C shape h never)
+-- a producer does not read the consumer's count as 0 in all bits
+pub takes-are_seen : TakesAreSeen
+takes-are_seen shape h takes lawful follows =
+    let never : NeverReadsAll C shape h =
+    never_reads shape h lawful C (take_looks takes.takes takes.end) [] tt (take_events shape h takes follows) in
+    (never, never_misses C shape h never)

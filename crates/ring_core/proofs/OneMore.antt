@@ -9,37 +9,38 @@ use Rattle.bits_core.specs.Made.{events_of, subhistory, IsPrefix}
 use Rattle.ring_core.specs.Puts.{put_program}
 use Rattle.ring_core.specs.Takes.{take_program}
 use Rattle.ring_core.specs.RunLaws.{RunsByPut, RunsByTake}
+use Rattle.bits_core.proofs.LawLemmas.{lawful_by_one_more, subhistory_changes}
 
 -- a side's own events behind an event of a side, which is that one or the other
 own_more :
-    SubhistoryChanges → (s t : Side) (h : List Event) (e : Event) → e.side ≡ t →
+    (s t : Side) (h : List Event) (e : Event) → e.side ≡ t →
     subhistory s (h ++ e ∷ []) ≡ (if same_side s t then subhistory s h ++ e ∷ [] else subhistory s h)
-own_more changes s t h e by = changes s h e ∙ ap (λ (u : Side). if same_side s u then subhistory s h ++ e ∷ [] else subhistory s h) by
+own_more s t h e by = subhistory_changes s h e ∙ ap (λ (u : Side). if same_side s u then subhistory s h ++ e ∷ [] else subhistory s h) by
 
 -- one event more of the producer
-pub runs-by_put : LawfulByOneMore → SubhistoryChanges → RunsByPut
-runs-by_put law changes shape h e puts more takes run by may are events = record {
-  lawful = (law shape h e).1 (run.lawful, may);
+pub runs-by_put : RunsByPut
+runs-by_put shape h e puts more takes run by may are events = record {
+  lawful = (lawful_by_one_more shape h e).1 (run.lawful, may);
   puts_follow = record {
     are = are;
-    events = subst (λ (es : List Event). IsPrefix es (events_of P (put_program shape more))) (sym (own_more changes P P h e by)) events;
+    events = subst (λ (es : List Event). IsPrefix es (events_of P (put_program shape more))) (sym (own_more P P h e by)) events;
   };
   takes_follow = record {
     are = run.takes_follow.are;
-    events = subst (λ (es : List Event). IsPrefix es (events_of C (take_program shape takes))) (sym (own_more changes C P h e by)) run.takes_follow.events;
+    events = subst (λ (es : List Event). IsPrefix es (events_of C (take_program shape takes))) (sym (own_more C P h e by)) run.takes_follow.events;
   };
 }
 
 -- one event more of the consumer
-pub runs-by_take : LawfulByOneMore → SubhistoryChanges → RunsByTake
-runs-by_take law changes shape h e puts takes more run by may are events = record {
-  lawful = (law shape h e).1 (run.lawful, may);
+pub runs-by_take : RunsByTake
+runs-by_take shape h e puts takes more run by may are events = record {
+  lawful = (lawful_by_one_more shape h e).1 (run.lawful, may);
   puts_follow = record {
     are = run.puts_follow.are;
-    events = subst (λ (es : List Event). IsPrefix es (events_of P (put_program shape puts))) (sym (own_more changes P C h e by)) run.puts_follow.events;
+    events = subst (λ (es : List Event). IsPrefix es (events_of P (put_program shape puts))) (sym (own_more P C h e by)) run.puts_follow.events;
   };
   takes_follow = record {
     are = are;
-    events = subst (λ (es : List Event). IsPrefix es (events_of C (take_program shape more))) (sym (own_more changes C C h e by)) events;
+    events = subst (λ (es : List Event). IsPrefix es (events_of C (take_program shape more))) (sym (own_more C C h e by)) events;
   };
 }

@@ -22,18 +22,12 @@ use Rattle.ring_core.proofs.OverSpans.Clocks.{IsPlace}
 use Rattle.ring_core.proofs.Readings.Cuts.{at_most_or_above}
 use Rattle.ring_core.proofs.OverSpans.Gates.{clock_up, clock_p, clock_c}
 use Rattle.ring_core.proofs.HistoryClocks.{clocks_of}
-
-pub by_case : {G : Type 0} → (b : Bool) → (b ≡ true → G) → (b ≡ false → G) → G
-by_case true yet other = yet refl
-by_case false yet other = other refl
+use Rattle.bits_core.proofs.OwnEvents.{own-no, own-yes}
+pub use Rattle.bits_core.proofs.OwnEvents.{by_case, clock_rises, clock_within}
+use Rattle.register_core.proofs.Numbers.{before_last-more as before_last-yes, before_last-none as before_last-no}
+use Rattle.bits_core.proofs.LawLemmas.{subhistory_has_place}
 
 -- ---- clocks and places
-
-own-yes : (s : Side) (e : Event) (h : List Event) → is_by s e ≡ true → subhistory s (e ∷ h) ≡ e ∷ subhistory s h
-own-yes s e h f = ap (λ (b : Bool). if b then e ∷ subhistory s h else subhistory s h) f
-
-own-no : (s : Side) (e : Event) (h : List Event) → is_by s e ≡ false → subhistory s (e ∷ h) ≡ subhistory s h
-own-no s e h f = ap (λ (b : Bool). if b then e ∷ subhistory s h else subhistory s h) f
 
 -- the own events before a place, and those from there on
 own_parts : (s : Side) (h : List Event) (place : ℕ) → subhistory s h ≡ subhistory s (take place h) ++ subhistory s (drop place h)
@@ -44,24 +38,14 @@ own_take : (s : Side) (h : List Event) (place : ℕ) → subhistory s (take plac
 own_take s h place =
     sym (ap (take (length (subhistory s (take place h)))) (own_parts s h place) ∙ take-append_seam (subhistory s (take place h)) (subhistory s (drop place h)))
 
--- the clock says no more than there are
-pub clock_within : (s : Side) (h : List Event) (place : ℕ) → clock s h place ≤ length (subhistory s h)
-clock_within s h place =
-    omega (arith, ap length (own_parts s h place), length-append (subhistory s (take place h)) (subhistory s (drop place h)))
-
 -- at the end it says how many there are
 pub clock_end : (s : Side) (h : List Event) → clock s h (length h) ≡ length (subhistory s h)
 clock_end s h = ap (λ l. length (subhistory s l)) (take-length h)
 
--- a clock goes up
-pub clock_rises : (s : Side) (h : List Event) (a b : ℕ) → a ≤ b → clock s h a ≤ clock s h b
-clock_rises P h a b l = clock_up (clock P h) (clock_p (clock P h) (clock C h) (clocks_of h)) a b l
-clock_rises C h a b l = clock_up (clock C h) (clock_c (clock P h) (clock C h) (clocks_of h)) a b l
-
 -- an own event has one place
-pub one_place : SubhistoryHasPlace → (s : Side) (h : List Event) (i place : ℕ) → IsPlace (clock s h) i place → place ≡ place_of s h i
-one_place has_place s h i place (before, past) =
-    let q = has_place s h i (omega (arith, past, clock_within s h (suc place))) in
+pub one_place : (s : Side) (h : List Event) (i place : ℕ) → IsPlace (clock s h) i place → place ≡ place_of s h i
+one_place s h i place (before, past) =
+    let q = subhistory_has_place s h i (omega (arith, past, clock_within s h (suc place))) in
     elim (at_most_or_above place (place_of s h i)) [
       | inl l ↦ elim (at_most_or_above (place_of s h i) place) [
         | inl m ↦ omega (arith, l, m)
@@ -87,12 +71,6 @@ doers_take : (h : List Event) (place : ℕ) → AreByDoers h → AreByDoers (tak
 doers_take h zero d = tt
 doers_take [] (suc place) d = tt
 doers_take (e ∷ h) (suc place) d = (d.0, doers_take h place d.1)
-
-before_last-yes : (s : Side) (e : Event) (h : List Event) → has_event s h ≡ true → before_last s (e ∷ h) ≡ e ∷ before_last s h
-before_last-yes s e h f = ap (λ (b : Bool). if b then e ∷ before_last s h else []) f
-
-before_last-no : (s : Side) (e : Event) (h : List Event) → has_event s h ≡ false → before_last s (e ∷ h) ≡ []
-before_last-no s e h f = ap (λ (b : Bool). if b then e ∷ before_last s h else []) f
 
 doers_before : (s : Side) (h : List Event) → AreByDoers h → AreByDoers (before_last s h)
 doers_before s [] d = tt

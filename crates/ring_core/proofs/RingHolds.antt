@@ -23,7 +23,7 @@ use Rattle.ring_core.specs.Items.{events_in, all_put, Tells}
 use Rattle.ring_core.proofs.OverSpans.Spans.{Span, Asks, counts, before_count, all_items, total}
 use Rattle.ring_core.proofs.OverSpans.Clocks.{IsPlace, AreCloseReads, Ring}
 use Rattle.ring_core.proofs.OverSpans.Clocks as clocks
-use Rattle.ring_core.proofs.OverSpans.LookSpans.{put_looks, take_looks, word_part, count_part, look_accesses, spans, put_spans, take_spans}
+use Rattle.ring_core.proofs.OverSpans.LookSpans.{put_looks, take_looks, word_part, count_part, look_accesses, spans, put_spans, take_spans, LookAt}
 use Rattle.ring_core.specs.RingLaw.{IsRun}
 use Rattle.ring_core.proofs.OverSpans.RingOfSpans.{LawOfSpans, PutsAreInRange, TakesAreInRange, CellsAreQuiet, TakenArePrefix, TakesMatchPuts, EmptyIsFresh, FullIsFresh, FillIsFresh, DrainIsFresh, ClosedIsTrue}
 use Rattle.ring_core.proofs.Readings.Cuts.{at_most_or_above}
@@ -31,17 +31,17 @@ use Rattle.ring_core.proofs.OverSpans.SpanLaw.{SpanLaw, span_law, IsToldAt, Last
 use Rattle.ring_core.proofs.HistoryClocks.{clocks_of}
 use Rattle.ring_core.proofs.OwnEvents.{clock_within, clock_end, clock_rises, one_place}
 use Rattle.ring_core.proofs.Machines.Following.{length-events}
-use Rattle.ring_core.proofs.OverSpans.LookSpans.{LookAt}
 use Rattle.ring_core.proofs.OverSpans.Looks.{puts_as_looks, takes_as_looks, proper_puts, proper_takes, total_is, look_from_first, words_are, asks_word, puts_items, takes_items, put_rules, take_rules, put_fits, take_fits, last_two}
 use Rattle.ring_core.proofs.CountRow.{batch_fits, has_batch, take_batch_fits}
 use Rattle.ring_core.proofs.Cells.CellPlaces.{doubled, multiple_up}
 use Rattle.ring_core.proofs.OverSpans.RegularScans.{put_events, take_events, puts_regular, takes_regular}
-use Rattle.ring_core.proofs.CloseReads.{OwnFacts, read_of_close}
+use Rattle.ring_core.proofs.CloseReads.{read_of_close}
 use Rattle.ring_core.proofs.Cells.SafeWords.{close_to_cell, words_are_safe}
+use Rattle.bits_core.proofs.LawLemmas.{made_is_access, subhistory_has_one_place, subhistory_has_place}
 
 -- ---- reads of the close bit
 
-there : (xs : List Made) (y : Made) (ys : List Made) → slice_get (xs ++ y ∷ ys) (length xs) ≡ Some y
+pub there : (xs : List Made) (y : Made) (ys : List Made) → slice_get (xs ++ y ∷ ys) (length xs) ≡ Some y
 there [] y ys = refl
 there (x ∷ xs) y ys = there xs y ys
 
@@ -86,8 +86,7 @@ all_is shape c (Full seen ∷ puts) = all_is shape c puts
 from_none : (n : ℕ) → 0 + n ≡ n
 from_none n = omega arith
 
-module _ (facts : OwnFacts) (regular : UnaryIsRegular) (scans_made : ScansAreMade) (safe : WordIsSafe) (cells_made : CellWritesAreMade) (words_made : WordReadsAreMade)
-    (shape : Shape) (h : List Event) (puts : Puts) (takes : Takes) (run : IsRun shape h puts takes) where
+module _ (shape : Shape) (h : List Event) (puts : Puts) (takes : Takes) (run : IsRun shape h puts takes) where
   close_reads : AreCloseReads (clock P h) (clock C h) (put_spans shape puts) (take_spans shape takes)
   close_reads s k x answer st asks first last e is_first is_last ends =
       let program : List Made = look_accesses C shape first_count (take_looks takes.takes takes.end) [] in
@@ -98,12 +97,12 @@ module _ (facts : OwnFacts) (regular : UnaryIsRegular) (scans_made : ScansAreMad
       let e_is : e ≡ suc (2 * length front) = omega (arith, ends, word, start_is) in
       let last_own : suc (2 * length front) < length (subhistory C h) = omega (arith, own_ends C h e last is_last, e_is) in
       let x_at : slice_get program (length front) ≡ Some (Read X answer) = ap (λ l. slice_get l (length front)) program_is ∙ there front (Read X answer) back in
-      let (stop, made_at) = facts.made C h program follows (length front) (Read X answer) x_at (omega (arith, last_own)) in
+      let (stop, made_at) = made_is_access C h program follows (length front) (Read X answer) x_at (omega (arith, last_own)) in
       let (stop_is, answers) = made_at.ended last_own in
       let first_is : first ≡ place_of C h (2 * length front) =
-      one_place facts.has_place C h (2 * length front) first (subst (λ i. IsPlace (clock C h) i first) start_is is_first) in
+      one_place C h (2 * length front) first (subst (λ i. IsPlace (clock C h) i first) start_is is_first) in
       let last_is : last ≡ stop =
-      one_place facts.has_place C h (suc (2 * length front)) last (subst (λ i. IsPlace (clock C h) i last) e_is is_last) ∙ sym (facts.one_place C h (suc (2 * length front)) stop stop_is) in
+      one_place C h (suc (2 * length front)) last (subst (λ i. IsPlace (clock C h) i last) e_is is_last) ∙ sym (subhistory_has_one_place C h (suc (2 * length front)) stop stop_is) in
       let read : intervals.IsRead h C X first last answer =
       subst (λ a. intervals.IsRead h C X a last answer) (sym first_is)
       (subst (λ b. intervals.IsRead h C X (place_of C h (2 * length front)) b answer) (sym last_is) (record { access = made_at.access; ends = answers })) in
@@ -112,7 +111,7 @@ module _ (facts : OwnFacts) (regular : UnaryIsRegular) (scans_made : ScansAreMad
         | inl m ↦ m
         | inr m ↦ absurd (omega (arith, clock_rises C h (suc last) first m, is_first, is_last, e_is, start_is))
       ] in
-      let (on_zero, on_one) = read_of_close facts shape h run.lawful puts.puts puts.closes run.puts_follow.events first last answer read order in
+      let (on_zero, on_one) = read_of_close shape h run.lawful puts.puts puts.closes run.puts_follow.events first last answer read order in
       ((λ f. omega (arith, on_zero f, put_total shape puts)), (λ t. omega (arith, on_one t, put_total shape puts)))
 
   -- the two sides of the history make a ring
@@ -125,9 +124,9 @@ module _ (facts : OwnFacts) (regular : UnaryIsRegular) (scans_made : ScansAreMad
     clocks = clocks_of h;
     puts_rule = λ s n x st. subst (λ i. clocks.IsPutSpan (modulus_of shape) (capacity_of shape) i x) (from_none n) (put_rules shape first_count puts.puts run.puts_follow.are s n x st);
     takes_rule = λ s k x st. subst (λ i. clocks.IsTakeSpan (modulus_of shape) (capacity_of shape) i x) (from_none k) (take_rules shape first_count takes.takes takes.end run.takes_follow.are s k x st);
-    puts_regular = puts_regular regular scans_made facts.has_place shape h run.lawful puts takes run.puts_follow run.takes_follow;
-    takes_regular = takes_regular regular scans_made facts.has_place shape h run.lawful puts takes run.puts_follow run.takes_follow;
-    words_safe = words_are_safe facts safe cells_made words_made shape h run.lawful (put_looks puts.puts) (take_looks takes.takes takes.end) (close_phrase puts.closes)
+    puts_regular = puts_regular shape h run.lawful puts takes run.puts_follow run.takes_follow;
+    takes_regular = takes_regular shape h run.lawful puts takes run.puts_follow run.takes_follow;
+    words_safe = words_are_safe shape h run.lawful (put_looks puts.puts) (take_looks takes.takes takes.end) (close_phrase puts.closes)
         (close_to_cell puts.closes) (put_events shape h puts run.puts_follow) (take_events shape h takes run.takes_follow)
         (λ s n x st. (put_fits shape first_count puts.puts run.puts_follow.are s n x st).items)
         (λ s n x st. (take_fits shape first_count takes.takes takes.end run.takes_follow.are s n x st).items);

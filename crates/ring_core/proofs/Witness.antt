@@ -22,6 +22,7 @@ use Rattle.ring_core.specs.Puts.{Puts, Stored, Full, ArePuts, FollowsPuts}
 use Rattle.ring_core.specs.Takes.{Takes, Empty, ItemAfterClose, Closed, AreTakes, FollowsTakes}
 use Rattle.ring_core.specs.RunLaws.{FindsEmpty, FindsFull, HasARun}
 use Rattle.ring_core.proofs.Examples.{one_cell}
+use Rattle.bits_core.proofs.LawLemmas.{empty_is_lawful, lawful_by_one_more}
 
 infixr 10 ◌>>◌
 -- each of these events may follow those before it
@@ -32,12 +33,12 @@ data EachFollows (shape : Shape) : List Event → List Event → Type 0 where
 
 -- so a lawful history stays lawful with them
 lawful_by_steps :
-    LawfulByOneMore → (shape : Shape) (past later : List Event) → IsLawful shape past → EachFollows shape past later →
+    (shape : Shape) (past later : List Event) → IsLawful shape past → EachFollows shape past later →
     IsLawful shape (past ++ later)
-lawful_by_steps law shape past [] lawful steps = subst (λ (h : List Event). IsLawful shape h) (sym (append-nil past)) lawful
-lawful_by_steps law shape past (e ∷ later) lawful (step >> steps) =
+lawful_by_steps shape past [] lawful steps = subst (λ (h : List Event). IsLawful shape h) (sym (append-nil past)) lawful
+lawful_by_steps shape past (e ∷ later) lawful (step >> steps) =
     subst (λ (h : List Event). IsLawful shape h) (append_assoc past (e ∷ []) later)
-    (lawful_by_steps law shape (past ++ e ∷ []) later ((law shape past e).1 (lawful, step)) steps)
+    (lawful_by_steps shape (past ++ e ∷ []) later ((lawful_by_one_more shape past e).1 (lawful, step)) steps)
 
 -- a read of a bit begins
 abbrev read : Side → Bit → Event
@@ -222,13 +223,13 @@ told = (record {}, all)
     all = omega arith
 
 -- there is a lawful history whose two sides follow their programs, in which all of this came about
-pub has-a_run : EmptyIsLawful → LawfulByOneMore → HasARun
-has-a_run empty law = (
+pub has-a_run : HasARun
+has-a_run = (
   one_cell,
   events,
   puts,
   takes,
-  record { lawful = lawful_by_steps law one_cell [] events (empty one_cell) each_follows; puts_follow = puts_follow; takes_follow = takes_follow },
+  record { lawful = lawful_by_steps one_cell [] events (empty_is_lawful one_cell) each_follows; puts_follow = puts_follow; takes_follow = takes_follow },
   (C, S 0, 4, 17, true, read_ended, overlapped),
   finds_empty,
   finds_full,

@@ -11,7 +11,6 @@ use Rattle.register_core.specs.ScanState.{scan_phrase, row_read_by}
 use Rattle.ring_core.specs.Counts.{Count, distance, number_past, LeavesRoom, LeavesRoomFor}
 use Rattle.ring_core.specs.Puts.{Put, Puts, Stored, Full, number_after, words_phrase, IsPut, IsBatch}
 use Rattle.ring_core.specs.ProducerCalls.{count_of, room_in, and_put, IsPutOf}
-use Rattle.ring_seats.proofs.Below.{LawsBelow}
 use Rattle.ring_seats.specs.Ring.{RingEnd}
 use Rattle.ring_seats.specs.Programs.{Follows}
 use Rattle.ring_seats.specs.Steppers.{IsSameEnd, StandsAs}
@@ -20,6 +19,7 @@ use Rattle.ring_seats.specs.Counters.{GrowsBy, unary_over}
 use Rattle.ring_ends.specs.CounterEnds.{CountedList, PutterList, put_of, PutMade, PutKept}
 use Rattle.ring_seats.proofs.CounterPuts.{length-first, first_all, first_fit, past_is, words_same, can_scan, full_is, can_store, can_count, stored_is}
 use Rattle.ring_seats.proofs.CounterSteps.{same_shape, same_end, stands_as}
+use Rattle.ring_core.proofs.LawLemmas.{programs_by_one_call_puts}
 
 -- ---- a put
 
@@ -46,19 +46,19 @@ number_of zero seen n items le = omega arith
 number_of (suc m) seen n items le = past_is n (take (suc m) items) ∙ ap (λ (k : ℕ). n + k) (length-first (suc m) items le)
 
 -- the number of items behind the put
-number_now : LawsBelow → (shape other : Shape) → other ≡ shape → (list : List Event) (calls : Puts) → HasPuts shape list calls → calls.closes ≡ false → (most seen : ℕ) (items : List ℕ) → most ≤ length items
+number_now : (shape other : Shape) → other ≡ shape → (list : List Event) (calls : Puts) → HasPuts shape list calls → calls.closes ≡ false → (most seen : ℕ) (items : List ℕ) → most ≤ length items
     → IsPut shape (count_of shape calls).number (put_of most seen items) → (count_of other (and_put calls (put_of most seen items))).number ≡ (count_of other calls).number + most
-number_now laws shape other e list calls has opened most seen items le is =
+number_now shape other e list calls has opened most seen items le is =
     subst (λ (s : Shape). (count_of s (and_put calls (put_of most seen items))).number ≡ (count_of s calls).number + most) (sym e)
-    (ap (λ (c : Count). c.number) (laws.one_put shape calls (put_of most seen items) has.are opened is).count_is ∙ number_of most seen (count_of shape calls).number items le)
+    (ap (λ (c : Count). c.number) (programs_by_one_call_puts shape calls (put_of most seen items) has.are opened is).count_is ∙ number_of most seen (count_of shape calls).number items le)
 
-module _ (laws : LawsBelow) (a : RingEnd) (count cell : ℕ) (items : List ℕ) (calls : Puts) (p : PutterList a count cell calls) (opened : calls.closes ≡ false) (batch : IsBatch a.ring.shape items) where
+module _ (a : RingEnd) (count cell : ℕ) (items : List ℕ) (calls : Puts) (p : PutterList a count cell calls) (opened : calls.closes ≡ false) (batch : IsBatch a.ring.shape items) where
   pub to_scan : (c : ℕ) → c < modulus_of a.ring.shape → Follows a.ring.shape a.side (a.list ++ events_of a.side (scan_phrase (row_read_by a.side) c))
   to_scan c lt = subst (λ (s : Side). Follows a.ring.shape s (a.list ++ events_of s (scan_phrase (row_read_by s) c))) (sym p.side_is) (go items batch)
     where
       go : (xs : List ℕ) → IsBatch a.ring.shape xs → Follows a.ring.shape P (a.list ++ events_of P (scan_phrase (row_read_by P) c))
       go [] is = absurd (omega (arith, is.some))
-      go (x ∷ xs) is = can_scan laws a.ring.shape a.list calls p.has opened x xs is c lt
+      go (x ∷ xs) is = can_scan a.ring.shape a.list calls p.has opened x xs is c lt
 
   abbrev n_of : ℕ
   n_of = (count_of a.ring.shape calls).number
@@ -74,8 +74,8 @@ module _ (laws : LawsBelow) (a : RingEnd) (count cell : ℕ) (items : List ℕ) 
       few = omega arith;
       seen = seen;
       is = tt;
-      has = subst (λ (sh : Shape). HasPuts sh b.list (and_put calls (Full seen))) (sym (same_shape a b g.same)) (full_is laws a.ring.shape a.list calls p.has opened seen b.list lt not_room at1);
-      number = number_now laws a.ring.shape b.ring.shape (same_shape a b g.same) a.list calls p.has opened 0 seen items (omega arith) (lt, not_room);
+      has = subst (λ (sh : Shape). HasPuts sh b.list (and_put calls (Full seen))) (sym (same_shape a b g.same)) (full_is a.ring.shape a.list calls p.has opened seen b.list lt not_room at1);
+      number = number_now a.ring.shape b.ring.shape (same_shape a b g.same) a.list calls p.has opened 0 seen items (omega arith) (lt, not_room);
     }
       where
         not_room : ¬ LeavesRoom a.ring.shape ((count_of a.ring.shape calls).number % modulus_of a.ring.shape) seen
@@ -106,7 +106,7 @@ module _ (laws : LawsBelow) (a : RingEnd) (count cell : ℕ) (items : List ℕ) 
 
       pub to_store : Follows b.ring.shape P (b.list ++ events_of P (words_phrase b.ring.shape cell (take most items)))
       to_store = subst (λ (s : Shape). Follows s P (b.list ++ events_of P (words_phrase s cell stored))) (sym (same_shape a b g.same))
-          (subst (λ (l : List Made). Follows a.ring.shape P (b.list ++ events_of P l)) (sym words_are) (can_store laws a.ring.shape a.list calls p.has opened seen stored is_put b.list at1))
+          (subst (λ (l : List Made). Follows a.ring.shape P (b.list ++ events_of P l)) (sym words_are) (can_store a.ring.shape a.list calls p.has opened seen stored is_put b.list at1))
 
       module _ (b2 : RingEnd) (g2 : GrowsBy b b2 (words_phrase b.ring.shape cell (take most items))) (next : ℕ) (is : next ≡ (count + most) % modulus_of a.ring.shape) where
         at2 : b2.list ≡ b.list ++ events_of P (words_phrase a.ring.shape n_of stored)
@@ -122,12 +122,12 @@ module _ (laws : LawsBelow) (a : RingEnd) (count cell : ℕ) (items : List ℕ) 
 
         pub to_count : Follows b2.ring.shape b2.side (b2.list ++ events_of b2.side (unary_over b2.side b2.list next))
         to_count = subst (λ (z : Shape × Side). Follows z.0 z.1 (b2.list ++ events_of z.1 (unary_over z.1 b2.list next))) (λ i. (sym (same_shape a b2 both) i, sym (both.side ∙ p.side_is) i))
-            (can_count laws a.ring.shape a.list calls p.has opened seen stored is_put b.list b2.list at1 at2 next next_is)
+            (can_count a.ring.shape a.list calls p.has opened seen stored is_put b.list b2.list at1 at2 next next_is)
 
         stored_calls : (b3 : RingEnd) → GrowsBy b2 b3 (unary_over b2.side b2.list next) → IsSameEnd a b3 → HasPuts b3.ring.shape b3.list (and_put calls (Stored seen stored))
         stored_calls b3 g3 same = subst (λ (z : Shape × List Event). HasPuts z.0 z.1 (and_put calls (Stored seen stored)))
             (λ i. (sym (same_shape a b3 same) i, sym (g3.list ∙ ap (λ (s : Side). b2.list ++ events_of s (unary_over s b2.list next)) (both.side ∙ p.side_is)) i))
-            (stored_is laws a.ring.shape a.list calls p.has opened seen stored is_put b.list b2.list at1 at2 next next_is)
+            (stored_is a.ring.shape a.list calls p.has opened seen stored is_put b.list b2.list at1 at2 next next_is)
 
         put_is_of : (b3 : RingEnd) → IsSameEnd a b3 → IsPutOf b3.ring.shape (count_of b3.ring.shape calls).number items (Stored seen stored)
         put_is_of b3 same = subst (λ (s : Shape). IsPutOf s (count_of s calls).number items (Stored seen stored)) (sym (same_shape a b3 same))
@@ -144,7 +144,7 @@ module _ (laws : LawsBelow) (a : RingEnd) (count cell : ℕ) (items : List ℕ) 
               seen = seen;
               is = subst (IsPutOf b3.ring.shape (count_of b3.ring.shape calls).number items) (sym put) (put_is_of b3 same);
               has = subst (λ (x : Put). HasPuts b3.ring.shape b3.list (and_put calls x)) (sym put) (stored_calls b3 g3 same);
-              number = number_now laws a.ring.shape b3.ring.shape (same_shape a b3 same) a.list calls p.has opened most seen items fit.few (subst (IsPut a.ring.shape n_of) (sym put) is_put);
+              number = number_now a.ring.shape b3.ring.shape (same_shape a b3 same) a.list calls p.has opened most seen items fit.few (subst (IsPut a.ring.shape n_of) (sym put) is_put);
             }
           where
             is_stored : (m : ℕ) → 0 < m → put_of m seen items ≡ Stored seen (take m items)

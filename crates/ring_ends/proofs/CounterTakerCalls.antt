@@ -18,7 +18,6 @@ use Rattle.ring_core.specs.Takes.{Take, Takes, Empty, Open, taken_after, words_r
 use Rattle.ring_core.specs.Items.{taken_of}
 use Rattle.ring_core.specs.ConsumerCalls.{Finding, Once, Twice, Finds, finding_phrase, count_taken, and_take, and_end, items_reply, take_reply_to, HasTakeMore, IsTakeOf, TakesAll}
 use Rattle.ring_ends.specs.declared.counter_calls.Scanned.TheVariants.{Shows, Over}
-use Rattle.ring_seats.proofs.Below.{LawsBelow}
 use Rattle.ring_seats.specs.Ring.{RingEnd}
 use Rattle.ring_seats.specs.Programs.{Follows}
 use Rattle.ring_seats.specs.Steppers.{IsSameEnd, StandsAs}
@@ -40,13 +39,13 @@ abbrev CountsMore : Shape → Takes → Takes → ℕ → Type 0
 CountsMore shape calls more m = (count_taken shape more).number ≡ (count_taken shape calls).number + m
 
 made_take :
-    LawsBelow → (a b : RingEnd) (count cell : ℕ) (calls : Takes) → TakerList a count cell calls → calls.end ≡ Open → IsSameEnd a b → StandsAs C b →
+    (a b : RingEnd) (count cell : ℕ) (calls : Takes) → TakerList a count cell calls → calls.end ≡ Open → IsSameEnd a b → StandsAs C b →
     (wanted : ℕ) (x : Take) (r : TakeReply) (items : List ℕ) → IsTake a.ring.shape (count_taken a.ring.shape calls).number x →
     IsTakeOf a.ring.shape (count_taken a.ring.shape calls).number wanted x → take_reply_to x ≡ r → taken_of x ≡ items → closed_reply (Some r) ≡ false →
     taken_after (count_taken a.ring.shape calls).number x ≡ (count_taken a.ring.shape calls).number + length items → HasTakes a.ring.shape b.list (and_take calls x) →
     TakeMade a b calls wanted r items
-made_take laws a b count cell calls p opened same stands wanted x r items is of answered brings open_still number has =
-    let m = take_more laws a.ring.shape a.list calls p.has opened x is in
+made_take a b count cell calls p opened same stands wanted x r items is of answered brings open_still number has =
+    let m = take_more a.ring.shape a.list calls p.has opened x is in
     let there : a.ring.shape ≡ b.ring.shape = sym (same_shape a b same) in
     record {
       same = same;
@@ -92,12 +91,12 @@ shown_once shape seen count k wanted most lt is s =
     subst (λ (n : ℕ). ((seen < modulus_of shape) × (most ≤ distance (modulus_of shape) seen n) × (distance (modulus_of shape) seen n ≤ capacity_of shape)) ×
     ((most ≤ wanted) × ((most ≡ wanted) ⊎ (most ≡ distance (modulus_of shape) seen n)))) is ((lt, s.shown, s.shows.1), (s.few, s.all))
 
-module _ (laws : LawsBelow) (a : RingEnd) (count cell wanted : ℕ) (calls : Takes) (p : TakerList a count cell calls) (opened : calls.end ≡ Open) where
+module _ (a : RingEnd) (count cell wanted : ℕ) (calls : Takes) (p : TakerList a count cell calls) (opened : calls.end ≡ Open) where
   abbrev k_now : ℕ
   k_now = (count_taken a.ring.shape calls).number
 
   pub to_scan : (c : ℕ) → c < modulus_of a.ring.shape → Follows a.ring.shape a.side (a.list ++ events_of a.side (scan_phrase (row_read_by a.side) c))
-  to_scan c lt = subst (λ (s : Side). Follows a.ring.shape s (a.list ++ events_of s (scan_phrase (row_read_by s) c))) (sym p.side_is) (can_scan laws a.ring.shape a.list calls p.has opened c lt)
+  to_scan c lt = subst (λ (s : Side). Follows a.ring.shape s (a.list ++ events_of s (scan_phrase (row_read_by s) c))) (sym p.side_is) (can_scan a.ring.shape a.list calls p.has opened c lt)
 
   module _ (seen : ℕ) (lt : seen < modulus_of a.ring.shape) (b : RingEnd) (g : GrowsBy a b (scan_phrase (row_read_by a.side) seen)) where
     at1 : b.list ≡ a.list ++ events_of C (scan_phrase (row_read_by C) seen)
@@ -119,7 +118,7 @@ module _ (laws : LawsBelow) (a : RingEnd) (count cell wanted : ℕ) (calls : Tak
           (sym (append_assoc a.list (events_of C (scan_phrase (row_read_by C) seen)) (events_of C made)) ∙ ap (λ (l : List Event). l ++ events_of C made) (sym at1))
 
       pub to_ask : (v : Bool) → Follows b.ring.shape C (b.list ++ events_of C (Read X v ∷ []))
-      to_ask v = subst (λ (z : Shape × List Event). Follows z.0 C z.1) (λ i. (sym (same_shape a b g.same) i, behind (Read X v ∷ []) i)) (can_ask laws a.ring.shape a.list calls p.has opened seen none v)
+      to_ask v = subst (λ (z : Shape × List Event). Follows z.0 C z.1) (λ i. (sym (same_shape a b g.same) i, behind (Read X v ∷ []) i)) (can_ask a.ring.shape a.list calls p.has opened seen none v)
 
       module _ (v : Bool) (b2 : RingEnd) (g2 : GrowsBy b b2 (Read X v ∷ [])) where
         at2 : b2.list ≡ b.list ++ events_of C (Read X v ∷ [])
@@ -130,8 +129,8 @@ module _ (laws : LawsBelow) (a : RingEnd) (count cell wanted : ℕ) (calls : Tak
 
         pub found_empty : v ≡ false → LookMade a b2 calls wanted (Over reply.Empty)
         found_empty is = (
-          made_take laws a b2 count cell calls p opened both (stands_as a b2 C both p.side_is g2.stands) wanted (Empty seen) reply.Empty [] none tt refl refl refl same_number
-              (whole_take laws a.ring.shape a.list calls p.has opened (Empty seen) b2.list none (at2 ∙ (ap (λ (w : Bool). b.list ++ events_of C (Read X w ∷ [])) is ∙ sym (behind (Read X false ∷ []))))),
+          made_take a b2 count cell calls p opened both (stands_as a b2 C both p.side_is g2.stands) wanted (Empty seen) reply.Empty [] none tt refl refl refl same_number
+              (whole_take a.ring.shape a.list calls p.has opened (Empty seen) b2.list none (at2 ∙ (ap (λ (w : Bool). b.list ++ events_of C (Read X w ∷ [])) is ∙ sym (behind (Read X false ∷ []))))),
           refl,
         )
           where
@@ -146,7 +145,7 @@ module _ (laws : LawsBelow) (a : RingEnd) (count cell wanted : ℕ) (calls : Tak
 
           pub to_rescan : (c : ℕ) → c < modulus_of b2.ring.shape → Follows b2.ring.shape b2.side (b2.list ++ events_of b2.side (scan_phrase (row_read_by b2.side) c))
           to_rescan c small = subst (λ (z : Shape × Side). Follows z.0 z.1 (b2.list ++ events_of z.1 (scan_phrase (row_read_by z.1) c))) (λ i. (sym (same_shape a b2 both) i, sym (both.side ∙ p.side_is) i))
-              (subst (Follows a.ring.shape C) (twice c) (can_rescan laws a.ring.shape a.list calls p.has opened seen none c (subst (λ (s : Shape). c < modulus_of s) (same_shape a b2 both) small)))
+              (subst (Follows a.ring.shape C) (twice c) (can_rescan a.ring.shape a.list calls p.has opened seen none c (subst (λ (s : Shape). c < modulus_of s) (same_shape a b2 both) small)))
 
           module _ (again : ℕ) (small : again < modulus_of b2.ring.shape) (b3 : RingEnd) (g3 : GrowsBy b2 b3 (scan_phrase (row_read_by b2.side) again)) where
             at3 : b3.list ≡ a.list ++ events_of C (scan_phrase (row_read_by C) seen ++ Read X true ∷ scan_phrase (row_read_by C) again)
@@ -166,7 +165,7 @@ module _ (laws : LawsBelow) (a : RingEnd) (count cell wanted : ℕ) (calls : Tak
             pub found_closed : ¬ ShowsItem a.ring.shape again count → LookMade a b3 calls wanted (Over reply.Closed)
             found_closed not_again = (
               made_end a b3 calls wanted seen again opened all (stands_as a b3 C all p.side_is g3.stands)
-                  (whole_end laws a.ring.shape a.list calls p.has opened seen again b3.list none (below, subst (λ (n : ℕ). ¬ ShowsItem a.ring.shape again n) p.count_is not_again) at3),
+                  (whole_end a.ring.shape a.list calls p.has opened seen again b3.list none (below, subst (λ (n : ℕ). ¬ ShowsItem a.ring.shape again n) p.count_is not_again) at3),
               refl,
             )
 
@@ -184,7 +183,7 @@ one_found a b calls look most f = subst (HasFound a b calls 1 look) one f
     one : most ≡ 1
     one = omega (arith, f.some, few_found a.ring.shape (count_taken a.ring.shape calls).number 1 most look f.finds)
 
-module _ (laws : LawsBelow) (a b : RingEnd) (count cell : ℕ) (calls : Takes) (wanted most : ℕ) (l : HasLooked a b count cell calls wanted most) where
+module _ (a b : RingEnd) (count cell : ℕ) (calls : Takes) (wanted most : ℕ) (l : HasLooked a b count cell calls wanted most) where
   abbrev k_of : ℕ
   k_of = (count_taken a.ring.shape calls).number
 
@@ -224,7 +223,7 @@ module _ (laws : LawsBelow) (a b : RingEnd) (count cell : ℕ) (calls : Takes) (
   to_read items long fit =
       let fit' : AllFit a.ring.shape items = subst (λ (s : Shape). AllFit s items) shape_is fit in
       subst (λ (z : Shape × List Event). Follows z.0 C z.1) (λ i. (sym shape_is i, words_list items i))
-      (can_read laws a.ring.shape a.list calls p.has l.opened wanted l.look items (finds_items items long) (batch_of_items items long fit'))
+      (can_read a.ring.shape a.list calls p.has l.opened wanted l.look items (finds_items items long) (batch_of_items items long fit'))
 
   module _ (items : List ℕ) (long : length items ≡ most) (small : AllFit b.ring.shape items) (b2 : RingEnd) (g : GrowsBy b b2 (words_read b.ring.shape cell items)) (next : ℕ) (next_is : next ≡ (count + most) % modulus_of a.ring.shape) where
     fits : AllFit a.ring.shape items
@@ -244,16 +243,16 @@ module _ (laws : LawsBelow) (a b : RingEnd) (count cell : ℕ) (calls : Takes) (
 
     pub to_count : Follows b2.ring.shape b2.side (b2.list ++ events_of b2.side (unary_over b2.side b2.list next))
     to_count = subst (λ (z : Shape × Side). Follows z.0 z.1 (b2.list ++ events_of z.1 (unary_over z.1 b2.list next))) (λ i. (sym (same_shape a b2 till_items) i, sym (till_items.side ∙ p.side_is) i))
-        (can_count laws a.ring.shape a.list calls p.has l.opened wanted l.look items (finds_items items long) (batch_of_items items long fits) b2.list at_items next counts_on)
+        (can_count a.ring.shape a.list calls p.has l.opened wanted l.look items (finds_items items long) (batch_of_items items long fits) b2.list at_items next counts_on)
 
     pub fetched : (b3 : RingEnd) → GrowsBy b2 b3 (unary_over b2.side b2.list next) → TakeMade a b3 calls wanted (items_reply items) items
     fetched b3 g3 =
         let all : IsSameEnd a b3 = same_end a b2 b3 till_items g3.same in
-        let is = is_take laws a.ring.shape a.list calls p.has l.opened wanted l.look items (finds_items items long) (batch_of_items items long fits) in
-        made_take laws a b3 count cell calls p l.opened all (stands_as a b3 C all p.side_is g3.stands) wanted (take_of l.look items) (items_reply items) items
+        let is = is_take a.ring.shape a.list calls p.has l.opened wanted l.look items (finds_items items long) (batch_of_items items long fits) in
+        made_take a b3 count cell calls p l.opened all (stands_as a b3 C all p.side_is g3.stands) wanted (take_of l.look items) (items_reply items) items
         is.0 is.1 (take_of-replies l.look items) (take_of-items l.look items) (not_told items) (take_of-takes k_of l.look items ∙ past_is k_of items)
         (subst (λ (t : List Event). HasTakes a.ring.shape t (and_take calls (take_of l.look items))) (sym (g3.list ∙ ap (λ (s : Side). b2.list ++ events_of s (unary_over s b2.list next)) (till_items.side ∙ p.side_is)))
-        (taken_is laws a.ring.shape a.list calls p.has l.opened wanted l.look items (finds_items items long) (batch_of_items items long fits) b2.list at_items next counts_on))
+        (taken_is a.ring.shape a.list calls p.has l.opened wanted l.look items (finds_items items long) (batch_of_items items long fits) b2.list at_items next counts_on))
       where
         not_told : (items : List ℕ) → closed_reply (Some (items_reply items)) ≡ false
         not_told [] = refl

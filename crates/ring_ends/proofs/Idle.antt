@@ -4,9 +4,8 @@ use Rattle.bits_core.specs.declared.events.Event.{Event}
 use Rattle.bits_core.specs.History.{open_access}
 use Rattle.ring_core.specs.declared.replies.TakeReply.{TakeReply}
 use Rattle.ring_core.specs.Takes as takes
-use Rattle.ring_core.specs.Takes.{Take, Takes}
+use Rattle.ring_core.specs.Takes.{Take, Takes, AreTakes}
 use Rattle.ring_core.specs.Puts.{ArePuts}
-use Rattle.ring_core.specs.Takes.{AreTakes}
 use Rattle.ring_core.specs.ProducerState.{ProducerState, call_of}
 use Rattle.ring_core.specs.ProducerCalls.{closes_with}
 use Rattle.ring_core.specs.ConsumerState.{ConsumerState, is_taking}
@@ -15,14 +14,14 @@ use Rattle.ring_seats.specs.Ring.{RingEnd}
 use Rattle.ring_seats.specs.Rule.{IsIdle}
 use Rattle.ring_ends.specs.Machines.{IsMachine, Machine, consuming, producing}
 use Rattle.ring_ends.specs.Meetings.{closed_reply, ClosesAre, TellsAre}
-use Rattle.ring_seats.proofs.Below.{LawsBelow}
 use Rattle.ring_ends.specs.Moves.{MachineLaws}
 use Rattle.ring_ends.proofs.MachineCalls.{rest_list}
 use Rattle.ring_ends.proofs.PutterCalls.{put_laws}
 use Rattle.ring_ends.proofs.TakerCalls.{take_laws}
+use Rattle.bits_core.proofs.LawLemmas.{made_leave_none_open}
 
-pub machine_idle : LawsBelow → (k : Machine) → MachineLaws k → (e : RingEnd) (m : k.State) (whole : List Event) → IsMachine k e m whole → k.Rests m → IsIdle k.side e.list
-machine_idle laws k ks e m whole i none = ap (open_access k.side) (rest_list k ks e m i.calls i.made i.at none) ∙ laws.made_idle k.side (k.program e.ring.shape i.calls)
+pub machine_idle : (k : Machine) → MachineLaws k → (e : RingEnd) (m : k.State) (whole : List Event) → IsMachine k e m whole → k.Rests m → IsIdle k.side e.list
+machine_idle k ks e m whole i none = ap (open_access k.side) (rest_list k ks e m i.calls i.made i.at none) ∙ made_leave_none_open k.side (k.program e.ring.shape i.calls)
 
 never_closed : (x : Take) → closed_reply (Some (take_reply_to x)) ≡ false
 never_closed (takes.Item seen []) = refl

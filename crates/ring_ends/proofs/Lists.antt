@@ -17,30 +17,13 @@ use Rattle.bits_core.specs.Made.{Made, Read, Write, answered, begin_event, end_e
 use Rattle.register_core.specs.ScanState.{zero_reads, row_read_by}
 use Rattle.ring_core.specs.Calls.{EndsInZeros}
 use Rattle.ring_seats.specs.Programs.{Follows, IsRing, begin_of, ending_event}
-use Rattle.ring_seats.proofs.Below.{LawsBelow}
-
-pub same_side-same : (x : Side) → same_side x x ≡ true
-same_side-same P = refl
-same_side-same C = refl
-
-pub own-mine : LawsBelow → (x : Side) (h : List Event) (e : Event) → is_by x e ≡ true → subhistory x (h ++ e ∷ []) ≡ subhistory x h ++ e ∷ []
-own-mine laws x h e by = laws.subhistory_changes x h e ∙ ap (λ t. if t then subhistory x h ++ e ∷ [] else subhistory x h) by
-
-pub own-theirs : LawsBelow → (x : Side) (h : List Event) (e : Event) → is_by x e ≡ false → subhistory x (h ++ e ∷ []) ≡ subhistory x h
-own-theirs laws x h e by = laws.subhistory_changes x h e ∙ ap (λ t. if t then subhistory x h ++ e ∷ [] else subhistory x h) by
-
--- each side of such a history follows its program
-pub ring_follows : (shape : Shape) (h : List Event) → IsRing shape h → (x : Side) → Follows shape x (subhistory x h)
-ring_follows shape h r P = (r.puts, r.run.puts_follow.are, r.run.puts_follow.events)
-ring_follows shape h r C = (r.takes, r.run.takes_follow.are, r.run.takes_follow.events)
-
-pub events_of-append : (s : Side) (xs ys : List Made) → events_of s (xs ++ ys) ≡ events_of s xs ++ events_of s ys
-events_of-append s [] ys = refl
-events_of-append s (x ∷ xs) ys = ap (λ (l : List Event). begin_event s x ∷ end_event s x ∷ l) (events_of-append s xs ys)
-
-pub length-events_of : (s : Side) (xs : List Made) → length (events_of s xs) ≡ 2 * length xs
-length-events_of s [] = refl
-length-events_of s (x ∷ xs) = omega (arith, length-events_of s xs)
+use Rattle.bits_core.proofs.LawLemmas.{open_changes, subhistory_changes}
+use Rattle.ring_core.proofs.LawLemmas.{last_bit_is_one_puts, last_bit_is_one_takes}
+use Rattle.ring_seats.proofs.Blocks.{by_begin}
+pub use Rattle.register_core.proofs.ScanMachine.{length-zeros}
+pub use Rattle.ring_core.proofs.Machines.Following.{events_of-append, length-events as length-events_of}
+pub use Rattle.ring_seats.proofs.Histories.{same_side-same}
+pub use Rattle.ring_seats.proofs.Moves.{ring_follows}
 
 pub events_begin : (s : Side) (xs ys : List Made) → IsPrefix xs ys → IsPrefix (events_of s xs) (events_of s ys)
 events_begin s xs ys b = (events_of s b.0, sym (events_of-append s xs b.0) ∙ ap (events_of s) b.1)
@@ -62,42 +45,34 @@ shorter xs e ys b = (e ∷ b.0, sym (append_assoc xs (e ∷ []) b.0) ∙ b.1)
 
 -- ---- what is open
 
-by_begin : (s : Side) (x : Made) → is_by s (begin_event s x) ≡ true
-by_begin s (Read b v) = same_side-same s
-by_begin s (Write b v) = same_side-same s
-
 begun_begin : (s : Side) (a : Access) → begun_by (begin_of s a) ≡ Some a
 begun_begin s (access.Read b) = refl
 begun_begin s (access.Write b v) = refl
 
-pub begun_open : LawsBelow → (s : Side) (list : List Event) (a : Access) → open_access s (list ++ begin_of s a ∷ []) ≡ Some a
-begun_open laws s list a =
-    laws.open_changes s list (begin_of s a) ∙ ap (λ t. if t then begun_by (begin_of s a) else open_access s list) (by_begin s (answered a true)) ∙ begun_begin s a
+pub begun_open : (s : Side) (list : List Event) (a : Access) → open_access s (list ++ begin_of s a ∷ []) ≡ Some a
+begun_open s list a =
+    open_changes s list (begin_of s a) ∙ ap (λ t. if t then begun_by (begin_of s a) else open_access s list) (by_begin s (answered a true)) ∙ begun_begin s a
 
 -- ---- the last bit of a count
 
-pub length-zeros : (row : ℕ → Bit) (n : ℕ) → length (zero_reads row n) ≡ n
-length-zeros row zero = refl
-length-zeros row (suc n) = omega (arith, length-append (zero_reads row n) (Read (row n) false ∷ []), length-zeros row n)
-
 -- a side never ends reads of 0 in all bits of the other's count, where that one follows its program
-pub misses : LawsBelow → (shape : Shape) (x : Side) (h : List Event) → IsLawful shape h → Follows shape (other x) (subhistory (other x) h) → (before : List Made)
+pub misses : (shape : Shape) (x : Side) (h : List Event) → IsLawful shape h → Follows shape (other x) (subhistory (other x) h) → (before : List Made)
     → subhistory x h ≡ events_of x (before ++ zero_reads (row_read_by x) (modulus_of shape)) → ⊥
-misses laws shape P h lawful f before is =
+misses shape P h lawful f before is =
     let made : List Made = before ++ zero_reads (row_read_by P) (modulus_of shape) in
-    let never = (laws.takes_seen shape h f.0 lawful (record { are = f.1; events = f.2 })).1 in
+    let never = (last_bit_is_one_takes shape h f.0 lawful (record { are = f.1; events = f.2 })).1 in
     let lt = never made before [] ([], append-nil (subhistory P h) ∙ is) (ap (λ (l : List Made). before ++ l) (sym (append-nil (zero_reads (row_read_by P) (modulus_of shape))))) in
     omega (arith, lt, ap length is, length-events_of P made, length-append before (zero_reads (row_read_by P) (modulus_of shape)), length-zeros (row_read_by P) (modulus_of shape))
-misses laws shape C h lawful f before is =
+misses shape C h lawful f before is =
     let made : List Made = before ++ zero_reads (row_read_by C) (modulus_of shape) in
-    let never = (laws.puts_seen shape h f.0 lawful (record { are = f.1; events = f.2 })).1 in
+    let never = (last_bit_is_one_puts shape h f.0 lawful (record { are = f.1; events = f.2 })).1 in
     let lt = never made before [] ([], append-nil (subhistory C h) ∙ is) (ap (λ (l : List Made). before ++ l) (sym (append-nil (zero_reads (row_read_by C) (modulus_of shape))))) in
     omega (arith, lt, ap length is, length-events_of C made, length-append before (zero_reads (row_read_by C) (modulus_of shape)), length-zeros (row_read_by C) (modulus_of shape))
 
 -- so the last bit, behind reads of 0 in all others, is not read as 0
-pub no_zero : LawsBelow → (shape : Shape) (x : Side) (h : List Event) → IsLawful shape h → Follows shape (other x) (subhistory (other x) h) → (made : List Made) (i : ℕ) → suc i ≡ modulus_of shape → EndsInZeros shape x made
+pub no_zero : (shape : Shape) (x : Side) (h : List Event) → IsLawful shape h → Follows shape (other x) (subhistory (other x) h) → (made : List Made) (i : ℕ) → suc i ≡ modulus_of shape → EndsInZeros shape x made
     → subhistory x h ≡ events_of x (made ++ Read (row_read_by x i) false ∷ []) → ⊥
-no_zero laws shape x h lawful f made i size zeros is =
+no_zero shape x h lawful f made i size zeros is =
     let before : List Made = zeros.0 in
     let last : ℕ = zeros.1 in
     let same : i ≡ last = omega (arith, size, zeros.2) in
@@ -105,4 +80,4 @@ no_zero laws shape x h lawful f made i size zeros is =
     (λ j. zeros.3 j ++ Read (row_read_by x (same j)) false ∷ []) ∙
     append_assoc before (zero_reads (row_read_by x) last) (Read (row_read_by x last) false ∷ []) ∙
     ap (λ n. before ++ zero_reads (row_read_by x) n) zeros.2 in
-    misses laws shape x h lawful f before (is ∙ ap (events_of x) whole)
+    misses shape x h lawful f before (is ∙ ap (events_of x) whole)

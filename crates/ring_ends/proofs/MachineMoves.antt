@@ -16,15 +16,15 @@ use Rattle.ring_seats.specs.Programs.{Follows, IsRing, GoesOn, begin_of, ending_
 use Rattle.ring_seats.specs.Steppers.{Grows, IsSameEnd, StandsAs, CanMake, CanStep, HasStepped}
 use Rattle.ring_ends.specs.Machines.{ListIs, Machine, MachineAt, MachineStep}
 use Rattle.ring_ends.specs.Moves.{Due, Fed, MachineLaws, Next}
-use Rattle.ring_seats.proofs.Below.{LawsBelow}
 use Rattle.ring_ends.proofs.Lists.{own-mine, own-theirs, ring_follows, events_begin, events_more, begun_open, shorter, no_zero, length-events_of}
 use Rattle.ring_ends.proofs.Steps.{by_end, not_by_end, list_closed, list_open, CanMakeAt, CanStepAt, last_false}
+use Rattle.bits_core.proofs.LawLemmas.{made_leave_none_open}
 
 -- the due access is one that the end may make
 pub right_there : (k : Machine) (e : RingEnd) (m : k.State) (calls : k.Calls) (made : List Made) → MachineAt k e m calls made → (a : Access) → Due k m a → IsOpenRight e.ring.shape e.side a
 right_there k e m calls made at a d = subst (λ (z : Shape × Side). IsOpenRight z.0 z.1 a) (λ i. (at.shape_is i, sym at.side_is i)) d.right
 
-module _ (laws : LawsBelow) (k : Machine) (ks : MachineLaws k) (m : k.State) (calls : k.Calls) (made : List Made) (a : Access) (next : Next k m calls made a) where
+module _ (k : Machine) (ks : MachineLaws k) (m : k.State) (calls : k.Calls) (made : List Made) (a : Access) (next : Next k m calls made a) where
   begins : (answer : Bool) → (LastBitIsDue (k.shape_of m) k.side (Some a) → answer ≡ true) → (more : k.Calls) × k.More (k.shape_of m) next.one calls more × IsPrefix (events_of k.side (made ++ answered a answer ∷ [])) (events_of k.side (k.program (k.shape_of m) more))
   begins answer may = let b = next.goes answer may in (b.0, b.1, events_begin k.side (made ++ answered a answer ∷ []) (k.program (k.shape_of m) b.0) b.2)
 
@@ -41,35 +41,35 @@ module _ (laws : LawsBelow) (k : Machine) (ks : MachineLaws k) (m : k.State) (ca
     answers_one : (h : List Event) → IsLawful (k.shape_of m) h → Follows (k.shape_of m) (other k.side) (subhistory (other k.side) h) → (v : Bool) → subhistory k.side h ≡ events_of k.side (made ++ answered a v ∷ []) → LastBitIsDue (k.shape_of m) k.side (Some a) → v ≡ true
     answers_one h lawful f true is last = refl
     answers_one h lawful f false is last =
-        absurd (no_zero laws (k.shape_of m) k.side h lawful f made last.0 last.2 (zeros last) (is ∙ ap (λ (x : Made). events_of k.side (made ++ x ∷ [])) (last_false k.side a last.0 last.1)))
+        absurd (no_zero (k.shape_of m) k.side h lawful f made last.0 last.2 (zeros last) (is ∙ ap (λ (x : Made). events_of k.side (made ++ x ∷ [])) (last_false k.side a last.0 last.1)))
 
     goes_on : (list : List Event) → list ≡ events_of k.side made ++ begin_of k.side a ∷ [] → GoesOn (k.shape_of m) k.side a list
     goes_on list is h v lawful ring mine =
         let x : Side = k.side in
         let h' : List Event = h ++ ending_event x a v ∷ [] in
         let whole : list ++ ending_event x a v ∷ [] ≡ events_of x (made ++ answered a v ∷ []) = ap (λ (l : List Event). l ++ ending_event x a v ∷ []) is ∙ sym (events_more x made a v) in
-        let own_is : subhistory x h' ≡ events_of x (made ++ answered a v ∷ []) = own-mine laws x h (ending_event x a v) (by_end x a v) ∙ ap (λ (l : List Event). l ++ ending_event x a v ∷ []) mine ∙ whole in
-        let theirs : Follows (k.shape_of m) (other x) (subhistory (other x) h') = subst (Follows (k.shape_of m) (other x)) (sym (own-theirs laws (other x) h (ending_event x a v) (not_by_end x a v))) (ring_follows (k.shape_of m) h ring (other x)) in
+        let own_is : subhistory x h' ≡ events_of x (made ++ answered a v ∷ []) = own-mine x h (ending_event x a v) (by_end x a v) ∙ ap (λ (l : List Event). l ++ ending_event x a v ∷ []) mine ∙ whole in
+        let theirs : Follows (k.shape_of m) (other x) (subhistory (other x) h') = subst (Follows (k.shape_of m) (other x)) (sym (own-theirs (other x) h (ending_event x a v) (not_by_end x a v))) (ring_follows (k.shape_of m) h ring (other x)) in
         let b = begins v (answers_one h' lawful theirs v own_is) in
         subst (Follows (k.shape_of m) x) (sym whole) (ks.follows (k.shape_of m) next.one calls b.0 (events_of x (made ++ answered a v ∷ [])) b.1 b.2)
 
     can_whole : (list : List Event) → list ≡ events_of k.side made → CanMakeAt (k.shape_of m) k.side list a
     can_whole list is = (
-      ap (open_access k.side) is ∙ laws.made_idle k.side made,
+      ap (open_access k.side) is ∙ made_leave_none_open k.side made,
       follows_begun list is,
       goes_on (list ++ begin_of k.side a ∷ []) (ap (λ (l : List Event). l ++ begin_of k.side a ∷ []) is),
     )
 
     can : (list : List Event) → ListIs k.side list made (Some a) → CanStepAt (k.shape_of m) k.side list a
-    can list (inl is) = inl (ap (open_access k.side) is ∙ laws.made_idle k.side made, follows_begun list is)
+    can list (inl is) = inl (ap (open_access k.side) is ∙ made_leave_none_open k.side made, follows_begun list is)
     can list (inr (b, same, is)) =
         let eq : b ≡ a = cc in
         let is' : list ≡ events_of k.side made ++ begin_of k.side a ∷ [] = is ∙ ap (λ (x : Access). events_of k.side made ++ begin_of k.side x ∷ []) eq in
-        inr (ap (open_access k.side) is' ∙ begun_open laws k.side (events_of k.side made) a, goes_on list is')
+        inr (ap (open_access k.side) is' ∙ begun_open k.side (events_of k.side made) a, goes_on list is')
 
 -- ---- with the end
 
-module _ (laws : LawsBelow) (k : Machine) (ks : MachineLaws k) (e : RingEnd) (m : k.State) (calls : k.Calls) (made : List Made) (at : MachineAt k e m calls made) (a : Access) (d : Due k m a) where
+module _ (k : Machine) (ks : MachineLaws k) (e : RingEnd) (m : k.State) (calls : k.Calls) (made : List Made) (at : MachineAt k e m calls made) (a : Access) (d : Due k m a) where
   abbrev next : Next k m calls made a
   next = d.next calls made at.stands
 
@@ -77,10 +77,10 @@ module _ (laws : LawsBelow) (k : Machine) (ks : MachineLaws k) (e : RingEnd) (m 
   list_due = subst (ListIs k.side e.list made) d.is at.list_is
 
   pub can_there : CanStep e a
-  can_there = subst (λ (z : Shape × Side). CanStepAt z.0 z.1 e.list a) (λ i. (at.shape_is i, sym at.side_is i)) (can laws k ks m calls made a next (d.zeros calls made at.stands) e.list list_due)
+  can_there = subst (λ (z : Shape × Side). CanStepAt z.0 z.1 e.list a) (λ i. (at.shape_is i, sym at.side_is i)) (can k ks m calls made a next (d.zeros calls made at.stands) e.list list_due)
 
   pub can_make : e.list ≡ events_of k.side made → CanMake e a
-  can_make is = subst (λ (z : Shape × Side). CanMakeAt z.0 z.1 e.list a) (λ i. (at.shape_is i, sym at.side_is i)) (can_whole laws k ks m calls made a next (d.zeros calls made at.stands) e.list is)
+  can_make is = subst (λ (z : Shape × Side). CanMakeAt z.0 z.1 e.list a) (λ i. (at.shape_is i, sym at.side_is i)) (can_whole k ks m calls made a next (d.zeros calls made at.stands) e.list is)
 
   module _ (b : RingEnd) where
     shape_b : IsSameEnd e b → k.shape_of m ≡ b.ring.shape
@@ -91,7 +91,7 @@ module _ (laws : LawsBelow) (k : Machine) (ks : MachineLaws k) (e : RingEnd) (m 
 
     list_begun : HasStepped e b a None → b.list ≡ events_of k.side made ++ begin_of k.side a ∷ []
     list_begun s =
-        let was : e.list ≡ events_of k.side made = list_closed laws k.side e.list made (Some a) list_due (ap (λ (x : Side). open_access x e.list) (sym at.side_is) ∙ s.0) in
+        let was : e.list ≡ events_of k.side made = list_closed k.side e.list made (Some a) list_due (ap (λ (x : Side). open_access x e.list) (sym at.side_is) ∙ s.0) in
         s.1.list ∙ (λ i. was i ++ begin_of (at.side_is i) a ∷ [])
 
     -- the begin of the due access, and where the end then stands
@@ -112,7 +112,7 @@ module _ (laws : LawsBelow) (k : Machine) (ks : MachineLaws k) (e : RingEnd) (m 
           (omega (arith, ap length (list_begun s), length-append (events_of k.side made) (begin_of k.side a ∷ []), length-events_of k.side made, next.few));
       part = λ c is.
           let same : next.one ≡ c = ks.one m next.one c next.is is in
-          let f = begun_so laws k ks m calls made a next in
+          let f = begun_so k ks m calls made a next in
           subst (λ (z : Shape × k.Call). k.Part z.0 z.1 (events_of k.side (k.program (k.shape_of m) calls)) b.list) (λ i. (shape_b s.1.same i, same i))
           (ks.part m next.one calls f.0 made b.list at.stands f.1 (subst (λ (l : List Event). IsPrefix l (events_of k.side (k.program (k.shape_of m) f.0))) (sym (list_begun s)) f.2));
     }
@@ -120,7 +120,7 @@ module _ (laws : LawsBelow) (k : Machine) (ks : MachineLaws k) (e : RingEnd) (m 
     module _ (v : Bool) (s : HasStepped e b a (Some v)) where
       pub list_ended : b.list ≡ events_of k.side (made ++ answered a v ∷ [])
       list_ended =
-          let was : e.list ≡ events_of k.side made ++ begin_of k.side a ∷ [] = list_open laws k.side e.list made a list_due (ap (λ (x : Side). open_access x e.list) (sym at.side_is) ∙ s.0) in
+          let was : e.list ≡ events_of k.side made ++ begin_of k.side a ∷ [] = list_open k.side e.list made a list_due (ap (λ (x : Side). open_access x e.list) (sym at.side_is) ∙ s.0) in
           s.1.list ∙ (λ i. was i ++ ending_event (at.side_is i) a v ∷ []) ∙ sym (events_more k.side made a v)
 
       -- the answer may be fed
@@ -129,7 +129,7 @@ module _ (laws : LawsBelow) (k : Machine) (ks : MachineLaws k) (e : RingEnd) (m 
           let st = s.1.stands in
           let ring : IsRing (k.shape_of m) st.history = subst (λ (z : Shape). IsRing z st.history) (sym (shape_b s.1.same)) st.ring in
           let mine : subhistory k.side st.history ≡ events_of k.side (made ++ answered a v ∷ []) = ap (λ (x : Side). subhistory x st.history) (sym (s.1.same.side ∙ at.side_is)) ∙ st.list_is ∙ list_ended in
-          answers_one laws k ks m calls made a next (d.zeros calls made at.stands) st.history ring.run.lawful (ring_follows (k.shape_of m) st.history ring (other k.side)) v mine
+          answers_one k ks m calls made a next (d.zeros calls made at.stands) st.history ring.run.lawful (ring_follows (k.shape_of m) st.history ring (other k.side)) v mine
 
       pub one_there : LastBitIsDue (k.shape_of m) k.side (k.due m) → v ≡ true
       one_there last = one_due (subst (LastBitIsDue (k.shape_of m) k.side) d.is last)
@@ -159,7 +159,7 @@ module _ (laws : LawsBelow) (k : Machine) (ks : MachineLaws k) (e : RingEnd) (m 
               (omega (arith, ap length list_ended, length-append made (answered a v ∷ []), length-events_of k.side (made ++ answered a v ∷ []), next.few));
           part = λ c is.
               let same : next.one ≡ c = sym (ks.goes m m' next.one c calls more next.is is moved.2).0 in
-              let f = begins laws k ks m calls made a next v one_due in
+              let f = begins k ks m calls made a next v one_due in
               subst (λ (z : Shape × k.Call). k.Part z.0 z.1 (events_of k.side (k.program (k.shape_of m) calls)) b.list) (λ i. (shape_b s.1.same i, same i))
               (ks.part m next.one calls f.0 made b.list at.stands f.1 (subst (λ (l : List Event). IsPrefix l (events_of k.side (k.program (k.shape_of m) f.0))) (sym list_ended) f.2));
         }

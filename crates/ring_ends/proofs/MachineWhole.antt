@@ -12,40 +12,41 @@ use Rattle.ring_seats.specs.Programs.{begin_of, ending_event}
 use Rattle.ring_seats.specs.Steppers.{AreAnswered, answers_in, CanMake, Grows, HasMade, HasStepped, IsSameEnd, StandsAs}
 use Rattle.ring_ends.specs.Machines.{Machine, MachineAt, MachineReady, MachineGoes, MachineOver, MachineIn, MachineBusy, MachineWent, MachineEnded, IsMachine, IsMarked, without_last}
 use Rattle.ring_ends.specs.Moves.{Due, Fed, MachineLaws, MayFeed}
-use Rattle.ring_seats.proofs.Below.{LawsBelow}
 use Rattle.ring_ends.proofs.Accesses.{longer, same, same_on}
 use Rattle.ring_ends.proofs.Lists.{begun_open, length-events_of}
 use Rattle.ring_ends.proofs.MachineMoves.{right_there, at_begun, at_ended, can_make, list_ended, moved, one_there}
 use Rattle.ring_ends.proofs.MachineCalls.{Begun, list_rests, rest_list, rest_marked, at_one}
 use Rattle.ring_ends.proofs.Steps.{none-some}
+use Rattle.ring_seats.proofs.Answered.{answered_then}
+use Rattle.bits_core.proofs.LawLemmas.{made_leave_none_open}
 
 -- ---- one access of a call that goes on, by what a machine tells of the one that is due
 
-module _ (laws : LawsBelow) (k : Machine) (ks : MachineLaws k) (e : RingEnd) (m : k.State) (calls : k.Calls) (c : k.Call) (g : MachineGoes k e m calls c) (a : Access) (d : Due k m a) where
+module _ (k : Machine) (ks : MachineLaws k) (e : RingEnd) (m : k.State) (calls : k.Calls) (c : k.Call) (g : MachineGoes k e m calls c) (a : Access) (d : Due k m a) where
   pub can_go : CanMake e a
-  can_go = can_make laws k ks e m calls g.made g.at a d g.list_is
+  can_go = can_make k ks e m calls g.made g.at a d g.list_is
 
   module _ (b : RingEnd) (v : Bool) (h : HasMade e b a v) where
     begun : HasStepped e h.0 a None
-    begun = (ap (λ (x : Side). open_access x e.list) g.at.side_is ∙ ap (open_access k.side) g.list_is ∙ laws.made_idle k.side g.made, h.1)
+    begun = (ap (λ (x : Side). open_access x e.list) g.at.side_is ∙ ap (open_access k.side) g.list_is ∙ made_leave_none_open k.side g.made, h.1)
 
     at_mid : MachineAt k h.0 m calls g.made
-    at_mid = at_begun laws k ks e m calls g.made g.at a d h.0 begun
+    at_mid = at_begun k ks e m calls g.made g.at a d h.0 begun
 
     ended : HasStepped h.0 b a (Some v)
     ended = (
-      ap (λ (x : Side). open_access x (h.0).list) (h.1.same.side ∙ g.at.side_is) ∙ ap (open_access k.side) (h.1.list ∙ (λ i. g.list_is i ++ begin_of (g.at.side_is i) a ∷ [])) ∙ begun_open laws k.side (events_of k.side g.made) a,
+      ap (λ (x : Side). open_access x (h.0).list) (h.1.same.side ∙ g.at.side_is) ∙ ap (open_access k.side) (h.1.list ∙ (λ i. g.list_is i ++ begin_of (g.at.side_is i) a ∷ [])) ∙ begun_open k.side (events_of k.side g.made) a,
       subst (λ (x : Side). Grows h.0 b (ending_event x a v)) (sym h.1.same.side) h.2,
     )
 
     -- the answer may be fed
     pub may_feed : MayFeed k m v
-    may_feed = ((a, d.is), one_there laws k ks h.0 m calls g.made at_mid a d b v ended)
+    may_feed = ((a, d.is), one_there k ks h.0 m calls g.made at_mid a d b v ended)
 
     pub went : (m' : k.State) → Fed k m v m' → MachineIn k b m' calls c
     went m' fed =
-        let m_more = moved laws k ks h.0 m calls g.made at_mid a d b v ended m' fed in
-        let there : MachineAt k b m' m_more.0 (g.made ++ answered a v ∷ []) = at_ended laws k ks h.0 m calls g.made at_mid a d b v ended m' fed in
+        let m_more = moved k ks h.0 m calls g.made at_mid a d b v ended m' fed in
+        let there : MachineAt k b m' m_more.0 (g.made ++ answered a v ∷ []) = at_ended k ks h.0 m calls g.made at_mid a d b v ended m' fed in
         ⊎_elim
         (λ rests. inr (record { more = m_more.0; made = g.made ++ answered a v ∷ []; at = there; rests = rests; is_more = subst (λ (z : Shape). k.More z c calls m_more.0) (sym fed.shape) (ks.over m m' c calls m_more.0 g.busy rests m_more.2) }))
         (λ on.
@@ -53,7 +54,7 @@ module _ (laws : LawsBelow) (k : Machine) (ks : MachineLaws k) (e : RingEnd) (m 
         inl (record {
           made = g.made ++ answered a v ∷ [];
           at = subst (λ (z : k.Calls). MachineAt k b m' z (g.made ++ answered a v ∷ [])) t.1 there;
-          list_is = list_ended laws k ks h.0 m calls g.made at_mid a d b v ended;
+          list_is = list_ended k ks h.0 m calls g.made at_mid a d b v ended;
           busy = subst (k.Busy m') t.0 on.1;
         }))
         (ks.either m')
@@ -70,14 +71,14 @@ went_nowhere k e m said = record { same = record { ring = refl; side = refl; kno
 pub went_same : (k : Machine) (e : RingEnd) (m : k.State) {m' : k.State} (said : ℕ → Bool) → m' ≡ m → MachineWent k e m e m' said said
 went_same k e m said is = subst (λ (z : k.State). MachineWent k e m e z said said) (sym is) (went_nowhere k e m said)
 
-pub went_then : LawsBelow → (k : Machine) {e a b : RingEnd} {m n o : k.State} {old mid now : ℕ → Bool} → MachineWent k e m a n old mid → MachineWent k a n b o mid now → MachineWent k e m b o old now
-went_then laws k w v = record {
+pub went_then : (k : Machine) {e a b : RingEnd} {m n o : k.State} {old mid now : ℕ → Bool} → MachineWent k e m a n old mid → MachineWent k a n b o mid now → MachineWent k e m b o old now
+went_then k w v = record {
   same = same_on w.same v.same;
   longer = omega (arith, w.longer, v.longer);
   kind = v.kind ∙ w.kind;
   rests = λ none. (let first = w.rests none in let then = v.rests (subst k.Rests (sym first.0) none) in (then.0 ∙ first.0, then.1 ∙ first.1));
   goes = λ calls c was. v.goes calls c (w.goes calls c was);
-  answered = laws.answers _ _ _ _ _ _ w.answered v.answered;
+  answered = answered_then _ _ _ _ _ _ w.answered v.answered;
 }
 
 module _ (k : Machine) (ks : MachineLaws k) {e0 : RingEnd} {m0 : k.State} {e : RingEnd} {m : k.State} {old now : ℕ → Bool} (w : MachineWent k e0 m0 e m old now) where
@@ -125,7 +126,7 @@ pub ready_busy : (k : Machine) (e : RingEnd) (m : k.State) (calls : k.Calls) →
 ready_busy k e m calls ready d is = (calls, d, inl (record { made = k.program (k.shape_of m) calls; at = ready.at; list_is = ready.list_is; busy = is }))
 
 -- one access behind them, while the call goes on
-module _ (laws : LawsBelow) (k : Machine) (ks : MachineLaws k) {e0 : RingEnd} {m0 : k.State} {e : RingEnd} {m : k.State} {old now : ℕ → Bool} (was : MachineBusy k e0 m0) (w : MachineWent k e0 m0 e m old now) (a : Access) (d : Due k m a) where
+module _ (k : Machine) (ks : MachineLaws k) {e0 : RingEnd} {m0 : k.State} {e : RingEnd} {m : k.State} {old now : ℕ → Bool} (was : MachineBusy k e0 m0) (w : MachineWent k e0 m0 e m old now) (a : Access) (d : Due k m a) where
   goes_in : (calls : k.Calls) (c : k.Call) → MachineIn k e m calls c → MachineGoes k e m calls c
   goes_in calls c (inl g) = g
   goes_in calls c (inr o) = let on = ks.due_busy m a d.is in absurd (ks.never m on.0 o.rests on.1)
@@ -137,19 +138,19 @@ module _ (laws : LawsBelow) (k : Machine) (ks : MachineLaws k) {e0 : RingEnd} {m
   access_right = right_there k e m there.0 (there.2).made (there.2).at a d
 
   pub access_can : CanMake e a
-  access_can = can_go laws k ks e m there.0 there.1 there.2 a d
+  access_can = can_go k ks e m there.0 there.1 there.2 a d
 
   module _ (b : RingEnd) (v : Bool) (h : HasMade e b a v) where
     pub access_feeds : MayFeed k m v
-    access_feeds = may_feed laws k ks e m there.0 there.1 there.2 a d b v h
+    access_feeds = may_feed k ks e m there.0 there.1 there.2 a d b v h
 
     pub access_went : (m' : k.State) → Fed k m v m' → (after : ℕ → Bool) → AreAnswered e b now after → MachineWent k e0 m0 b m' old after
-    access_went m' fed after said = went_then laws k w (record {
+    access_went m' fed after said = went_then k w (record {
       same = same e b a v h;
       longer = omega (arith, longer e b a v h);
       kind = fed.kind;
       rests = λ none. (let on = ks.due_busy m a d.is in absurd (ks.never m on.0 none on.1));
-      goes = λ calls c in_call. went laws k ks e m calls c (goes_in calls c in_call) a d b v h m' fed;
+      goes = λ calls c in_call. went k ks e m calls c (goes_in calls c in_call) a d b v h m' fed;
       answered = said;
     })
 

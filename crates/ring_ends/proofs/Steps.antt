@@ -12,8 +12,8 @@ use Rattle.bits_core.specs.Made.{Made, Read, answered, events_of}
 use Rattle.register_core.specs.ScanState.{row_read_by}
 use Rattle.ring_seats.specs.Programs.{Follows, GoesOn, begin_of, ending_event}
 use Rattle.ring_ends.specs.Machines.{ListIs}
-use Rattle.ring_seats.proofs.Below.{LawsBelow}
 use Rattle.ring_ends.proofs.Lists.{same_side-same, begun_open}
+use Rattle.bits_core.proofs.LawLemmas.{made_leave_none_open}
 
 -- the access can begin, or it is open and can end
 abbrev pub CanStepAt : Shape → Side → List Event → Access → Type 0
@@ -42,10 +42,10 @@ last_false x a i e = let same : a ≡ access.Read (row_read_by x i) = cc in ap (
 pub none-some : {A : Type 0} (a : A) → None ≡ Some a → ⊥
 none-some a e = cc
 
-pub list_closed : LawsBelow → (x : Side) (list : List Event) (made : List Made) (due : Option Access) → ListIs x list made due → open_access x list ≡ None → list ≡ events_of x made
-list_closed laws x list made due (inl is) none = is
-list_closed laws x list made due (inr (b, same, is)) none = absurd (none-some b (sym none ∙ ap (open_access x) is ∙ begun_open laws x (events_of x made) b))
+pub list_closed : (x : Side) (list : List Event) (made : List Made) (due : Option Access) → ListIs x list made due → open_access x list ≡ None → list ≡ events_of x made
+list_closed x list made due (inl is) none = is
+list_closed x list made due (inr (b, same, is)) none = absurd (none-some b (sym none ∙ ap (open_access x) is ∙ begun_open x (events_of x made) b))
 
-pub list_open : LawsBelow → (x : Side) (list : List Event) (made : List Made) (a : Access) → ListIs x list made (Some a) → open_access x list ≡ Some a → list ≡ events_of x made ++ begin_of x a ∷ []
-list_open laws x list made a (inl is) some = absurd (none-some a (sym (laws.made_idle x made) ∙ sym (ap (open_access x) is) ∙ some))
-list_open laws x list made a (inr (b, same, is)) some = let eq : b ≡ a = cc in is ∙ ap (λ (y : Access). events_of x made ++ begin_of x y ∷ []) eq
+pub list_open : (x : Side) (list : List Event) (made : List Made) (a : Access) → ListIs x list made (Some a) → open_access x list ≡ Some a → list ≡ events_of x made ++ begin_of x a ∷ []
+list_open x list made a (inl is) some = absurd (none-some a (sym (made_leave_none_open x made) ∙ sym (ap (open_access x) is) ∙ some))
+list_open x list made a (inr (b, same, is)) some = let eq : b ≡ a = cc in is ∙ ap (λ (y : Access). events_of x made ++ begin_of x y ∷ []) eq

@@ -23,6 +23,8 @@ use Rattle.ring_ends.proofs.MachineWhole as whole
 use Rattle.ring_ends.proofs.MachineWhole.{Ended, Whole, ending, list_there, more_there, over_list, shape_whole}
 use Rattle.ring_ends.proofs.Steps.{none-some}
 use Rattle.ring_ends.proofs.TakerCalls.{over_reply, take_laws, take_none, take_one, take_wanted}
+use Rattle.ring_core.proofs.Machines.TakeCalls.{items-push as last_snoc}
+use Rattle.ring_core.proofs.Recorded.RecordedStates.{few_items as few_of}
 
 -- ---- the items of a take, and how many they are by its reply
 
@@ -64,16 +66,6 @@ told_none (Some x) items is = let told = batch_told x items in absurd (none-some
 
 pub told_closed : (r : Option replies.TakeReply) (items : List ℕ) → r ≡ Some reply.Closed → take_batch_reply r items ≡ Some batch_reply.Closed
 told_closed r items is = ap (λ (x : Option replies.TakeReply). take_batch_reply x items) is
-
-last_snoc : (first : List ℕ) (xs : List Take) (x : Take) → last_items first (xs ++ x ∷ []) ≡ taken_of x
-last_snoc first [] x = refl
-last_snoc first (y ∷ xs) x = last_snoc (taken_of y) xs x
-
--- a take takes no more than it wants
-few_of : (shape : Shape) (k wanted : ℕ) (x : Take) → IsTakeOf shape k wanted x → length (taken_of x) ≤ wanted
-few_of shape k wanted (takes.Item seen items) is = is.0
-few_of shape k wanted (takes.ItemAfterClose seen again items) is = is.0
-few_of shape k wanted (takes.Empty seen) is = omega arith
 
 few_more : (shape : Shape) (wanted : ℕ) (calls more : Takes) → HasTakeMore shape wanted calls more → length (items_at_end more.end more.takes) ≤ wanted
 few_more shape wanted calls more is_more = ⊎_elim

@@ -16,7 +16,6 @@ use Rattle.ring_seats.specs.declared.views.View.{View}
 use Rattle.ring_seats.specs.Rule.{Added, Stands, and_event, event, list_of, may_step}
 use Rattle.ring_seats.specs.Words.{answer_of}
 use Rattle.ring_seats.specs.Steppers.{Grows, HasMade}
-use Rattle.ring_seats.proofs.Below.{LawsBelow}
 use Rattle.ring_seats.proofs.Moves.{list_of-mine, may_step-more, opened_by}
 
 -- an end by its ring, its side and what its seat knows
@@ -70,6 +69,6 @@ module _ (x : Side) (b : Bit) (a : Act) (got : ℕ) (v w : View) (is : w ≡ and
   list_more = ap (list_of x) is ∙ list_of-mine x (event x b a) got v
 
 -- behind an access none is open
-pub none_open : LawsBelow → (x : Side) (b : Bit) (a : Act) (got : ℕ) (v w : View) → w ≡ and_event x (event x b a) got v → begun_access b a ≡ None → (opened : Option Access) (list : List Event) → opened ≡ open_access x list → open_access x list ≡ None
+pub none_open : (x : Side) (b : Bit) (a : Act) (got : ℕ) (v w : View) → w ≡ and_event x (event x b a) got v → begun_access b a ≡ None → (opened : Option Access) (list : List Event) → opened ≡ open_access x list → open_access x list ≡ None
     → opened ≡ open_access x (list_of x w)
-none_open laws x b a got v w is over opened list was none = was ∙ none ∙ sym (opened_by laws x b a got v w is ∙ over)
+none_open x b a got v w is over opened list was none = was ∙ none ∙ sym (opened_by x b a got v w is ∙ over)

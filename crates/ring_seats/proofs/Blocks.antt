@@ -17,15 +17,14 @@ use Rattle.bits_core.specs.Steps.{MayFollow}
 use Rattle.bits_core.specs.Open.{IsOpenRight}
 use Rattle.bits_core.specs.Made.{Made, Read, Write, access_of, begin_event, end_event, events_of, subhistory}
 use Rattle.ring_seats.specs.Programs.{Follows, IsRing}
-use Rattle.ring_seats.proofs.Below.{LawsBelow}
 use Rattle.ring_seats.specs.Counters.{value_left}
 use Rattle.ring_seats.proofs.Histories.{by_case, same_side-same, same_side-true, either_side, before_last-mine, own-mine, own-theirs, open-mine, open-theirs}
 use Rattle.ring_seats.proofs.Rights.{AllRight}
 use Rattle.ring_seats.proofs.Moves.{ring_more}
-
-pub events_of-append : (s : Side) (xs ys : List Made) → events_of s (xs ++ ys) ≡ events_of s xs ++ events_of s ys
-events_of-append s [] ys = refl
-events_of-append s (x ∷ xs) ys = ap (λ (l : List Event). begin_event s x ∷ end_event s x ∷ l) (events_of-append s xs ys)
+use Rattle.bits_core.proofs.LawLemmas.{held_changes}
+use Rattle.bits_core.proofs.MadeLemmas.{begin_begins as begun_begin, begin_by as begin_side, end_begins_none as begun_end}
+pub use Rattle.bits_core.proofs.OwnOpen.{by_end}
+pub use Rattle.ring_core.proofs.Machines.Following.{events_of-append}
 
 -- a lawful history whose sides follow their programs, with no access open
 pub record QuietRing (shape : Shape) (h : List Event) : Type 0 where
@@ -72,25 +71,9 @@ pub by_begin : (s : Side) (x : Made) → is_by s (begin_event s x) ≡ true
 by_begin s (Read b v) = same_side-same s
 by_begin s (Write b v) = same_side-same s
 
-pub by_end : (s : Side) (x : Made) → is_by s (end_event s x) ≡ true
-by_end s (Read b v) = same_side-same s
-by_end s (Write b v) = same_side-same s
-
-begin_side : (s : Side) (x : Made) → (begin_event s x).side ≡ s
-begin_side s (Read b v) = refl
-begin_side s (Write b v) = refl
-
 end_side : (s : Side) (x : Made) → (end_event s x).side ≡ s
 end_side s (Read b v) = refl
 end_side s (Write b v) = refl
-
-begun_begin : (s : Side) (x : Made) → begun_by (begin_event s x) ≡ Some (access_of x)
-begun_begin s (Read b v) = refl
-begun_begin s (Write b v) = refl
-
-begun_end : (s : Side) (x : Made) → begun_by (end_event s x) ≡ None
-begun_end s (Read b v) = refl
-begun_end s (Write b v) = refl
 
 -- the list that follows a program, cut
 pub follows_shorter : (shape : Shape) (x : Side) (xs ys : List Event) → Follows shape x (xs ++ ys) → Follows shape x xs
@@ -160,25 +143,25 @@ apart shape x bits (Write c v) b r e = by_case (same_bit b c)
     (λ same. absurd (false≢true (sym e ∙ ap (λ (y : Side). same_side y x) (same_bit_writer b c same ∙ sym r.1) ∙ same_side-same x)))
     (λ not. ap (λ t. if t then v else bits b) not)
 
-module _ (laws : LawsBelow) (shape : Shape) (x : Side) where
+module _ (shape : Shape) (x : Side) where
   begin_may : (h : List Event) (m : Made) → open_access x h ≡ None → IsOpenRight shape x (access_of m) → MayFollow shape h (begin_event x m)
   begin_may h (Read b v) idle r = record { right_side = record { in_shape = r.0; by_doer = r.1 }; in_turn = idle; permitted = tt }
   begin_may h (Write b v) idle r = record { right_side = record { in_shape = r.0; by_doer = r.1 }; in_turn = idle; permitted = tt }
 
   begun : (h : List Event) (m : Made) → open_access x (h ++ begin_event x m ∷ []) ≡ Some (access_of m)
-  begun h m = open-mine laws x h (begin_event x m) (by_begin x m) ∙ begun_begin x m
+  begun h m = open-mine x h (begin_event x m) (by_begin x m) ∙ begun_begin x m
 
   end_may : (h : List Event) (m : Made) → IsOpenRight shape x (access_of m) → AnswersOne (λ b. held b h) m → MayFollow shape (h ++ begin_event x m ∷ []) (end_event x m)
   end_may h (Read b v) r a = record {
     right_side = record { in_shape = r.0; by_doer = r.1 };
     in_turn = begun h (Read b v);
-    permitted = inr (a ∙ ap (held b) (sym (before_last-mine laws x h (begin_event x (Read b v)) (by_begin x (Read b v)))));
+    permitted = inr (a ∙ ap (held b) (sym (before_last-mine x h (begin_event x (Read b v)) (by_begin x (Read b v)))));
   }
   end_may h (Write b v) r a = record { right_side = record { in_shape = r.0; by_doer = r.1 }; in_turn = (v, begun h (Write b v)); permitted = tt }
 
   held_begin : (h : List Event) (m : Made) → IsLawful shape h → ((y : Side) → open_access y h ≡ None) → (b : Bit) → held b (h ++ begin_event x m ∷ []) ≡ held b h
   held_begin h m lawful idle b =
-      laws.held_changes shape b h (begin_event x m) lawful ∙
+      held_changes shape b h (begin_event x m) lawful ∙
       elim (is_by (writer b) (begin_event x m)) as (λ t. (if t then unwrap_or (open_write b h) (held b h) else held b h) ≡ held b h) [
         | true ↦ ap (λ o. unwrap_or (value_written b o) (held b h)) (idle (writer b))
         | false ↦ refl
@@ -195,7 +178,7 @@ module _ (laws : LawsBelow) (shape : Shape) (x : Side) where
       → (b : Bit) → held b ((h ++ begin_event x m ∷ []) ++ end_event x m ∷ []) ≡ wrote (λ c. held c h) m b
   held_end h m lawful r still b =
       let h1 : List Event = h ++ begin_event x m ∷ [] in
-      laws.held_changes shape b h1 (end_event x m) lawful ∙
+      held_changes shape b h1 (end_event x m) lawful ∙
       ap (λ t. if t then unwrap_or (open_write b h1) (held b h1) else held b h1) (side_of_end m b) ∙
       by_case (same_side (writer b) x)
       (λ mine. ap (λ t. if t then unwrap_or (open_write b h1) (held b h1) else held b h1) mine ∙
@@ -211,16 +194,16 @@ module _ (laws : LawsBelow) (shape : Shape) (x : Side) where
     pub theirs : subhistory (other x) (h ++ events_of x made) ≡ subhistory (other x) h
 
   theirs_one : (h : List Event) (m : Made) → subhistory (other x) ((h ++ begin_event x m ∷ []) ++ end_event x m ∷ []) ≡ subhistory (other x) h
-  theirs_one h m = own-theirs laws (other x) (h ++ begin_event x m ∷ []) (end_event x m) (not_end x m) ∙ own-theirs laws (other x) h (begin_event x m) (not_begin x m)
+  theirs_one h m = own-theirs (other x) (h ++ begin_event x m ∷ []) (end_event x m) (not_end x m) ∙ own-theirs (other x) h (begin_event x m) (not_begin x m)
 
   mine_one : (h : List Event) (m : Made) → subhistory x ((h ++ begin_event x m ∷ []) ++ end_event x m ∷ []) ≡ (subhistory x h ++ begin_event x m ∷ []) ++ end_event x m ∷ []
-  mine_one h m = own-mine laws x (h ++ begin_event x m ∷ []) (end_event x m) (by_end x m) ∙ ap (λ (l : List Event). l ++ end_event x m ∷ []) (own-mine laws x h (begin_event x m) (by_begin x m))
+  mine_one h m = own-mine x (h ++ begin_event x m ∷ []) (end_event x m) (by_end x m) ∙ ap (λ (l : List Event). l ++ end_event x m ∷ []) (own-mine x h (begin_event x m) (by_begin x m))
 
   idle_one : (h : List Event) (m : Made) → ((y : Side) → open_access y h ≡ None) → (y : Side) → open_access y ((h ++ begin_event x m ∷ []) ++ end_event x m ∷ []) ≡ None
   idle_one h m idle y = ⊎_elim
-      (λ (same : y ≡ x). ap (λ (z : Side). open_access z ((h ++ begin_event x m ∷ []) ++ end_event x m ∷ [])) same ∙ (open-mine laws x (h ++ begin_event x m ∷ []) (end_event x m) (by_end x m) ∙ begun_end x m))
-      (λ (far : y ≡ other x). ap (λ (z : Side). open_access z ((h ++ begin_event x m ∷ []) ++ end_event x m ∷ [])) far ∙ (open-theirs laws (other x) (h ++ begin_event x m ∷ []) (end_event x m) (not_end x m)
-      ∙ (open-theirs laws (other x) h (begin_event x m) (not_begin x m) ∙ idle (other x))))
+      (λ (same : y ≡ x). ap (λ (z : Side). open_access z ((h ++ begin_event x m ∷ []) ++ end_event x m ∷ [])) same ∙ (open-mine x (h ++ begin_event x m ∷ []) (end_event x m) (by_end x m) ∙ begun_end x m))
+      (λ (far : y ≡ other x). ap (λ (z : Side). open_access z ((h ++ begin_event x m ∷ []) ++ end_event x m ∷ [])) far ∙ (open-theirs (other x) (h ++ begin_event x m ∷ []) (end_event x m) (not_end x m)
+      ∙ (open-theirs (other x) h (begin_event x m) (not_begin x m) ∙ idle (other x))))
       (either_side x y)
 
   pub block : (made : List Made) (h : List Event) → QuietRing shape h → AllRight shape x made → Answers (λ b. held b h) made → Follows shape x (subhistory x h ++ events_of x made) → Blocked h made
@@ -242,9 +225,9 @@ module _ (laws : LawsBelow) (shape : Shape) (x : Side) where
       let f1 : Follows shape x ((list ++ e1 ∷ []) ++ e2 ∷ []) = follows_shorter shape x ((list ++ e1 ∷ []) ++ e2 ∷ []) (events_of x made) f2 in
       let f0 : Follows shape x (list ++ e1 ∷ []) = follows_shorter shape x (list ++ e1 ∷ []) (e2 ∷ []) f1 in
       let may1 : MayFollow shape h e1 = begin_may h m (q.idle x) r.0 in
-      let ring1 : IsRing shape h1 = ring_more laws shape x h e1 (begin_side x m) q.ring may1 f0 in
+      let ring1 : IsRing shape h1 = ring_more shape x h e1 (begin_side x m) q.ring may1 f0 in
       let may2 : MayFollow shape h1 e2 = end_may h m r.0 a.0 in
-      let ring2 : IsRing shape h2 = ring_more laws shape x h1 e2 (end_side x m) ring1 may2 (subst (λ (l : List Event). Follows shape x (l ++ e2 ∷ [])) (sym (own-mine laws x h e1 (by_begin x m))) f1) in
+      let ring2 : IsRing shape h2 = ring_more shape x h1 e2 (end_side x m) ring1 may2 (subst (λ (l : List Event). Follows shape x (l ++ e2 ∷ [])) (sym (own-mine x h e1 (by_begin x m))) f1) in
       let bits : ((b : Bit) → held b h2 ≡ wrote (λ c. held c h) m b) = held_end h m ring1.run.lawful r.0 (held_begin h m q.ring.run.lawful q.idle) in
       let quiet : QuietRing shape h2 = record { ring = ring2; idle = idle_one h m q.idle } in
       let rest : Blocked h2 made = block made h2 quiet r.1 (answers_same made (wrote (λ c. held c h) m) (λ b. held b h2) (λ b. sym (bits b)) a.1)

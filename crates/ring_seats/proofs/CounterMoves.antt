@@ -25,13 +25,14 @@ use Rattle.ring_seats.specs.declared.views.View.{View}
 use Rattle.ring_seats.specs.Words as bits
 use Rattle.ring_seats.specs.Programs.{Follows, IsRing}
 use Rattle.ring_seats.specs.Rule.{joint, may_step, list_of, SeatKnows, SeatsKnow}
-use Rattle.ring_seats.proofs.Below.{LawsBelow}
 use Rattle.ring_seats.specs.Counters.{count_place, their_place, cell_place, words_of, first_counts, value_left, unary_over, IsLastCount, IsLastItem, ShowsWords, KeptWords, and_events, AddedAll, TellsNothing, IsBelow}
 use Rattle.ring_seats.proofs.Histories.{either_side}
 use Rattle.ring_seats.proofs.Rights.{AllRight, scan_right, unary_right, word_write_right, reads_right}
 use Rattle.ring_seats.proofs.Moves.{set-same, ring_empty, first_seat, first_each, each_stays, no_load}
 use Rattle.ring_seats.proofs.Blocks.{wrote, Answers, Blocked, block}
 use Rattle.ring_seats.proofs.LastWrites.{Spares, spares_writes, spared, spared_bits, IsLast, stays_last, is_last_now, Lowest, count_shows, item_shows, held_left}
+use Rattle.ring_core.proofs.LawLemmas.{counts_are_written_numbers}
+use Rattle.register_core.proofs.Counts.{row_writer}
 
 -- ---- the seats
 
@@ -51,8 +52,8 @@ module _ (x : Side) (es : List Event) (v w : View) (is : w ≡ and_events x es v
   pub list_more : list_of x w ≡ list_of x v ++ es
   list_more = ap (list_of x) is ∙ list_of-more x es v
 
-module _ (laws : LawsBelow) (shape : Shape) where
-  seats_more : (x : Side) (made : List Made) (h known : List Event) (owner : Side → ℕ) (views : List View) (id : ℕ) (v : View) → Blocked laws shape x h made
+module _ (shape : Shape) where
+  seats_more : (x : Side) (made : List Made) (h known : List Event) (owner : Side → ℕ) (views : List View) (id : ℕ) (v : View) → Blocked shape x h made
       → get_elem? views id ≡ some v → may_step x v ≡ true → may_step (other x) v ≡ false → SeatsKnow h known owner views
       → SeatsKnow (h ++ events_of x made) known owner (set views id (and_events x (events_of x made) v))
   seats_more x made h known owner views id v blocked there mine not_theirs all seat u at y may =
@@ -82,7 +83,7 @@ module _ (laws : LawsBelow) (shape : Shape) where
     pub right : AllRight shape x made
     pub answers : Answers (λ b. held b h) made
     pub follow : Follows shape x (list ++ events_of x made)
-    pub shows : Blocked laws shape x h made → ShowsWords shape (set words place new) (h ++ events_of x made)
+    pub shows : Blocked shape x h made → ShowsWords shape (set words place new) (h ++ events_of x made)
 
   -- a step of one end, at one word
   moves : (x : Side) (place : ℕ) (made : ℕ → List Made) (tells : ℕ → Type 0) (f got : ℕ → ℕ) (slots id : ℕ) (me : Me (Unit {0}) View)
@@ -98,7 +99,7 @@ module _ (laws : LawsBelow) (shape : Shape) where
       let w : View = and_events x es me.0 in
       let fits : SeatKnows h k.known k.owner id me.0 x = k.seats id me.0 at x mine in
       let g : IsGoodBlock x (list_of x me.0) h s.words place (f n) acts (tells (got n)) = good h s.words k.ring fits.list k.shows k.wide in
-      let blocked : Blocked laws shape x h acts = block laws shape x acts h (record { ring = k.ring; idle = k.shows.idle }) g.right g.answers (subst (λ (l : List Event). Follows shape x (l ++ es)) fits.list g.follow) in
+      let blocked : Blocked shape x h acts = block shape x acts h (record { ring = k.ring; idle = k.shows.idle }) g.right g.answers (subst (λ (l : List Event). Follows shape x (l ++ es)) fits.list g.follow) in
       let begins : IsPrefix k.known (h ++ es) = begins_more h k.known es k.begins in (
         w,
         keeps,
@@ -129,7 +130,7 @@ module _ (laws : LawsBelow) (shape : Shape) where
 
   -- ---- what the words show after a step
 
-  module _ (x : Side) (made : List Made) (h : List Event) (blocked : Blocked laws shape x h made) where
+  module _ (x : Side) (made : List Made) (h : List Event) (blocked : Blocked shape x h made) where
     -- the last writes of a row that the step spares stay
     stays : (y : Side) (row : ℕ → Bit) (by : List Event → List Made) (v : ℕ) → Spares row made → IsLast y row by (subhistory y h) v → IsLast y row by (subhistory y (h ++ events_of x made)) v
     stays y row by v s is = ⊎_elim
@@ -145,7 +146,7 @@ module _ (laws : LawsBelow) (shape : Shape) where
   SparesAll made = (row : ℕ → Bit) → Spares row made
 
   -- after reads the words stay
-  loaded : (x : Side) (made : List Made) (h : List Event) (words : List ℕ) (place : ℕ) → SparesAll made → ShowsWords shape words h → Blocked laws shape x h made
+  loaded : (x : Side) (made : List Made) (h : List Event) (words : List ℕ) (place : ℕ) → SparesAll made → ShowsWords shape words h → Blocked shape x h made
       → ShowsWords shape (set words place (slice_index words place)) (h ++ events_of x made)
   loaded x made h words place s shows blocked = subst (λ (l : List ℕ). ShowsWords shape l (h ++ events_of x made)) (sym (set-same words place)) (record {
     idle = blocked.quiet.idle;
@@ -157,7 +158,7 @@ module _ (laws : LawsBelow) (shape : Shape) where
   })
 
   -- what a store of a word does to another one, whose row it spares
-  module _ (x : Side) (made : List Made) (h : List Event) (words : List ℕ) (place new : ℕ) (shows : ShowsWords shape words h) (blocked : Blocked laws shape x h made) where
+  module _ (x : Side) (made : List Made) (h : List Event) (words : List ℕ) (place new : ℕ) (shows : ShowsWords shape words h) (blocked : Blocked shape x h made) where
     left_word : (other : ℕ) → other ≢ place → slice_index (set words place new) other ≡ slice_index words other
     left_word other ne = get_or-set_other words place other new 0 ne
 
@@ -223,7 +224,7 @@ module _ (laws : LawsBelow) (shape : Shape) where
   -- ---- after a store of a count, of a cell, and of the close word
 
   counted : (x : Side) (v : ℕ) (old : ℕ → Bool) (h : List Event) (words : List ℕ) → v < modulus_of shape → ((i : ℕ) → value_left (subhistory x h) (row_bit x i) ≡ old i) → length words ≡ words_of shape → ShowsWords shape words h
-      → Blocked laws shape x h (writes_in (row_bit x) (unary_phrase old v)) → ShowsWords shape (set words (count_place x) v) (h ++ events_of x (writes_in (row_bit x) (unary_phrase old v)))
+      → Blocked shape x h (writes_in (row_bit x) (unary_phrase old v)) → ShowsWords shape (set words (count_place x) v) (h ++ events_of x (writes_in (row_bit x) (unary_phrase old v)))
   counted x v old h words lt left wide shows blocked = record {
     idle = blocked.quiet.idle;
     count = λ y. ⊎_elim
@@ -264,7 +265,7 @@ module _ (laws : LawsBelow) (shape : Shape) where
           (inl (is_last_now x (row_bit x) (λ before. unary_over x before v) (subhistory x h)))
 
   stored : (j item : ℕ) (h : List Event) (words : List ℕ) → j < capacity_of shape → item < 2 ^ width_of shape → length words ≡ words_of shape → ShowsWords shape words h
-      → Blocked laws shape P h (word_write (width_of shape) j item) → ShowsWords shape (set words (cell_place j) item) (h ++ events_of P (word_write (width_of shape) j item))
+      → Blocked shape P h (word_write (width_of shape) j item) → ShowsWords shape (set words (cell_place j) item) (h ++ events_of P (word_write (width_of shape) j item))
   stored j item h words lt fits wide shows blocked = record {
     idle = blocked.quiet.idle;
     count = λ y. other_count P acts h words (cell_place j) item shows blocked y (λ (e : count_place y ≡ cell_place j). omega (arith, e, (small_place y).1)) (spares_writes (row_bit y) (Cell j) (row_cell y j) ws);
@@ -299,7 +300,7 @@ module _ (laws : LawsBelow) (shape : Shape) where
       mine = subst (λ (z : List Event × ℕ). IsLastItem (width_of shape) j z.0 z.1) (λ i. (sym blocked.mine i, sym now i))
           (inl (is_last_now P (Cell j) (λ before. word_write (width_of shape) j item) (subhistory P h)))
 
-  closed : (h : List Event) (words : List ℕ) → length words ≡ words_of shape → ShowsWords shape words h → Blocked laws shape P h (Write X true ∷ []) → ShowsWords shape (set words 0 1) (h ++ events_of P (Write X true ∷ []))
+  closed : (h : List Event) (words : List ℕ) → length words ≡ words_of shape → ShowsWords shape words h → Blocked shape P h (Write X true ∷ []) → ShowsWords shape (set words 0 1) (h ++ events_of P (Write X true ∷ []))
   closed h words wide shows blocked = record {
     idle = blocked.quiet.idle;
     count = λ y. other_count P (Write X true ∷ []) h words 0 1 shows blocked y (λ (e : count_place y ≡ 0). omega (arith, e, (small_place y).0)) (row_close y, tt);
@@ -346,19 +347,15 @@ writes_answer : (row : ℕ → Bit) (ws : List RowWrite) (bits : Bit → Bool) �
 writes_answer row [] bits = tt
 writes_answer row (w ∷ ws) bits = (tt, writes_answer row ws (wrote bits (Write (row w.bit) w.value)))
 
-row_writer : (x : Side) (i : ℕ) → writer (row_bit x i) ≡ x
-row_writer P i = refl
-row_writer C i = refl
-
 -- ---- the kinds of step of an end
 
-module _ (laws : LawsBelow) (shape : Shape) (x : Side) (slots id : ℕ) (me : Me (Unit {0}) View) (mine : may_step x me.0 ≡ true) (not_theirs : may_step (other x) me.0 ≡ false) where
+module _ (shape : Shape) (x : Side) (slots id : ℕ) (me : Me (Unit {0}) View) (mine : may_step x me.0 ≡ true) (not_theirs : may_step (other x) me.0 ≡ false) where
   -- a load: reads of what the bits hold
   loads : (place : ℕ) (made : ℕ → List Made) (tells : ℕ → Type 0)
       → ((h : List Event) (words : List ℕ) → IsRing shape h → ShowsWords shape words h → Holds (λ b. held b h) (made (slice_index words place))
       × AllRight shape x (made (slice_index words place)) × Follows shape x (list_of x me.0 ++ events_of x (made (slice_index words place))) × tells (slice_index words place))
       → Allows (KeptWords shape) slots id me place (λ n. n) (AddedAll shape x made tells me)
-  loads place made tells good = moves laws shape x place made tells (λ n. n) (λ n. n) slots id me mine not_theirs
+  loads place made tells good = moves shape x place made tells (λ n. n) (λ n. n) slots id me mine not_theirs
       (λ h words ring list shows wide.
       let n : ℕ = slice_index words place in
       let g = good h words ring shows in
@@ -367,7 +364,7 @@ module _ (laws : LawsBelow) (shape : Shape) (x : Side) (slots id : ℕ) (me : Me
         answers = holds_answers (λ b. held b h) (made n) g.0;
         follow = g.2;
         tells = g.3;
-        shows = loaded laws shape x (made n) h words place (holds_spares (λ b. held b h) (made n) g.0) shows;
+        shows = loaded shape x (made n) h words place (holds_spares (λ b. held b h) (made n) g.0) shows;
       })
 
   -- a load of the other side's count
@@ -378,14 +375,14 @@ module _ (laws : LawsBelow) (shape : Shape) (x : Side) (slots id : ℕ) (me : Me
       let y : Side = other x in
       let c : ℕ = slice_index words (count_place y) in
       let lt : c < modulus_of shape = shows.small y in
-      let low : Lowest (λ i. value_left (subhistory y h) (row_bit y i)) c = count_shows laws.numbers shape y (subhistory y h) c lt (shows.count y) in
-      let held_is : ((i : ℕ) → held (row_bit y i) h ≡ value_left (subhistory y h) (row_bit y i)) = (λ i. held_left laws shape (row_bit y i) h ring.run.lawful (shows.idle (writer (row_bit y i))) ∙ ap (λ (z : Side). value_left (subhistory z h) (row_bit y i)) (row_writer y i)) in
+      let low : Lowest (λ i. value_left (subhistory y h) (row_bit y i)) c = count_shows shape y (subhistory y h) c lt (shows.count y) in
+      let held_is : ((i : ℕ) → held (row_bit y i) h ≡ value_left (subhistory y h) (row_bit y i)) = (λ i. held_left shape (row_bit y i) h ring.run.lawful (shows.idle (writer (row_bit y i))) ∙ ap (λ (z : Side). value_left (subhistory z h) (row_bit y i)) (row_writer y i)) in
       (scan_holds (λ b. held b h) (row_bit y) c (record { set = held_is c ∙ low.set; clear = λ i below. held_is i ∙ low.clear i below }), scan_right shape x c lt, follow c lt, lt))
 
   -- a store of the side's own count
   pub stores_count : (new : ℕ) → new < modulus_of shape → Follows shape x (list_of x me.0 ++ events_of x (unary_over x (list_of x me.0) new))
       → Allows (KeptWords shape) slots id me (count_place x) (λ _. new) (λ _. AddedAll shape x (λ _. unary_over x (list_of x me.0) new) TellsNothing me new)
-  stores_count new lt follow = moves laws shape x (count_place x) (λ _. unary_over x (list_of x me.0) new) TellsNothing (λ _. new) (λ _. new) slots id me mine not_theirs
+  stores_count new lt follow = moves shape x (count_place x) (λ _. unary_over x (list_of x me.0) new) TellsNothing (λ _. new) (λ _. new) slots id me mine not_theirs
       (λ h words ring list shows wide.
       let old : ℕ → Bool = λ i. value_left (list_of x me.0) (row_bit x i) in
       record {
@@ -393,43 +390,43 @@ module _ (laws : LawsBelow) (shape : Shape) (x : Side) (slots id : ℕ) (me : Me
         answers = writes_answer (row_bit x) (unary_phrase old new) (λ b. held b h);
         follow = follow;
         tells = tt;
-        shows = counted laws shape x new old h words lt (λ i. ap (λ (l : List Event). value_left l (row_bit x i)) (sym list)) wide shows;
+        shows = counted shape x new old h words lt (λ i. ap (λ (l : List Event). value_left l (row_bit x i)) (sym list)) wide shows;
       })
 
-module _ (laws : LawsBelow) (shape : Shape) (slots id : ℕ) (me : Me (Unit {0}) View) where
+module _ (shape : Shape) (slots id : ℕ) (me : Me (Unit {0}) View) where
   -- a store of a cell
   pub stores_cell : me.0.puts ≡ true → me.0.takes ≡ false → (j item : ℕ) → j < capacity_of shape → item < 2 ^ width_of shape → Follows shape P (me.0.put ++ events_of P (word_write (width_of shape) j item))
       → Allows (KeptWords shape) slots id me (cell_place j) (λ _. item) (λ _. AddedAll shape P (λ _. word_write (width_of shape) j item) TellsNothing me item)
-  stores_cell mine not_theirs j item lt fits follow = moves laws shape P (cell_place j) (λ _. word_write (width_of shape) j item) TellsNothing (λ _. item) (λ _. item) slots id me mine not_theirs
+  stores_cell mine not_theirs j item lt fits follow = moves shape P (cell_place j) (λ _. word_write (width_of shape) j item) TellsNothing (λ _. item) (λ _. item) slots id me mine not_theirs
       (λ h words ring list shows wide. record {
         right = word_write_right shape j item lt;
         answers = writes_answer (Cell j) (digit_writes item (width_of shape)) (λ b. held b h);
         follow = follow;
         tells = tt;
-        shows = stored laws shape j item h words lt fits wide shows;
+        shows = stored shape j item h words lt fits wide shows;
       })
 
   -- a store of the close word
   pub stores_close : me.0.puts ≡ true → me.0.takes ≡ false → Follows shape P (me.0.put ++ events_of P (Write X true ∷ []))
       → Allows (KeptWords shape) slots id me 0 (λ _. 1) (λ _. AddedAll shape P (λ _. Write X true ∷ []) TellsNothing me 1)
-  stores_close mine not_theirs follow = moves laws shape P 0 (λ _. Write X true ∷ []) TellsNothing (λ _. 1) (λ _. 1) slots id me mine not_theirs
+  stores_close mine not_theirs follow = moves shape P 0 (λ _. Write X true ∷ []) TellsNothing (λ _. 1) (λ _. 1) slots id me mine not_theirs
       (λ h words ring list shows wide. record {
         right = ((refl, refl), tt);
         answers = (tt, tt);
         follow = follow;
         tells = tt;
-        shows = closed laws shape h words wide shows;
+        shows = closed shape h words wide shows;
       })
 
   -- a load of a cell
   pub loads_cell : me.0.takes ≡ true → me.0.puts ≡ false → (j : ℕ) → j < capacity_of shape → ((item : ℕ) → item < 2 ^ width_of shape → Follows shape C (me.0.taken ++ events_of C (word_read (width_of shape) j item)))
       → Allows (KeptWords shape) slots id me (cell_place j) (λ n. n) (AddedAll shape C (word_read (width_of shape) j) (IsBelow (2 ^ width_of shape)) me)
-  loads_cell mine not_theirs j lt follow = loads laws shape C slots id me mine not_theirs (cell_place j) (word_read (width_of shape) j) (IsBelow (2 ^ width_of shape))
+  loads_cell mine not_theirs j lt follow = loads shape C slots id me mine not_theirs (cell_place j) (word_read (width_of shape) j) (IsBelow (2 ^ width_of shape))
       (λ h words ring shows.
       let item : ℕ = slice_index words (cell_place j) in
       let fits : item < 2 ^ width_of shape = shows.fits j lt in (
         digits_hold (λ b. held b h) (width_of shape) j item (width_of shape) (omega arith)
-            (λ i below. held_left laws shape (Cell j i) h ring.run.lawful (shows.idle P) ∙ item_shows (width_of shape) j (subhistory P h) item (shows.cell j lt) i below),
+            (λ i below. held_left shape (Cell j i) h ring.run.lawful (shows.idle P) ∙ item_shows (width_of shape) j (subhistory P h) item (shows.cell j lt) i below),
         reads_right shape j item (width_of shape) lt (omega arith),
         follow item fits,
         fits,
@@ -438,7 +435,7 @@ module _ (laws : LawsBelow) (shape : Shape) (slots id : ℕ) (me : Me (Unit {0})
   -- a load of the close word
   pub loads_close : me.0.takes ≡ true → me.0.puts ≡ false → ((v : Bool) → Follows shape C (me.0.taken ++ events_of C (Read X v ∷ [])))
       → Allows (KeptWords shape) slots id me 0 (λ n. n) (AddedAll shape C (λ n. Read X (n == 1) ∷ []) TellsNothing me)
-  loads_close mine not_theirs follow = loads laws shape C slots id me mine not_theirs 0 (λ n. Read X (n == 1) ∷ []) TellsNothing
+  loads_close mine not_theirs follow = loads shape C slots id me mine not_theirs 0 (λ n. Read X (n == 1) ∷ []) TellsNothing
       (λ h words ring shows. ((told (held X h) (slice_index words 0) shows.close, tt), ((refl, refl), tt), follow _, tt))
     where
       told : (v : Bool) (n : ℕ) → n ≡ bits.value_word v → (n == 1) ≡ v
@@ -472,12 +469,12 @@ shows_first shape = record {
     first_none P i = refl
     first_none C i = refl
 
-pub opens : LawsBelow → (shape : Shape) → KeptWords shape (opening (first_counts shape) [] (joint [] [] [] []))
-opens laws shape = record {
+pub opens : (shape : Shape) → KeptWords shape (opening (first_counts shape) [] (joint [] [] [] []))
+opens shape = record {
   history = [];
   known = [];
   owner = λ _. 0;
-  ring = ring_empty laws shape;
+  ring = ring_empty shape;
   wide = length-replicate (words_of shape) 0;
   shows = shows_first shape;
   begins = ([], refl);

@@ -19,12 +19,13 @@ use Rattle.ring_core.specs.Counts.{Count, first_count, number_past, count_bits, 
 use Rattle.ring_core.specs.Puts.{Put, Stored, Full, Puts, stored_after, stored_count, words_phrase, put_phrase, put_phrases, close_phrase, put_program, IsPut, IsBatch}
 use Rattle.ring_core.specs.ProducerCalls.{count_of, and_put, and_close}
 use Rattle.ring_core.specs.OneCallMore.{HasPutMore}
-use Rattle.ring_seats.proofs.Below.{LawsBelow}
 use Rattle.ring_seats.specs.Programs.{Follows}
 use Rattle.ring_seats.specs.Calls.{HasPuts}
 use Rattle.ring_seats.specs.Counters.{value_left, unary_over}
 use Rattle.ring_seats.proofs.Blocks.{after, after-append, left_by-made, events_of-append}
 use Rattle.ring_seats.proofs.LastWrites.{Spares, spares-append, spares_writes, spared_bits, row_written, row_tells}
+use Rattle.ring_core.proofs.LawLemmas.{programs_by_one_call_closes, programs_by_one_call_puts}
+pub use Rattle.ring_core.proofs.CountRow.{past_is}
 
 -- ---- lists of items
 
@@ -48,10 +49,6 @@ pub fit_at : (shape : Shape) (xs : List ℕ) (i : ℕ) → AllFit shape xs → i
 fit_at shape [] i fit lt = absurd (omega (arith, lt))
 fit_at shape (x ∷ xs) zero fit lt = fit.0
 fit_at shape (x ∷ xs) (suc i) fit lt = fit_at shape xs i fit.1 (omega (arith, lt))
-
-pub past_is : (n : ℕ) (items : List ℕ) → number_past n items ≡ n + length items
-past_is n [] = omega arith
-past_is n (x ∷ items) = omega (arith, past_is (suc n) items)
 
 -- ---- the words of several items
 
@@ -183,7 +180,7 @@ module _ (shape : Shape) where
 
 -- ---- the list of an open putter
 
-module _ (laws : LawsBelow) (shape : Shape) (list : List Event) (calls : Puts) (has : HasPuts shape list calls) (opened : calls.closes ≡ false) where
+module _ (shape : Shape) (list : List Event) (calls : Puts) (has : HasPuts shape list calls) (opened : calls.closes ≡ false) where
   abbrev c_of : Count
   c_of = count_of shape calls
 
@@ -191,7 +188,7 @@ module _ (laws : LawsBelow) (shape : Shape) (list : List Event) (calls : Puts) (
   prog = put_program shape calls
 
   more : (x : Put) → IsPut shape c_of.number x → HasPutMore shape calls x
-  more x is = laws.one_put shape calls x has.are opened is
+  more x is = programs_by_one_call_puts shape calls x has.are opened is
 
   -- what was made goes on to a put
   goes : (x : Put) (a rest : List Made) → IsPut shape c_of.number x → put_phrase shape c_of x ≡ a ++ rest → Follows shape P (list ++ events_of P a)
@@ -253,7 +250,7 @@ module _ (laws : LawsBelow) (shape : Shape) (list : List Event) (calls : Puts) (
 
   -- the close
   closed_list : list ++ events_of P (Write X true ∷ []) ≡ events_of P (put_program shape (and_close calls))
-  closed_list = makes P list prog has.list_is (Write X true ∷ []) (put_program shape (and_close calls)) (list ++ events_of P (Write X true ∷ [])) (laws.one_close shape calls opened) refl
+  closed_list = makes P list prog has.list_is (Write X true ∷ []) (put_program shape (and_close calls)) (list ++ events_of P (Write X true ∷ [])) (programs_by_one_call_closes shape calls opened) refl
 
   pub to_close : Follows shape P (list ++ events_of P (Write X true ∷ []))
   to_close = (and_close calls, has.are, ([], append-nil (list ++ events_of P (Write X true ∷ [])) ∙ closed_list))

@@ -9,7 +9,6 @@ use Rattle.bits_core.specs.Shape.{capacity_of, width_of, AllFit}
 use Rattle.bits_core.specs.Made.{Made, events_of}
 use Rattle.register_core.specs.Word.{word_write, word_read}
 use Rattle.ring_core.specs.Puts.{words_phrase}
-use Rattle.ring_seats.proofs.Below.{LawsBelow}
 use Rattle.ring_seats.specs.Ring.{Ring, RingEnd}
 use Rattle.ring_seats.specs.Programs.{Follows}
 use Rattle.ring_seats.specs.Steppers.{IsSameEnd, StandsAs}
@@ -19,6 +18,7 @@ use Rattle.ring_seats.proofs.Blocks.{follows_shorter, events_of-append}
 use Rattle.ring_seats.proofs.CounterPuts.{words_more, words_begin}
 use Rattle.ring_core.specs.declared.replies.TakeReply.TheVariants as reply
 use Rattle.ring_core.specs.Takes.{words_read}
+use Rattle.ring_core.proofs.LawLemmas.{words_by_one_more_fit, words_by_one_more_go_on, words_by_one_more_words}
 
 pub same_shape : (a b : RingEnd) → IsSameEnd a b → b.ring.shape ≡ a.ring.shape
 same_shape a b s = ap (λ (r : Ring). r.shape) s.ring
@@ -69,7 +69,7 @@ next_place cell i place next size is e = e ∙ (ap (λ (n : ℕ). suc n % size) 
     more = omega arith
 
 -- the loads of several items, one cell behind the other
-module _ (laws : LawsBelow) (a : RingEnd) (cell : ℕ) (side : a.side ≡ C) where
+module _ (a : RingEnd) (cell : ℕ) (side : a.side ≡ C) where
   module _ (b : RingEnd) (place : ℕ) (items : List ℕ) (g : GrowsBy a b (words_read a.ring.shape cell items)) (is : place ≡ (cell + length items) % capacity_of a.ring.shape) where
     loads_so_far : b.list ≡ a.list ++ events_of C (words_read a.ring.shape cell items)
     loads_so_far = g.list ∙ ap (λ (s : Side). a.list ++ events_of s (words_read a.ring.shape cell items)) side
@@ -80,7 +80,7 @@ module _ (laws : LawsBelow) (a : RingEnd) (cell : ℕ) (side : a.side ≡ C) whe
         let word : List Made = word_read (width_of a.ring.shape) ((cell + length items) % capacity_of a.ring.shape) item in
         (λ j. loads_so_far j ++ events_of C (word_read (width_of a.ring.shape) (is j) item)) ∙
         (append_assoc a.list (events_of C before) (events_of C word) ∙
-        ap (λ (l : List Event). a.list ++ l) (sym (events_of-append C before word) ∙ ap (events_of C) (sym (laws.one_word a.ring.shape cell items item))))
+        ap (λ (l : List Event). a.list ++ l) (sym (events_of-append C before word) ∙ ap (events_of C) (sym (words_by_one_more_words a.ring.shape cell items item))))
 
     -- the next of so many loads, whatever those behind it may load
     pub next_load :
@@ -91,7 +91,7 @@ module _ (laws : LawsBelow) (a : RingEnd) (cell : ℕ) (side : a.side ≡ C) whe
         let shape : Shape = a.ring.shape in
         let some : List ℕ = items ++ item ∷ [] in
         let last : item < 2 ^ width_of a.ring.shape = subst (λ (s : Shape). item < 2 ^ width_of s) (same_shape a b g.same) small in
-        let (all, long, fits, (rest, begins)) = laws.words_on shape cell wanted some (omega (arith, lt, length-append items (item ∷ []))) (laws.one_fits shape items item fit last) in
+        let (all, long, fits, (rest, begins)) = words_by_one_more_go_on shape cell wanted some (omega (arith, lt, length-append items (item ∷ []))) (words_by_one_more_fit shape items item fit last) in
         let more : List Event = events_of C rest in
         let whole : a.list ++ events_of C (words_read shape cell all) ≡ (a.list ++ events_of C (words_read shape cell some)) ++ more =
         ap (λ (l : List Made). a.list ++ events_of C l) (sym begins) ∙

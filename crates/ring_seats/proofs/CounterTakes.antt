@@ -20,13 +20,13 @@ use Rattle.ring_core.specs.Items.{taken_of}
 use Rattle.ring_core.specs.ConsumerCalls.{count_taken, and_take, and_end, items_reply, take_reply_to, IsTakeOf, Finding, Once, Twice, finding_phrase, Finds}
 use Rattle.ring_core.specs.OneCallMore.{HasOneTakeMore, HasEndMore}
 use Rattle.ring_core.proofs.Machines.TakeCalls.{take_of, take_of-is, take_of-phrase}
-use Rattle.ring_seats.proofs.Below.{LawsBelow}
 use Rattle.ring_seats.specs.Programs.{Follows}
 use Rattle.ring_seats.specs.Calls.{HasTakes}
 use Rattle.ring_seats.specs.Counters.{value_left, unary_over}
 use Rattle.ring_seats.proofs.Blocks.{after, left_by-made}
 use Rattle.ring_seats.proofs.LastWrites.{Spares, spares-append, row_written, row_tells}
 use Rattle.ring_seats.proofs.CounterPuts.{RowIs, begins, counted, makes, scan_spares, first_row, row_spared, row_both}
+use Rattle.ring_core.proofs.LawLemmas.{programs_by_one_call_ends, programs_by_one_call_takes}
 
 -- the items taken behind a take that found items
 pub take_of-takes : (k : ℕ) (look : Finding) (items : List ℕ) → taken_after k (take_of look items) ≡ number_past k items
@@ -109,7 +109,7 @@ shows_or_not shape c k = go (dec_lt 0 (distance (modulus_of shape) c k)) (dec_lt
 
 -- ---- the list of a taker that was not told that the ring is closed
 
-module _ (laws : LawsBelow) (shape : Shape) (list : List Event) (calls : Takes) (has : HasTakes shape list calls) (opened : calls.end ≡ Open) where
+module _ (shape : Shape) (list : List Event) (calls : Takes) (has : HasTakes shape list calls) (opened : calls.end ≡ Open) where
   abbrev c_of : Count
   c_of = count_taken shape calls
 
@@ -123,10 +123,10 @@ module _ (laws : LawsBelow) (shape : Shape) (list : List Event) (calls : Takes) 
   prog = take_program shape calls
 
   pub take_more : (x : Take) → IsTake shape (count_taken shape calls).number x → HasOneTakeMore shape calls x
-  take_more x is = laws.one_take shape calls x has.are opened is
+  take_more x is = programs_by_one_call_takes shape calls x has.are opened is
 
   end_more : (seen again : ℕ) → SeesNone shape k_of seen → SeesNone shape k_of again → HasEndMore shape calls seen again
-  end_more seen again none none' = laws.one_end shape calls seen again has.are opened none none'
+  end_more seen again none none' = programs_by_one_call_ends shape calls seen again has.are opened none none'
 
   -- what was made goes on to a take, or to the one that is told
   goes : (x : Take) (a rest : List Made) → IsTake shape k_of x → take_phrase shape c_of x ≡ a ++ rest → Follows shape C (list ++ events_of C a)

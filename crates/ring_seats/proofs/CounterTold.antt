@@ -21,6 +21,8 @@ use Rattle.ring_seats.specs.Laws.{PutsAreShown, TakesAreShown, WordsAreTold}
 use Rattle.ring_seats.proofs.CounterPuts.{RowIs, past_is, putter_row}
 use Rattle.ring_seats.proofs.CounterTakes.{taker_row}
 use Rattle.ring_seats.proofs.LastWrites.{Lowest, count_shows, item_shows}
+use Rattle.register_core.proofs.LawLemmas.{digits_tell_items}
+use Rattle.ring_core.proofs.LawLemmas.{counts_are_written_numbers}
 
 -- bits have one lowest that is set
 one_lowest : (bits : ℕ → Bool) (c d : ℕ) → Lowest bits c → Lowest bits d → c ≡ d
@@ -31,40 +33,40 @@ one_lowest bits c d a b = go (dec_lt c d) (dec_lt d c)
     go (no t) (yes lt) = absurd (true≢false (sym b.set ∙ a.clear d lt))
     go (no t) (no u) = omega (arith, t, u)
 
-module _ (numbers : CountsShowNumbers) (tell : DigitsTellItems) (shape : Shape) (words others : List ℕ) (h : List Event) (a : ShowsWords shape words h) (b : ShowsWords shape others h) where
+module _ (shape : Shape) (words others : List ℕ) (h : List Event) (a : ShowsWords shape words h) (b : ShowsWords shape others h) where
   count_told : (x : Side) → slice_index words (count_place x) ≡ slice_index others (count_place x)
   count_told x = one_lowest _ (slice_index words (count_place x)) (slice_index others (count_place x))
-      (count_shows numbers shape x (subhistory x h) (slice_index words (count_place x)) (a.small x) (a.count x))
-      (count_shows numbers shape x (subhistory x h) (slice_index others (count_place x)) (b.small x) (b.count x))
+      (count_shows shape x (subhistory x h) (slice_index words (count_place x)) (a.small x) (a.count x))
+      (count_shows shape x (subhistory x h) (slice_index others (count_place x)) (b.small x) (b.count x))
 
   cell_told : (j : ℕ) → j < capacity_of shape → slice_index words (cell_place j) ≡ slice_index others (cell_place j)
-  cell_told j lt = tell (width_of shape) (slice_index words (cell_place j)) (slice_index others (cell_place j)) (a.fits j lt) (b.fits j lt)
+  cell_told j lt = digits_tell_items (width_of shape) (slice_index words (cell_place j)) (slice_index others (cell_place j)) (a.fits j lt) (b.fits j lt)
       (λ i small. sym (item_shows (width_of shape) j (subhistory P h) (slice_index words (cell_place j)) (a.cell j lt) i small) ∙
       item_shows (width_of shape) j (subhistory P h) (slice_index others (cell_place j)) (b.cell j lt) i small)
 
-pub words-told : CountsShowNumbers → DigitsTellItems → WordsAreTold
-words-told numbers tell shape words others h a b zero lt = a.close ∙ sym b.close
-words-told numbers tell shape words others h a b (suc zero) lt = count_told numbers tell shape words others h a b P
-words-told numbers tell shape words others h a b (suc (suc zero)) lt = count_told numbers tell shape words others h a b C
-words-told numbers tell shape words others h a b (suc (suc (suc j))) lt =
+pub words-told : WordsAreTold
+words-told shape words others h a b zero lt = a.close ∙ sym b.close
+words-told shape words others h a b (suc zero) lt = count_told shape words others h a b P
+words-told shape words others h a b (suc (suc zero)) lt = count_told shape words others h a b C
+words-told shape words others h a b (suc (suc (suc j))) lt =
     let same : cell_place j ≡ suc (suc (suc j)) = omega arith in
-    subst (λ (n : ℕ). slice_index words n ≡ slice_index others n) same (cell_told numbers tell shape words others h a b j (omega (arith, lt)))
+    subst (λ (n : ℕ). slice_index words n ≡ slice_index others n) same (cell_told shape words others h a b j (omega (arith, lt)))
 
 -- ---- whole calls
 
 -- the lowest bit that is set after puts is that of the number of items stored
-after_puts : CountsShowNumbers → (shape : Shape) (puts : List Put) (c : Count) → IsCount shape c → IsCount shape (stored_count shape c puts)
-after_puts numbers shape [] c is = is
-after_puts numbers shape (Stored seen items ∷ puts) c is = after_puts numbers shape puts (stored_after shape c (Stored seen items)) ((numbers shape).1 c seen items)
-after_puts numbers shape (Full seen ∷ puts) c is = after_puts numbers shape puts (stored_after shape c (Full seen)) (record { set = is.set; clear = is.clear })
+after_puts : (shape : Shape) (puts : List Put) (c : Count) → IsCount shape c → IsCount shape (stored_count shape c puts)
+after_puts shape [] c is = is
+after_puts shape (Stored seen items ∷ puts) c is = after_puts shape puts (stored_after shape c (Stored seen items)) ((counts_are_written_numbers shape).1 c seen items)
+after_puts shape (Full seen ∷ puts) c is = after_puts shape puts (stored_after shape c (Full seen)) (record { set = is.set; clear = is.clear })
 
 -- and that after takes of the number of items taken
-after_takes : CountsShowNumbers → (shape : Shape) (takes : List Take) (c : Count) → IsCount shape c → IsCount shape (taken_count shape c takes)
-after_takes numbers shape [] c is = is
-after_takes numbers shape (Item seen items ∷ takes) c is = after_takes numbers shape takes (count_after shape c (Item seen items)) ((numbers shape).1 c seen items)
-after_takes numbers shape (ItemAfterClose seen again items ∷ takes) c is =
-    after_takes numbers shape takes (count_after shape c (ItemAfterClose seen again items)) ((numbers shape).1 c seen items)
-after_takes numbers shape (Empty seen ∷ takes) c is = after_takes numbers shape takes (count_after shape c (Empty seen)) (record { set = is.set; clear = is.clear })
+after_takes : (shape : Shape) (takes : List Take) (c : Count) → IsCount shape c → IsCount shape (taken_count shape c takes)
+after_takes shape [] c is = is
+after_takes shape (Item seen items ∷ takes) c is = after_takes shape takes (count_after shape c (Item seen items)) ((counts_are_written_numbers shape).1 c seen items)
+after_takes shape (ItemAfterClose seen again items ∷ takes) c is =
+    after_takes shape takes (count_after shape c (ItemAfterClose seen again items)) ((counts_are_written_numbers shape).1 c seen items)
+after_takes shape (Empty seen ∷ takes) c is = after_takes shape takes (count_after shape c (Empty seen)) (record { set = is.set; clear = is.clear })
 
 -- so many are stored, and taken
 stored_number : (shape : Shape) (puts : List Put) (c : Count) → (stored_count shape c puts).number ≡ c.number + length (all_put puts)
@@ -85,18 +87,18 @@ from_none : (n m : ℕ) → n ≡ 0 + m → n ≡ m
 from_none n m e = omega (arith, e)
 
 -- a count whose bits the list left is the word that shows them
-shown_count : CountsShowNumbers → (shape : Shape) (words : List ℕ) (h : List Event) → ShowsWords shape words h → (x : Side) (c : Count) → IsCount shape c → RowIs x (value_left (subhistory x h)) c.bits → slice_index words (count_place x) ≡ c.number % modulus_of shape
-shown_count numbers shape words h shows x c is row =
+shown_count : (shape : Shape) (words : List ℕ) (h : List Event) → ShowsWords shape words h → (x : Side) (c : Count) → IsCount shape c → RowIs x (value_left (subhistory x h)) c.bits → slice_index words (count_place x) ≡ c.number % modulus_of shape
+shown_count shape words h shows x c is row =
     one_lowest (λ i. value_left (subhistory x h) (row_bit x i)) (slice_index words (count_place x)) (c.number % modulus_of shape)
-    (count_shows numbers shape x (subhistory x h) (slice_index words (count_place x)) (shows.small x) (shows.count x))
+    (count_shows shape x (subhistory x h) (slice_index words (count_place x)) (shows.small x) (shows.count x))
     (record { set = row (c.number % modulus_of shape) ∙ is.set; clear = λ i lt. row i ∙ is.clear i lt })
 
-pub puts-shown : CountsShowNumbers → PutsAreShown
-puts-shown numbers shape words h calls shows has =
-    shown_count numbers shape words h shows P (count_of shape calls) (after_puts numbers shape calls.puts first_count (numbers shape).0) (putter_row shape (subhistory P h) calls has) ∙
+pub puts-shown : PutsAreShown
+puts-shown shape words h calls shows has =
+    shown_count shape words h shows P (count_of shape calls) (after_puts shape calls.puts first_count (counts_are_written_numbers shape).0) (putter_row shape (subhistory P h) calls has) ∙
     ap (λ (n : ℕ). n % modulus_of shape) (from_none (count_of shape calls).number (length (all_put calls.puts)) (stored_number shape calls.puts first_count))
 
-pub takes-shown : CountsShowNumbers → TakesAreShown
-takes-shown numbers shape words h calls shows has =
-    shown_count numbers shape words h shows C (takes.count_taken shape calls) (after_takes numbers shape calls.takes first_count (numbers shape).0) (taker_row shape (subhistory C h) calls has) ∙
+pub takes-shown : TakesAreShown
+takes-shown shape words h calls shows has =
+    shown_count shape words h shows C (takes.count_taken shape calls) (after_takes shape calls.takes first_count (counts_are_written_numbers shape).0) (taker_row shape (subhistory C h) calls has) ∙
     ap (λ (n : ℕ). n % modulus_of shape) (from_none (takes.count_taken shape calls).number (length (all_taken calls.takes)) (taken_number shape calls.takes first_count))

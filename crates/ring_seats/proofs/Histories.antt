@@ -20,27 +20,15 @@ use Rattle.bits_core.specs.Steps.{MayFollow, IsAnswer}
 use Rattle.bits_core.specs.Made.{subhistory}
 use Rattle.ring_seats.specs.Words.{value_word, word_shown, shown, answer_of}
 use Rattle.ring_seats.specs.Rule.{event}
-use Rattle.ring_seats.proofs.Below.{LawsBelow}
-
-pub by_case : {G : Type 0} → (b : Bool) → (b ≡ true → G) → (b ≡ false → G) → G
-by_case true if_true if_false = if_true refl
-by_case false if_true if_false = if_false refl
+use Rattle.bits_core.proofs.LawLemmas.{before_last_changes, held_changes, open_changes, open_write_changes, quiet_is_held, subhistory_changes}
+pub use Rattle.bits_core.proofs.Histories.{before_last-not as before_last-theirs}
+pub use Rattle.bits_core.proofs.IntervalLemmas.{same_bit-same}
+pub use Rattle.bits_core.proofs.OwnEvents.{by_case}
+pub use Rattle.bits_core.proofs.OwnOpen.{same_true as same_side-true}
+pub use Rattle.bits_core.proofs.Changes.{same_side-same}
+pub use Rattle.bits_core.proofs.MarkLemmas.{by_other as same_side-other}
 
 -- ---- sides
-
-pub same_side-same : (x : Side) → same_side x x ≡ true
-same_side-same P = refl
-same_side-same C = refl
-
-pub same_side-other : (x : Side) → same_side (other x) x ≡ false
-same_side-other P = refl
-same_side-other C = refl
-
-pub same_side-true : (x y : Side) → same_side x y ≡ true → x ≡ y
-same_side-true P P e = refl
-same_side-true P C e = absurd (false≢true e)
-same_side-true C P e = absurd (false≢true e)
-same_side-true C C e = refl
 
 pub either_side : (x y : Side) → (y ≡ x) ⊎ (y ≡ other x)
 either_side P P = inl refl
@@ -48,106 +36,96 @@ either_side P C = inr refl
 either_side C P = inr refl
 either_side C C = inl refl
 
-pub same_bit-same : (b : Bit) → same_bit b b ≡ true
-same_bit-same (S i) = grind (arith, nat_tests)
-same_bit-same (R i) = grind (arith, nat_tests)
-same_bit-same X = refl
-same_bit-same (Cell j i) = grind (arith, nat_tests)
-
 -- ---- what one event changes
 
-module _ (laws : LawsBelow) where
-  pub own-mine : (x : Side) (h : List Event) (e : Event) → is_by x e ≡ true → subhistory x (h ++ e ∷ []) ≡ subhistory x h ++ e ∷ []
-  own-mine x h e by = laws.subhistory_changes x h e ∙ ap (λ t. if t then subhistory x h ++ e ∷ [] else subhistory x h) by
+pub own-mine : (x : Side) (h : List Event) (e : Event) → is_by x e ≡ true → subhistory x (h ++ e ∷ []) ≡ subhistory x h ++ e ∷ []
+own-mine x h e by = subhistory_changes x h e ∙ ap (λ t. if t then subhistory x h ++ e ∷ [] else subhistory x h) by
 
-  pub own-theirs : (x : Side) (h : List Event) (e : Event) → is_by x e ≡ false → subhistory x (h ++ e ∷ []) ≡ subhistory x h
-  own-theirs x h e by = laws.subhistory_changes x h e ∙ ap (λ t. if t then subhistory x h ++ e ∷ [] else subhistory x h) by
+pub own-theirs : (x : Side) (h : List Event) (e : Event) → is_by x e ≡ false → subhistory x (h ++ e ∷ []) ≡ subhistory x h
+own-theirs x h e by = subhistory_changes x h e ∙ ap (λ t. if t then subhistory x h ++ e ∷ [] else subhistory x h) by
 
-  pub open-mine : (x : Side) (h : List Event) (e : Event) → is_by x e ≡ true → open_access x (h ++ e ∷ []) ≡ begun_by e
-  open-mine x h e by = laws.open_changes x h e ∙ ap (λ t. if t then begun_by e else open_access x h) by
+pub open-mine : (x : Side) (h : List Event) (e : Event) → is_by x e ≡ true → open_access x (h ++ e ∷ []) ≡ begun_by e
+open-mine x h e by = open_changes x h e ∙ ap (λ t. if t then begun_by e else open_access x h) by
 
-  pub open-theirs : (x : Side) (h : List Event) (e : Event) → is_by x e ≡ false → open_access x (h ++ e ∷ []) ≡ open_access x h
-  open-theirs x h e by = laws.open_changes x h e ∙ ap (λ t. if t then begun_by e else open_access x h) by
+pub open-theirs : (x : Side) (h : List Event) (e : Event) → is_by x e ≡ false → open_access x (h ++ e ∷ []) ≡ open_access x h
+open-theirs x h e by = open_changes x h e ∙ ap (λ t. if t then begun_by e else open_access x h) by
 
-  pub before_last-mine : (s : Side) (h : List Event) (e : Event) → is_by s e ≡ true → before_last s (h ++ e ∷ []) ≡ h
-  before_last-mine s h e by = laws.before_changes s h e ∙ ap (λ t. if t then h else before_last s h) by
+pub before_last-mine : (s : Side) (h : List Event) (e : Event) → is_by s e ≡ true → before_last s (h ++ e ∷ []) ≡ h
+before_last-mine s h e by = before_last_changes s h e ∙ ap (λ t. if t then h else before_last s h) by
 
-  pub before_last-theirs : (s : Side) (h : List Event) (e : Event) → is_by s e ≡ false → before_last s (h ++ e ∷ []) ≡ before_last s h
-  before_last-theirs s h e by = laws.before_changes s h e ∙ ap (λ t. if t then h else before_last s h) by
+-- the word of a bit after one event more
+shown-more : (shape : Shape) (b : Bit) (h : List Event) (e : Event) → IsLawful shape h →
+    shown b (h ++ e ∷ []) ≡ (if is_by (writer b) e then word_shown (write_of b e) (unwrap_or (open_write b h) (held b h)) else shown b h)
+shown-more shape b h e lawful =
+    (λ i. word_shown (open_write_changes b h e i) (held_changes shape b h e lawful i)) ∙
+    elim (is_by (writer b) e) as (λ t.
+    word_shown (if t then write_of b e else open_write b h) (if t then unwrap_or (open_write b h) (held b h) else held b h) ≡
+    (if t then word_shown (write_of b e) (unwrap_or (open_write b h) (held b h)) else shown b h)) [ true ↦ refl | false ↦ refl ]
 
-  -- the word of a bit after one event more
-  shown-more : (shape : Shape) (b : Bit) (h : List Event) (e : Event) → IsLawful shape h →
-      shown b (h ++ e ∷ []) ≡ (if is_by (writer b) e then word_shown (write_of b e) (unwrap_or (open_write b h) (held b h)) else shown b h)
-  shown-more shape b h e lawful =
-      (λ i. word_shown (laws.write_changes b h e i) (laws.held_changes shape b h e lawful i)) ∙
-      elim (is_by (writer b) e) as (λ t.
-      word_shown (if t then write_of b e else open_write b h) (if t then unwrap_or (open_write b h) (held b h) else held b h) ≡
-      (if t then word_shown (write_of b e) (unwrap_or (open_write b h) (held b h)) else shown b h)) [ true ↦ refl | false ↦ refl ]
+shown-theirs : (shape : Shape) (b : Bit) (h : List Event) (e : Event) → IsLawful shape h → is_by (writer b) e ≡ false → shown b (h ++ e ∷ []) ≡ shown b h
+shown-theirs shape b h e lawful by = shown-more shape b h e lawful ∙ ap (λ t. if t then word_shown (write_of b e) (unwrap_or (open_write b h) (held b h)) else shown b h) by
 
-  shown-theirs : (shape : Shape) (b : Bit) (h : List Event) (e : Event) → IsLawful shape h → is_by (writer b) e ≡ false → shown b (h ++ e ∷ []) ≡ shown b h
-  shown-theirs shape b h e lawful by = shown-more shape b h e lawful ∙ ap (λ t. if t then word_shown (write_of b e) (unwrap_or (open_write b h) (held b h)) else shown b h) by
+shown-mine : (shape : Shape) (b : Bit) (h : List Event) (e : Event) → IsLawful shape h → is_by (writer b) e ≡ true →
+    shown b (h ++ e ∷ []) ≡ word_shown (write_of b e) (unwrap_or (open_write b h) (held b h))
+shown-mine shape b h e lawful by = shown-more shape b h e lawful ∙ ap (λ t. if t then word_shown (write_of b e) (unwrap_or (open_write b h) (held b h)) else shown b h) by
 
-  shown-mine : (shape : Shape) (b : Bit) (h : List Event) (e : Event) → IsLawful shape h → is_by (writer b) e ≡ true →
-      shown b (h ++ e ∷ []) ≡ word_shown (write_of b e) (unwrap_or (open_write b h) (held b h))
-  shown-mine shape b h e lawful by = shown-more shape b h e lawful ∙ ap (λ t. if t then word_shown (write_of b e) (unwrap_or (open_write b h) (held b h)) else shown b h) by
+-- where no write of the bit is open, and none begins
+calm : (shape : Shape) (b : Bit) (h : List Event) (e : Event) → IsLawful shape h → open_write b h ≡ None → write_of b e ≡ None → shown b (h ++ e ∷ []) ≡ shown b h
+calm shape b h e lawful none not_begun = by_case (is_by (writer b) e)
+    (λ by. shown-mine shape b h e lawful by ∙ (λ i. word_shown (not_begun i) (unwrap_or (none i) (held b h))) ∙ sym (ap (λ o. word_shown o (held b h)) none))
+    (λ by. shown-theirs shape b h e lawful by)
 
-  -- where no write of the bit is open, and none begins
-  calm : (shape : Shape) (b : Bit) (h : List Event) (e : Event) → IsLawful shape h → open_write b h ≡ None → write_of b e ≡ None → shown b (h ++ e ∷ []) ≡ shown b h
-  calm shape b h e lawful none not_begun = by_case (is_by (writer b) e)
-      (λ by. shown-mine shape b h e lawful by ∙ (λ i. word_shown (not_begun i) (unwrap_or (none i) (held b h))) ∙ sym (ap (λ o. word_shown o (held b h)) none))
-      (λ by. shown-theirs shape b h e lawful by)
+-- the open write of a bit, by the open access of its writer
+open_write-of : (x : Side) (b : Bit) (h : List Event) (o : Option Access) → same_side (writer b) x ≡ true → open_access x h ≡ o → open_write b h ≡ value_written b o
+open_write-of x b h o by at = ap (λ s. value_written b (open_access s h)) (same_side-true (writer b) x by) ∙ ap (value_written b) at
 
-  -- the open write of a bit, by the open access of its writer
-  open_write-of : (x : Side) (b : Bit) (h : List Event) (o : Option Access) → same_side (writer b) x ≡ true → open_access x h ≡ o → open_write b h ≡ value_written b o
-  open_write-of x b h o by at = ap (λ s. value_written b (open_access s h)) (same_side-true (writer b) x by) ∙ ap (value_written b) at
+module _ (shape : Shape) (x : Side) (c : Bit) (h : List Event) (lawful : IsLawful shape h) where
+  pub shown-read_begin : MayFollow shape h (event x c ReadBegin) → (b : Bit) → shown b (h ++ event x c ReadBegin ∷ []) ≡ shown b h
+  shown-read_begin may b = by_case (same_side (writer b) x)
+      (λ by. calm shape b h (event x c ReadBegin) lawful (open_write-of x b h None by may.in_turn) refl)
+      (λ by. shown-theirs shape b h (event x c ReadBegin) lawful by)
 
-  module _ (shape : Shape) (x : Side) (c : Bit) (h : List Event) (lawful : IsLawful shape h) where
-    pub shown-read_begin : MayFollow shape h (event x c ReadBegin) → (b : Bit) → shown b (h ++ event x c ReadBegin ∷ []) ≡ shown b h
-    shown-read_begin may b = by_case (same_side (writer b) x)
-        (λ by. calm shape b h (event x c ReadBegin) lawful (open_write-of x b h None by may.in_turn) refl)
-        (λ by. shown-theirs shape b h (event x c ReadBegin) lawful by)
+  pub shown-read_end : (v : Bool) → MayFollow shape h (event x c (ReadEnd v)) → (b : Bit) → shown b (h ++ event x c (ReadEnd v) ∷ []) ≡ shown b h
+  shown-read_end v may b = by_case (same_side (writer b) x)
+      (λ by. calm shape b h (event x c (ReadEnd v)) lawful (open_write-of x b h (Some (Read c)) by may.in_turn) refl)
+      (λ by. shown-theirs shape b h (event x c (ReadEnd v)) lawful by)
 
-    pub shown-read_end : (v : Bool) → MayFollow shape h (event x c (ReadEnd v)) → (b : Bit) → shown b (h ++ event x c (ReadEnd v) ∷ []) ≡ shown b h
-    shown-read_end v may b = by_case (same_side (writer b) x)
-        (λ by. calm shape b h (event x c (ReadEnd v)) lawful (open_write-of x b h (Some (Read c)) by may.in_turn) refl)
-        (λ by. shown-theirs shape b h (event x c (ReadEnd v)) lawful by)
+  -- another bit than the one of the event
+  pub shown-apart : (a : Act) → MayFollow shape h (event x c a) → (b : Bit) → same_bit b c ≡ false → shown b (h ++ event x c a ∷ []) ≡ shown b h
+  shown-apart ReadBegin may b apart = shown-read_begin may b
+  shown-apart (ReadEnd v) may b apart = shown-read_end v may b
+  shown-apart (WriteBegin v) may b apart = by_case (same_side (writer b) x)
+      (λ by. calm shape b h (event x c (WriteBegin v)) lawful (open_write-of x b h None by may.in_turn) (ap (λ t. if t then Some v else None) apart))
+      (λ by. shown-theirs shape b h (event x c (WriteBegin v)) lawful by)
+  shown-apart WriteEnd may b apart = by_case (same_side (writer b) x)
+      (λ by. calm shape b h (event x c WriteEnd) lawful (open_write-of x b h (Some (Write c may.in_turn.0)) by may.in_turn.1 ∙ ap (λ t. if t then Some may.in_turn.0 else None) apart) refl)
+      (λ by. shown-theirs shape b h (event x c WriteEnd) lawful by)
 
-    -- another bit than the one of the event
-    pub shown-apart : (a : Act) → MayFollow shape h (event x c a) → (b : Bit) → same_bit b c ≡ false → shown b (h ++ event x c a ∷ []) ≡ shown b h
-    shown-apart ReadBegin may b apart = shown-read_begin may b
-    shown-apart (ReadEnd v) may b apart = shown-read_end v may b
-    shown-apart (WriteBegin v) may b apart = by_case (same_side (writer b) x)
-        (λ by. calm shape b h (event x c (WriteBegin v)) lawful (open_write-of x b h None by may.in_turn) (ap (λ t. if t then Some v else None) apart))
-        (λ by. shown-theirs shape b h (event x c (WriteBegin v)) lawful by)
-    shown-apart WriteEnd may b apart = by_case (same_side (writer b) x)
-        (λ by. calm shape b h (event x c WriteEnd) lawful (open_write-of x b h (Some (Write c may.in_turn.0)) by may.in_turn.1 ∙ ap (λ t. if t then Some may.in_turn.0 else None) apart) refl)
-        (λ by. shown-theirs shape b h (event x c WriteEnd) lawful by)
+  pub shown-write_begin : (v : Bool) → x ≡ writer c → shown c (h ++ event x c (WriteBegin v) ∷ []) ≡ 2
+  shown-write_begin v is =
+      shown-mine shape c h (event x c (WriteBegin v)) lawful (ap (same_side (writer c)) is ∙ same_side-same (writer c)) ∙
+      ap (λ t. word_shown (if t then Some v else None) (unwrap_or (open_write c h) (held c h))) (same_bit-same c)
 
-    pub shown-write_begin : (v : Bool) → x ≡ writer c → shown c (h ++ event x c (WriteBegin v) ∷ []) ≡ 2
-    shown-write_begin v is =
-        shown-mine shape c h (event x c (WriteBegin v)) lawful (ap (same_side (writer c)) is ∙ same_side-same (writer c)) ∙
-        ap (λ t. word_shown (if t then Some v else None) (unwrap_or (open_write c h) (held c h))) (same_bit-same c)
+  pub shown-write_end : (v : Bool) → x ≡ writer c → open_access x h ≡ Some (Write c v) → shown c (h ++ event x c WriteEnd ∷ []) ≡ value_word v
+  shown-write_end v is at =
+      let by : same_side (writer c) x ≡ true = ap (same_side (writer c)) is ∙ same_side-same (writer c) in
+      let writes : open_write c h ≡ Some v = open_write-of x c h (Some (Write c v)) by at ∙ ap (λ t. if t then Some v else None) (same_bit-same c) in
+      shown-mine shape c h (event x c WriteEnd) lawful by ∙ ap (λ o. value_word (unwrap_or o (held c h))) writes
 
-    pub shown-write_end : (v : Bool) → x ≡ writer c → open_access x h ≡ Some (Write c v) → shown c (h ++ event x c WriteEnd ∷ []) ≡ value_word v
-    shown-write_end v is at =
-        let by : same_side (writer c) x ≡ true = ap (same_side (writer c)) is ∙ same_side-same (writer c) in
-        let writes : open_write c h ≡ Some v = open_write-of x c h (Some (Write c v)) by at ∙ ap (λ t. if t then Some v else None) (same_bit-same c) in
-        shown-mine shape c h (event x c WriteEnd) lawful by ∙ ap (λ o. value_word (unwrap_or o (held c h))) writes
+-- ---- the two loads of a read
 
-  -- ---- the two loads of a read
+answer-small : (n : ℕ) (said : Bool) (v : Bool) → n ≡ value_word v → answer_of n n said ≡ v
+answer-small n said true e = rw e refl
+answer-small n said false e = rw e refl
 
-  answer-small : (n : ℕ) (said : Bool) (v : Bool) → n ≡ value_word v → answer_of n n said ≡ v
-  answer-small n said true e = rw e refl
-  answer-small n said false e = rw e refl
-
-  -- two loads permit the answer that is made of them
-  pub permitted : (shape : Shape) (x : Side) (b : Bit) (h : List Event) (first found : ℕ) (said : Bool) → IsLawful shape h → x ≡ reader b →
-      first ≡ shown b (before_last x h) → found ≡ shown b h → IsAnswer h x b (answer_of first found said)
-  permitted shape x b h first found said lawful is begin now = by_case (is_overlapped x b h)
-      (λ over. inl over)
-      (λ over.
-      let (none, none_then, still) = laws.quiet shape h x b lawful is over in
-      let v : Bool = held b (before_last x h) in
-      let value : first ≡ value_word v = begin ∙ ap (λ o. word_shown o v) none_then in
-      let value' : found ≡ value_word v = now ∙ ap (λ o. word_shown o (held b h)) none ∙ ap value_word still in
-      inr (ap (λ n. answer_of first n said) (value' ∙ sym value) ∙ answer-small first said v value))
+-- two loads permit the answer that is made of them
+pub permitted : (shape : Shape) (x : Side) (b : Bit) (h : List Event) (first found : ℕ) (said : Bool) → IsLawful shape h → x ≡ reader b →
+    first ≡ shown b (before_last x h) → found ≡ shown b h → IsAnswer h x b (answer_of first found said)
+permitted shape x b h first found said lawful is begin now = by_case (is_overlapped x b h)
+    (λ over. inl over)
+    (λ over.
+    let (none, none_then, still) = quiet_is_held shape h x b lawful is over in
+    let v : Bool = held b (before_last x h) in
+    let value : first ≡ value_word v = begin ∙ ap (λ o. word_shown o v) none_then in
+    let value' : found ≡ value_word v = now ∙ ap (λ o. word_shown o (held b h)) none ∙ ap value_word still in
+    inr (ap (λ n. answer_of first n said) (value' ∙ sym value) ∙ answer-small first said v value))

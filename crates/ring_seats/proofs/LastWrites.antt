@@ -23,9 +23,12 @@ use Rattle.register_core.specs.Unary.{unary_phrase}
 use Rattle.register_core.specs.Word.{digit, digit_writes, word_write}
 use Rattle.ring_core.specs.Counts.{Count}
 use Rattle.ring_core.specs.CountWrites.{CountsShowNumbers}
-use Rattle.ring_seats.proofs.Below.{LawsBelow}
 use Rattle.ring_seats.specs.Counters.{value_left, unary_over, NoWriteOf, AreLast, IsLastCount, IsLastItem}
 use Rattle.ring_seats.proofs.Blocks.{wrote, after, after-append, last_append, left_by-made}
+use Rattle.bits_core.proofs.LawLemmas.{beginning_is_lawful, held_changes, open_write_changes, subhistory_changes}
+use Rattle.register_core.proofs.Items.{digit_of_zero as zero_digit}
+use Rattle.ring_core.proofs.Readings.Phrases.{at_or_below}
+use Rattle.ring_core.proofs.LawLemmas.{counts_are_written_numbers}
 
 -- ---- accesses that write no bit of a row
 
@@ -100,7 +103,7 @@ after_one : (o : Option Bool) (u v : Bool) → u ≡ v → unwrap_or o u ≡ las
 after_one None u v e = e
 after_one (Some w) u v e = refl
 
-module _ (laws : LawsBelow) (shape : Shape) (b : Bit) where
+module _ (shape : Shape) (b : Bit) where
   one_left : (h : List Event) (e : Event) → IsLawful shape h → Left b h → Left b (h ++ e ∷ [])
   one_left h e lawful is =
       let list : List Event = subhistory (writer b) h in
@@ -108,16 +111,16 @@ module _ (laws : LawsBelow) (shape : Shape) (b : Bit) where
       let mine : unwrap_or (write_of b e) so_far ≡ value_left (list ++ e ∷ []) b =
       after_one (write_of b e) so_far (value_left list b) is ∙
       sym (ap (last_value (first_value b)) (writes_more b list (e ∷ [])) ∙ last_append (first_value b) (writes_begun b list) (writes_begun b (e ∷ []))) in
-      (λ i. unwrap_or (laws.write_changes b h e i) (laws.held_changes shape b h e lawful i)) ∙
+      (λ i. unwrap_or (open_write_changes b h e i) (held_changes shape b h e lawful i)) ∙
       (elim (is_by (writer b) e) as (λ t.
       unwrap_or (if t then write_of b e else open_write b h) (if t then so_far else held b h) ≡ value_left (if t then list ++ e ∷ [] else list) b) [ true ↦ mine | false ↦ is ] ∙
-      ap (λ (l : List Event). value_left l b) (sym (laws.subhistory_changes (writer b) h e)))
+      ap (λ (l : List Event). value_left l b) (sym (subhistory_changes (writer b) h e)))
 
   all_left : (ys xs : List Event) → IsLawful shape (xs ++ ys) → Left b xs → Left b (xs ++ ys)
   all_left [] xs lawful is = subst (Left b) (sym (append-nil xs)) is
   all_left (e ∷ ys) xs lawful is =
       let same : (xs ++ e ∷ []) ++ ys ≡ xs ++ e ∷ ys = append_assoc xs (e ∷ []) ys in
-      subst (Left b) same (all_left ys (xs ++ e ∷ []) (subst (IsLawful shape) (sym same) lawful) (one_left xs e (laws.beginning shape xs (e ∷ ys) lawful) is))
+      subst (Left b) same (all_left ys (xs ++ e ∷ []) (subst (IsLawful shape) (sym same) lawful) (one_left xs e (beginning_is_lawful shape xs (e ∷ ys) lawful) is))
 
   pub held_left : (h : List Event) → IsLawful shape h → open_access (writer b) h ≡ None → held b h ≡ value_left (subhistory (writer b) h) b
   held_left h lawful idle = sym (ap (λ o. unwrap_or (value_written b o) (held b h)) idle) ∙ all_left h [] lawful refl
@@ -145,10 +148,10 @@ pub record Lowest (bits : ℕ → Bool) (c : ℕ) : Type 0 where
   pub set : bits c ≡ true
   pub clear : (i : ℕ) → i < c → bits i ≡ false
 
-unary_lowest : CountsShowNumbers → (shape : Shape) (old : ℕ → Bool) (v : ℕ) → v < modulus_of shape → Lowest (bits_after old (unary_phrase old v)) v
-unary_lowest numbers shape old v lt =
+unary_lowest : (shape : Shape) (old : ℕ → Bool) (v : ℕ) → v < modulus_of shape → Lowest (bits_after old (unary_phrase old v)) v
+unary_lowest shape old v lt =
     let count : Count = record { number = v; bits = old } in
-    let is = (numbers shape).1 count 0 [] in
+    let is = (counts_are_written_numbers shape).1 count 0 [] in
     subst (λ (n : ℕ). Lowest (bits_after old (unary_phrase old n)) n) (mod-eq_of_lt lt) (record { set = is.set; clear = is.clear })
 
 first_lowest : (x : Side) → Lowest (λ i. first_value (row_bit x i)) 0
@@ -158,22 +161,19 @@ first_lowest C = record { set = refl; clear = λ i lt. absurd (omega (arith, lt)
 lowest_same : (f g : ℕ → Bool) (c : ℕ) → ((i : ℕ) → g i ≡ f i) → Lowest f c → Lowest g c
 lowest_same f g c same is = record { set = same c ∙ is.set; clear = λ i lt. same i ∙ is.clear i lt }
 
-pub count_shows : CountsShowNumbers → (shape : Shape) (x : Side) (list : List Event) (c : ℕ) → c < modulus_of shape → IsLastCount x list c → Lowest (λ i. value_left list (row_bit x i)) c
-count_shows numbers shape x list c lt (inl a) =
+pub count_shows : (shape : Shape) (x : Side) (list : List Event) (c : ℕ) → c < modulus_of shape → IsLastCount x list c → Lowest (λ i. value_left list (row_bit x i)) c
+count_shows shape x list c lt (inl a) =
     let old : ℕ → Bool = λ i. value_left a.before (row_bit x i) in
     lowest_same (bits_after old (unary_phrase old c)) (λ i. value_left list (row_bit x i)) c
     (λ i. left_last x (row_bit x) (λ before. unary_over x before c) list a i ∙ row_written (row_bit x) (row_tells x) (unary_phrase old c) (value_left a.before) old (λ k. refl) i)
-    (unary_lowest numbers shape old c lt)
-count_shows numbers shape x list c lt (inr t) = subst (Lowest (λ i. value_left list (row_bit x i))) (sym t.1)
+    (unary_lowest shape old c lt)
+count_shows shape x list c lt (inr t) = subst (Lowest (λ i. value_left list (row_bit x i))) (sym t.1)
     (lowest_same (λ i. first_value (row_bit x i)) (λ i. value_left list (row_bit x i)) 0 (left_first (row_bit x) list t.0) (first_lowest x))
 
 -- ---- a cell shows the item last written to it
 
 same_cell : (j i k : ℕ) → same_bit (Cell j i) (Cell j k) ≡ (i == k)
 same_cell j i k = grind (arith, nat_tests)
-
-at_or_below : (i n : ℕ) → i < suc n → (i ≡ n) ⊎ (i < n)
-at_or_below i n l = grind arith
 
 not_eq : (i n : ℕ) → i ≢ n → (i == n) ≡ false
 not_eq i n ne = grind (arith, nat_tests)
@@ -189,9 +189,6 @@ word_written j item (suc n) bits i lt =
     (after-append (writes_in (Cell j) (digit_writes item n)) (Write (Cell j n) (digit n item) ∷ []) bits (Cell j i) ∙
     (ap (λ t. if t then digit n item else after bits (writes_in (Cell j) (digit_writes item n)) (Cell j i)) (same_cell j i n) ∙
     one_digit item n i (after bits (writes_in (Cell j) (digit_writes item n)) (Cell j i)) (word_written j item n bits i) (at_or_below i n lt)))
-
-zero_digit : (i : ℕ) → digit i 0 ≡ false
-zero_digit i = ap (λ (n : ℕ). n == 1) (bit_at-zero i)
 
 pub item_shows : (width j : ℕ) (list : List Event) (item : ℕ) → IsLastItem width j list item → (i : ℕ) → i < width → value_left list (Cell j i) ≡ digit i item
 item_shows width j list item (inl a) i lt = left_last P (Cell j) (λ before. word_write width j item) list a i ∙ word_written j item width (value_left a.before) i lt

@@ -1,6 +1,5 @@
 pub mod Accesses
 pub mod Answered
-pub mod Below
 pub mod Blocks
 pub mod CounterMoves
 pub mod CounterPuts

@@ -27,9 +27,10 @@ use Rattle.ring_seats.specs.declared.layout.TheConstants.{FIRST_S}
 use Rattle.ring_seats.specs.Words.{value_word, shown, answer_of, first_r, word_place, word_count, first_words, Shows}
 use Rattle.ring_seats.specs.Programs.{Follows, IsRing, GoesOn}
 use Rattle.ring_seats.specs.Rule.{event, joint, spent, putter_of, taker_of, joined, may_step, list_of, kept_load, and_event, IsIdle, FirstLoad, SeatKnows, SeatsKnow, HasSeats, KeptBy, KeepsFlickerRule, IsWordFound, Added, Learned}
-use Rattle.ring_seats.proofs.Below.{LawsBelow}
 use Rattle.ring_seats.proofs.Places.{one_or_apart, place_below, shows_first}
-use Rattle.ring_seats.proofs.Histories.{same_side-same, either_side, before_last-mine, before_last-theirs, own-mine, own-theirs, open-mine, open-theirs, shown-read_begin, shown-read_end, shown-apart, shown-write_begin, shown-write_end, permitted}
+use Rattle.ring_seats.proofs.Histories.{same_side-same, either_side, before_last-mine, before_last-theirs, own-mine, own-theirs, open-mine, open-theirs, shown-read_begin, shown-read_end, shown-apart, shown-write_begin, shown-write_end, permitted, same_side-other as not_by}
+use Rattle.bits_core.proofs.LawLemmas.{empty_is_lawful, lawful_by_one_more, open_from_own}
+use Rattle.ring_core.proofs.LawLemmas.{runs_by_one_more_put, runs_by_one_more_take}
 
 -- what a step of the side x at the bit b needs of the history so far, where the word becomes `new`, and a load found or a store wrote `got`
 pub record IsGood (shape : Shape) (x : Side) (b : Bit) (list h : List Event) (new got : ℕ) (act : Act) : Type 0 where
@@ -38,14 +39,10 @@ pub record IsGood (shape : Shape) (x : Side) (b : Bit) (list h : List Event) (ne
   pub follow : Follows shape x (list ++ event x b act ∷ [])
   pub load : act ≡ ReadBegin → got ≡ shown b h
 
-not_by : (x : Side) → same_side (other x) x ≡ false
-not_by P = refl
-not_by C = refl
-
 -- a history whose sides follow their programs, and one event more of a side's program
-pub ring_more : LawsBelow → (shape : Shape) (x : Side) (h : List Event) (e : Event) → e.side ≡ x → IsRing shape h → MayFollow shape h e → Follows shape x (subhistory x h ++ e ∷ []) → IsRing shape (h ++ e ∷ [])
-ring_more laws shape P h e by r may f = record { puts = f.0; takes = r.takes; run = laws.put_more shape h e r.puts f.0 r.takes r.run by may f.1 f.2 }
-ring_more laws shape C h e by r may f = record { puts = r.puts; takes = f.0; run = laws.take_more shape h e r.puts r.takes f.0 r.run by may f.1 f.2 }
+pub ring_more : (shape : Shape) (x : Side) (h : List Event) (e : Event) → e.side ≡ x → IsRing shape h → MayFollow shape h e → Follows shape x (subhistory x h ++ e ∷ []) → IsRing shape (h ++ e ∷ [])
+ring_more shape P h e by r may f = record { puts = f.0; takes = r.takes; run = runs_by_one_more_put shape h e r.puts f.0 r.takes r.run by may f.1 f.2 }
+ring_more shape C h e by r may f = record { puts = r.puts; takes = f.0; run = runs_by_one_more_take shape h e r.puts r.takes f.0 r.run by may f.1 f.2 }
 
 -- each side of such a history follows its program
 pub ring_follows : (shape : Shape) (h : List Event) → IsRing shape h → (x : Side) → Follows shape x (subhistory x h)
@@ -53,12 +50,12 @@ ring_follows shape h r P = (r.puts, r.run.puts_follow.are, r.run.puts_follow.eve
 ring_follows shape h r C = (r.takes, r.run.takes_follow.are, r.run.takes_follow.events)
 
 -- nothing has happened
-pub ring_empty : LawsBelow → (shape : Shape) → IsRing shape []
-ring_empty laws shape = record {
+pub ring_empty : (shape : Shape) → IsRing shape []
+ring_empty shape = record {
   puts = record { puts = []; closes = false };
   takes = record { takes = []; end = Rattle.ring_core.specs.Takes.Open };
   run = record {
-    lawful = laws.nothing shape;
+    lawful = empty_is_lawful shape;
     puts_follow = record { are = tt; events = ([], refl) };
     takes_follow = record { are = tt; events = ([], refl) };
   };
@@ -94,11 +91,11 @@ each_stays owner views id v w at may each y =
     (same_or_not (owner y) id)
 
 -- what a step leaves open
-pub opened_by : LawsBelow → (x : Side) (b : Bit) (a : Act) (got : ℕ) (v w : View) → w ≡ and_event x (event x b a) got v → open_access x (list_of x w) ≡ Rattle.bits_core.specs.Bits.begun_access b a
-opened_by laws x b a got v w is =
-    ap (λ (u : View). open_access x (list_of x u)) is ∙ ap (open_access x) (list_of-mine x (event x b a) got v) ∙ open-mine laws x (list_of x v) (event x b a) (same_side-same x)
+pub opened_by : (x : Side) (b : Bit) (a : Act) (got : ℕ) (v w : View) → w ≡ and_event x (event x b a) got v → open_access x (list_of x w) ≡ Rattle.bits_core.specs.Bits.begun_access b a
+opened_by x b a got v w is =
+    ap (λ (u : View). open_access x (list_of x u)) is ∙ ap (open_access x) (list_of-mine x (event x b a) got v) ∙ open-mine x (list_of x v) (event x b a) (same_side-same x)
 
-module _ (laws : LawsBelow) (shape : Shape) where
+module _ (shape : Shape) where
   shows_more : (words : List ℕ) (x : Side) (b : Bit) (a : Act) (h : List Event) (new : ℕ) → IsLawful shape h → MayFollow shape h (event x b a) → length words ≡ word_count shape → belongs shape b ≡ true → Shows shape words h → new ≡ shown b (h ++ event x b a ∷ [])
       → Shows shape (set words (word_place shape b) new) (h ++ event x b a ∷ [])
   shows_more words x b a h new lawful may wide has shows is c has' = ⊎_elim
@@ -106,12 +103,12 @@ module _ (laws : LawsBelow) (shape : Shape) where
       subst (λ (d : Bit). get_or (set words (word_place shape b) new) (word_place shape d) 0 ≡ shown d (h ++ event x b a ∷ [])) same (get_or-set_same words (word_place shape b) new 0 lt ∙ is))
       (λ (apart : (same_bit c b ≡ false) × (word_place shape c ≢ word_place shape b)).
       let ne : word_place shape c ≢ word_place shape b = apart.1 in
-      get_or-set_other words (word_place shape b) (word_place shape c) new 0 ne ∙ (shows c has' ∙ sym (shown-apart laws shape x b h lawful a may c apart.0)))
+      get_or-set_other words (word_place shape b) (word_place shape c) new 0 ne ∙ (shows c has' ∙ sym (shown-apart shape x b h lawful a may c apart.0)))
       (one_or_apart shape b c has has')
 
   load_mine : (x : Side) (b : Bit) (a : Act) (h : List Event) (got load : ℕ) → (a ≡ ReadBegin → got ≡ shown b h) → FirstLoad x (h ++ event x b a ∷ []) (kept_load a got load)
   load_mine x b a h got load is c o =
-      go a is (sym (open-mine laws x h (event x b a) (same_side-same x)) ∙ o) ∙ sym (ap (shown c) (before_last-mine laws x h (event x b a) (same_side-same x)))
+      go a is (sym (open-mine x h (event x b a) (same_side-same x)) ∙ o) ∙ sym (ap (shown c) (before_last-mine x h (event x b a) (same_side-same x)))
     where
       go : (a : Act) → (a ≡ ReadBegin → got ≡ shown b h) → Rattle.bits_core.specs.Bits.begun_access b a ≡ Some (Read c) → kept_load a got load ≡ shown c h
       go ReadBegin is o = let same : b ≡ c = cc in is refl ∙ ap (λ (d : Bit). shown d h) same
@@ -121,13 +118,13 @@ module _ (laws : LawsBelow) (shape : Shape) where
 
   load_theirs : (x : Side) (b : Bit) (a : Act) (h : List Event) (load : ℕ) → FirstLoad (other x) h load → FirstLoad (other x) (h ++ event x b a ∷ []) load
   load_theirs x b a h load f c o =
-      f c (sym (open-theirs laws (other x) h (event x b a) (not_by x)) ∙ o) ∙ sym (ap (shown c) (before_last-theirs laws (other x) h (event x b a) (not_by x)))
+      f c (sym (open-theirs (other x) h (event x b a) (not_by x)) ∙ o) ∙ sym (ap (shown c) (before_last-theirs (other x) h (event x b a) (not_by x)))
 
   fits_mine : (x : Side) (b : Bit) (a : Act) (h known : List Event) (owner : Side → ℕ) (seat : ℕ) (v : View) (got : ℕ) → (a ≡ ReadBegin → got ≡ shown b h) → SeatKnows h known owner seat v x
       → SeatKnows (h ++ event x b a ∷ []) known owner seat (and_event x (event x b a) got v) x
   fits_mine x b a h known owner seat v got is f = record {
     at = f.at;
-    list = list_of-mine x (event x b a) got v ∙ (ap (λ (l : List Event). l ++ event x b a ∷ []) f.list ∙ sym (own-mine laws x h (event x b a) (same_side-same x)));
+    list = list_of-mine x (event x b a) got v ∙ (ap (λ (l : List Event). l ++ event x b a ∷ []) f.list ∙ sym (own-mine x h (event x b a) (same_side-same x)));
     known_is = f.known_is;
     known_by_taker_is = f.known_by_taker_is;
     load = load_mine x b a h got v.first is;
@@ -136,7 +133,7 @@ module _ (laws : LawsBelow) (shape : Shape) where
   fits_theirs : (x : Side) (b : Bit) (a : Act) (h known : List Event) (owner : Side → ℕ) (seat : ℕ) (v : View) → SeatKnows h known owner seat v (other x) → SeatKnows (h ++ event x b a ∷ []) known owner seat v (other x)
   fits_theirs x b a h known owner seat v f = record {
     at = f.at;
-    list = f.list ∙ sym (own-theirs laws (other x) h (event x b a) (not_by x));
+    list = f.list ∙ sym (own-theirs (other x) h (event x b a) (not_by x));
     known_is = f.known_is;
     known_by_taker_is = f.known_by_taker_is;
     load = load_theirs x b a h v.first f.load;
@@ -177,7 +174,7 @@ module _ (laws : LawsBelow) (shape : Shape) where
       let fits : SeatKnows h k.known k.owner id me.0 x = k.seats id me.0 at x mine in
       let g : IsGood shape x b (list_of x me.0) h (f n) (got n) a = good h n k.ring fits.list fits.load (k.shows b has) in
       let lawful : IsLawful shape h = k.ring.run.lawful in
-      let ring : IsRing shape (h ++ e ∷ []) = ring_more laws shape x h e refl k.ring g.may (subst (λ (l : List Event). Follows shape x (l ++ e ∷ [])) fits.list g.follow) in
+      let ring : IsRing shape (h ++ e ∷ []) = ring_more shape x h e refl k.ring g.may (subst (λ (l : List Event). Follows shape x (l ++ e ∷ [])) fits.list g.follow) in
       let begins : IsPrefix k.known (h ++ e ∷ []) = begins_more h k.known e k.begins in (
         w,
         keeps,
@@ -199,7 +196,7 @@ module _ (laws : LawsBelow) (shape : Shape) where
           stands = record {
             history = h ++ e ∷ [];
             ring = ring;
-            list_is = own-mine laws x h e (same_side-same x) ∙ (ap (λ (l : List Event). l ++ e ∷ []) (sym fits.list) ∙ sym (list_of-mine x e (got n) me.0));
+            list_is = own-mine x h e (same_side-same x) ∙ (ap (λ (l : List Event). l ++ e ∷ []) (sym fits.list) ∙ sym (list_of-mine x e (got n) me.0));
             begins = subst (λ (l : List Event). IsPrefix l (h ++ e ∷ [])) (sym fits.known_is) begins;
           };
         },
@@ -208,7 +205,7 @@ module _ (laws : LawsBelow) (shape : Shape) where
   -- the four kinds of step of an end
 
   open_there : (x : Side) (o : Rattle.std.specs.Prelude.Option Access) (list h : List Event) → list ≡ subhistory x h → open_access x list ≡ o → open_access x h ≡ o
-  open_there x o list h is at = laws.from_own x h ∙ (ap (open_access x) (sym is) ∙ at)
+  open_there x o list h is at = open_from_own x h ∙ (ap (open_access x) (sym is) ∙ at)
 
   module _ (x : Side) (b : Bit) (slots id : ℕ) (me : Me (Unit {0}) View) (mine : may_step x me.0 ≡ true) (not_theirs : may_step (other x) me.0 ≡ false) (has : belongs shape b ≡ true) where
     pub begins_read : x ≡ reader b → IsIdle x (list_of x me.0) → Follows shape x (list_of x me.0 ++ event x b ReadBegin ∷ [])
@@ -218,7 +215,7 @@ module _ (laws : LawsBelow) (shape : Shape) where
         let may : MayFollow shape h (event x b ReadBegin) = record { right_side = record { in_shape = has; by_doer = r }; in_turn = open_there x None (list_of x me.0) h list idle; permitted = tt } in
         record {
           may = may;
-          word = is ∙ sym (shown-read_begin laws shape x b h ring.run.lawful may b);
+          word = is ∙ sym (shown-read_begin shape x b h ring.run.lawful may b);
           follow = follow;
           load = λ _. is;
         })
@@ -232,12 +229,12 @@ module _ (laws : LawsBelow) (shape : Shape) where
         let may : MayFollow shape h (event x b (ReadEnd a)) = record {
           right_side = record { in_shape = has; by_doer = r };
           in_turn = at_work;
-          permitted = permitted laws shape x b h me.0.first n said ring.run.lawful r (load b at_work) is;
+          permitted = permitted shape x b h me.0.first n said ring.run.lawful r (load b at_work) is;
         } in
         record {
           may = may;
-          word = is ∙ sym (shown-read_end laws shape x b h ring.run.lawful a may b);
-          follow = goes h a ((laws.one_more shape h (event x b (ReadEnd a))).1 (ring.run.lawful, may)) ring (sym list);
+          word = is ∙ sym (shown-read_end shape x b h ring.run.lawful a may b);
+          follow = goes h a ((lawful_by_one_more shape h (event x b (ReadEnd a))).1 (ring.run.lawful, may)) ring (sym list);
           load = λ e. absurd (cc);
         })
 
@@ -248,7 +245,7 @@ module _ (laws : LawsBelow) (shape : Shape) where
         let may : MayFollow shape h (event x b (WriteBegin v)) = record { right_side = record { in_shape = has; by_doer = w }; in_turn = open_there x None (list_of x me.0) h list idle; permitted = tt } in
         record {
           may = may;
-          word = sym (shown-write_begin laws shape x b h ring.run.lawful v w);
+          word = sym (shown-write_begin shape x b h ring.run.lawful v w);
           follow = follow;
           load = λ e. absurd (cc);
         })
@@ -261,8 +258,8 @@ module _ (laws : LawsBelow) (shape : Shape) where
         let may : MayFollow shape h (event x b WriteEnd) = record { right_side = record { in_shape = has; by_doer = w }; in_turn = (v, at_work); permitted = tt } in
         record {
           may = may;
-          word = sym (shown-write_end laws shape x b h ring.run.lawful v w at_work);
-          follow = goes h v ((laws.one_more shape h (event x b WriteEnd)).1 (ring.run.lawful, may)) ring (sym list);
+          word = sym (shown-write_end shape x b h ring.run.lawful v w at_work);
+          follow = goes h v ((lawful_by_one_more shape h (event x b WriteEnd)).1 (ring.run.lawful, may)) ring (sym list);
           load = λ e. absurd (cc);
         })
 
@@ -325,7 +322,7 @@ splits count IsShown shape id v puts takes s k at = record {
 pub no_load : (x : Side) (h : List Event) (load : ℕ) → open_access x h ≡ None → FirstLoad x h load
 no_load x h load none b some_read = absurd (cc)
 
-module _ (laws : LawsBelow) (shape : Shape) where
+module _ (shape : Shape) where
   join_seats : (h known : List Event) (owner : Side → ℕ) (views : List View) (id : ℕ) (v : View) (there : ℕ) (w : View)
       → get_elem? views id ≡ some v → ¬ (there ≡ id) → get_elem? views there ≡ some w → v.puts ≡ true → w.takes ≡ true → IsIdle P v.put → IsIdle C w.taken → SeatsKnow h known owner views
       → SeatsKnow h known (two_seats id id) (set (set views id (joined v w)) there spent)
@@ -356,9 +353,9 @@ module _ (laws : LawsBelow) (shape : Shape) where
 
       both_fit : (seat : ℕ) (u : View) → seat ≡ id → joined v w ≡ u → (z : Side) → SeatKnows h known (two_seats id id) seat u z
       both_fit seat u is same P = subst (λ (t : View). SeatKnows h known (two_seats id id) seat t P) same
-          (record { at = is; list = putter.list; known_is = putter.known_is; known_by_taker_is = taker.known_is; load = no_load P h 0 (open_there laws shape P None v.put h putter.list idle) })
+          (record { at = is; list = putter.list; known_is = putter.known_is; known_by_taker_is = taker.known_is; load = no_load P h 0 (open_there shape P None v.put h putter.list idle) })
       both_fit seat u is same C = subst (λ (t : View). SeatKnows h known (two_seats id id) seat t C) same
-          (record { at = is; list = taker.list; known_is = putter.known_is; known_by_taker_is = taker.known_is; load = no_load C h 0 (open_there laws shape C None w.taken h taker.list idle') })
+          (record { at = is; list = taker.list; known_is = putter.known_is; known_by_taker_is = taker.known_is; load = no_load C h 0 (open_there shape C None w.taken h taker.list idle') })
 
   join_each : (views : List View) (id : ℕ) (v : View) (there : ℕ) (w : View) → get_elem? views id ≡ some v → ¬ (there ≡ id) → HasSeats (two_seats id id) (set (set views id (joined v w)) there spent)
   unfolding two_seats
@@ -402,7 +399,7 @@ knows_both : (v : View) (h : List Event) (y : Side) → may_step y (knower v h) 
 knows_both v h P = refl
 knows_both v h C = refl
 
-module _ (laws : LawsBelow) (shape : Shape) where
+module _ (shape : Shape) where
   learn_seats : (h known : List Event) (owner : Side → ℕ) (views : List View) (id : ℕ) (v : View) → get_elem? views id ≡ some v → v.puts ≡ true → v.takes ≡ true → IsIdle P v.put → IsIdle C v.taken → SeatsKnow h known owner views
       → SeatsKnow h h owner (set views id (knower v h))
   learn_seats h known owner views id v there puts takes idle idle' all seat u at y may =
@@ -423,9 +420,9 @@ module _ (laws : LawsBelow) (shape : Shape) where
 
       here_fits : (seat : ℕ) (u : View) → seat ≡ id → knower v h ≡ u → (z : Side) → SeatKnows h h owner seat u z
       here_fits seat u is same P = subst (λ (t : View). SeatKnows h h owner seat t P) same
-          (record { at = is ∙ putter.at; list = putter.list; known_is = refl; known_by_taker_is = refl; load = no_load P h 0 (open_there laws shape P None v.put h putter.list idle) })
+          (record { at = is ∙ putter.at; list = putter.list; known_is = refl; known_by_taker_is = refl; load = no_load P h 0 (open_there shape P None v.put h putter.list idle) })
       here_fits seat u is same C = subst (λ (t : View). SeatKnows h h owner seat t C) same
-          (record { at = is ∙ taker.at; list = taker.list; known_is = refl; known_by_taker_is = refl; load = no_load C h 0 (open_there laws shape C None v.taken h taker.list idle') })
+          (record { at = is ∙ taker.at; list = taker.list; known_is = refl; known_by_taker_is = refl; load = no_load C h 0 (open_there shape C None v.taken h taker.list idle') })
 
   pub learns : (count : Shape → ℕ) (IsShown : Shape → List ℕ → List Event → Type 0) (slots id i : ℕ) (me : Me (Unit {0}) View) → me.0.puts ≡ true → me.0.takes ≡ true → IsIdle P me.0.put → IsIdle C me.0.taken
       → Allows (KeptBy count IsShown shape) slots id me i (λ n. n) (λ _. Learned shape me)
@@ -471,12 +468,12 @@ pub first_each : HasSeats (λ _. 0) (joint [] [] [] [] ∷ [])
 first_each P = (joint [] [] [] [], refl, refl)
 first_each C = (joint [] [] [] [], refl, refl)
 
-pub opens : LawsBelow → (shape : Shape) → KeepsFlickerRule shape (opening (first_words shape) [] (joint [] [] [] []))
-opens laws shape = record {
+pub opens : (shape : Shape) → KeepsFlickerRule shape (opening (first_words shape) [] (joint [] [] [] []))
+opens shape = record {
   history = [];
   known = [];
   owner = λ _. 0;
-  ring = ring_empty laws shape;
+  ring = ring_empty shape;
   wide = length-set (set (replicate (word_count shape) 0) FIRST_S 1) (first_r shape) 1 ∙ (length-set (replicate (word_count shape) 0) FIRST_S 1 ∙ length-replicate (word_count shape) 0);
   shows = shows_first shape;
   begins = ([], refl);

@@ -22,15 +22,15 @@ use Rattle.register_core.specs.ScanState.{zero_reads, scan_phrase, row_read_by}
 use Rattle.ring_core.specs.Counts.{Count, first_count, count_bits, batch_phrase}
 use Rattle.ring_core.specs.Puts.{Put, Puts, Stored, Full, stored_in, stored_after, words_phrase, put_phrase, put_phrases, close_phrase, put_program}
 use Rattle.ring_core.specs.Takes.{accesses_before_word, Take, Takes, Item, ItemAfterClose, Empty, End, Open, Closed, taken_in, count_after, words_read, items_phrase, take_phrase, take_phrases, end_phrase, take_program}
-use Rattle.ring_core.specs.Items.{events_in}
-use Rattle.ring_core.specs.Items.{taken_of}
+use Rattle.ring_core.specs.Items.{events_in, taken_of}
 use Rattle.ring_core.specs.CallsAt.{scan_events}
 use Rattle.ring_core.specs.RingLaw.{IsRun, IsInterval, CellsAreQuiet}
 use Rattle.ring_core.proofs.Cells.ItemPlaces.{StoresItem, TakesItem, ItemsAreQuiet}
 use Rattle.ring_core.proofs.Readings.Cuts.{at_most_or_above}
 use Rattle.ring_core.proofs.OwnEvents.{clock_within, clock_rises}
 use Rattle.ring_core.proofs.Machines.Lengths.{length-words}
-use Rattle.ring_core.proofs.CloseReads.{OwnFacts}
+use Rattle.register_core.proofs.Digits.{length-reads}
+use Rattle.bits_core.proofs.LawLemmas.{access_is_made, subhistory_has_place}
 
 -- ---- accesses of cells in a list of accesses
 
@@ -71,11 +71,11 @@ at_parts (x ∷ xs) ys (suc m) j (y, e, f) = elim (at_parts xs ys m j (y, e, f))
   | inr (n, g, at) ↦ inr (n, omega (arith, g), at)
 ]
 
-none-nil : NoCells []
-none-nil m j (y, e, f) = absurd (cc)
-
 none-append : (xs ys : List Made) → NoCells xs → NoCells ys → NoCells (xs ++ ys)
 none-append xs ys a b m j at = elim (at_parts xs ys m j at) [ inl (l, in_xs) ↦ a m j in_xs | inr (n, e, in_ys) ↦ b n j in_ys ]
+
+none-nil : NoCells []
+none-nil m j (y, e, f) = absurd (cc)
 
 none-one : (x : Made) → cell_of x ≡ None → NoCells (x ∷ [])
 none-one x none zero j (y, e, f) = absurd (let same : x ≡ y = cc in let g : None ≡ Some j = sym none ∙ ap cell_of same ∙ f in cc)
@@ -226,10 +226,6 @@ none-close false = none-nil
 
 -- ---- the word of a take
 
-length-reads : (cell item n : ℕ) → length (digit_reads cell item n) ≡ n
-length-reads cell item zero = refl
-length-reads cell item (suc n) = omega (arith, length-reads cell item n, length-append (digit_reads cell item n) (Read (Cell cell n) (digit n item) ∷ []))
-
 in_reads : (shape : Shape) (n : ℕ) (items : List ℕ) (m j : ℕ) → AtCell (words_read shape n items) m j → InWords shape n items m j
 in_reads shape n [] m j (y, e, f) = absurd (cc)
 in_reads shape n (item ∷ items) m j at =
@@ -365,18 +361,18 @@ ends_within h s a start stop r =
 
 -- the word that an access is one of has an interval, which the access lies in
 around :
-    SubhistoryHasPlace → (s : Side) (h : List Event) (m : ℕ) (x : Made) (start stop word long : ℕ) → IsMadeAt s h m x start stop →
+    (s : Side) (h : List Event) (m : ℕ) (x : Made) (start stop word long : ℕ) → IsMadeAt s h m x start stop →
     word ≤ 2 * m → 2 * m + 2 ≤ word + long → (a : ℕ) × (b : ℕ) × IsInterval s h word (word + long - 1) a b × (a ≤ start) × (stop ≤ b)
-around has_place s h m x start stop word long r low high =
+around s h m x start stop word long r low high =
     let begun : 2 * m < length (subhistory s h) = omega (arith, r.start_is.past, clock_within s h (suc start)) in
     let a : ℕ = place_of s h word in
-    let at_a : IsPlaceOf s h word a = has_place s h word (omega (arith, low, begun)) in
+    let at_a : IsPlaceOf s h word a = subhistory_has_place s h word (omega (arith, low, begun)) in
     let before : a ≤ start = in_order s h word (2 * m) a start low at_a r.start_is in
     elim (at_most_or_above (length (subhistory s h)) (word + long - 1)) [
       | inl l ↦ (a, length h, record { begins = at_a; ends = inr (l, refl) }, before, ends_within h s _ start stop r.access)
       | inr l ↦ (
           let b : ℕ = place_of s h (word + long - 1) in
-          let at_b : IsPlaceOf s h (word + long - 1) b = has_place s h (word + long - 1) l in
+          let at_b : IsPlaceOf s h (word + long - 1) b = subhistory_has_place s h (word + long - 1) l in
           let (at_stop, event) = r.ended (omega (arith, l, high)) in
           (a, b, record { begins = at_a; ends = inl at_b }, before, in_order s h (suc (2 * m)) (word + long - 1) stop b (omega (arith, high)) at_stop at_b))
     ]
@@ -385,12 +381,12 @@ around has_place s h m x start stop word long r low high =
 
 -- no access of the producer to a digit of a cell overlaps one of the consumer to a digit of it
 digits_are_quiet :
-    OwnFacts → (shape : Shape) (h : List Event) (puts : Puts) (takes : Takes) → IsRun shape h puts takes → ItemsAreQuiet shape h puts takes →
+    (shape : Shape) (h : List Event) (puts : Puts) (takes : Takes) → IsRun shape h puts takes → ItemsAreQuiet shape h puts takes →
     (j d d' : ℕ) (a a' : Access) (start stop start' stop' : ℕ) → IsAccess h P a start stop → bit_of a ≡ Cell j d →
     IsAccess h C a' start' stop' → bit_of a' ≡ Cell j d' → ¬ Overlap start stop start' stop'
-digits_are_quiet facts shape h puts takes run words j d d' a a' start stop start' stop' p of_p c of_c (not_after, not_before) =
-    let (m, x, x_at, x_is, made) = facts.accesses P h (put_program shape puts) run.puts_follow.events a start stop p in
-    let (m', y, y_at, y_is, made') = facts.accesses C h (take_program shape takes) run.takes_follow.events a' start' stop' c in
+digits_are_quiet shape h puts takes run words j d d' a a' start stop start' stop' p of_p c of_c (not_after, not_before) =
+    let (m, x, x_at, x_is, made) = access_is_made P h (put_program shape puts) run.puts_follow.events a start stop p in
+    let (m', y, y_at, y_is, made') = access_is_made C h (take_program shape takes) run.takes_follow.events a' start' stop' c in
     let x_cell : cell_of x ≡ Some j = cell_is x ∙ ap (λ e. cell_number (bit_of e)) x_is ∙ ap cell_number of_p in
     let y_cell : cell_of y ≡ Some j = cell_is y ∙ ap (λ e. cell_number (bit_of e)) y_is ∙ ap cell_number of_c in
     elim (at_parts (put_phrases shape first_count puts.puts) (close_phrase puts.closes) m j (x, x_at, x_cell)) [
@@ -428,15 +424,15 @@ digits_are_quiet facts shape h puts takes run words j d d' a a' start stop start
               number = refl;
               reads = refl;
             } in
-            let (from, to, on, from_l, to_l) = around facts.has_place P h m x start stop word (2 * width_of shape) made (omega (arith, r.low)) (omega (arith, r.high)) in
-            let (from', to', off, from_l', to_l') = around facts.has_place C h m' y start' stop' word' (2 * width_of shape) made' (omega (arith, q.low)) (omega (arith, q.high)) in
+            let (from, to, on, from_l, to_l) = around P h m x start stop word (2 * width_of shape) made (omega (arith, r.low)) (omega (arith, r.high)) in
+            let (from', to', off, from_l', to_l') = around C h m' y start' stop' word' (2 * width_of shape) made' (omega (arith, q.low)) (omega (arith, q.high)) in
             words _ r.item word _ stores _ q.item word' _ takes_it (r.cell ∙ sym q.cell) from to from' to' on off
             ((λ e. not_after (omega (arith, e, to_l, from_l'))), (λ e. not_before (omega (arith, e, to_l', from_l)))))
       ]
     ]
 
 pub cells_are_quiet :
-    OwnFacts → (shape : Shape) (h : List Event) (puts : Puts) (takes : Takes) → IsRun shape h puts takes → ItemsAreQuiet shape h puts takes →
+    (shape : Shape) (h : List Event) (puts : Puts) (takes : Takes) → IsRun shape h puts takes → ItemsAreQuiet shape h puts takes →
     CellsAreQuiet shape h puts takes
-cells_are_quiet facts shape h puts takes run words j d d' v start stop start' stop' write read =
-    digits_are_quiet facts shape h puts takes run words j d d' (begins.Write (Cell j d) v) (begins.Read (Cell j d')) start stop start' stop' write refl read refl
+cells_are_quiet shape h puts takes run words j d d' v start stop start' stop' write read =
+    digits_are_quiet shape h puts takes run words j d d' (begins.Write (Cell j d) v) (begins.Read (Cell j d')) start stop start' stop' write refl read refl

@@ -21,8 +21,9 @@ use Rattle.ring_core.proofs.OverSpans.LookSpans.{Look, words_read, word_part, co
 use Rattle.ring_core.proofs.Readings.Phrases.{length-digit_writes, at_or_below}
 use Rattle.ring_core.proofs.Machines.Lengths.{length-word_write, length-word_read, length-words}
 use Rattle.ring_core.proofs.Cells.CellTimes.{to_cell, to_cell-append, to_cell-there, where_in, none_there, none_to_cell, no_cells-scan, no_cells-count, own_cell, look_to_cell, word_to_cell, length-word_writes, stored_to, items_here, cell_items}
-use Rattle.ring_core.proofs.OverSpans.Looks.{after_counts, length-words_read}
+use Rattle.ring_core.proofs.OverSpans.Looks.{after_counts, length-words_read, word_length as length-part}
 use Rattle.ring_core.proofs.Readings.Cuts.{at_most_or_above}
+use Rattle.ring_core.proofs.Readings.Parts.{never as none_in_nil}
 
 -- ---- the order of spans
 
@@ -102,10 +103,6 @@ only_one : (y : Made) (before : List Made) (x : Made) (after : List Made) → y 
 only_one y [] x after e = (refl, cc)
 only_one y (z ∷ []) x after e = absurd (cc)
 only_one y (z ∷ w ∷ before) x after e = absurd (cc)
-
-none_in_nil : (before : List Made) (x : Made) (after : List Made) → [] ≡ before ++ x ∷ after → ⊥
-none_in_nil [] x after e = cc
-none_in_nil (y ∷ before) x after e = cc
 
 -- the writes of the first w digits, and of the next one
 digits-snoc : (c item w : ℕ) → writes_in (Cell c) (digit_writes item (suc w)) ≡ writes_in (Cell c) (digit_writes item w) ++ Write (Cell c w) (digit w item) ∷ []
@@ -454,12 +451,6 @@ digit_time width all front back j item place count d is place_is written l =
     }
 
 -- ---- words of both sides
-
-length-part : (s : Side) (shape : Shape) (n : ℕ) (o : Outcome) → 1 ≤ counts o → length (word_part s shape n o) ≡ counts o * width_of shape
-length-part P shape n (Passes items) e = length-words shape n items
-length-part C shape n (Passes items) e = length-words_read shape n items
-length-part s shape n Stops e = absurd (omega (arith, e))
-length-part s shape n (Asks answer) e = absurd (omega (arith, e))
 
 -- a span that counts items has two events for each digit of their words
 pub word_events :

@@ -21,6 +21,7 @@ use Rattle.ring_core.specs.Puts.{words_phrase}
 use Rattle.ring_core.proofs.OverSpans.Spans.{Outcome, Passes, Stops, Asks, Span, counts, items_of, whole, IsSpanAt}
 use Rattle.ring_core.proofs.OverSpans.LookSpans.{Look, word_part, count_part, look_number, after_look, look_accesses, span_of, spans}
 use Rattle.ring_core.proofs.Readings.Phrases.{length-digit_writes}
+pub use Rattle.register_core.proofs.Items.{length-word_writes}
 
 -- the writes to the digits of a cell among accesses of the producer
 abbrev pub to_cell : ℕ → List Made → List RowWrite
@@ -166,18 +167,6 @@ word_writes-append width [] ys = refl
 word_writes-append width (x ∷ xs) ys =
     ap (λ l. digit_writes x width ++ l) (word_writes-append width xs ys) ∙
     sym (append_assoc (digit_writes x width) (word_writes width xs) (word_writes width ys))
-
--- a word write has as many writes as digits
-pub length-word_writes : (width : ℕ) (xs : List ℕ) → length (word_writes width xs) ≡ length xs * width
-length-word_writes width [] = omega arith
-length-word_writes width (x ∷ xs) =
-    omega (
-      arith,
-      length-append (digit_writes x width) (word_writes width xs),
-      length-digit_writes x width,
-      length-word_writes width xs,
-      suc-mul (length xs) width,
-    )
 
 -- so the writes of words are those of the items that are stored to it
 pub words_to_cell :

@@ -23,21 +23,9 @@ use Rattle.register_core.specs.WordLaw.{number_in_cell, cell_write, cell_writes}
 use Rattle.ring_core.proofs.Machines.Following.{events_of-append, length-events}
 use Rattle.ring_core.proofs.Readings.Cuts.{cut}
 use Rattle.ring_core.proofs.Cells.CellTimes.{to_cell, own_number}
+use Rattle.register_core.proofs.RowWrites.{row_write-got as no_row-answer, row_write-read as no_row-read, row_write-wrote as no_row-end}
 
 -- ---- only the producer writes cells
-
--- what is no begin of a write writes to no row
-no_row-read : (n : Option ℕ) → row_write n ReadBegin ≡ None
-no_row-read None = refl
-no_row-read (Some i) = refl
-
-no_row-answer : (n : Option ℕ) (v : Bool) → row_write n (ReadEnd v) ≡ None
-no_row-answer None v = refl
-no_row-answer (Some i) v = refl
-
-no_row-end : (n : Option ℕ) → row_write n WriteEnd ≡ None
-no_row-end None = refl
-no_row-end (Some i) = refl
 
 -- an event that is not the producer's is no write to a cell
 not_cell : (j : ℕ) (s : Side) (b : Bit) (a : Act) → s ≡ doer b a → same_side P s ≡ false → row_write (number_in_cell j b) a ≡ None

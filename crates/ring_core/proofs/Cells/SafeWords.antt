@@ -27,11 +27,13 @@ use Rattle.ring_core.proofs.Readings.Cuts.{at_most_or_above}
 use Rattle.ring_core.proofs.OverSpans.Gates.{Clock, clock_up, clock_p, clock_c}
 use Rattle.ring_core.proofs.HistoryClocks.{clocks_of}
 use Rattle.ring_core.proofs.OwnEvents.{clock_within, one_place}
-use Rattle.ring_core.proofs.CloseReads.{OwnFacts}
 use Rattle.ring_core.proofs.Cells.CellTimes.{to_cell, looks_to_cell, cell_items, ItemsFit, cell_items_fit}
 use Rattle.ring_core.proofs.Cells.CellPlaces.{doubled, words_order, multiple_up, CellTime, cell_time, WordTime, word_time, DigitTime, digit_time, word_events, ReadTime, read_time}
 use Rattle.ring_core.proofs.Machines.Batches.{fits_at}
 use Rattle.ring_core.proofs.Cells.CellWrites.{writes_before, write_is_counted, write_is_counted_at_end}
+use Rattle.ring_core.proofs.OverSpans.SpanItems.{within_items as counted_within}
+use Rattle.bits_core.proofs.LawLemmas.{access_is_made, made_is_access, subhistory_has_place}
+use Rattle.register_core.proofs.LawLemmas.{reads_are_made_words, word_is_safe, writes_are_made_cells}
 
 -- a close writes to no cell
 pub close_to_cell : (closes : Bool) (j : ℕ) → to_cell j (close_phrase closes) ≡ []
@@ -45,11 +47,6 @@ stored_within : (xs : List ℕ) (i item : ℕ) → slice_get xs i ≡ Some item 
 stored_within [] i item e = absurd (cc)
 stored_within (x ∷ xs) zero item e = omega arith
 stored_within (x ∷ xs) (suc i) item e = omega (arith, stored_within xs i item e)
-
-counted_within : (o : Outcome) (i item : ℕ) → slice_get (items_of o) i ≡ Some item → i < counts o
-counted_within (Passes items) i item e = stored_within items i item e
-counted_within Stops i item e = absurd (cc)
-counted_within (Asks answer) i item e = absurd (cc)
 
 -- what stands in a list, with what is before it and after it
 split_at :
@@ -79,8 +76,7 @@ larger_multiple a b w l =
     let sum : suc a + c ≡ b = omega (arith, l) in
     omega (arith, ap (λ k. k * w) sum, add-mul (suc a) c w, suc-mul a w)
 
-module _ (facts : OwnFacts) (word_is_safe : WordIsSafe) (writes_made : CellWritesAreMade) (reads_made : WordReadsAreMade)
-    (shape : Shape) (h : List Event) (lawful : IsLawful shape h) (looks looks' : List Look) (behind : List Made)
+module _ (shape : Shape) (h : List Event) (lawful : IsLawful shape h) (looks looks' : List Look) (behind : List Made)
     (none : (j : ℕ) → to_cell j behind ≡ [])
     (follows : IsPrefix (subhistory P h) (events_of P (look_accesses P shape first_count looks behind)))
     (follows' : IsPrefix (subhistory C h) (events_of C (look_accesses C shape first_count looks' [])))
@@ -144,7 +140,7 @@ module _ (facts : OwnFacts) (word_is_safe : WordIsSafe) (writes_made : CellWrite
       let g : DigitTime all j d item place (r.nth * width) = digit_time width all r.front r.back j item place (r.nth * width) d r.is r.place_is r.written l in
       let x : Made = Write (Cell j d) (digit d item) in
       let there : slice_get all (length g.before) ≡ Some x = ap (λ m. slice_get m (length g.before)) g.is ∙ stands_there g.before x g.after in
-      let (stop, made_at) = facts.made P h all follows (length g.before) x there (omega (arith, g.place_is, begun)) in
+      let (stop, made_at) = made_is_access P h all follows (length g.before) x there (omega (arith, g.place_is, begun)) in
       let start : ℕ = place_of P h (2 * length g.before) in
       record {
         start = start;
@@ -194,7 +190,7 @@ module _ (facts : OwnFacts) (word_is_safe : WordIsSafe) (writes_made : CellWrite
   put_of : (j n start stop : ℕ) → IsWordWrite width j h n start stop → PutOf j n start
   put_of j n start stop w =
       let d : ℕ = w.first.number in
-      let (m, x, x_at, x_is, place) = facts.accesses P h all follows (begins.Write (Cell j d) w.first.value) start w.first_stop w.first.write in
+      let (m, x, x_at, x_is, place) = access_is_made P h all follows (begins.Write (Cell j d) w.first.value) start w.first_stop w.first.write in
       let (before, after, is, places) = split_at all m x x_at in
       let g : CellTime shape looks first_count j d (2 * length before) = cell_time shape first_count looks behind before x after j d w.first.value (none j) is x_is in
       let zero_more : 0 + (g.number + g.index) ≡ g.number + g.index = omega arith in
@@ -381,19 +377,19 @@ module _ (facts : OwnFacts) (word_is_safe : WordIsSafe) (writes_made : CellWrite
     first_place : begins_at 0 ≡ first
     first_place =
         let below : from < length (subhistory C h) = omega (arith, all_come, end_from, some_digit) in
-        ap (place_of C h) (omega (arith, read_accesses.place_is)) ∙ sym (one_place facts.has_place C h from first first_is)
+        ap (place_of C h) (omega (arith, read_accesses.place_is)) ∙ sym (one_place C h from first first_is)
 
     last_place : ends_at (width - 1) ≡ last
     last_place =
         ap (place_of C h) (omega (arith, read_accesses.place_is, end_from, some_digit)) ∙
-        sym (one_place facts.has_place C h e last last_is)
+        sym (one_place C h e last last_is)
 
     item_fits : item < 2 ^ width
     item_fits = (fits_at shape (items_of x.outcome) i item (fits' s k x stands) at).0
 
     word_is_read : IsWordRead width cell h begins_at ends_at item
     word_is_read =
-        reads_made h (look_accesses C shape first_count looks' []) follows' read_accesses.front read_accesses.back width cell item
+        reads_are_made_words h (look_accesses C shape first_count looks' []) follows' read_accesses.front read_accesses.back width cell item
         item_fits read_accesses.is (omega (arith, all_come, end_from, read_accesses.place_is))
 
     in_order : first < last
@@ -455,7 +451,7 @@ module _ (facts : OwnFacts) (word_is_safe : WordIsSafe) (writes_made : CellWrite
     cell_is_written : WritesWords width cell h items
     cell_is_written =
         subst (λ l. IsPrefix (cell_writes cell h) l) (looks_to_cell shape cell first_count looks behind (none cell))
-        (writes_made shape h lawful all follows cell)
+        (writes_are_made_cells shape h lawful all follows cell)
 
     -- it gives the item that was written last
     read_gives : item ≡ written

@@ -37,7 +37,7 @@ not_later : (s : Side) (j i : ℕ) (v : Bool) → IsFirst s (digit_access s j (s
 not_later P j i v (k, u, e) = let other : suc i ≡ 0 = cc in omega (arith, other)
 not_later C j i v (k, u, e) = let other : suc i ≡ 0 = cc in omega (arith, other)
 
-writes-append : (row : ℕ → Bit) (xs ys : List RowWrite) → writes_in row (xs ++ ys) ≡ writes_in row xs ++ writes_in row ys
+pub writes-append : (row : ℕ → Bit) (xs ys : List RowWrite) → writes_in row (xs ++ ys) ≡ writes_in row xs ++ writes_in row ys
 writes-append row [] ys = refl
 writes-append row (x ∷ xs) ys = ap (λ l. Write (row x.bit) x.value ∷ l) (writes-append row xs ys)
 

@@ -22,7 +22,6 @@ use Rattle.ring_core.proofs.OverSpans.Timeline.{ended_begun, length-begun_items}
 use Rattle.ring_core.proofs.OverSpans.Looks.{proper_puts, proper_takes, puts_items}
 use Rattle.ring_core.proofs.OverSpans.CallSpans.{stands_at}
 use Rattle.ring_core.proofs.CallCounts.{taken_begun_is}
-use Rattle.ring_core.proofs.CloseReads.{OwnFacts}
 use Rattle.ring_core.proofs.HistoryClocks.{clock-zero}
 use Rattle.ring_core.proofs.OwnEvents.{clock_within, clock_end, clock_rises}
 use Rattle.ring_core.proofs.Linear.Turns.{In, PutOp, TakeOp, Tallies}
@@ -71,7 +70,7 @@ all_taken shape c (Empty seen ∷ takes) t l =
     let both = length-append (take_phrase shape c x) (take_phrases shape c takes) in
     all_taken shape (count_after shape c x) takes (t - long) (omega (arith, l, both))
 
-module _ (facts : OwnFacts) (shape : Shape) (h : List Event) (puts : Puts) (takes : Takes) (run : IsRun shape h puts takes) (law : LawOfSpans shape h puts takes) where
+module _ (shape : Shape) (h : List Event) (puts : Puts) (takes : Takes) (run : IsRun shape h puts takes) (law : LawOfSpans shape h puts takes) where
   abbrev xs : List PutOp
   xs = put_turns shape first_count 0 puts.puts puts.closes (length (subhistory P h))
 
@@ -154,10 +153,10 @@ module _ (facts : OwnFacts) (shape : Shape) (h : List Event) (puts : Puts) (take
   ordered : Ordered h (capacity_of shape) (queue [] false) xs ys
   ordered =
       let put_holds =
-      puts_hold facts shape h puts takes law (proper_puts shape puts run.puts_follow.are) (proper_takes shape takes run.takes_follow.are) first_count 0 puts.puts puts.closes
+      puts_hold shape h puts takes law (proper_puts shape puts run.puts_follow.are) (proper_takes shape takes run.takes_follow.are) first_count 0 puts.puts puts.closes
       (λ s n x st. stands_at (put_spans shape puts) s (0 + s) n (0 + n) x (omega arith) (omega arith) st) (omega arith) (omega arith) in
       let take_holds =
-      takes_hold facts shape h puts takes law (proper_takes shape takes run.takes_follow.are) first_count 0 takes.takes takes.end
+      takes_hold shape h puts takes law (proper_takes shape takes run.takes_follow.are) first_count 0 takes.takes takes.end
       (λ s n x st. stands_at (take_spans shape takes) s (0 + s) n (0 + n) x (omega arith) (omega arith) st) told in
       let (rest, same) = taken_from (items_put shape first_count puts.puts (length (subhistory P h))) taken 0 ys takes_numbered (λ y i. (take_holds y i).1) in
       goes h (capacity_of shape) events stored taken (counts_begun (put_spans shape puts)) (counts_ended (put_spans shape puts)) (counts_begun (take_spans shape takes))

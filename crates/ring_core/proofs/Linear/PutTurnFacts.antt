@@ -20,11 +20,11 @@ use Rattle.ring_core.proofs.CountRow.{past_is}
 use Rattle.ring_core.proofs.OverSpans.Timeline.{AllProper, begun_at, begun_up, begun_all, ended_up, in_all}
 use Rattle.ring_core.proofs.OverSpans.CallSpans.{three, stands_at}
 use Rattle.ring_core.proofs.CallCounts.{ended_counts}
-use Rattle.ring_core.proofs.CloseReads.{OwnFacts}
 use Rattle.ring_core.proofs.OwnEvents.{clock_rises}
 use Rattle.ring_core.proofs.Linear.Turns.{In, Fulls, Closes, IsEnqueue, PutOp, PutFact, enqueue_not_full, enqueue_not_close}
 use Rattle.ring_core.proofs.Linear.OneOrder.{PutsNumbered, items_put_by, IsClosedBy}
 use Rattle.ring_core.proofs.Linear.PutTurns.{if_yes, if_no, by_test, in_append, in_if, lt_says, lt_denies, le_says, begun_past_count, begun_before_count, begun_of_none, begun_counts, put_turn, enqueue_turns, put_long, until_count, put_turns, put_turns-none, put_some, before_put_ends, enqueue_of}
+use Rattle.bits_core.proofs.LawLemmas.{subhistory_has_place}
 
 -- the place of an own event is the last at which no more events have come
 pub last_place : (s : Side) (h : List Event) (i place t : ℕ) → IsPlaceOf s h i place → clock s h t ≤ i → t ≤ place
@@ -160,7 +160,7 @@ put_turns-closed shape c start (Full seen ∷ puts) t l =
 
 -- ---- what holds of each
 
-module _ (facts : OwnFacts) (shape : Shape) (h : List Event) (puts : Puts) (takes : Takes) (law : LawOfSpans shape h puts takes)
+module _ (shape : Shape) (h : List Event) (puts : Puts) (takes : Takes) (law : LawOfSpans shape h puts takes)
     (proper_puts : AllProper (batch_of shape) (put_spans shape puts)) (proper_takes : AllProper (take_batch_of shape) (take_spans shape takes)) where
   -- the events of all puts
   abbrev all_events : ℕ
@@ -250,7 +250,7 @@ module _ (facts : OwnFacts) (shape : Shape) (h : List Event) (puts : Puts) (take
             let (holds, k) = in_if x (nat_le stop t) (put_turn c.number Fulls start stop ∷ []) j in
             let over : stop ≤ t = le_says stop t holds in
             let first : ℕ = place_of P h start in
-            let is_first : IsPlaceOf P h start first = facts.has_place P h start (omega (arith, over, some)) in
+            let is_first : IsPlaceOf P h start first = subhistory_has_place P h start (omega (arith, over, some)) in
             let few = law.full start c.number y st refl (omega (arith, over)) first is_first in
             elim k [
               | inl g ↦ subst IsPut (sym g) ((

@@ -21,14 +21,14 @@ use Rattle.ring_core.proofs.OverSpans.RingOfSpans.{LawOfSpans}
 use Rattle.ring_core.proofs.OverSpans.Timeline.{AllProper, ended_begun, begun_at, begun_up}
 use Rattle.ring_core.proofs.OverSpans.CallSpans.{stands_at, take_phrase-item, take_phrase-after, take_phrase-empty}
 use Rattle.ring_core.proofs.CallCounts.{ended_counts, phrase_some}
-use Rattle.ring_core.proofs.CloseReads.{OwnFacts}
 use Rattle.ring_core.proofs.OwnEvents.{clock_end}
 use Rattle.ring_core.proofs.Linear.Turns.{In, Empties, Ends, IsEnd, TakeOp, TakeFact}
 use Rattle.ring_core.proofs.Linear.PutTurns.{in_append, in_if, le_says}
 use Rattle.ring_core.proofs.Linear.PutTurnFacts.{last_place}
 use Rattle.ring_core.proofs.Linear.TakeTurns.{take_turn, dequeue_turns, dequeue_of, take_long, end_long, take_turns, item_until, after_until, end_some, ItemIs}
+use Rattle.bits_core.proofs.LawLemmas.{subhistory_has_place}
 
-module _ (facts : OwnFacts) (shape : Shape) (h : List Event) (puts : Puts) (takes : Takes) (law : LawOfSpans shape h puts takes)
+module _ (shape : Shape) (h : List Event) (puts : Puts) (takes : Takes) (law : LawOfSpans shape h puts takes)
     (proper_takes : AllProper (take_batch_of shape) (take_spans shape takes)) where
   abbrev all_events : ℕ
   all_events = events_in (put_phrases shape first_count puts.puts)
@@ -75,7 +75,7 @@ module _ (facts : OwnFacts) (shape : Shape) (h : List Event) (puts : Puts) (take
 
   -- the place where an operation begins
   first_at : (start : ℕ) → start < length (subhistory C h) → IsPlaceOf C h start (place_of C h start)
-  first_at start l = facts.has_place C h start l
+  first_at start l = subhistory_has_place C h start l
 
   -- a take of items, by its first span, and that which has its count write
   dequeue_holds :

@@ -1,6 +1,6 @@
 -- The operations of the consumer's calls, with their numbers: their order, and what holds of each in a run.
 use Rattle.std.proofs.Common.{◌≡◌, inl, inr, ℕ, suc, ◌+◌, ◌-◌, ◌<◌, ◌≤◌, Bool, true, false, nat_lt, nat_le, if◌then◌else◌, Some, List, [], ◌∷◌, ◌++◌, length, drop, refl, sym, ap, ap₂, subst, ◌∙◌, arith, length-append, drop-cons}
-use Rattle.std.specs.Prelude.{slice_get}
+use Rattle.std.specs.Prelude.{slice_get, map}
 use Rattle.std.proofs.lemmas.Option.{slice_get_within, get_or_from_slice_get}
 use Rattle.bits_core.specs.declared.events.Side.TheVariants.{C}
 use Rattle.bits_core.specs.declared.events.Bit.TheVariants.{X}
@@ -11,7 +11,6 @@ use Rattle.register_core.specs.ScanState.{scan_phrase, row_read_by}
 use Rattle.ring_core.specs.Takes.{Take, Item, ItemAfterClose, Empty, End, Open, Closed, taken_after, count_after, words_read, take_phrase, end_phrase}
 use Rattle.ring_core.specs.Counts.{Count, number_past}
 use Rattle.queue_calls.specs.Queue.{Dequeue}
-use Rattle.std.specs.Prelude.{map}
 use Rattle.ring_core.proofs.CountRow.{past_is}
 use Rattle.ring_core.specs.Items.{events_in}
 use Rattle.ring_core.proofs.EndedCounts.{take_before_count, taken_begun}

@@ -358,7 +358,7 @@ whole_words p calls look front reads x made item cell_is made_is all =
     ap (λ l. front ++ l) (append_assoc scans words word ∙ ap (λ l. scans ++ l) (sym (words_read-push p.shape n p.items item)) ∙
     sym (append-nil (scans ++ words_read p.shape n (p.items ++ item ∷ []))))
 
-item_fits : (shape : Shape) (items : List ℕ) (item : ℕ) → AllFit shape items → item < 2 ^ width_of shape → AllFit shape (items ++ item ∷ [])
+pub item_fits : (shape : Shape) (items : List ℕ) (item : ℕ) → AllFit shape items → item < 2 ^ width_of shape → AllFit shape (items ++ item ∷ [])
 item_fits shape items item fit last = fit-push shape items item fit (last, tt)
 
 -- it is over, and the next one begins

@@ -32,6 +32,7 @@ use Rattle.ring_core.proofs.Machines.Batches.{far_from}
 use Rattle.ring_core.proofs.Machines.NextParts.{begins_more, begins_behind, length-part, scan_due, scan_reads, scan_goes_on, answered_write, first_writes}
 use Rattle.ring_core.proofs.Machines.TakeCalls.{are-push, are-last, are-end, end-sees_none, program_open, program-push, calls_are_count, values_writes-push, words_read-append, zeros, zeros-long, zeros-fit, fit-append, take_of, take_of-is, take_of-phrase}
 use Rattle.ring_core.proofs.Machines.ConsumerMoves.{made_at, open_at}
+use Rattle.ring_core.proofs.Recorded.RecordedStates.{few_items as takes_few}
 
 -- ---- beginnings of one take more
 
@@ -138,11 +139,6 @@ begins_rescan shape wanted some few calls made part seen again are o sees below 
     ]
 
 -- ---- how many accesses a take has
-
-takes_few : (shape : Shape) (k wanted : ℕ) (x : Take) → IsTakeOf shape k wanted x → length (taken_of x) ≤ wanted
-takes_few shape k wanted (Item seen items) (few, all) = few
-takes_few shape k wanted (ItemAfterClose seen again items) (few, all) = few
-takes_few shape k wanted (Empty seen) of = omega arith
 
 -- a take that goes on has not had its most
 pub begins_short :
@@ -272,7 +268,7 @@ next_rescan p calls made due e stands taking scans due_is =
     begins_rescan p.shape p.wanted taking.some taking.few calls (made ++ x) (checked ++ (reads ++ x)) seen c stands.are o sees below (ap (λ l. l ++ x) made_is ∙ longer front checked reads x)
     (subst (λ l. IsPrefix (checked ++ (reads ++ x)) l) (append_assoc scan (Read X true ∷ []) again) (begins_behind checked (reads ++ x) again begins_c)))
 
-read_due : (r : ReaderState) → r.read < r.width → due_read r ≡ Some (begins.Read (Cell r.cell r.read))
+pub read_due : (r : ReaderState) → r.read < r.width → due_read r ≡ Some (begins.Read (Cell r.cell r.read))
 read_due r l = grind (arith, nat_tests)
 
 pub word_right :

@@ -16,13 +16,9 @@ use Rattle.ring_core.specs.Takes.{Item, ItemAfterClose, Empty, words_read, items
 use Rattle.ring_core.specs.Lengths.{longest_take, longest_taking, ItemPutsAreShort, FullPutsAreShort, PutsAreShort, TakesAreShort, EndsAreShort}
 use Rattle.ring_core.proofs.Readings.Phrases.{length-digit_reads, length-digit_writes}
 use Rattle.ring_core.proofs.CountRow.{step_short, batch_short}
+pub use Rattle.register_core.proofs.ScanMachine.{length-zeros as length-zero_reads}
 
 -- ---- phrases
-
--- n reads of 0
-pub length-zero_reads : (row : ℕ → Bit) (n : ℕ) → length (zero_reads row n) ≡ n
-length-zero_reads row zero = refl
-length-zero_reads row (suc n) = omega (arith, length-zero_reads row n, length-append (zero_reads row n) (Read (row n) false ∷ []))
 
 -- a scan that gives c has c + 1 reads
 pub length-scan : (row : ℕ → Bit) (c : ℕ) → length (scan_phrase row c) ≡ suc c

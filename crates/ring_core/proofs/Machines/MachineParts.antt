@@ -17,6 +17,7 @@ use Rattle.ring_core.specs.Calls.{LastBitIsDue, IsScanning, IsCounted, IsBeingCo
 use Rattle.ring_core.specs.Counts.{number_past, Count, IsCount}
 use Rattle.ring_core.proofs.CountRow.{next_modulo, past_is, bits_long}
 use Rattle.ring_core.proofs.Readings.Phrases.{at_or_below}
+use Rattle.register_core.proofs.Stands.{idle as no_first}
 
 -- ---- the scan
 
@@ -37,10 +38,6 @@ scanning shape side old new false is one e f =
     }
 
 -- ---- the count
-
-no_first : (bit_of : ℕ → Bit) (xs : List RowWrite) → first_access bit_of xs ≡ None → xs ≡ []
-no_first bit_of [] e = refl
-no_first bit_of (x ∷ xs) e = absurd (cc)
 
 -- where nothing is due of a unary write, its bit is set and those below are clear
 set_there : (bits : ℕ → Bool) (v : ℕ) (b : Bool) → bits v ≡ b → unary_phrase bits v ≡ [] → bits v ≡ true

@@ -47,7 +47,7 @@ begins_put shape items calls made part x are o of is made_is (rest, e) =
       (rest, ap (λ l. l ++ rest) made_is ∙ append_assoc front part rest ∙ ap (λ l. front ++ l) e ∙ sym (program-push shape calls x)),
     )
 
-room_or_none : (shape : Shape) (n c : ℕ) → LeavesRoom shape n c ⊎ (LeavesRoom shape n c → ⊥)
+pub room_or_none : (shape : Shape) (n c : ℕ) → LeavesRoom shape n c ⊎ (LeavesRoom shape n c → ⊥)
 room_or_none shape n c = less_or_not (distance (modulus_of shape) n c) (capacity_of shape)
   where
     less_or_not : (a b : ℕ) → (a < b) ⊎ (a < b → ⊥)

@@ -41,36 +41,35 @@ stored_is_count : (shape : Shape) (c : Count) (x : Put) → IsCount shape c → 
 stored_is_count shape c (Stored seen items) is = counted_is_count shape c items
 stored_is_count shape c (Full seen) is = is
 
-module _ (tell : DigitsTellItems) where
-  -- calls that begin with a put
-  same_put :
-      (shape : Shape) (c : Count) (x : Put) (ys : List Put) (b : Bool) (zs : List Made) → IsCount shape c → IsPut shape c.number x → ArePuts shape c.number ys →
-      put_phrase shape c x ++ zs ≡ puts_from shape c ys b → (more : List Put) × (ys ≡ x ∷ more)
-  same_put shape c (Stored u i) ys b zs is p q e =
-      let count : List Made = batch_phrase shape P c i in
-      let words : List Made = words_phrase shape c.number i in
-      same_stored tell shape c u i ys b (count ++ zs) is p q (count_first shape c i zs is p.2)
-      (sym (append_assoc (scan u ++ words) count zs) ∙ e)
-  same_put shape c (Full u) ys b zs is p q e = same_full tell shape c u ys b zs p q e
+-- calls that begin with a put
+same_put :
+    (shape : Shape) (c : Count) (x : Put) (ys : List Put) (b : Bool) (zs : List Made) → IsCount shape c → IsPut shape c.number x → ArePuts shape c.number ys →
+    put_phrase shape c x ++ zs ≡ puts_from shape c ys b → (more : List Put) × (ys ≡ x ∷ more)
+same_put shape c (Stored u i) ys b zs is p q e =
+    let count : List Made = batch_phrase shape P c i in
+    let words : List Made = words_phrase shape c.number i in
+    same_stored shape c u i ys b (count ++ zs) is p q (count_first shape c i zs is p.2)
+    (sym (append_assoc (scan u ++ words) count zs) ∙ e)
+same_put shape c (Full u) ys b zs is p q e = same_full shape c u ys b zs p q e
 
-  behind :
-      (shape : Shape) (c : Count) (xs ys : List Put) (b : Bool) (zs : List Made) → IsCount shape c → ArePuts shape c.number xs → ArePuts shape c.number ys →
-      put_phrases shape c xs ++ zs ≡ puts_from shape c ys b → From shape (stored_count shape c xs) zs
-  behind shape c [] ys b zs is p q e = record { puts = ys; close = b; is_count = is; are = q; rest_is = e }
-  behind shape c (x ∷ xs) ys b zs is p q e =
-      let phrase : List Made = put_phrase shape c x in
-      let after : Count = stored_after shape c x in
-      let front : phrase ++ (put_phrases shape after xs ++ zs) ≡ puts_from shape c ys b = sym (append_assoc phrase (put_phrases shape after xs) zs) ∙ e in
-      let (more, same) = same_put shape c x ys b (put_phrases shape after xs ++ zs) is p.0 q front in
-      let are : ArePuts shape c.number (x ∷ more) = subst (ArePuts shape c.number) same q in
-      let rest : put_phrases shape after xs ++ zs ≡ puts_from shape after more b =
-      append_cancel_left phrase (put_phrases shape after xs ++ zs) (puts_from shape after more b)
-      (front ∙ ap (λ l. puts_from shape c l b) same ∙ append_assoc phrase (put_phrases shape after more) (close_phrase b)) in
-      behind shape after xs more b zs (stored_is_count shape c x is) p.1 are.1 rest
+behind :
+    (shape : Shape) (c : Count) (xs ys : List Put) (b : Bool) (zs : List Made) → IsCount shape c → ArePuts shape c.number xs → ArePuts shape c.number ys →
+    put_phrases shape c xs ++ zs ≡ puts_from shape c ys b → From shape (stored_count shape c xs) zs
+behind shape c [] ys b zs is p q e = record { puts = ys; close = b; is_count = is; are = q; rest_is = e }
+behind shape c (x ∷ xs) ys b zs is p q e =
+    let phrase : List Made = put_phrase shape c x in
+    let after : Count = stored_after shape c x in
+    let front : phrase ++ (put_phrases shape after xs ++ zs) ≡ puts_from shape c ys b = sym (append_assoc phrase (put_phrases shape after xs) zs) ∙ e in
+    let (more, same) = same_put shape c x ys b (put_phrases shape after xs ++ zs) is p.0 q front in
+    let are : ArePuts shape c.number (x ∷ more) = subst (ArePuts shape c.number) same q in
+    let rest : put_phrases shape after xs ++ zs ≡ puts_from shape after more b =
+    append_cancel_left phrase (put_phrases shape after xs ++ zs) (puts_from shape after more b)
+    (front ∙ ap (λ l. puts_from shape c l b) same ∙ append_assoc phrase (put_phrases shape after more) (close_phrase b)) in
+    behind shape after xs more b zs (stored_is_count shape c x is) p.1 are.1 rest
 
-  from_calls : (shape : Shape) (puts : List Put) (rest : List Made) → ArePuts shape 0 puts → GoesBehind shape puts rest → From shape (count_behind shape puts) rest
-  from_calls shape puts rest are g =
-      behind shape first_count puts g.calls.puts g.calls.closes rest (first_is_count shape) are g.are (sym g.program_is)
+from_calls : (shape : Shape) (puts : List Put) (rest : List Made) → ArePuts shape 0 puts → GoesBehind shape puts rest → From shape (count_behind shape puts) rest
+from_calls shape puts rest are g =
+    behind shape first_count puts g.calls.puts g.calls.closes rest (first_is_count shape) are g.are (sym g.program_is)
 
 -- ---- the next access
 
@@ -158,24 +157,23 @@ record WordsLeft (shape : Shape) (n : ℕ) (items all : List ℕ) (zs tail : Lis
   fit : AllFit shape more
   rest_is : zs ≡ words_phrase shape (number_past n items) more ++ tail
 
-module _ (tell : DigitsTellItems) where
-  words_go_on :
-      (shape : Shape) (n : ℕ) (items all : List ℕ) (zs tail : List Made) → AllFit shape items → AllFit shape all → NoCellFirst tail →
-      words_phrase shape n items ++ zs ≡ words_phrase shape n all ++ tail → WordsLeft shape n items all zs tail
-  words_go_on shape n [] all zs tail f g none e = record { more = all; all_is = refl; fit = g; rest_is = e }
-  words_go_on shape n (x ∷ xs) [] zs tail f g none e = absurd (words_first shape n x xs zs (λ j d v rest is. none j d v rest (sym e ∙ is)))
-  words_go_on shape n (x ∷ xs) (y ∷ ys) zs tail f g none e =
-      let w : ℕ → List Made = word_write (width_of shape) (n % capacity_of shape) in
-      let first : (x ≡ y) × (words_phrase shape (suc n) xs ++ zs ≡ words_phrase shape (suc n) ys ++ tail) =
-      same_word_write tell (width_of shape) (n % capacity_of shape) x y _ _ f.0 g.0
-      (sym (append_assoc (w x) (words_phrase shape (suc n) xs) zs) ∙ e ∙ append_assoc (w y) (words_phrase shape (suc n) ys) tail) in
-      let left : WordsLeft shape (suc n) xs ys zs tail = words_go_on shape (suc n) xs ys zs tail f.1 g.1 none first.1 in
-      record {
-        more = left.more;
-        all_is = ap (λ l. y ∷ l) left.all_is ∙ ap (λ z. z ∷ (xs ++ left.more)) (sym first.0);
-        fit = left.fit;
-        rest_is = left.rest_is;
-      }
+words_go_on :
+    (shape : Shape) (n : ℕ) (items all : List ℕ) (zs tail : List Made) → AllFit shape items → AllFit shape all → NoCellFirst tail →
+    words_phrase shape n items ++ zs ≡ words_phrase shape n all ++ tail → WordsLeft shape n items all zs tail
+words_go_on shape n [] all zs tail f g none e = record { more = all; all_is = refl; fit = g; rest_is = e }
+words_go_on shape n (x ∷ xs) [] zs tail f g none e = absurd (words_first shape n x xs zs (λ j d v rest is. none j d v rest (sym e ∙ is)))
+words_go_on shape n (x ∷ xs) (y ∷ ys) zs tail f g none e =
+    let w : ℕ → List Made = word_write (width_of shape) (n % capacity_of shape) in
+    let first : (x ≡ y) × (words_phrase shape (suc n) xs ++ zs ≡ words_phrase shape (suc n) ys ++ tail) =
+    same_word_write (width_of shape) (n % capacity_of shape) x y _ _ f.0 g.0
+    (sym (append_assoc (w x) (words_phrase shape (suc n) xs) zs) ∙ e ∙ append_assoc (w y) (words_phrase shape (suc n) ys) tail) in
+    let left : WordsLeft shape (suc n) xs ys zs tail = words_go_on shape (suc n) xs ys zs tail f.1 g.1 none first.1 in
+    record {
+      more = left.more;
+      all_is = ap (λ l. y ∷ l) left.all_is ∙ ap (λ z. z ∷ (xs ++ left.more)) (sym first.0);
+      fit = left.fit;
+      rest_is = left.rest_is;
+    }
 
 -- the digits of a word, up to one of them
 digits_split : (y n w : ℕ) → n < w → (rest : List RowWrite) × (digit_writes y w ≡ digit_writes y n ++ record { bit = n; value = digit n y } ∷ rest)
@@ -217,109 +215,108 @@ first_word shape n y ys tail =
     let (rest, e) = word_first (width_of shape) (n % capacity_of shape) y (words_phrase shape (suc n) ys ++ tail) shape.has_digits in
     (rest, append_assoc word (words_phrase shape (suc n) ys) tail ∙ e)
 
-module _ (tell : DigitsTellItems) where
-  -- what a put stores, behind whole words
-  left_words :
-      (shape : Shape) (c : Count) (seen : ℕ) (items : List ℕ) (zs : List Made) → AllFit shape items → (s : StoresFrom shape c seen (words_phrase shape c.number items ++ zs)) →
-      WordsLeft shape c.number items s.items zs (batch_phrase shape P c s.items ++ s.behind_it)
-  left_words shape c seen items zs fit s =
-      words_go_on tell shape c.number items s.items zs (batch_phrase shape P c s.items ++ s.behind_it) fit s.is_put.2.fit
-      (count_first shape c s.items s.behind_it s.is_count s.is_put.2) s.rest_is
+-- what a put stores, behind whole words
+left_words :
+    (shape : Shape) (c : Count) (seen : ℕ) (items : List ℕ) (zs : List Made) → AllFit shape items → (s : StoresFrom shape c seen (words_phrase shape c.number items ++ zs)) →
+    WordsLeft shape c.number items s.items zs (batch_phrase shape P c s.items ++ s.behind_it)
+left_words shape c seen items zs fit s =
+    words_go_on shape c.number items s.items zs (batch_phrase shape P c s.items ++ s.behind_it) fit s.is_put.2.fit
+    (count_first shape c s.items s.behind_it s.is_count s.is_put.2) s.rest_is
 
-  chooses :
-      (shape : Shape) (c : Count) (seen : ℕ) (items : List ℕ) (x : Made) (rest : List Made) → LeavesRoom shape (c.number % modulus_of shape) seen → AllFit shape items →
-      From shape c (scan seen ++ (words_phrase shape c.number items ++ x ∷ rest)) →
-      ((v : Bool) × (x ≡ Write (Cell (number_past c.number items % capacity_of shape) 0) v) ×
-      LeavesRoomFor shape (c.number % modulus_of shape) seen (suc (length items)) × (suc (length items) ≤ batch_of shape)) ⊎
-      ((1 ≤ length items) × (w : RowWrite) × (more : List RowWrite) × (count_bits shape c items ≡ w ∷ more) × (x ≡ count_access w))
-  chooses shape c seen items x rest room fit f =
-      let s = stores shape c seen (words_phrase shape c.number items ++ x ∷ rest) room f in
-      let left = left_words shape c seen items (x ∷ rest) fit s in
-      by_more s left left.more refl
-    where
-      by_more :
-          (s : StoresFrom shape c seen (words_phrase shape c.number items ++ x ∷ rest))
-          (left : WordsLeft shape c.number items s.items (x ∷ rest) (batch_phrase shape P c s.items ++ s.behind_it)) (more : List ℕ) → left.more ≡ more →
-          ((v : Bool) × (x ≡ Write (Cell (number_past c.number items % capacity_of shape) 0) v) ×
-          LeavesRoomFor shape (c.number % modulus_of shape) seen (suc (length items)) × (suc (length items) ≤ batch_of shape)) ⊎
-          ((1 ≤ length items) × (w : RowWrite) × (more : List RowWrite) × (count_bits shape c items ≡ w ∷ more) × (x ≡ count_access w))
-      by_more s left [] e =
-          let all : s.items ≡ items = left.all_is ∙ ap (λ l. items ++ l) e ∙ append-nil items in
-          let is : x ∷ rest ≡ batch_phrase shape P c items ++ s.behind_it =
-          left.rest_is ∙ ap (λ l. words_phrase shape (number_past c.number items) l ++ (batch_phrase shape P c s.items ++ s.behind_it)) e ∙ ap (λ l. batch_phrase shape P c l ++ s.behind_it) all in
-          let batch : IsBatch shape items = subst (IsBatch shape) all s.is_put.2 in
-          let (w, ws, bits) = some_write (count_bits shape c items) (bits_long shape c items s.is_count batch.some (omega (arith, batch.few, batch_below shape))) in
-          let first : x ∷ rest ≡ count_access w ∷ (writes_in (row_bit P) ws ++ s.behind_it) = is ∙ ap (λ l. writes_in (row_bit P) l ++ s.behind_it) bits in
-          inr (batch.some, w, ws, bits, cc)
-      by_more s left (y ∷ ys) e =
-          let tail : List Made = batch_phrase shape P c s.items ++ s.behind_it in
-          let (later, begun) = first_word shape (number_past c.number items) y ys tail in
-          let first : x ∷ rest ≡ Write (Cell (number_past c.number items % capacity_of shape) 0) (digit 0 y) ∷ later =
-          left.rest_is ∙ ap (λ l. words_phrase shape (number_past c.number items) l ++ tail) e ∙ begun in
-          let long : length s.items ≡ length items + suc (length ys) = ap length left.all_is ∙ length-append items left.more ∙ ap (λ l. length items + length l) e in
-          inl (digit 0 y, cc, omega (arith, s.is_put.1, long), omega (arith, s.is_put.2.few, long))
+chooses :
+    (shape : Shape) (c : Count) (seen : ℕ) (items : List ℕ) (x : Made) (rest : List Made) → LeavesRoom shape (c.number % modulus_of shape) seen → AllFit shape items →
+    From shape c (scan seen ++ (words_phrase shape c.number items ++ x ∷ rest)) →
+    ((v : Bool) × (x ≡ Write (Cell (number_past c.number items % capacity_of shape) 0) v) ×
+    LeavesRoomFor shape (c.number % modulus_of shape) seen (suc (length items)) × (suc (length items) ≤ batch_of shape)) ⊎
+    ((1 ≤ length items) × (w : RowWrite) × (more : List RowWrite) × (count_bits shape c items ≡ w ∷ more) × (x ≡ count_access w))
+chooses shape c seen items x rest room fit f =
+    let s = stores shape c seen (words_phrase shape c.number items ++ x ∷ rest) room f in
+    let left = left_words shape c seen items (x ∷ rest) fit s in
+    by_more s left left.more refl
+  where
+    by_more :
+        (s : StoresFrom shape c seen (words_phrase shape c.number items ++ x ∷ rest))
+        (left : WordsLeft shape c.number items s.items (x ∷ rest) (batch_phrase shape P c s.items ++ s.behind_it)) (more : List ℕ) → left.more ≡ more →
+        ((v : Bool) × (x ≡ Write (Cell (number_past c.number items % capacity_of shape) 0) v) ×
+        LeavesRoomFor shape (c.number % modulus_of shape) seen (suc (length items)) × (suc (length items) ≤ batch_of shape)) ⊎
+        ((1 ≤ length items) × (w : RowWrite) × (more : List RowWrite) × (count_bits shape c items ≡ w ∷ more) × (x ≡ count_access w))
+    by_more s left [] e =
+        let all : s.items ≡ items = left.all_is ∙ ap (λ l. items ++ l) e ∙ append-nil items in
+        let is : x ∷ rest ≡ batch_phrase shape P c items ++ s.behind_it =
+        left.rest_is ∙ ap (λ l. words_phrase shape (number_past c.number items) l ++ (batch_phrase shape P c s.items ++ s.behind_it)) e ∙ ap (λ l. batch_phrase shape P c l ++ s.behind_it) all in
+        let batch : IsBatch shape items = subst (IsBatch shape) all s.is_put.2 in
+        let (w, ws, bits) = some_write (count_bits shape c items) (bits_long shape c items s.is_count batch.some (omega (arith, batch.few, batch_below shape))) in
+        let first : x ∷ rest ≡ count_access w ∷ (writes_in (row_bit P) ws ++ s.behind_it) = is ∙ ap (λ l. writes_in (row_bit P) l ++ s.behind_it) bits in
+        inr (batch.some, w, ws, bits, cc)
+    by_more s left (y ∷ ys) e =
+        let tail : List Made = batch_phrase shape P c s.items ++ s.behind_it in
+        let (later, begun) = first_word shape (number_past c.number items) y ys tail in
+        let first : x ∷ rest ≡ Write (Cell (number_past c.number items % capacity_of shape) 0) (digit 0 y) ∷ later =
+        left.rest_is ∙ ap (λ l. words_phrase shape (number_past c.number items) l ++ tail) e ∙ begun in
+        let long : length s.items ≡ length items + suc (length ys) = ap length left.all_is ∙ length-append items left.more ∙ ap (λ l. length items + length l) e in
+        inl (digit 0 y, cc, omega (arith, s.is_put.1, long), omega (arith, s.is_put.2.few, long))
 
-  stores_on :
-      (shape : Shape) (c : Count) (seen : ℕ) (items : List ℕ) (value digits : ℕ) (x : Made) (rest : List Made) → LeavesRoom shape (c.number % modulus_of shape) seen →
-      AllFit shape items → suc digits < width_of shape →
-      From shape c (scan seen ++ (words_phrase shape c.number items ++ (writes_in (Cell (number_past c.number items % capacity_of shape)) (digit_writes value (suc digits)) ++ x ∷ rest))) →
-      (v : Bool) × (x ≡ Write (Cell (number_past c.number items % capacity_of shape) (suc digits)) v)
-  stores_on shape c seen items value digits x rest room fit below f =
-      let cell : ℕ = number_past c.number items % capacity_of shape in
-      let zs : List Made = writes_in (Cell cell) (digit_writes value (suc digits)) ++ x ∷ rest in
-      let s = stores shape c seen (words_phrase shape c.number items ++ zs) room f in
-      let left = left_words shape c seen items zs fit s in
-      by_more s left left.more refl
-    where
-      by_more :
-          (s : StoresFrom shape c seen (words_phrase shape c.number items ++ (writes_in (Cell (number_past c.number items % capacity_of shape)) (digit_writes value (suc digits)) ++ x ∷ rest)))
-          (left : WordsLeft shape c.number items s.items (writes_in (Cell (number_past c.number items % capacity_of shape)) (digit_writes value (suc digits)) ++ x ∷ rest) (batch_phrase shape P c s.items ++ s.behind_it))
-          (more : List ℕ) → left.more ≡ more → (v : Bool) × (x ≡ Write (Cell (number_past c.number items % capacity_of shape) (suc digits)) v)
-      by_more s left [] e =
-          let cell : ℕ = number_past c.number items % capacity_of shape in
-          let tail : List Made = batch_phrase shape P c s.items ++ s.behind_it in
-          let (later, is) = digits_first value (suc digits) (omega arith) in
-          let front : tail ≡ Write (Cell cell 0) (digit 0 value) ∷ (writes_in (Cell cell) later ++ x ∷ rest) =
-          sym (ap (λ l. words_phrase shape (number_past c.number items) l ++ tail) e) ∙ sym left.rest_is ∙ ap (λ l. writes_in (Cell cell) l ++ x ∷ rest) is in
-          absurd (count_first shape c s.items s.behind_it s.is_count s.is_put.2 cell 0 (digit 0 value) _ front)
-      by_more s left (y ∷ ys) e =
-          let cell : ℕ = number_past c.number items % capacity_of shape in
-          let tail : List Made = batch_phrase shape P c s.items ++ s.behind_it in
-          let word : List Made = word_write (width_of shape) cell y in
-          let on = left.rest_is ∙ ap (λ l. words_phrase shape (number_past c.number items) l ++ tail) e ∙ append_assoc word (words_phrase shape (suc (number_past c.number items)) ys) tail in
-          word_next cell (suc digits) (width_of shape) value y x rest (words_phrase shape (suc (number_past c.number items)) ys ++ tail) below on
+stores_on :
+    (shape : Shape) (c : Count) (seen : ℕ) (items : List ℕ) (value digits : ℕ) (x : Made) (rest : List Made) → LeavesRoom shape (c.number % modulus_of shape) seen →
+    AllFit shape items → suc digits < width_of shape →
+    From shape c (scan seen ++ (words_phrase shape c.number items ++ (writes_in (Cell (number_past c.number items % capacity_of shape)) (digit_writes value (suc digits)) ++ x ∷ rest))) →
+    (v : Bool) × (x ≡ Write (Cell (number_past c.number items % capacity_of shape) (suc digits)) v)
+stores_on shape c seen items value digits x rest room fit below f =
+    let cell : ℕ = number_past c.number items % capacity_of shape in
+    let zs : List Made = writes_in (Cell cell) (digit_writes value (suc digits)) ++ x ∷ rest in
+    let s = stores shape c seen (words_phrase shape c.number items ++ zs) room f in
+    let left = left_words shape c seen items zs fit s in
+    by_more s left left.more refl
+  where
+    by_more :
+        (s : StoresFrom shape c seen (words_phrase shape c.number items ++ (writes_in (Cell (number_past c.number items % capacity_of shape)) (digit_writes value (suc digits)) ++ x ∷ rest)))
+        (left : WordsLeft shape c.number items s.items (writes_in (Cell (number_past c.number items % capacity_of shape)) (digit_writes value (suc digits)) ++ x ∷ rest) (batch_phrase shape P c s.items ++ s.behind_it))
+        (more : List ℕ) → left.more ≡ more → (v : Bool) × (x ≡ Write (Cell (number_past c.number items % capacity_of shape) (suc digits)) v)
+    by_more s left [] e =
+        let cell : ℕ = number_past c.number items % capacity_of shape in
+        let tail : List Made = batch_phrase shape P c s.items ++ s.behind_it in
+        let (later, is) = digits_first value (suc digits) (omega arith) in
+        let front : tail ≡ Write (Cell cell 0) (digit 0 value) ∷ (writes_in (Cell cell) later ++ x ∷ rest) =
+        sym (ap (λ l. words_phrase shape (number_past c.number items) l ++ tail) e) ∙ sym left.rest_is ∙ ap (λ l. writes_in (Cell cell) l ++ x ∷ rest) is in
+        absurd (count_first shape c s.items s.behind_it s.is_count s.is_put.2 cell 0 (digit 0 value) _ front)
+    by_more s left (y ∷ ys) e =
+        let cell : ℕ = number_past c.number items % capacity_of shape in
+        let tail : List Made = batch_phrase shape P c s.items ++ s.behind_it in
+        let word : List Made = word_write (width_of shape) cell y in
+        let on = left.rest_is ∙ ap (λ l. words_phrase shape (number_past c.number items) l ++ tail) e ∙ append_assoc word (words_phrase shape (suc (number_past c.number items)) ys) tail in
+        word_next cell (suc digits) (width_of shape) value y x rest (words_phrase shape (suc (number_past c.number items)) ys ++ tail) below on
 
-  counts_on :
-      (shape : Shape) (c : Count) (seen : ℕ) (items : List ℕ) (u w : RowWrite) (writes more : List RowWrite) (x : Made) (rest : List Made) →
-      LeavesRoom shape (c.number % modulus_of shape) seen → AllFit shape items → count_bits shape c items ≡ (u ∷ writes) ++ w ∷ more →
-      From shape c (scan seen ++ (words_phrase shape c.number items ++ (writes_in (row_bit P) (u ∷ writes) ++ x ∷ rest))) → x ≡ count_access w
-  counts_on shape c seen items u w writes more x rest room fit bits f =
-      let zs : List Made = writes_in (row_bit P) (u ∷ writes) ++ x ∷ rest in
-      let s = stores shape c seen (words_phrase shape c.number items ++ zs) room f in
-      let left = left_words shape c seen items zs fit s in
-      by_more s left left.more refl
-    where
-      by_more :
-          (s : StoresFrom shape c seen (words_phrase shape c.number items ++ (writes_in (row_bit P) (u ∷ writes) ++ x ∷ rest)))
-          (left : WordsLeft shape c.number items s.items (writes_in (row_bit P) (u ∷ writes) ++ x ∷ rest) (batch_phrase shape P c s.items ++ s.behind_it))
-          (behind_them : List ℕ) → left.more ≡ behind_them → x ≡ count_access w
-      by_more s left [] e =
-          let tail : List Made = batch_phrase shape P c s.items ++ s.behind_it in
-          let made : List Made = writes_in (row_bit P) (u ∷ writes) in
-          let all : s.items ≡ items = left.all_is ∙ ap (λ l. items ++ l) e ∙ append-nil items in
-          let on : made ++ x ∷ rest ≡ made ++ (writes_in (row_bit P) (w ∷ more) ++ s.behind_it) =
-          left.rest_is ∙ ap (λ l. words_phrase shape (number_past c.number items) l ++ tail) e ∙ ap (λ l. batch_phrase shape P c l ++ s.behind_it) all
-          ∙ ap (λ l. writes_in (row_bit P) l ++ s.behind_it) bits
-          ∙ ap (λ l. l ++ s.behind_it) (map-append (λ (z : RowWrite). Write (row_bit P z.bit) z.value) (u ∷ writes) (w ∷ more))
-          ∙ append_assoc made (writes_in (row_bit P) (w ∷ more)) s.behind_it in
-          let first : x ∷ rest ≡ writes_in (row_bit P) (w ∷ more) ++ s.behind_it = append_cancel_left made (x ∷ rest) (writes_in (row_bit P) (w ∷ more) ++ s.behind_it) on in
-          cc
-      by_more s left (y ∷ ys) e =
-          let tail : List Made = batch_phrase shape P c s.items ++ s.behind_it in
-          let (later, begun) = first_word shape (number_past c.number items) y ys tail in
-          let clash : Write (S u.bit) u.value ∷ (writes_in (row_bit P) writes ++ x ∷ rest) ≡ Write (Cell (number_past c.number items % capacity_of shape) 0) (digit 0 y) ∷ later =
-          left.rest_is ∙ ap (λ l. words_phrase shape (number_past c.number items) l ++ tail) e ∙ begun in
-          absurd (cc)
+counts_on :
+    (shape : Shape) (c : Count) (seen : ℕ) (items : List ℕ) (u w : RowWrite) (writes more : List RowWrite) (x : Made) (rest : List Made) →
+    LeavesRoom shape (c.number % modulus_of shape) seen → AllFit shape items → count_bits shape c items ≡ (u ∷ writes) ++ w ∷ more →
+    From shape c (scan seen ++ (words_phrase shape c.number items ++ (writes_in (row_bit P) (u ∷ writes) ++ x ∷ rest))) → x ≡ count_access w
+counts_on shape c seen items u w writes more x rest room fit bits f =
+    let zs : List Made = writes_in (row_bit P) (u ∷ writes) ++ x ∷ rest in
+    let s = stores shape c seen (words_phrase shape c.number items ++ zs) room f in
+    let left = left_words shape c seen items zs fit s in
+    by_more s left left.more refl
+  where
+    by_more :
+        (s : StoresFrom shape c seen (words_phrase shape c.number items ++ (writes_in (row_bit P) (u ∷ writes) ++ x ∷ rest)))
+        (left : WordsLeft shape c.number items s.items (writes_in (row_bit P) (u ∷ writes) ++ x ∷ rest) (batch_phrase shape P c s.items ++ s.behind_it))
+        (behind_them : List ℕ) → left.more ≡ behind_them → x ≡ count_access w
+    by_more s left [] e =
+        let tail : List Made = batch_phrase shape P c s.items ++ s.behind_it in
+        let made : List Made = writes_in (row_bit P) (u ∷ writes) in
+        let all : s.items ≡ items = left.all_is ∙ ap (λ l. items ++ l) e ∙ append-nil items in
+        let on : made ++ x ∷ rest ≡ made ++ (writes_in (row_bit P) (w ∷ more) ++ s.behind_it) =
+        left.rest_is ∙ ap (λ l. words_phrase shape (number_past c.number items) l ++ tail) e ∙ ap (λ l. batch_phrase shape P c l ++ s.behind_it) all
+        ∙ ap (λ l. writes_in (row_bit P) l ++ s.behind_it) bits
+        ∙ ap (λ l. l ++ s.behind_it) (map-append (λ (z : RowWrite). Write (row_bit P z.bit) z.value) (u ∷ writes) (w ∷ more))
+        ∙ append_assoc made (writes_in (row_bit P) (w ∷ more)) s.behind_it in
+        let first : x ∷ rest ≡ writes_in (row_bit P) (w ∷ more) ++ s.behind_it = append_cancel_left made (x ∷ rest) (writes_in (row_bit P) (w ∷ more) ++ s.behind_it) on in
+        cc
+    by_more s left (y ∷ ys) e =
+        let tail : List Made = batch_phrase shape P c s.items ++ s.behind_it in
+        let (later, begun) = first_word shape (number_past c.number items) y ys tail in
+        let clash : Write (S u.bit) u.value ∷ (writes_in (row_bit P) writes ++ x ∷ rest) ≡ Write (Cell (number_past c.number items % capacity_of shape) 0) (digit 0 y) ∷ later =
+        left.rest_is ∙ ap (λ l. words_phrase shape (number_past c.number items) l ++ tail) e ∙ begun in
+        absurd (cc)
 
 -- ---- the last bit
 
@@ -352,23 +349,22 @@ last-puts_read_one shape calls p made i v rest e last =
     one_at (row_read_by P) (modulus_of shape) made (Read (row_read_by P i) v) rest
     (subst (AllOne (row_read_by P) (modulus_of shape)) e (one-puts shape first_count calls.puts calls.closes p)) i v refl last
 
-module _ (tell : DigitsTellItems) where
-  pub scans-or_closes : ScansOrCloses
-  scans-or_closes shape puts x rest are g = begins_call shape (count_behind shape puts) x rest (from_calls tell shape puts (x ∷ rest) are g)
+pub scans-or_closes : ScansOrCloses
+scans-or_closes shape puts x rest are g = begins_call shape (count_behind shape puts) x rest (from_calls shape puts (x ∷ rest) are g)
 
-  pub scans-on : ScansOn
-  scans-on shape puts zeros x rest are g =
-      goes_on_scanning shape (count_behind shape puts) zeros x rest (from_calls tell shape puts (zero_reads (row_read_by P) (suc zeros) ++ x ∷ rest) are g)
+pub scans-on : ScansOn
+scans-on shape puts zeros x rest are g =
+    goes_on_scanning shape (count_behind shape puts) zeros x rest (from_calls shape puts (zero_reads (row_read_by P) (suc zeros) ++ x ∷ rest) are g)
 
-  pub stores-or_counts : StoresOrCounts
-  stores-or_counts shape puts seen items x rest are room fit g =
-      chooses tell shape (count_behind shape puts) seen items x rest room fit
-      (from_calls tell shape puts (scan seen ++ (words_phrase shape (count_behind shape puts).number items ++ x ∷ rest)) are g)
+pub stores-or_counts : StoresOrCounts
+stores-or_counts shape puts seen items x rest are room fit g =
+    chooses shape (count_behind shape puts) seen items x rest room fit
+    (from_calls shape puts (scan seen ++ (words_phrase shape (count_behind shape puts).number items ++ x ∷ rest)) are g)
 
-  pub stores-on : StoresOn
-  stores-on shape puts seen items value digits x rest are room fit below g =
-      stores_on tell shape (count_behind shape puts) seen items value digits x rest room fit below (from_calls tell shape puts _ are g)
+pub stores-on : StoresOn
+stores-on shape puts seen items value digits x rest are room fit below g =
+    stores_on shape (count_behind shape puts) seen items value digits x rest room fit below (from_calls shape puts _ are g)
 
-  pub counts-on : CountsOn
-  counts-on shape puts seen items u w writes more x rest are room fit bits g =
-      counts_on tell shape (count_behind shape puts) seen items u w writes more x rest room fit bits (from_calls tell shape puts _ are g)
+pub counts-on : CountsOn
+counts-on shape puts seen items u w writes more x rest are room fit bits g =
+    counts_on shape (count_behind shape puts) seen items u w writes more x rest room fit bits (from_calls shape puts _ are g)

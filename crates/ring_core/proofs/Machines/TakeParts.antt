@@ -25,6 +25,7 @@ use Rattle.ring_core.proofs.Machines.TakeCalls.{are-last, end-sees_none, calls_a
 use Rattle.ring_core.proofs.Readings.TakenRead.{from_take, first_takes}
 use Rattle.ring_core.proofs.Readings.TakesFirst.{scan, calls_from, item_first, after_first, empty_first, closed_first}
 use Rattle.ring_core.proofs.Readings.TakesRead.{digits_first}
+use Rattle.ring_core.proofs.Readings.Over.{first_takes as are_front}
 
 -- ---- two lists of accesses
 
@@ -325,59 +326,54 @@ are_behind : (shape : Shape) (c : Count) (xs ys : List Take) (end : End) → Are
 are_behind shape c [] ys end are = are
 are_behind shape c (x ∷ xs) ys end (is, are) = are_behind shape (count_after shape c x) xs ys end are
 
-are_front : (shape : Shape) (c : Count) (xs ys : List Take) (end : End) → AreTakes shape c.number (xs ++ ys) end → AreTakes shape c.number xs Open
-are_front shape c [] ys end are = record {}
-are_front shape c (x ∷ xs) ys end (is, are) = (is, are_front shape (count_after shape c x) xs ys end are)
+-- the takes of one more, behind those that were made, beside those of any
+parts :
+    (shape : Shape) (wanted : ℕ) (calls b : Takes) (part : List Made) (a : Access) (y : Made) (rest later : List Made) (xs : List Take) (end front : End) →
+    AreTakes shape 0 calls.takes front → AreTakes shape 0 b.takes b.end →
+    ((ys : List Take) → AreTakes shape (count_taken shape calls).number ys b.end →
+    AskAnyway shape wanted (calls_from shape (count_taken shape calls) xs end) (calls_from shape (count_taken shape calls) ys b.end)) →
+    ((take_phrases shape first_count calls.takes ++ part) ++ answered a true ∷ []) ++ later ≡ calls_from shape first_count (calls.takes ++ xs) end →
+    take_program shape b ≡ (take_phrases shape first_count calls.takes ++ part) ++ y ∷ rest →
+    (access_of y ≡ a) ⊎ (EndInCellRead (take_phrases shape first_count calls.takes ++ part) × TakesPart shape wanted a (access_of y))
+parts shape wanted calls b part a y rest later xs end front are_calls are beside begins e =
+    let phrases : List Made = take_phrases shape first_count calls.takes in
+    let k : Count = count_taken shape calls in
+    let x : Made = answered a true in
+    let (ys, same) = first_takes shape first_count (first_is_count shape) calls.takes b.takes front b.end (part ++ y ∷ rest) are_calls are
+    (sym (append_assoc phrases part (y ∷ rest)) ∙ sym e) in
+    let are_ys : AreTakes shape k.number ys b.end = are_behind shape first_count calls.takes ys b.end (subst (λ l. AreTakes shape 0 l b.end) same are) in
+    let left : part ++ x ∷ later ≡ calls_from shape k xs end =
+    append_cancel_left phrases (part ++ x ∷ later) (calls_from shape k xs end)
+    (sym (append_assoc phrases part (x ∷ later)) ∙ sym (append_assoc (phrases ++ part) (x ∷ []) later) ∙ begins ∙ calls_behind shape first_count calls.takes xs end) in
+    let right : part ++ y ∷ rest ≡ calls_from shape k ys b.end =
+    append_cancel_left phrases (part ++ y ∷ rest) (calls_from shape k ys b.end)
+    (sym (append_assoc phrases part (y ∷ rest)) ∙ sym e ∙ ap (λ l. calls_from shape first_count l b.end) same ∙ calls_behind shape first_count calls.takes ys b.end) in
+    elim (next_or shape wanted part x y later rest ⊥ (or_both shape wanted ⊥ left right (beside ys are_ys ⊥))) [
+      | inl alike ↦ inl (sym alike ∙ access_back a true)
+      | inr (may, part_so) ↦ inr (reads_behind phrases part may, subst (λ z. TakesPart shape wanted z (access_of y)) (access_back a true) part_so)
+    ]
 
-module _ (tell : DigitsTellItems) where
-  -- the takes of one more, behind those that were made, beside those of any
-  parts :
-      (shape : Shape) (wanted : ℕ) (calls b : Takes) (part : List Made) (a : Access) (y : Made) (rest later : List Made) (xs : List Take) (end front : End) →
-      AreTakes shape 0 calls.takes front → AreTakes shape 0 b.takes b.end →
-      ((ys : List Take) → AreTakes shape (count_taken shape calls).number ys b.end →
-      AskAnyway shape wanted (calls_from shape (count_taken shape calls) xs end) (calls_from shape (count_taken shape calls) ys b.end)) →
-      ((take_phrases shape first_count calls.takes ++ part) ++ answered a true ∷ []) ++ later ≡ calls_from shape first_count (calls.takes ++ xs) end →
-      take_program shape b ≡ (take_phrases shape first_count calls.takes ++ part) ++ y ∷ rest →
-      (access_of y ≡ a) ⊎ (EndInCellRead (take_phrases shape first_count calls.takes ++ part) × TakesPart shape wanted a (access_of y))
-  parts shape wanted calls b part a y rest later xs end front are_calls are beside begins e =
-      let phrases : List Made = take_phrases shape first_count calls.takes in
-      let k : Count = count_taken shape calls in
-      let x : Made = answered a true in
-      let (ys, same) = first_takes tell shape first_count (first_is_count shape) calls.takes b.takes front b.end (part ++ y ∷ rest) are_calls are
-      (sym (append_assoc phrases part (y ∷ rest)) ∙ sym e) in
-      let are_ys : AreTakes shape k.number ys b.end = are_behind shape first_count calls.takes ys b.end (subst (λ l. AreTakes shape 0 l b.end) same are) in
-      let left : part ++ x ∷ later ≡ calls_from shape k xs end =
-      append_cancel_left phrases (part ++ x ∷ later) (calls_from shape k xs end)
-      (sym (append_assoc phrases part (x ∷ later)) ∙ sym (append_assoc (phrases ++ part) (x ∷ []) later) ∙ begins ∙ calls_behind shape first_count calls.takes xs end) in
-      let right : part ++ y ∷ rest ≡ calls_from shape k ys b.end =
-      append_cancel_left phrases (part ++ y ∷ rest) (calls_from shape k ys b.end)
-      (sym (append_assoc phrases part (y ∷ rest)) ∙ sym e ∙ ap (λ l. calls_from shape first_count l b.end) same ∙ calls_behind shape first_count calls.takes ys b.end) in
-      elim (next_or shape wanted part x y later rest ⊥ (or_both shape wanted ⊥ left right (beside ys are_ys ⊥))) [
-        | inl alike ↦ inl (sym alike ∙ access_back a true)
-        | inr (may, part_so) ↦ inr (reads_behind phrases part may, subst (λ z. TakesPart shape wanted z (access_of y)) (access_back a true) part_so)
-      ]
-
-  pub takes-go_on : TakesGoOn
-  takes-go_on shape wanted calls b made a y rest (part, made_is) goes are e =
-      let (more, has, (later, f)) = goes true (λ due. refl) in
-      let phrases : List Made = take_phrases shape first_count calls.takes in
-      let k : Count = count_taken shape calls in
-      let program : take_program shape b ≡ (phrases ++ part) ++ y ∷ rest = e ∙ ap (λ l. l ++ y ∷ rest) (sym made_is) in
-      let begins : ((phrases ++ part) ++ answered a true ∷ []) ++ later ≡ take_program shape more = ap (λ l. (l ++ answered a true ∷ []) ++ later) made_is ∙ f in
-      subst (λ l. (access_of y ≡ a) ⊎ (EndInCellRead l × TakesPart shape wanted a (access_of y))) made_is
-      (elim has.is_one_more [
-        | inl (x, of, more_is) ↦
-            let are_more : AreTakes shape 0 (calls.takes ++ x ∷ []) Open = subst (λ (m : Takes). AreTakes shape 0 m.takes m.end) more_is has.are in
-            let is : IsTake shape k.number x = are-last shape first_count calls.takes x are_more in
-            parts shape wanted calls b part a y rest later (x ∷ []) Open Open (are_front shape first_count calls.takes (x ∷ []) Open are_more) are
-            (λ ys q. beside shape wanted 0 k (x ∷ []) Open ys b.end (calls_are_count shape calls) (is, tt) (of, tt) q) (begins ∙ ap (take_program shape) more_is) program
-        | inr (seen, again, more_is) ↦
-            let are_more : AreTakes shape 0 calls.takes (Closed seen again) = subst (λ (m : Takes). AreTakes shape 0 m.takes m.end) more_is has.are in
-            let (none, none') = end-sees_none shape first_count calls.takes seen again are_more in
-            parts shape wanted calls b part a y rest later [] (Closed seen again) (Closed seen again) are_more are
-            (λ ys q. beside shape wanted 0 k [] (Closed seen again) ys b.end (calls_are_count shape calls) (none, none') tt q)
-            (begins ∙ ap (take_program shape) more_is ∙ ap (λ l. calls_from shape first_count l (Closed seen again)) (sym (append-nil calls.takes))) program
-      ])
+pub takes-go_on : TakesGoOn
+takes-go_on shape wanted calls b made a y rest (part, made_is) goes are e =
+    let (more, has, (later, f)) = goes true (λ due. refl) in
+    let phrases : List Made = take_phrases shape first_count calls.takes in
+    let k : Count = count_taken shape calls in
+    let program : take_program shape b ≡ (phrases ++ part) ++ y ∷ rest = e ∙ ap (λ l. l ++ y ∷ rest) (sym made_is) in
+    let begins : ((phrases ++ part) ++ answered a true ∷ []) ++ later ≡ take_program shape more = ap (λ l. (l ++ answered a true ∷ []) ++ later) made_is ∙ f in
+    subst (λ l. (access_of y ≡ a) ⊎ (EndInCellRead l × TakesPart shape wanted a (access_of y))) made_is
+    (elim has.is_one_more [
+      | inl (x, of, more_is) ↦
+          let are_more : AreTakes shape 0 (calls.takes ++ x ∷ []) Open = subst (λ (m : Takes). AreTakes shape 0 m.takes m.end) more_is has.are in
+          let is : IsTake shape k.number x = are-last shape first_count calls.takes x are_more in
+          parts shape wanted calls b part a y rest later (x ∷ []) Open Open (are_front shape first_count calls.takes (x ∷ []) Open are_more) are
+          (λ ys q. beside shape wanted 0 k (x ∷ []) Open ys b.end (calls_are_count shape calls) (is, tt) (of, tt) q) (begins ∙ ap (take_program shape) more_is) program
+      | inr (seen, again, more_is) ↦
+          let are_more : AreTakes shape 0 calls.takes (Closed seen again) = subst (λ (m : Takes). AreTakes shape 0 m.takes m.end) more_is has.are in
+          let (none, none') = end-sees_none shape first_count calls.takes seen again are_more in
+          parts shape wanted calls b part a y rest later [] (Closed seen again) (Closed seen again) are_more are
+          (λ ys q. beside shape wanted 0 k [] (Closed seen again) ys b.end (calls_are_count shape calls) (none, none') tt q)
+          (begins ∙ ap (take_program shape) more_is ∙ ap (λ l. calls_from shape first_count l (Closed seen again)) (sym (append-nil calls.takes))) program
+    ])
 
 -- ---- where one item may be taken
 

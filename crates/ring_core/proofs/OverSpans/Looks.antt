@@ -213,7 +213,7 @@ length-words_read shape n (item ∷ items) =
       suc-mul (length items) (width_of shape),
     )
 
-word_length : (s : Side) (shape : Shape) (n : ℕ) (o : Outcome) → 1 ≤ counts o → length (word_part s shape n o) ≡ counts o * width_of shape
+pub word_length : (s : Side) (shape : Shape) (n : ℕ) (o : Outcome) → 1 ≤ counts o → length (word_part s shape n o) ≡ counts o * width_of shape
 word_length P shape n (Passes items) e = length-words shape n items
 word_length C shape n (Passes items) e = length-words_read shape n items
 word_length s shape n Stops e = absurd (omega (arith, e))

@@ -19,13 +19,13 @@ use Rattle.ring_core.specs.Puts.{Puts, close_phrase, FollowsPuts}
 use Rattle.ring_core.specs.Takes.{Takes, FollowsTakes}
 use Rattle.ring_core.proofs.OverSpans.Spans.{Span, counts_begun, counts_ended, IsSpanAt, tally}
 use Rattle.ring_core.proofs.OverSpans.Clocks.{IsPlace, Permitted, AreRegular}
-use Rattle.ring_core.proofs.OverSpans.LookSpans.{Look, put_looks, take_looks, look_accesses, spans, put_spans, take_spans}
+use Rattle.ring_core.proofs.OverSpans.LookSpans.{Look, put_looks, take_looks, look_accesses, spans, put_spans, take_spans, LookAt}
 use Rattle.ring_core.proofs.Machines.Lengths.{length-scan}
-use Rattle.ring_core.proofs.OverSpans.LookSpans.{LookAt}
 use Rattle.ring_core.proofs.OverSpans.Looks.{look_from_first, puts_as_looks, takes_as_looks, AllPassing, puts_pass, takes_pass}
 use Rattle.ring_core.proofs.CountRow.{batch_below, take_batch_below}
 use Rattle.ring_core.proofs.CountTimes.{bit_writes, IsQuiet, quiet_close, sizes_in, sizes_are, tally_up, counted_in, counted_value, count_writes_begun, count_writes_ended, count_writes_are}
 use Rattle.ring_core.proofs.OwnEvents.{clock_within, one_place, count_begun_own, count_begun_before, count_ended_before}
+use Rattle.register_core.proofs.LawLemmas.{reads_are_made_scans, unary_is_regular}
 
 -- the first events of a beginning are those of the whole
 bits_of_beginning :
@@ -82,12 +82,12 @@ module _
 
 -- a scan of a program that has ended is a scan of the history, from the place of its first event to that of its last
 scan_there :
-    SubhistoryHasPlace → ScansAreMade → (shape : Shape) (h : List Event) (s : Side) (looks : List Look) (behind : List Made) →
+    (shape : Shape) (h : List Event) (s : Side) (looks : List Look) (behind : List Made) →
     IsPrefix (subhistory s h) (events_of s (look_accesses s shape first_count looks behind)) →
     (start n : ℕ) (x : Span) → IsSpanAt (spans s shape first_count looks) start n x →
     (first last e : ℕ) → IsPlace (clock s h) start first → IsPlace (clock s h) e last → suc e ≡ start + x.scan →
     (from_place : ℕ → ℕ) × (to_place : ℕ → ℕ) × IsScan (other s) h x.seen from_place to_place × (first ≡ from_place 0) × (last ≡ to_place x.seen)
-scan_there has_place scans_made shape h s looks behind follows start n x st first last e is_first is_last ends =
+scan_there shape h s looks behind follows start n x st first last e is_first is_last ends =
     let r : LookAt s shape (look_accesses s shape first_count looks behind) n start x = look_from_first s shape looks behind start n x st in
     let k : ℕ = length r.before in
     let c : ℕ = r.look.seen in
@@ -96,12 +96,12 @@ scan_there has_place scans_made shape h s looks behind follows start n x st firs
     let e_is : e ≡ suc (2 * (k + c)) = omega (arith, ends, scan, r.start_is) in
     let start_is : start ≡ 2 * (k + 0) = omega (arith, r.start_is) in
     let there : IsScan (other s) h c (begin_place s h k) (end_place s h k) =
-    scans_made s h (look_accesses s shape first_count looks behind) follows r.before _ c r.program_is (omega (arith, e_is, is_last.1, clock_within s h (suc last))) in (
+    reads_are_made_scans s h (look_accesses s shape first_count looks behind) follows r.before _ c r.program_is (omega (arith, e_is, is_last.1, clock_within s h (suc last))) in (
       begin_place s h k,
       end_place s h k,
       subst (λ v. IsScan (other s) h v (begin_place s h k) (end_place s h k)) (sym seen) there,
-      one_place has_place s h start first is_first ∙ ap (place_of s h) start_is,
-      one_place has_place s h e last is_last ∙ ap (place_of s h) e_is ∙ ap (end_place s h k) (sym seen),
+      one_place s h start first is_first ∙ ap (place_of s h) start_is,
+      one_place s h e last is_last ∙ ap (place_of s h) e_is ∙ ap (end_place s h k) (sym seen),
     )
 
 -- ---- the two sides
@@ -126,36 +126,35 @@ between :
     IsRegularValue w h values first' last' c → IsRegularValue w h values first last c
 between w h values first last first' last' c e f r = rw (e, f) r
 
-module _ (regular : UnaryIsRegular) (scans_made : ScansAreMade) (has_place : SubhistoryHasPlace) where
-  -- the scans of one side are regular, in a lawful history whose two sides follow their programs
-  pub regular_scans :
-      (shape : Shape) (h : List Event) → IsLawful shape h →
-      (s : Side) (looks writes : List Look) (behind behind_writes : List Made) → IsQuiet (other s) behind_writes →
-      (most : ℕ) → most < modulus_of shape → AllPassing most writes →
-      IsPrefix (subhistory s h) (events_of s (look_accesses s shape first_count looks behind)) →
-      IsPrefix (subhistory (other s) h) (events_of (other s) (look_accesses (other s) shape first_count writes behind_writes)) →
-      AreRegular (modulus_of shape) (clock s h) (clock (other s) h) (spans s shape first_count looks) (spans (other s) shape first_count writes)
-  regular_scans shape h lawful s looks writes behind behind_writes quiet most fits passing follows follows_writes start n x st first last e is_first is_last ends =
-      let scan = scan_there has_place scans_made shape h s looks behind follows start n x st first last e is_first is_last ends in
-      let unary_writes : WritesUnary (other s) h (counted_in shape writes) =
-      writes_unary shape h lawful (other s) writes behind_writes follows_writes quiet in
-      let value : IsRegularValue (other s) h (counted_in shape writes) (scan.0 0) (scan.1 x.seen) x.seen =
-      regular shape h lawful (other s) (counted_in shape writes) unary_writes x.seen scan.0 scan.1 scan.2 in
-      permitted shape h lawful (other s) writes behind_writes follows_writes most fits passing first last x.seen
-      (between (other s) h (counted_in shape writes) first last (scan.0 0) (scan.1 x.seen) x.seen scan.3 scan.4 value)
+-- the scans of one side are regular, in a lawful history whose two sides follow their programs
+pub regular_scans :
+    (shape : Shape) (h : List Event) → IsLawful shape h →
+    (s : Side) (looks writes : List Look) (behind behind_writes : List Made) → IsQuiet (other s) behind_writes →
+    (most : ℕ) → most < modulus_of shape → AllPassing most writes →
+    IsPrefix (subhistory s h) (events_of s (look_accesses s shape first_count looks behind)) →
+    IsPrefix (subhistory (other s) h) (events_of (other s) (look_accesses (other s) shape first_count writes behind_writes)) →
+    AreRegular (modulus_of shape) (clock s h) (clock (other s) h) (spans s shape first_count looks) (spans (other s) shape first_count writes)
+regular_scans shape h lawful s looks writes behind behind_writes quiet most fits passing follows follows_writes start n x st first last e is_first is_last ends =
+    let scan = scan_there shape h s looks behind follows start n x st first last e is_first is_last ends in
+    let unary_writes : WritesUnary (other s) h (counted_in shape writes) =
+    writes_unary shape h lawful (other s) writes behind_writes follows_writes quiet in
+    let value : IsRegularValue (other s) h (counted_in shape writes) (scan.0 0) (scan.1 x.seen) x.seen =
+    unary_is_regular shape h lawful (other s) (counted_in shape writes) unary_writes x.seen scan.0 scan.1 scan.2 in
+    permitted shape h lawful (other s) writes behind_writes follows_writes most fits passing first last x.seen
+    (between (other s) h (counted_in shape writes) first last (scan.0 0) (scan.1 x.seen) x.seen scan.3 scan.4 value)
 
-  -- the scans of puts are regular, over the count writes of takes
-  pub puts_regular :
-      (shape : Shape) (h : List Event) → IsLawful shape h → (puts : Puts) (takes : Takes) → FollowsPuts shape h puts → FollowsTakes shape h takes →
-      AreRegular (modulus_of shape) (clock P h) (clock C h) (put_spans shape puts) (take_spans shape takes)
-  puts_regular shape h lawful puts takes follows_puts follows_takes =
-      regular_scans shape h lawful P (put_looks puts.puts) (take_looks takes.takes takes.end) (close_phrase puts.closes) [] tt (take_batch_of shape) (take_batch_below shape) (takes_pass shape 0 takes.takes takes.end follows_takes.are)
-      (put_events shape h puts follows_puts) (take_events shape h takes follows_takes)
+-- the scans of puts are regular, over the count writes of takes
+pub puts_regular :
+    (shape : Shape) (h : List Event) → IsLawful shape h → (puts : Puts) (takes : Takes) → FollowsPuts shape h puts → FollowsTakes shape h takes →
+    AreRegular (modulus_of shape) (clock P h) (clock C h) (put_spans shape puts) (take_spans shape takes)
+puts_regular shape h lawful puts takes follows_puts follows_takes =
+    regular_scans shape h lawful P (put_looks puts.puts) (take_looks takes.takes takes.end) (close_phrase puts.closes) [] tt (take_batch_of shape) (take_batch_below shape) (takes_pass shape 0 takes.takes takes.end follows_takes.are)
+    (put_events shape h puts follows_puts) (take_events shape h takes follows_takes)
 
-  -- the scans of takes are regular, over the count writes of puts
-  pub takes_regular :
-      (shape : Shape) (h : List Event) → IsLawful shape h → (puts : Puts) (takes : Takes) → FollowsPuts shape h puts → FollowsTakes shape h takes →
-      AreRegular (modulus_of shape) (clock C h) (clock P h) (take_spans shape takes) (put_spans shape puts)
-  takes_regular shape h lawful puts takes follows_puts follows_takes =
-      regular_scans shape h lawful C (take_looks takes.takes takes.end) (put_looks puts.puts) [] (close_phrase puts.closes) (quiet_close puts.closes) (batch_of shape) (batch_below shape) (puts_pass shape 0 puts.puts follows_puts.are)
-      (take_events shape h takes follows_takes) (put_events shape h puts follows_puts)
+-- the scans of takes are regular, over the count writes of puts
+pub takes_regular :
+    (shape : Shape) (h : List Event) → IsLawful shape h → (puts : Puts) (takes : Takes) → FollowsPuts shape h puts → FollowsTakes shape h takes →
+    AreRegular (modulus_of shape) (clock C h) (clock P h) (take_spans shape takes) (put_spans shape puts)
+takes_regular shape h lawful puts takes follows_puts follows_takes =
+    regular_scans shape h lawful C (take_looks takes.takes takes.end) (put_looks puts.puts) [] (close_phrase puts.closes) (quiet_close puts.closes) (batch_of shape) (batch_below shape) (puts_pass shape 0 puts.puts follows_puts.are)
+    (take_events shape h takes follows_takes) (put_events shape h puts follows_puts)

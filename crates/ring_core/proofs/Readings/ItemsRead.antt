@@ -68,7 +68,7 @@ not_begun shape c (Stored seen items) t l =
 not_begun shape c (Full seen) t l = refl
 
 -- within no event no item is put
-none_put : (shape : Shape) (c : Count) (puts : List Put) (t : ℕ) → t ≡ 0 → items_put shape c puts t ≡ []
+pub none_put : (shape : Shape) (c : Count) (puts : List Put) (t : ℕ) → t ≡ 0 → items_put shape c puts t ≡ []
 none_put shape c [] t e = refl
 none_put shape c (x ∷ puts) t e =
     let next : Count = stored_after shape c x in
@@ -154,198 +154,197 @@ no_scan_first bit_of c xs zs e =
     let clash : Write X true ∷ zs ≡ Read (bit_of 0) begins.0 ∷ begins.1 = e ∙ begins.2 in
     absurd (cc)
 
-same_calls : (a b : Puts) → a.puts ≡ b.puts → a.closes ≡ b.closes → a ≡ b
+pub same_calls : (a b : Puts) → a.puts ≡ b.puts → a.closes ≡ b.closes → a ≡ b
 same_calls a b p q = ap₂ (λ (x : List Put) (y : Bool). record { puts = x; closes = y }) p q
 
-module _ (tell : DigitsTellItems) where
-  -- puts whose accesses begin with the head of a put that stores, and with no word more, begin with that put
-  pub same_stored :
-      (shape : Shape) (c : Count) (u : ℕ) (i : List ℕ) (ys : List Put) (b : Bool) (zs : List Made) → IsCount shape c → IsPut shape c.number (Stored u i) →
-      ArePuts shape c.number ys → NoCellFirst zs → head_of shape c (Stored u i) ++ zs ≡ puts_from shape c ys b → (more : List Put) × (ys ≡ Stored u i ∷ more)
-  same_stored shape c u i [] b zs is p q none e =
-      absurd (no_close b (row_read_by P) u _ (sym e ∙ append_assoc (scan_phrase (row_read_by P) u) (words_phrase shape c.number i) zs))
-  same_stored shape c u i (Full v ∷ ys) b zs is (below, room, batch) ((below', full), q) none e =
-      let words : List Made = words_phrase shape c.number i in
-      absurd (no_room shape c.number u v _ _ (some_room shape (c.number % modulus_of shape) u _ batch.some room) full
-      (sym (append_assoc (scan_phrase (row_read_by P) u) words zs) ∙ e ∙ puts_full shape c v ys b))
-  same_stored shape c u i (Stored v j ∷ ys) b zs is (below, room, batch) ((below', room', batch'), q) none e =
-      let w : List ℕ → List Made = words_phrase shape c.number in
-      let right : List Made = batch_phrase shape P c j ++ puts_from shape (stored_after shape c (Stored v j)) ys b in
-      let scans : (u ≡ v) × (w i ++ zs ≡ w j ++ right) =
-      same_scan (row_read_by P) u v _ _ (sym (append_assoc (scan_phrase (row_read_by P) u) (w i) zs) ∙ e ∙ puts_stored shape c v j ys b) in
-      let seen : u ≡ v = scans.0 in
-      let items : i ≡ j = (same_words tell shape c.number i j zs right batch.fit batch'.fit none (count_first shape c j _ is batch') scans.1).0 in
-      (ys, cc)
+-- puts whose accesses begin with the head of a put that stores, and with no word more, begin with that put
+pub same_stored :
+    (shape : Shape) (c : Count) (u : ℕ) (i : List ℕ) (ys : List Put) (b : Bool) (zs : List Made) → IsCount shape c → IsPut shape c.number (Stored u i) →
+    ArePuts shape c.number ys → NoCellFirst zs → head_of shape c (Stored u i) ++ zs ≡ puts_from shape c ys b → (more : List Put) × (ys ≡ Stored u i ∷ more)
+same_stored shape c u i [] b zs is p q none e =
+    absurd (no_close b (row_read_by P) u _ (sym e ∙ append_assoc (scan_phrase (row_read_by P) u) (words_phrase shape c.number i) zs))
+same_stored shape c u i (Full v ∷ ys) b zs is (below, room, batch) ((below', full), q) none e =
+    let words : List Made = words_phrase shape c.number i in
+    absurd (no_room shape c.number u v _ _ (some_room shape (c.number % modulus_of shape) u _ batch.some room) full
+    (sym (append_assoc (scan_phrase (row_read_by P) u) words zs) ∙ e ∙ puts_full shape c v ys b))
+same_stored shape c u i (Stored v j ∷ ys) b zs is (below, room, batch) ((below', room', batch'), q) none e =
+    let w : List ℕ → List Made = words_phrase shape c.number in
+    let right : List Made = batch_phrase shape P c j ++ puts_from shape (stored_after shape c (Stored v j)) ys b in
+    let scans : (u ≡ v) × (w i ++ zs ≡ w j ++ right) =
+    same_scan (row_read_by P) u v _ _ (sym (append_assoc (scan_phrase (row_read_by P) u) (w i) zs) ∙ e ∙ puts_stored shape c v j ys b) in
+    let seen : u ≡ v = scans.0 in
+    let items : i ≡ j = (same_words shape c.number i j zs right batch.fit batch'.fit none (count_first shape c j _ is batch') scans.1).0 in
+    (ys, cc)
 
-  pub same_full :
-      (shape : Shape) (c : Count) (u : ℕ) (ys : List Put) (b : Bool) (zs : List Made) → IsPut shape c.number (Full u) → ArePuts shape c.number ys →
-      scan_phrase (row_read_by P) u ++ zs ≡ puts_from shape c ys b → (more : List Put) × (ys ≡ Full u ∷ more)
-  same_full shape c u [] b zs p q e = absurd (no_close b (row_read_by P) u _ (sym e))
-  same_full shape c u (Stored v j ∷ ys) b zs (below, full) ((below', room, batch), q) e =
-      absurd (no_room shape c.number v u _ _ (some_room shape (c.number % modulus_of shape) v _ batch.some room) full (sym (puts_stored shape c v j ys b) ∙ sym e))
-  same_full shape c u (Full v ∷ ys) b zs p q e =
-      let seen : u ≡ v = (same_scan (row_read_by P) u v _ _ (e ∙ puts_full shape c v ys b)).0 in
-      (ys, cc)
+pub same_full :
+    (shape : Shape) (c : Count) (u : ℕ) (ys : List Put) (b : Bool) (zs : List Made) → IsPut shape c.number (Full u) → ArePuts shape c.number ys →
+    scan_phrase (row_read_by P) u ++ zs ≡ puts_from shape c ys b → (more : List Put) × (ys ≡ Full u ∷ more)
+same_full shape c u [] b zs p q e = absurd (no_close b (row_read_by P) u _ (sym e))
+same_full shape c u (Stored v j ∷ ys) b zs (below, full) ((below', room, batch), q) e =
+    absurd (no_room shape c.number v u _ _ (some_room shape (c.number % modulus_of shape) v _ batch.some room) full (sym (puts_stored shape c v j ys b) ∙ sym e))
+same_full shape c u (Full v ∷ ys) b zs p q e =
+    let seen : u ≡ v = (same_scan (row_read_by P) u v _ _ (e ∙ puts_full shape c v ys b)).0 in
+    (ys, cc)
 
-  -- where more than the head of the first put of one reading has begun, the other reading begins with the same put
-  reads_first :
-      (shape : Shape) (c : Count) (x : Put) (xs ys : List Put) (a b : Bool) (made : List Made) (t : ℕ) → IsCount shape c → IsPut shape c.number x →
-      ArePuts shape c.number ys → IsPrefix made (puts_from shape c (x ∷ xs) a) → IsPrefix made (puts_from shape c ys b) →
-      AreOpen t made (puts_from shape c (x ∷ xs) a) (puts_from shape c ys b) → events_in (head_of shape c x) < t → t ≤ suc (2 * length made) →
-      (more : List Put) × (ys ≡ x ∷ more)
-  reads_first shape c (Stored u i) xs ys a b made t is p q l r both early reach =
-      let (zs, e, none) =
-      goes_on (head_of shape c (Stored u i)) _ made _ _ t (from_head shape c (Stored u i) xs a) (count_first shape c i _ is p.2) l r both early reach in
-      same_stored shape c u i ys b zs is p q none e
-  reads_first shape c (Full u) xs ys a b made t is p q (more, e) begins both early reach =
-      let scan : List Made = scan_phrase (row_read_by P) u in
-      let (rest, made_is, ends) = cut scan _ made more (omega (arith, early, reach)) (e ∙ puts_full shape c u xs a) in
-      let (later, f) = also_begins scan rest made (puts_from shape c ys b) made_is begins in
-      same_full shape c u ys b (rest ++ later) p q f
+-- where more than the head of the first put of one reading has begun, the other reading begins with the same put
+reads_first :
+    (shape : Shape) (c : Count) (x : Put) (xs ys : List Put) (a b : Bool) (made : List Made) (t : ℕ) → IsCount shape c → IsPut shape c.number x →
+    ArePuts shape c.number ys → IsPrefix made (puts_from shape c (x ∷ xs) a) → IsPrefix made (puts_from shape c ys b) →
+    AreOpen t made (puts_from shape c (x ∷ xs) a) (puts_from shape c ys b) → events_in (head_of shape c x) < t → t ≤ suc (2 * length made) →
+    (more : List Put) × (ys ≡ x ∷ more)
+reads_first shape c (Stored u i) xs ys a b made t is p q l r both early reach =
+    let (zs, e, none) =
+    goes_on (head_of shape c (Stored u i)) _ made _ _ t (from_head shape c (Stored u i) xs a) (count_first shape c i _ is p.2) l r both early reach in
+    same_stored shape c u i ys b zs is p q none e
+reads_first shape c (Full u) xs ys a b made t is p q (more, e) begins both early reach =
+    let scan : List Made = scan_phrase (row_read_by P) u in
+    let (rest, made_is, ends) = cut scan _ made more (omega (arith, early, reach)) (e ∙ puts_full shape c u xs a) in
+    let (later, f) = also_begins scan rest made (puts_from shape c ys b) made_is begins in
+    same_full shape c u ys b (rest ++ later) p q f
 
-  -- behind a whole put that both readings begin with
-  open_behind :
-      (phrase rest left right : List Made) (t : ℕ) → AreOpen t (phrase ++ rest) (phrase ++ left) (phrase ++ right) → AreOpen (t - events_in phrase) rest left right
-  open_behind phrase rest left right t both l =
-      let o = both (omega (arith, l, length-append phrase rest)) in
-      record {
-        on_left = o.on_left;
-        on_right = o.on_right;
-        more_left = o.more_left;
-        more_right = o.more_right;
-        left_is = append_cancel_left phrase left (rest ++ o.on_left ∷ o.more_left) (o.left_is ∙ append_assoc phrase rest (o.on_left ∷ o.more_left));
-        right_is = append_cancel_left phrase right (rest ++ o.on_right ∷ o.more_right) (o.right_is ∙ append_assoc phrase rest (o.on_right ∷ o.more_right));
-        same = o.same;
-      }
+-- behind a whole put that both readings begin with
+open_behind :
+    (phrase rest left right : List Made) (t : ℕ) → AreOpen t (phrase ++ rest) (phrase ++ left) (phrase ++ right) → AreOpen (t - events_in phrase) rest left right
+open_behind phrase rest left right t both l =
+    let o = both (omega (arith, l, length-append phrase rest)) in
+    record {
+      on_left = o.on_left;
+      on_right = o.on_right;
+      more_left = o.more_left;
+      more_right = o.more_right;
+      left_is = append_cancel_left phrase left (rest ++ o.on_left ∷ o.more_left) (o.left_is ∙ append_assoc phrase rest (o.on_left ∷ o.more_left));
+      right_is = append_cancel_left phrase right (rest ++ o.on_right ∷ o.more_right) (o.right_is ∙ append_assoc phrase rest (o.on_right ∷ o.more_right));
+      same = o.same;
+    }
 
-  stored_is_count : (shape : Shape) (c : Count) (x : Put) → IsCount shape c → IsCount shape (stored_after shape c x)
-  stored_is_count shape c (Stored seen items) is = counted_is_count shape c items
-  stored_is_count shape c (Full seen) is = is
+stored_is_count : (shape : Shape) (c : Count) (x : Put) → IsCount shape c → IsCount shape (stored_after shape c x)
+stored_is_count shape c (Stored seen items) is = counted_is_count shape c items
+stored_is_count shape c (Full seen) is = is
 
-  -- puts whose accesses begin alike put the same items within as many events
-  same_items :
-      (shape : Shape) (c : Count) (xs ys : List Put) (a b : Bool) (made : List Made) (t : ℕ) → IsCount shape c → ArePuts shape c.number xs → ArePuts shape c.number ys →
-      IsPrefix made (puts_from shape c xs a) → IsPrefix made (puts_from shape c ys b) →
-      AreOpen t made (puts_from shape c xs a) (puts_from shape c ys b) → t ≤ suc (2 * length made) →
-      items_put shape c xs t ≡ items_put shape c ys t
-  same_items shape c [] [] a b made t is p q l r both reach = refl
-  same_items shape c [] (y ∷ ys) a b made t is p q l r both reach =
-      elim (at_most_or_above t (events_in (head_of shape c y))) [
-        | inl late ↦ sym (late_put shape c y ys t late)
+-- puts whose accesses begin alike put the same items within as many events
+same_items :
+    (shape : Shape) (c : Count) (xs ys : List Put) (a b : Bool) (made : List Made) (t : ℕ) → IsCount shape c → ArePuts shape c.number xs → ArePuts shape c.number ys →
+    IsPrefix made (puts_from shape c xs a) → IsPrefix made (puts_from shape c ys b) →
+    AreOpen t made (puts_from shape c xs a) (puts_from shape c ys b) → t ≤ suc (2 * length made) →
+    items_put shape c xs t ≡ items_put shape c ys t
+same_items shape c [] [] a b made t is p q l r both reach = refl
+same_items shape c [] (y ∷ ys) a b made t is p q l r both reach =
+    elim (at_most_or_above t (events_in (head_of shape c y))) [
+      | inl late ↦ sym (late_put shape c y ys t late)
+      | inr early ↦
+          let (more, e) = reads_first shape c y ys [] b a made t is q.0 p r l (λ m. turned made _ _ (both m)) early reach in
+          absurd (cc)
+    ]
+same_items shape c (x ∷ xs) [] a b made t is p q l r both reach =
+    elim (at_most_or_above t (events_in (head_of shape c x))) [
+      | inl late ↦ late_put shape c x xs t late
+      | inr early ↦
+          let (more, e) = reads_first shape c x xs [] a b made t is p.0 q l r both early reach in
+          absurd (cc)
+    ]
+same_items shape c (x ∷ xs) (y ∷ ys) a b made t is p q l r both reach =
+    elim (at_most_or_above t (events_in (head_of shape c x))) [
+      | inl late ↦ elim (at_most_or_above t (events_in (head_of shape c y))) [
+        | inl late' ↦ late_put shape c x xs t late ∙ sym (late_put shape c y ys t late')
         | inr early ↦
-            let (more, e) = reads_first shape c y ys [] b a made t is q.0 p r l (λ m. turned made _ _ (both m)) early reach in
-            absurd (cc)
+            let (more, e) = reads_first shape c y ys (x ∷ xs) b a made t is q.0 p r l (λ m. turned made _ _ (both m)) early reach in
+            let same : x ≡ y = cc in
+            absurd (omega (arith, late, early, ap (λ z. length (head_of shape c z)) same))
       ]
-  same_items shape c (x ∷ xs) [] a b made t is p q l r both reach =
-      elim (at_most_or_above t (events_in (head_of shape c x))) [
-        | inl late ↦ late_put shape c x xs t late
-        | inr early ↦
-            let (more, e) = reads_first shape c x xs [] a b made t is p.0 q l r both early reach in
-            absurd (cc)
-      ]
-  same_items shape c (x ∷ xs) (y ∷ ys) a b made t is p q l r both reach =
-      elim (at_most_or_above t (events_in (head_of shape c x))) [
-        | inl late ↦ elim (at_most_or_above t (events_in (head_of shape c y))) [
-          | inl late' ↦ late_put shape c x xs t late ∙ sym (late_put shape c y ys t late')
-          | inr early ↦
-              let (more, e) = reads_first shape c y ys (x ∷ xs) b a made t is q.0 p r l (λ m. turned made _ _ (both m)) early reach in
-              let same : x ≡ y = cc in
-              absurd (omega (arith, late, early, ap (λ z. length (head_of shape c z)) same))
-        ]
-        | inr early ↦
-            let (more, e) = reads_first shape c x xs (y ∷ ys) a b made t is p.0 q l r both early reach in
-            let same : y ≡ x = cc in
-            let next : Count = stored_after shape c x in
-            let phrase : List Made = put_phrase shape c x in
-            let are : ArePuts shape next.number ys = subst (λ z. ArePuts shape (stored_after shape c z).number ys) same q.1 in
-            let begins : IsPrefix made (puts_from shape c (x ∷ ys) b) = subst (λ z. IsPrefix made (puts_from shape c (z ∷ ys) b)) same r in
-            let both' : AreOpen t made (puts_from shape c (x ∷ xs) a) (puts_from shape c (x ∷ ys) b) =
-            subst (λ z. AreOpen t made (puts_from shape c (x ∷ xs) a) (puts_from shape c (z ∷ ys) b)) same both in
-            let after : items_put shape next xs (t - events_in phrase) ≡ items_put shape next ys (t - events_in phrase) =
-            elim (at_most_or_above (length phrase) (length made)) [
-              | inl whole ↦
-                  let left_parts : puts_from shape c (x ∷ xs) a ≡ phrase ++ puts_from shape next xs a = append_assoc phrase (put_phrases shape next xs) (close_phrase a) in
-                  let right_parts : puts_from shape c (x ∷ ys) b ≡ phrase ++ puts_from shape next ys b = append_assoc phrase (put_phrases shape next ys) (close_phrase b) in
-                  let (rest, made_is, ends) = cut phrase (puts_from shape next xs a) made l.0 whole (l.1 ∙ left_parts) in
-                  let (more', f) = also_begins phrase rest made (puts_from shape c (x ∷ ys) b) made_is begins in
-                  let ends' : rest ++ more' ≡ puts_from shape next ys b = append_cancel_left phrase (rest ++ more') (puts_from shape next ys b) (f ∙ right_parts) in
-                  let both'' : AreOpen t (phrase ++ rest) (phrase ++ puts_from shape next xs a) (phrase ++ puts_from shape next ys b) =
-                  subst (λ m. AreOpen t m (phrase ++ puts_from shape next xs a) (phrase ++ puts_from shape next ys b)) made_is
-                  (subst (λ z. AreOpen t made z (phrase ++ puts_from shape next ys b)) left_parts
-                  (subst (λ z. AreOpen t made (puts_from shape c (x ∷ xs) a) z) right_parts both')) in
-                  same_items shape next xs ys a b rest (t - events_in phrase) (stored_is_count shape c x is) p.1 are (l.0, ends) (more', ends')
-                  (open_behind phrase rest (puts_from shape next xs a) (puts_from shape next ys b) t both'')
-                  (omega (arith, reach, ap length made_is, length-append phrase rest))
-              | inr longer ↦
-                  let over : t - events_in phrase ≡ 0 = omega (arith, longer, reach) in
-                  none_put shape next xs (t - events_in phrase) over ∙ sym (none_put shape next ys (t - events_in phrase) over)
-            ] in
-            first_items shape c x xs t ∙ ap (λ l. items_begun shape c x t ++ l) after ∙ sym (first_items shape c x ys t)
-            ∙ ap (λ z. items_put shape c (z ∷ ys) t) (sym same)
-      ]
+      | inr early ↦
+          let (more, e) = reads_first shape c x xs (y ∷ ys) a b made t is p.0 q l r both early reach in
+          let same : y ≡ x = cc in
+          let next : Count = stored_after shape c x in
+          let phrase : List Made = put_phrase shape c x in
+          let are : ArePuts shape next.number ys = subst (λ z. ArePuts shape (stored_after shape c z).number ys) same q.1 in
+          let begins : IsPrefix made (puts_from shape c (x ∷ ys) b) = subst (λ z. IsPrefix made (puts_from shape c (z ∷ ys) b)) same r in
+          let both' : AreOpen t made (puts_from shape c (x ∷ xs) a) (puts_from shape c (x ∷ ys) b) =
+          subst (λ z. AreOpen t made (puts_from shape c (x ∷ xs) a) (puts_from shape c (z ∷ ys) b)) same both in
+          let after : items_put shape next xs (t - events_in phrase) ≡ items_put shape next ys (t - events_in phrase) =
+          elim (at_most_or_above (length phrase) (length made)) [
+            | inl whole ↦
+                let left_parts : puts_from shape c (x ∷ xs) a ≡ phrase ++ puts_from shape next xs a = append_assoc phrase (put_phrases shape next xs) (close_phrase a) in
+                let right_parts : puts_from shape c (x ∷ ys) b ≡ phrase ++ puts_from shape next ys b = append_assoc phrase (put_phrases shape next ys) (close_phrase b) in
+                let (rest, made_is, ends) = cut phrase (puts_from shape next xs a) made l.0 whole (l.1 ∙ left_parts) in
+                let (more', f) = also_begins phrase rest made (puts_from shape c (x ∷ ys) b) made_is begins in
+                let ends' : rest ++ more' ≡ puts_from shape next ys b = append_cancel_left phrase (rest ++ more') (puts_from shape next ys b) (f ∙ right_parts) in
+                let both'' : AreOpen t (phrase ++ rest) (phrase ++ puts_from shape next xs a) (phrase ++ puts_from shape next ys b) =
+                subst (λ m. AreOpen t m (phrase ++ puts_from shape next xs a) (phrase ++ puts_from shape next ys b)) made_is
+                (subst (λ z. AreOpen t made z (phrase ++ puts_from shape next ys b)) left_parts
+                (subst (λ z. AreOpen t made (puts_from shape c (x ∷ xs) a) z) right_parts both')) in
+                same_items shape next xs ys a b rest (t - events_in phrase) (stored_is_count shape c x is) p.1 are (l.0, ends) (more', ends')
+                (open_behind phrase rest (puts_from shape next xs a) (puts_from shape next ys b) t both'')
+                (omega (arith, reach, ap length made_is, length-append phrase rest))
+            | inr longer ↦
+                let over : t - events_in phrase ≡ 0 = omega (arith, longer, reach) in
+                none_put shape next xs (t - events_in phrase) over ∙ sym (none_put shape next ys (t - events_in phrase) over)
+          ] in
+          first_items shape c x xs t ∙ ap (λ l. items_begun shape c x t ++ l) after ∙ sym (first_items shape c x ys t)
+          ∙ ap (λ z. items_put shape c (z ∷ ys) t) (sym same)
+    ]
 
-  -- the items put in a history are the same whichever puts its events are read as
-  pub items-are_read : ItemsAreRead
-  items-are_read shape h a b p q =
-      let both : BeginBoth P (length (subhistory P h)) (put_program shape a) (put_program shape b) =
-      begin_both P (subhistory P h) (put_program shape a) (put_program shape b) p.events q.events in
-      same_items shape first_count a.puts b.puts a.closes b.closes both.made (length (subhistory P h)) (first_is_count shape) p.are q.are both.begins_left both.begins_right
-      both.next both.reach
+-- the items put in a history are the same whichever puts its events are read as
+pub items-are_read : ItemsAreRead
+items-are_read shape h a b p q =
+    let both : BeginBoth P (length (subhistory P h)) (put_program shape a) (put_program shape b) =
+    begin_both P (subhistory P h) (put_program shape a) (put_program shape b) p.events q.events in
+    same_items shape first_count a.puts b.puts a.closes b.closes both.made (length (subhistory P h)) (first_is_count shape) p.are q.are both.begins_left both.begins_right
+    both.next both.reach
 
-  -- ---- whole calls that begin others
+-- ---- whole calls that begin others
 
-  first_put :
-      (shape : Shape) (c : Count) (x : Put) (ys : List Put) (b : Bool) (tail : List Made) → IsCount shape c → IsPut shape c.number x →
-      ArePuts shape c.number ys → put_phrase shape c x ++ tail ≡ puts_from shape c ys b → (more : List Put) × (ys ≡ x ∷ more)
-  first_put shape c (Stored u i) ys b tail is p q e =
-      same_stored shape c u i ys b (batch_phrase shape P c i ++ tail) is p q (count_first shape c i tail is p.2)
-      (sym (append_assoc (head_of shape c (Stored u i)) (batch_phrase shape P c i) tail) ∙ e)
-  first_put shape c (Full u) ys b tail is p q e = same_full shape c u ys b tail p q e
+first_put :
+    (shape : Shape) (c : Count) (x : Put) (ys : List Put) (b : Bool) (tail : List Made) → IsCount shape c → IsPut shape c.number x →
+    ArePuts shape c.number ys → put_phrase shape c x ++ tail ≡ puts_from shape c ys b → (more : List Put) × (ys ≡ x ∷ more)
+first_put shape c (Stored u i) ys b tail is p q e =
+    same_stored shape c u i ys b (batch_phrase shape P c i ++ tail) is p q (count_first shape c i tail is p.2)
+    (sym (append_assoc (head_of shape c (Stored u i)) (batch_phrase shape P c i) tail) ∙ e)
+first_put shape c (Full u) ys b tail is p q e = same_full shape c u ys b tail p q e
 
-  -- puts whose accesses begin with those of whole puts begin with these
-  first_puts :
-      (shape : Shape) (c : Count) (xs ys : List Put) (b : Bool) (zs : List Made) → IsCount shape c → ArePuts shape c.number xs →
-      ArePuts shape c.number ys → put_phrases shape c xs ++ zs ≡ puts_from shape c ys b →
-      (more : List Put) × (ys ≡ xs ++ more) × (zs ≡ puts_from shape (stored_count shape c xs) more b)
-  first_puts shape c [] ys b zs is p q e = (ys, refl, e)
-  first_puts shape c (x ∷ xs) ys b zs is p q e =
-      let next : Count = stored_after shape c x in
-      let phrase : List Made = put_phrase shape c x in
-      let tail : List Made = put_phrases shape next xs ++ zs in
-      let parts : phrase ++ tail ≡ puts_from shape c ys b = sym (append_assoc phrase (put_phrases shape next xs) zs) ∙ e in
-      let (rest, same) = first_put shape c x ys b tail is p.0 q parts in
-      let are : ArePuts shape next.number rest = (subst (λ l. ArePuts shape c.number l) same q).1 in
-      let whole : phrase ++ tail ≡ phrase ++ puts_from shape next rest b =
-      parts ∙ ap (λ l. puts_from shape c l b) same ∙ append_assoc phrase (put_phrases shape next rest) (close_phrase b) in
-      let (more, f, g) = first_puts shape next xs rest b zs (stored_is_count shape c x is) p.1 are (append_cancel_left phrase tail (puts_from shape next rest b) whole) in
-      (more, same ∙ ap (λ l. x ∷ l) f, g)
+-- puts whose accesses begin with those of whole puts begin with these
+first_puts :
+    (shape : Shape) (c : Count) (xs ys : List Put) (b : Bool) (zs : List Made) → IsCount shape c → ArePuts shape c.number xs →
+    ArePuts shape c.number ys → put_phrases shape c xs ++ zs ≡ puts_from shape c ys b →
+    (more : List Put) × (ys ≡ xs ++ more) × (zs ≡ puts_from shape (stored_count shape c xs) more b)
+first_puts shape c [] ys b zs is p q e = (ys, refl, e)
+first_puts shape c (x ∷ xs) ys b zs is p q e =
+    let next : Count = stored_after shape c x in
+    let phrase : List Made = put_phrase shape c x in
+    let tail : List Made = put_phrases shape next xs ++ zs in
+    let parts : phrase ++ tail ≡ puts_from shape c ys b = sym (append_assoc phrase (put_phrases shape next xs) zs) ∙ e in
+    let (rest, same) = first_put shape c x ys b tail is p.0 q parts in
+    let are : ArePuts shape next.number rest = (subst (λ l. ArePuts shape c.number l) same q).1 in
+    let whole : phrase ++ tail ≡ phrase ++ puts_from shape next rest b =
+    parts ∙ ap (λ l. puts_from shape c l b) same ∙ append_assoc phrase (put_phrases shape next rest) (close_phrase b) in
+    let (more, f, g) = first_puts shape next xs rest b zs (stored_is_count shape c x is) p.1 are (append_cancel_left phrase tail (puts_from shape next rest b) whole) in
+    (more, same ∙ ap (λ l. x ∷ l) f, g)
 
-  -- where a close comes next, no put does
-  only_close : (shape : Shape) (c : Count) (more : List Put) (b : Bool) (zs : List Made) → Write X true ∷ zs ≡ puts_from shape c more b → (more ≡ []) × (b ≡ true)
-  only_close shape c [] b zs e = (refl, closing b e)
-    where
-      closing : (b : Bool) → Write X true ∷ zs ≡ close_phrase b → b ≡ true
-      closing true e = refl
-      closing false e = absurd (cc)
-  only_close shape c (Stored u i ∷ more) b zs e = absurd (no_scan_first (row_read_by P) u _ zs (e ∙ puts_stored shape c u i more b))
-  only_close shape c (Full u ∷ more) b zs e = absurd (no_scan_first (row_read_by P) u _ zs (e ∙ puts_full shape c u more b))
+-- where a close comes next, no put does
+only_close : (shape : Shape) (c : Count) (more : List Put) (b : Bool) (zs : List Made) → Write X true ∷ zs ≡ puts_from shape c more b → (more ≡ []) × (b ≡ true)
+only_close shape c [] b zs e = (refl, closing b e)
+  where
+    closing : (b : Bool) → Write X true ∷ zs ≡ close_phrase b → b ≡ true
+    closing true e = refl
+    closing false e = absurd (cc)
+only_close shape c (Stored u i ∷ more) b zs e = absurd (no_scan_first (row_read_by P) u _ zs (e ∙ puts_stored shape c u i more b))
+only_close shape c (Full u ∷ more) b zs e = absurd (no_scan_first (row_read_by P) u _ zs (e ∙ puts_full shape c u more b))
 
-  first_calls :
-      (shape : Shape) (a b : Puts) (zs : List Made) → ArePuts shape 0 a.puts → ArePuts shape 0 b.puts → put_program shape a ++ zs ≡ put_program shape b →
-      ((more : List Put) × (b.puts ≡ a.puts ++ more)) × (a.closes ≡ true → a ≡ b)
-  first_calls shape a b zs p q e =
-      let front : List Made = put_phrases shape first_count a.puts in
-      let (more, f, g) =
-      first_puts shape first_count a.puts b.puts b.closes (close_phrase a.closes ++ zs) (first_is_count shape) p q
-      (sym (append_assoc front (close_phrase a.closes) zs) ∙ e) in (
-        (more, f),
-        λ closes.
-            (let (none, both) = only_close shape (stored_count shape first_count a.puts) more b.closes zs (ap (λ t. close_phrase t ++ zs) (sym closes) ∙ g) in
-            let puts : b.puts ≡ a.puts = f ∙ ap (λ l. a.puts ++ l) none ∙ append-nil a.puts in
-            let same : a.closes ≡ b.closes = closes ∙ sym both in
-            same_calls a b (sym puts) same),
-      )
+first_calls :
+    (shape : Shape) (a b : Puts) (zs : List Made) → ArePuts shape 0 a.puts → ArePuts shape 0 b.puts → put_program shape a ++ zs ≡ put_program shape b →
+    ((more : List Put) × (b.puts ≡ a.puts ++ more)) × (a.closes ≡ true → a ≡ b)
+first_calls shape a b zs p q e =
+    let front : List Made = put_phrases shape first_count a.puts in
+    let (more, f, g) =
+    first_puts shape first_count a.puts b.puts b.closes (close_phrase a.closes ++ zs) (first_is_count shape) p q
+    (sym (append_assoc front (close_phrase a.closes) zs) ∙ e) in (
+      (more, f),
+      λ closes.
+          (let (none, both) = only_close shape (stored_count shape first_count a.puts) more b.closes zs (ap (λ t. close_phrase t ++ zs) (sym closes) ∙ g) in
+          let puts : b.puts ≡ a.puts = f ∙ ap (λ l. a.puts ++ l) none ∙ append-nil a.puts in
+          let same : a.closes ≡ b.closes = closes ∙ sym both in
+          same_calls a b (sym puts) same),
+    )
 
-  pub puts-are_first : PutsAreFirst
-  puts-are_first shape a b p q begins =
-      let (rest, e) = made_first P (put_program shape a) (put_program shape b) begins in first_calls shape a b rest p q e
+pub puts-are_first : PutsAreFirst
+puts-are_first shape a b p q begins =
+    let (rest, e) = made_first P (put_program shape a) (put_program shape b) begins in first_calls shape a b rest p q e

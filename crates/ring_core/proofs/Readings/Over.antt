@@ -10,9 +10,10 @@ use Rattle.ring_core.specs.Counts.{Count, first_count}
 use Rattle.ring_core.specs.Items.{events_in}
 use Rattle.ring_core.specs.Over.{over, PutsOverAreRead, TakesOverAreRead, puts_over, takes_over}
 use Rattle.ring_core.specs.Puts.{Put, Puts, ArePuts, FollowsPuts, close_phrase, number_after, put_phrase, put_phrases, put_program, stored_after, stored_count}
-use Rattle.ring_core.specs.Readings.{PutsAreFirst, TakesAreFirst}
 use Rattle.ring_core.specs.Takes.{Take, Takes, End, Open, AreTakes, FollowsTakes, end_phrase, take_phrase, take_phrases, take_program, count_after}
 use Rattle.ring_core.proofs.Readings.Cuts.{cut}
+use Rattle.ring_core.proofs.Readings.ItemsRead.{puts-are_first}
+use Rattle.ring_core.proofs.Readings.TakenRead.{takes-are_first}
 use Rattle.ring_core.proofs.Machines.Following.{events_of-append, length-events}
 
 module _ {S X : Type 0} (events : S → X → ℕ) (after : S → X → S) where
@@ -77,7 +78,7 @@ begin_each s es whole rest one other l is (r, e) (r', e') =
 
 -- ---- puts
 
-puts-append : (shape : Shape) (c : Count) (xs ys : List Put) → put_phrases shape c (xs ++ ys) ≡ put_phrases shape c xs ++ put_phrases shape (stored_count shape c xs) ys
+pub puts-append : (shape : Shape) (c : Count) (xs ys : List Put) → put_phrases shape c (xs ++ ys) ≡ put_phrases shape c xs ++ put_phrases shape (stored_count shape c xs) ys
 puts-append shape c [] ys = refl
 puts-append shape c (x ∷ xs) ys =
     ap (λ l. put_phrase shape c x ++ l) (puts-append shape (stored_after shape c x) xs ys)
@@ -94,9 +95,9 @@ puts_total shape c (x ∷ xs) =
 
 -- what is over of one reading begins the other
 puts_begin :
-    PutsAreFirst → (shape : Shape) (h : List Event) (a b : Puts) → FollowsPuts shape h a → FollowsPuts shape h b →
+    (shape : Shape) (h : List Event) (a b : Puts) → FollowsPuts shape h a → FollowsPuts shape h b →
     (rest : List Put) × (b.puts ≡ puts_over shape first_count a.puts (length (subhistory P h)) ++ rest)
-puts_begin law shape h a b p q =
+puts_begin shape h a b p q =
     let t : ℕ = length (subhistory P h) in
     let xs : List Put = puts_over shape first_count a.puts t in
     let f = front (λ c x. events_in (put_phrase shape c x)) (stored_after shape) first_count a.puts t in
@@ -107,12 +108,12 @@ puts_begin law shape h a b p q =
     ∙ append_assoc (put_phrases shape first_count xs) (put_phrases shape (stored_count shape first_count xs) f.rest) (close_phrase a.closes)
     ∙ ap (λ l. l ++ (put_phrases shape (stored_count shape first_count xs) f.rest ++ close_phrase a.closes)) (sym (append-nil (put_phrases shape first_count xs))) in
     let size : 2 * length (put_program shape calls) ≤ t = omega (arith, f.within, puts_total shape first_count xs, ap length (append-nil (put_phrases shape first_count xs))) in
-    (law shape calls b (first_puts shape 0 xs f.rest (subst (ArePuts shape 0) f.parts p.are)) q.are
+    (puts-are_first shape calls b (first_puts shape 0 xs f.rest (subst (ArePuts shape 0) f.parts p.are)) q.are
     (begin_each P (subhistory P h) (put_program shape calls) _ (put_program shape a) (put_program shape b) size program p.events q.events)).0
 
-pub puts_over-read : PutsAreFirst → PutsOverAreRead
-puts_over-read law shape h a b p q =
-    same_over (λ c x. events_in (put_phrase shape c x)) (stored_after shape) first_count a.puts b.puts (length (subhistory P h)) (puts_begin law shape h a b p q) (puts_begin law shape h b a q p)
+pub puts_over-read : PutsOverAreRead
+puts_over-read shape h a b p q =
+    same_over (λ c x. events_in (put_phrase shape c x)) (stored_after shape) first_count a.puts b.puts (length (subhistory P h)) (puts_begin shape h a b p q) (puts_begin shape h b a q p)
 
 -- ---- takes
 
@@ -122,7 +123,7 @@ takes-append shape c (x ∷ xs) ys =
     ap (λ l. take_phrase shape c x ++ l) (takes-append shape (count_after shape c x) xs ys)
     ∙ sym (append_assoc (take_phrase shape c x) (take_phrases shape (count_after shape c x) xs) _)
 
-first_takes : (shape : Shape) (c : Count) (xs ys : List Take) (end : End) → AreTakes shape c.number (xs ++ ys) end → AreTakes shape c.number xs Open
+pub first_takes : (shape : Shape) (c : Count) (xs ys : List Take) (end : End) → AreTakes shape c.number (xs ++ ys) end → AreTakes shape c.number xs Open
 first_takes shape c [] ys end p = tt
 first_takes shape c (x ∷ xs) ys end p = (p.0, first_takes shape (count_after shape c x) xs ys end p.1)
 
@@ -132,9 +133,9 @@ takes_total shape c (x ∷ xs) =
     omega (arith, takes_total shape (count_after shape c x) xs, length-append (take_phrase shape c x) (take_phrases shape (count_after shape c x) xs))
 
 takes_begin :
-    TakesAreFirst → (shape : Shape) (h : List Event) (a b : Takes) → FollowsTakes shape h a → FollowsTakes shape h b →
+    (shape : Shape) (h : List Event) (a b : Takes) → FollowsTakes shape h a → FollowsTakes shape h b →
     (rest : List Take) × (b.takes ≡ takes_over shape first_count a.takes (length (subhistory C h)) ++ rest)
-takes_begin law shape h a b p q =
+takes_begin shape h a b p q =
     let t : ℕ = length (subhistory C h) in
     let xs : List Take = takes_over shape first_count a.takes t in
     let f = front (λ c x. events_in (take_phrase shape c x)) (count_after shape) first_count a.takes t in
@@ -146,9 +147,9 @@ takes_begin law shape h a b p q =
     ∙ append_assoc (take_phrases shape first_count xs) left (end_phrase a.end)
     ∙ ap (λ l. l ++ (left ++ end_phrase a.end)) (sym (append-nil (take_phrases shape first_count xs))) in
     let size : 2 * length (take_program shape calls) ≤ t = omega (arith, f.within, takes_total shape first_count xs, ap length (append-nil (take_phrases shape first_count xs))) in
-    (law shape calls b (first_takes shape first_count xs f.rest a.end (subst (λ l. AreTakes shape 0 l a.end) f.parts p.are)) q.are
+    (takes-are_first shape calls b (first_takes shape first_count xs f.rest a.end (subst (λ l. AreTakes shape 0 l a.end) f.parts p.are)) q.are
     (begin_each C (subhistory C h) (take_program shape calls) _ (take_program shape a) (take_program shape b) size program p.events q.events)).0
 
-pub takes_over-read : TakesAreFirst → TakesOverAreRead
-takes_over-read law shape h a b p q =
-    same_over (λ c x. events_in (take_phrase shape c x)) (count_after shape) first_count a.takes b.takes (length (subhistory C h)) (takes_begin law shape h a b p q) (takes_begin law shape h b a q p)
+pub takes_over-read : TakesOverAreRead
+takes_over-read shape h a b p q =
+    same_over (λ c x. events_in (take_phrase shape c x)) (count_after shape) first_count a.takes b.takes (length (subhistory C h)) (takes_begin shape h a b p q) (takes_begin shape h b a q p)

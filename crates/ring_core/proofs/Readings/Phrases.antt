@@ -9,6 +9,9 @@ use Rattle.bits_core.specs.Made.{Made, Read, Write, begin_event, end_event, even
 use Rattle.register_core.specs.Row.{RowWrite, writes_in}
 use Rattle.register_core.specs.Word.{digit, digit_writes, digit_reads, word_write, word_read, DigitsTellItems}
 use Rattle.register_core.specs.ScanState.{zero_reads, scan_phrase}
+pub use Rattle.register_core.proofs.Digits.{length-reads as length-digit_reads}
+pub use Rattle.register_core.proofs.Items.{length-digit_writes}
+use Rattle.register_core.proofs.LawLemmas.{digits_tell_items}
 
 -- ---- calls one after the other
 
@@ -93,16 +96,6 @@ same_parts (u ∷ us) (v ∷ vs) xs ys n e =
     let tail : us ≡ vs = rest.0 in
     (cc, rest.1)
 
--- reads and writes of the first n digits
-pub length-digit_reads : (cell item n : ℕ) → length (digit_reads cell item n) ≡ n
-length-digit_reads cell item zero = refl
-length-digit_reads cell item (suc n) = omega (arith, length-digit_reads cell item n, length-append (digit_reads cell item n) (Read (Cell cell n) (digit n item) ∷ []))
-
-pub length-digit_writes : (item n : ℕ) → length (digit_writes item n) ≡ n
-length-digit_writes item zero = refl
-length-digit_writes item (suc n) =
-    omega (arith, length-digit_writes item n, length-append (digit_writes item n) (record { bit = n; value = digit n item } ∷ []))
-
 pub at_or_below : (i n : ℕ) → i < suc n → (i ≡ n) ⊎ (i < n)
 at_or_below i n l = grind arith
 
@@ -117,12 +110,12 @@ digits_read cell (suc n) a b e i l =
     ]
 
 pub same_word_read :
-    DigitsTellItems → (width cell a b : ℕ) (xs ys : List Made) → a < 2 ^ width → b < 2 ^ width →
+    (width cell a b : ℕ) (xs ys : List Made) → a < 2 ^ width → b < 2 ^ width →
     word_read width cell a ++ xs ≡ word_read width cell b ++ ys → (a ≡ b) × (xs ≡ ys)
-same_word_read same_item width cell a b xs ys l m e =
+same_word_read width cell a b xs ys l m e =
     let parts : (digit_reads cell a width ≡ digit_reads cell b width) × (xs ≡ ys) =
     same_parts (digit_reads cell a width) (digit_reads cell b width) xs ys (length-digit_reads cell a width ∙ sym (length-digit_reads cell b width)) e in
-    (same_item width a b l m (digits_read cell width a b parts.0), parts.1)
+    (digits_tell_items width a b l m (digits_read cell width a b parts.0), parts.1)
 
 abbrev with_parts : ℕ → Bool → RowWrite
 with_parts b v = record { bit = b; value = v }
@@ -158,9 +151,9 @@ digits_written (suc n) a b e i l =
     ]
 
 pub same_word_write :
-    DigitsTellItems → (width cell a b : ℕ) (xs ys : List Made) → a < 2 ^ width → b < 2 ^ width →
+    (width cell a b : ℕ) (xs ys : List Made) → a < 2 ^ width → b < 2 ^ width →
     word_write width cell a ++ xs ≡ word_write width cell b ++ ys → (a ≡ b) × (xs ≡ ys)
-same_word_write same_item width cell a b xs ys l m e =
+same_word_write width cell a b xs ys l m e =
     let parts : (digit_writes a width ≡ digit_writes b width) × (xs ≡ ys) =
     same_writes cell (digit_writes a width) (digit_writes b width) xs ys (length-digit_writes a width ∙ sym (length-digit_writes b width)) e in
-    (same_item width a b l m (digits_written width a b parts.0), parts.1)
+    (digits_tell_items width a b l m (digits_written width a b parts.0), parts.1)

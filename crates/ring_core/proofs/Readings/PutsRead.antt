@@ -93,68 +93,67 @@ words_first shape n item items behind none =
     let (rest, e) = word_first (width_of shape) (n % capacity_of shape) item (words_phrase shape (suc n) items ++ behind) shape.has_digits in
     none (n % capacity_of shape) 0 (digit 0 item) rest (append_assoc word (words_phrase shape (suc n) items) behind ∙ e)
 
-module _ (tell : DigitsTellItems) where
-  -- words are read off the accesses
-  pub same_words :
-      (shape : Shape) (n : ℕ) (xs ys : List ℕ) (left right : List Made) → AllFit shape xs → AllFit shape ys → NoCellFirst left → NoCellFirst right →
-      words_phrase shape n xs ++ left ≡ words_phrase shape n ys ++ right → (xs ≡ ys) × (left ≡ right)
-  same_words shape n [] [] left right f g l r e = (refl, e)
-  same_words shape n [] (y ∷ ys) left right f g l r e = absurd (words_first shape n y ys right (λ j d v rest is. l j d v rest (e ∙ is)))
-  same_words shape n (x ∷ xs) [] left right f g l r e = absurd (words_first shape n x xs left (λ j d v rest is. r j d v rest (sym e ∙ is)))
-  same_words shape n (x ∷ xs) (y ∷ ys) left right f g l r e =
-      let w : ℕ → List Made = word_write (width_of shape) (n % capacity_of shape) in
-      let first : (x ≡ y) × (words_phrase shape (suc n) xs ++ left ≡ words_phrase shape (suc n) ys ++ right) =
-      same_word_write tell (width_of shape) (n % capacity_of shape) x y _ _ f.0 g.0
-      (sym (append_assoc (w x) (words_phrase shape (suc n) xs) left) ∙ e ∙ append_assoc (w y) (words_phrase shape (suc n) ys) right) in
-      let rest : (xs ≡ ys) × (left ≡ right) = same_words shape (suc n) xs ys left right f.1 g.1 l r first.1 in
-      let head : x ≡ y = first.0 in
-      let tail : xs ≡ ys = rest.0 in
-      (cc, rest.1)
+-- words are read off the accesses
+pub same_words :
+    (shape : Shape) (n : ℕ) (xs ys : List ℕ) (left right : List Made) → AllFit shape xs → AllFit shape ys → NoCellFirst left → NoCellFirst right →
+    words_phrase shape n xs ++ left ≡ words_phrase shape n ys ++ right → (xs ≡ ys) × (left ≡ right)
+same_words shape n [] [] left right f g l r e = (refl, e)
+same_words shape n [] (y ∷ ys) left right f g l r e = absurd (words_first shape n y ys right (λ j d v rest is. l j d v rest (e ∙ is)))
+same_words shape n (x ∷ xs) [] left right f g l r e = absurd (words_first shape n x xs left (λ j d v rest is. r j d v rest (sym e ∙ is)))
+same_words shape n (x ∷ xs) (y ∷ ys) left right f g l r e =
+    let w : ℕ → List Made = word_write (width_of shape) (n % capacity_of shape) in
+    let first : (x ≡ y) × (words_phrase shape (suc n) xs ++ left ≡ words_phrase shape (suc n) ys ++ right) =
+    same_word_write (width_of shape) (n % capacity_of shape) x y _ _ f.0 g.0
+    (sym (append_assoc (w x) (words_phrase shape (suc n) xs) left) ∙ e ∙ append_assoc (w y) (words_phrase shape (suc n) ys) right) in
+    let rest : (xs ≡ ys) × (left ≡ right) = same_words shape (suc n) xs ys left right f.1 g.1 l r first.1 in
+    let head : x ≡ y = first.0 in
+    let tail : xs ≡ ys = rest.0 in
+    (cc, rest.1)
 
-  same_puts :
-      (shape : Shape) (c : Count) (xs ys : List Put) (a b : Bool) → IsCount shape c → ArePuts shape c.number xs → ArePuts shape c.number ys →
-      put_phrases shape c xs ++ close_phrase a ≡ put_phrases shape c ys ++ close_phrase b → (xs ≡ ys) × (a ≡ b)
-  same_puts shape c [] [] a b is p q e = (refl, same_close a b e)
-  same_puts shape c [] (Stored v j ∷ ys) a b is p q e = absurd (no_close a (row_read_by P) v _ (e ∙ puts_stored shape c v j ys b))
-  same_puts shape c [] (Full v ∷ ys) a b is p q e = absurd (no_close a (row_read_by P) v _ (e ∙ puts_full shape c v ys b))
-  same_puts shape c (Stored u i ∷ xs) [] a b is p q e = absurd (no_close b (row_read_by P) u _ (sym e ∙ puts_stored shape c u i xs a))
-  same_puts shape c (Full u ∷ xs) [] a b is p q e = absurd (no_close b (row_read_by P) u _ (sym e ∙ puts_full shape c u xs a))
-  same_puts shape c (Stored u i ∷ xs) (Full v ∷ ys) a b is ((below, room, batch), p) ((below', none), q) e =
-      absurd (no_room shape c.number u v _ _ (some_room shape (c.number % modulus_of shape) u (length i) batch.some room) none
-      (sym (puts_stored shape c u i xs a) ∙ e ∙ puts_full shape c v ys b))
-  same_puts shape c (Full u ∷ xs) (Stored v j ∷ ys) a b is ((below, none), p) ((below', room, batch), q) e =
-      absurd (no_room shape c.number v u _ _ (some_room shape (c.number % modulus_of shape) v (length j) batch.some room) none
-      (sym (puts_stored shape c v j ys b) ∙ sym e ∙ puts_full shape c u xs a))
-  same_puts shape c (Full u ∷ xs) (Full v ∷ ys) a b is (here, p) (here', q) e =
-      let scans : (u ≡ v) × (put_phrases shape c xs ++ close_phrase a ≡ put_phrases shape c ys ++ close_phrase b) =
-      same_scan (row_read_by P) u v _ _ (sym (puts_full shape c u xs a) ∙ e ∙ puts_full shape c v ys b) in
-      let rest : (xs ≡ ys) × (a ≡ b) = same_puts shape c xs ys a b is p q scans.1 in
-      let seen : u ≡ v = scans.0 in
-      let more : xs ≡ ys = rest.0 in
-      (cc, rest.1)
-  same_puts shape c (Stored u i ∷ xs) (Stored v j ∷ ys) a b is ((below, room, batch), p) ((below', room', batch'), q) e =
-      let w : List ℕ → List Made = words_phrase shape c.number in
-      let k : List ℕ → List Made = batch_phrase shape P c in
-      let after : List ℕ → List Put → Bool → List Made = λ l zs z. put_phrases shape (stored_after shape c (Stored u l)) zs ++ close_phrase z in
-      let scans : (u ≡ v) × (w i ++ (k i ++ after i xs a) ≡ w j ++ (k j ++ after j ys b)) =
-      same_scan (row_read_by P) u v _ _ (sym (puts_stored shape c u i xs a) ∙ e ∙ puts_stored shape c v j ys b) in
-      let words : (i ≡ j) × (k i ++ after i xs a ≡ k j ++ after j ys b) =
-      same_words shape c.number i j (k i ++ after i xs a) (k j ++ after j ys b) batch.fit batch'.fit
-      (count_first shape c i (after i xs a) is batch) (count_first shape c j (after j ys b) is batch') scans.1 in
-      let items : i ≡ j = words.0 in
-      let same : k i ++ after i xs a ≡ k i ++ after i ys b = words.1 ∙ ap (λ (l : List ℕ). k l ++ after l ys b) (sym items) in
-      let are : ArePuts shape (number_past c.number i) ys = subst (λ (l : List ℕ). ArePuts shape (number_past c.number l) ys) (sym items) q in
-      let rest : (xs ≡ ys) × (a ≡ b) =
-      same_puts shape (stored_after shape c (Stored u i)) xs ys a b (counted_is_count shape c i) p are (append_cancel_left (k i) (after i xs a) (after i ys b) same) in
-      let seen : u ≡ v = scans.0 in
-      let more : xs ≡ ys = rest.0 in
-      (cc, rest.1)
+same_puts :
+    (shape : Shape) (c : Count) (xs ys : List Put) (a b : Bool) → IsCount shape c → ArePuts shape c.number xs → ArePuts shape c.number ys →
+    put_phrases shape c xs ++ close_phrase a ≡ put_phrases shape c ys ++ close_phrase b → (xs ≡ ys) × (a ≡ b)
+same_puts shape c [] [] a b is p q e = (refl, same_close a b e)
+same_puts shape c [] (Stored v j ∷ ys) a b is p q e = absurd (no_close a (row_read_by P) v _ (e ∙ puts_stored shape c v j ys b))
+same_puts shape c [] (Full v ∷ ys) a b is p q e = absurd (no_close a (row_read_by P) v _ (e ∙ puts_full shape c v ys b))
+same_puts shape c (Stored u i ∷ xs) [] a b is p q e = absurd (no_close b (row_read_by P) u _ (sym e ∙ puts_stored shape c u i xs a))
+same_puts shape c (Full u ∷ xs) [] a b is p q e = absurd (no_close b (row_read_by P) u _ (sym e ∙ puts_full shape c u xs a))
+same_puts shape c (Stored u i ∷ xs) (Full v ∷ ys) a b is ((below, room, batch), p) ((below', none), q) e =
+    absurd (no_room shape c.number u v _ _ (some_room shape (c.number % modulus_of shape) u (length i) batch.some room) none
+    (sym (puts_stored shape c u i xs a) ∙ e ∙ puts_full shape c v ys b))
+same_puts shape c (Full u ∷ xs) (Stored v j ∷ ys) a b is ((below, none), p) ((below', room, batch), q) e =
+    absurd (no_room shape c.number v u _ _ (some_room shape (c.number % modulus_of shape) v (length j) batch.some room) none
+    (sym (puts_stored shape c v j ys b) ∙ sym e ∙ puts_full shape c u xs a))
+same_puts shape c (Full u ∷ xs) (Full v ∷ ys) a b is (here, p) (here', q) e =
+    let scans : (u ≡ v) × (put_phrases shape c xs ++ close_phrase a ≡ put_phrases shape c ys ++ close_phrase b) =
+    same_scan (row_read_by P) u v _ _ (sym (puts_full shape c u xs a) ∙ e ∙ puts_full shape c v ys b) in
+    let rest : (xs ≡ ys) × (a ≡ b) = same_puts shape c xs ys a b is p q scans.1 in
+    let seen : u ≡ v = scans.0 in
+    let more : xs ≡ ys = rest.0 in
+    (cc, rest.1)
+same_puts shape c (Stored u i ∷ xs) (Stored v j ∷ ys) a b is ((below, room, batch), p) ((below', room', batch'), q) e =
+    let w : List ℕ → List Made = words_phrase shape c.number in
+    let k : List ℕ → List Made = batch_phrase shape P c in
+    let after : List ℕ → List Put → Bool → List Made = λ l zs z. put_phrases shape (stored_after shape c (Stored u l)) zs ++ close_phrase z in
+    let scans : (u ≡ v) × (w i ++ (k i ++ after i xs a) ≡ w j ++ (k j ++ after j ys b)) =
+    same_scan (row_read_by P) u v _ _ (sym (puts_stored shape c u i xs a) ∙ e ∙ puts_stored shape c v j ys b) in
+    let words : (i ≡ j) × (k i ++ after i xs a ≡ k j ++ after j ys b) =
+    same_words shape c.number i j (k i ++ after i xs a) (k j ++ after j ys b) batch.fit batch'.fit
+    (count_first shape c i (after i xs a) is batch) (count_first shape c j (after j ys b) is batch') scans.1 in
+    let items : i ≡ j = words.0 in
+    let same : k i ++ after i xs a ≡ k i ++ after i ys b = words.1 ∙ ap (λ (l : List ℕ). k l ++ after l ys b) (sym items) in
+    let are : ArePuts shape (number_past c.number i) ys = subst (λ (l : List ℕ). ArePuts shape (number_past c.number l) ys) (sym items) q in
+    let rest : (xs ≡ ys) × (a ≡ b) =
+    same_puts shape (stored_after shape c (Stored u i)) xs ys a b (counted_is_count shape c i) p are (append_cancel_left (k i) (after i xs a) (after i ys b) same) in
+    let seen : u ≡ v = scans.0 in
+    let more : xs ≡ ys = rest.0 in
+    (cc, rest.1)
 
-  abbrev puts_of : List Put → Bool → Puts
-  puts_of puts closes = record { puts = puts; closes = closes }
+abbrev puts_of : List Put → Bool → Puts
+puts_of puts closes = record { puts = puts; closes = closes }
 
-  pub puts-are_read : PutsAreRead
-  puts-are_read shape a b p q e =
-      let same : (a.puts ≡ b.puts) × (a.closes ≡ b.closes) =
-      same_puts shape first_count a.puts b.puts a.closes b.closes (first_is_count shape) p q (same_accesses P (put_program shape a) (put_program shape b) e) in
-      ap (λ l. puts_of l a.closes) same.0 ∙ ap (puts_of b.puts) same.1
+pub puts-are_read : PutsAreRead
+puts-are_read shape a b p q e =
+    let same : (a.puts ≡ b.puts) × (a.closes ≡ b.closes) =
+    same_puts shape first_count a.puts b.puts a.closes b.closes (first_is_count shape) p q (same_accesses P (put_program shape a) (put_program shape b) e) in
+    ap (λ l. puts_of l a.closes) same.0 ∙ ap (puts_of b.puts) same.1

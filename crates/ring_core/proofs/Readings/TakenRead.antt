@@ -105,204 +105,203 @@ closed_on :
     calls_from shape k [] (Closed seen again) ++ zs ≡ scan seen ++ (Read X true ∷ (scan again ++ zs))
 closed_on shape k seen again zs = append_assoc (scan seen) (Read X true ∷ scan again) zs
 
-same_calls : (a b : Takes) → a.takes ≡ b.takes → a.end ≡ b.end → a ≡ b
+pub same_calls : (a b : Takes) → a.takes ≡ b.takes → a.end ≡ b.end → a ≡ b
 same_calls a b p q = ap₂ (λ (x : List Take) (y : End). record { takes = x; end = y }) p q
 
-module _ (tell : DigitsTellItems) where
-  -- takes whose accesses begin with those of a take begin with that take
-  same_first :
-      (shape : Shape) (k : Count) (is : IsCount shape k) (x : Take) (ys : List Take) (b : End) (zs : List Made) → IsTake shape k.number x → AreTakes shape k.number ys b →
-      take_phrase shape k x ++ zs ≡ calls_from shape k ys b → (more : List Take) × (ys ≡ x ∷ more)
-  same_first shape k is (Item c i) [] Open zs p q e = absurd (no_scan (row_read_by C) c _ (sym e ∙ item_on shape k c i zs))
-  same_first shape k is (ItemAfterClose c c' i) [] Open zs p q e =
-      absurd (no_scan (row_read_by C) c _ (sym e ∙ after_on shape k c c' i zs))
-  same_first shape k is (Empty c) [] Open zs p q e = absurd (no_scan (row_read_by C) c _ (sym e ∙ empty_on shape k c zs))
-  same_first shape k is (Item c i) [] (Closed d d') zs (sees, fits) (none, none') e =
-      absurd (item_or_none shape k.number c d _ _ _ fits.some sees none (sym (item_on shape k c i zs) ∙ e ∙ closed_first shape k d d'))
-  same_first shape k is (ItemAfterClose c c' i) [] (Closed d d') zs (before, sees, fits) (none, none') e =
-      absurd (after_or_closed shape k.number c c' d d' _ _ _ fits.some sees none' (sym (after_on shape k c c' i zs) ∙ e ∙ closed_first shape k d d'))
-  same_first shape k is (Empty c) [] (Closed d d') zs p q e =
-      absurd (open_or_closed c d _ _ (sym (empty_on shape k c zs) ∙ e ∙ closed_first shape k d d'))
-  same_first shape k is (Item c i) (ItemAfterClose d d' j ∷ ys) b zs (sees, fits) ((none, sees', fits'), q) e =
-      absurd (item_or_none shape k.number c d _ _ _ fits.some sees none (sym (item_on shape k c i zs) ∙ e ∙ after_first shape k d d' j ys b))
-  same_first shape k is (Item c i) (Empty d ∷ ys) b zs (sees, fits) (none, q) e =
-      absurd (item_or_none shape k.number c d _ _ _ fits.some sees none (sym (item_on shape k c i zs) ∙ e ∙ empty_first shape k d ys b))
-  same_first shape k is (ItemAfterClose c c' i) (Item d j ∷ ys) b zs (none, sees', fits') ((sees, fits), q) e =
-      absurd (item_or_none shape k.number d c _ _ _ fits.some sees none (sym (item_first shape k d j ys b) ∙ sym e ∙ after_on shape k c c' i zs))
-  same_first shape k is (ItemAfterClose c c' i) (Empty d ∷ ys) b zs p q e =
-      absurd (open_or_closed d c _ _ (sym (empty_first shape k d ys b) ∙ sym e ∙ after_on shape k c c' i zs))
-  same_first shape k is (Empty c) (Item d j ∷ ys) b zs none ((sees, fits), q) e =
-      absurd (item_or_none shape k.number d c _ _ _ fits.some sees none (sym (item_first shape k d j ys b) ∙ sym e ∙ empty_on shape k c zs))
-  same_first shape k is (Empty c) (ItemAfterClose d d' j ∷ ys) b zs p q e =
-      absurd (open_or_closed c d _ _ (sym (empty_on shape k c zs) ∙ e ∙ after_first shape k d d' j ys b))
-  same_first shape k is (Item c i) (Item d j ∷ ys) b zs (sees, fits) ((sees', fits'), q) e =
-      let right : List Made = calls_from shape (count_after shape k (Item d j)) ys b in
-      let scans : (c ≡ d) × (items_phrase shape k i ++ zs ≡ items_phrase shape k j ++ right) =
-      same_scan (row_read_by C) c d _ _ (sym (item_on shape k c i zs) ∙ e ∙ item_first shape k d j ys b) in
-      let seen : c ≡ d = scans.0 in
-      let item : i ≡ j = (same_items_phrase tell shape k is i j zs right fits fits' scans.1).0 in
-      (ys, cc)
-  same_first shape k is (ItemAfterClose c c' i) (ItemAfterClose d d' j ∷ ys) b zs (none, sees, fits) ((none', sees', fits'), q) e =
-      let right : List Made = calls_from shape (count_after shape k (ItemAfterClose d d' j)) ys b in
-      let twice : (c ≡ d) × (scan c' ++ (items_phrase shape k i ++ zs) ≡ scan d' ++ (items_phrase shape k j ++ right)) =
-      same_twice c c' d d' _ _ (sym (after_on shape k c c' i zs) ∙ e ∙ after_first shape k d d' j ys b) in
-      let scans : (c' ≡ d') × (items_phrase shape k i ++ zs ≡ items_phrase shape k j ++ right) = same_scan (row_read_by C) c' d' _ _ twice.1 in
-      let seen : c ≡ d = twice.0 in
-      let again : c' ≡ d' = scans.0 in
-      let item : i ≡ j = (same_items_phrase tell shape k is i j zs right fits fits' scans.1).0 in
-      (ys, cc)
-  same_first shape k is (Empty c) (Empty d ∷ ys) b zs p q e =
-      let seen : c ≡ d = (same_scan (row_read_by C) c d _ _ (sym (empty_on shape k c zs) ∙ e ∙ empty_first shape k d ys b)).0 in
-      (ys, cc)
+-- takes whose accesses begin with those of a take begin with that take
+same_first :
+    (shape : Shape) (k : Count) (is : IsCount shape k) (x : Take) (ys : List Take) (b : End) (zs : List Made) → IsTake shape k.number x → AreTakes shape k.number ys b →
+    take_phrase shape k x ++ zs ≡ calls_from shape k ys b → (more : List Take) × (ys ≡ x ∷ more)
+same_first shape k is (Item c i) [] Open zs p q e = absurd (no_scan (row_read_by C) c _ (sym e ∙ item_on shape k c i zs))
+same_first shape k is (ItemAfterClose c c' i) [] Open zs p q e =
+    absurd (no_scan (row_read_by C) c _ (sym e ∙ after_on shape k c c' i zs))
+same_first shape k is (Empty c) [] Open zs p q e = absurd (no_scan (row_read_by C) c _ (sym e ∙ empty_on shape k c zs))
+same_first shape k is (Item c i) [] (Closed d d') zs (sees, fits) (none, none') e =
+    absurd (item_or_none shape k.number c d _ _ _ fits.some sees none (sym (item_on shape k c i zs) ∙ e ∙ closed_first shape k d d'))
+same_first shape k is (ItemAfterClose c c' i) [] (Closed d d') zs (before, sees, fits) (none, none') e =
+    absurd (after_or_closed shape k.number c c' d d' _ _ _ fits.some sees none' (sym (after_on shape k c c' i zs) ∙ e ∙ closed_first shape k d d'))
+same_first shape k is (Empty c) [] (Closed d d') zs p q e =
+    absurd (open_or_closed c d _ _ (sym (empty_on shape k c zs) ∙ e ∙ closed_first shape k d d'))
+same_first shape k is (Item c i) (ItemAfterClose d d' j ∷ ys) b zs (sees, fits) ((none, sees', fits'), q) e =
+    absurd (item_or_none shape k.number c d _ _ _ fits.some sees none (sym (item_on shape k c i zs) ∙ e ∙ after_first shape k d d' j ys b))
+same_first shape k is (Item c i) (Empty d ∷ ys) b zs (sees, fits) (none, q) e =
+    absurd (item_or_none shape k.number c d _ _ _ fits.some sees none (sym (item_on shape k c i zs) ∙ e ∙ empty_first shape k d ys b))
+same_first shape k is (ItemAfterClose c c' i) (Item d j ∷ ys) b zs (none, sees', fits') ((sees, fits), q) e =
+    absurd (item_or_none shape k.number d c _ _ _ fits.some sees none (sym (item_first shape k d j ys b) ∙ sym e ∙ after_on shape k c c' i zs))
+same_first shape k is (ItemAfterClose c c' i) (Empty d ∷ ys) b zs p q e =
+    absurd (open_or_closed d c _ _ (sym (empty_first shape k d ys b) ∙ sym e ∙ after_on shape k c c' i zs))
+same_first shape k is (Empty c) (Item d j ∷ ys) b zs none ((sees, fits), q) e =
+    absurd (item_or_none shape k.number d c _ _ _ fits.some sees none (sym (item_first shape k d j ys b) ∙ sym e ∙ empty_on shape k c zs))
+same_first shape k is (Empty c) (ItemAfterClose d d' j ∷ ys) b zs p q e =
+    absurd (open_or_closed c d _ _ (sym (empty_on shape k c zs) ∙ e ∙ after_first shape k d d' j ys b))
+same_first shape k is (Item c i) (Item d j ∷ ys) b zs (sees, fits) ((sees', fits'), q) e =
+    let right : List Made = calls_from shape (count_after shape k (Item d j)) ys b in
+    let scans : (c ≡ d) × (items_phrase shape k i ++ zs ≡ items_phrase shape k j ++ right) =
+    same_scan (row_read_by C) c d _ _ (sym (item_on shape k c i zs) ∙ e ∙ item_first shape k d j ys b) in
+    let seen : c ≡ d = scans.0 in
+    let item : i ≡ j = (same_items_phrase shape k is i j zs right fits fits' scans.1).0 in
+    (ys, cc)
+same_first shape k is (ItemAfterClose c c' i) (ItemAfterClose d d' j ∷ ys) b zs (none, sees, fits) ((none', sees', fits'), q) e =
+    let right : List Made = calls_from shape (count_after shape k (ItemAfterClose d d' j)) ys b in
+    let twice : (c ≡ d) × (scan c' ++ (items_phrase shape k i ++ zs) ≡ scan d' ++ (items_phrase shape k j ++ right)) =
+    same_twice c c' d d' _ _ (sym (after_on shape k c c' i zs) ∙ e ∙ after_first shape k d d' j ys b) in
+    let scans : (c' ≡ d') × (items_phrase shape k i ++ zs ≡ items_phrase shape k j ++ right) = same_scan (row_read_by C) c' d' _ _ twice.1 in
+    let seen : c ≡ d = twice.0 in
+    let again : c' ≡ d' = scans.0 in
+    let item : i ≡ j = (same_items_phrase shape k is i j zs right fits fits' scans.1).0 in
+    (ys, cc)
+same_first shape k is (Empty c) (Empty d ∷ ys) b zs p q e =
+    let seen : c ≡ d = (same_scan (row_read_by C) c d _ _ (sym (empty_on shape k c zs) ∙ e ∙ empty_first shape k d ys b)).0 in
+    (ys, cc)
 
-  -- where the first take of one reading has ended, the other reading begins with the same take
-  reads_first :
-      (shape : Shape) (k : Count) (is : IsCount shape k) (x : Take) (xs ys : List Take) (a b : End) (made : List Made) → IsTake shape k.number x → AreTakes shape k.number ys b →
-      IsPrefix made (calls_from shape k (x ∷ xs) a) → IsPrefix made (calls_from shape k ys b) →
-      length (take_phrase shape k x) ≤ length made → (more : List Take) × (ys ≡ x ∷ more)
-  reads_first shape k is x xs ys a b made p q (r, e) begins l =
-      let (rest, made_is, ends) = cut (take_phrase shape k x) (calls_from shape (count_after shape k x) xs a) made r l (e ∙ from_take shape k x xs a) in
-      let (more, f) = also_begins (take_phrase shape k x) rest made (calls_from shape k ys b) made_is begins in
-      same_first shape k is x ys b (rest ++ more) p q f
+-- where the first take of one reading has ended, the other reading begins with the same take
+reads_first :
+    (shape : Shape) (k : Count) (is : IsCount shape k) (x : Take) (xs ys : List Take) (a b : End) (made : List Made) → IsTake shape k.number x → AreTakes shape k.number ys b →
+    IsPrefix made (calls_from shape k (x ∷ xs) a) → IsPrefix made (calls_from shape k ys b) →
+    length (take_phrase shape k x) ≤ length made → (more : List Take) × (ys ≡ x ∷ more)
+reads_first shape k is x xs ys a b made p q (r, e) begins l =
+    let (rest, made_is, ends) = cut (take_phrase shape k x) (calls_from shape (count_after shape k x) xs a) made r l (e ∙ from_take shape k x xs a) in
+    let (more, f) = also_begins (take_phrase shape k x) rest made (calls_from shape k ys b) made_is begins in
+    same_first shape k is x ys b (rest ++ more) p q f
 
-  -- takes whose accesses begin alike take the same items within as many events
-  same_items :
-      (shape : Shape) (k : Count) (is : IsCount shape k) (xs ys : List Take) (a b : End) (made : List Made) (t : ℕ) → AreTakes shape k.number xs a → AreTakes shape k.number ys b →
-      IsPrefix made (calls_from shape k xs a) → IsPrefix made (calls_from shape k ys b) → t ≤ suc (2 * length made) →
-      items_taken shape k xs t ≡ items_taken shape k ys t
-  same_items shape k is [] [] a b made t p q l r reach = refl
-  same_items shape k is [] (y ∷ ys) a b made t p q l r reach =
-      elim (at_most_or_above (events_in (take_phrase shape k y)) t) [
+-- takes whose accesses begin alike take the same items within as many events
+same_items :
+    (shape : Shape) (k : Count) (is : IsCount shape k) (xs ys : List Take) (a b : End) (made : List Made) (t : ℕ) → AreTakes shape k.number xs a → AreTakes shape k.number ys b →
+    IsPrefix made (calls_from shape k xs a) → IsPrefix made (calls_from shape k ys b) → t ≤ suc (2 * length made) →
+    items_taken shape k xs t ≡ items_taken shape k ys t
+same_items shape k is [] [] a b made t p q l r reach = refl
+same_items shape k is [] (y ∷ ys) a b made t p q l r reach =
+    elim (at_most_or_above (events_in (take_phrase shape k y)) t) [
+      | inl whole ↦
+          let (more, e) = reads_first shape k is y ys [] b a made q.0 p r l (omega (arith, whole, reach)) in
+          absurd (cc)
+      | inr late ↦ sym (late_take shape k y ys t late)
+    ]
+same_items shape k is (x ∷ xs) [] a b made t p q l r reach =
+    elim (at_most_or_above (events_in (take_phrase shape k x)) t) [
+      | inl whole ↦
+          let (more, e) = reads_first shape k is x xs [] a b made p.0 q l r (omega (arith, whole, reach)) in
+          absurd (cc)
+      | inr late ↦ late_take shape k x xs t late
+    ]
+same_items shape k is (x ∷ xs) (y ∷ ys) a b made t p q l r reach =
+    elim (at_most_or_above (events_in (take_phrase shape k x)) t) [
+      | inl whole ↦
+          let within : length (take_phrase shape k x) ≤ length made = omega (arith, whole, reach) in
+          let (more, e) = reads_first shape k is x xs (y ∷ ys) a b made p.0 q l r within in
+          let same : y ≡ x = cc in
+          let m : Count = count_after shape k x in
+          let is' : IsCount shape m = after_is_count shape k x is in
+          let phrase : List Made = take_phrase shape k x in
+          let are : AreTakes shape m.number ys b = subst (λ z. AreTakes shape (count_after shape k z).number ys b) same q.1 in
+          let begins : IsPrefix made (calls_from shape k (x ∷ ys) b) = subst (λ z. IsPrefix made (calls_from shape k (z ∷ ys) b)) same r in
+          let (rest, made_is, ends) = cut phrase (calls_from shape m xs a) made l.0 within (l.1 ∙ from_take shape k x xs a) in
+          let (more', f) = also_begins phrase rest made (calls_from shape k (x ∷ ys) b) made_is begins in
+          let ends' : rest ++ more' ≡ calls_from shape m ys b =
+          append_cancel_left phrase (rest ++ more') (calls_from shape m ys b) (f ∙ from_take shape k x ys b) in
+          let after : items_taken shape m xs (t - events_in phrase) ≡ items_taken shape m ys (t - events_in phrase) =
+          same_items shape m is' xs ys a b rest (t - events_in phrase) p.1 are (l.0, ends) (more', ends')
+          (omega (arith, reach, ap length made_is, length-append phrase rest)) in
+          first_taken shape k x xs t ∙ ap (λ l. item_ended shape k x t ++ l) after ∙ sym (first_taken shape k x ys t)
+          ∙ ap (λ z. items_taken shape k (z ∷ ys) t) (sym same)
+      | inr late ↦ elim (at_most_or_above (events_in (take_phrase shape k y)) t) [
         | inl whole ↦
-            let (more, e) = reads_first shape k is y ys [] b a made q.0 p r l (omega (arith, whole, reach)) in
-            absurd (cc)
-        | inr late ↦ sym (late_take shape k y ys t late)
+            let (more, e) = reads_first shape k is y ys (x ∷ xs) b a made q.0 p r l (omega (arith, whole, reach)) in
+            let same : x ≡ y = cc in
+            absurd (omega (arith, late, whole, ap (λ z. length (take_phrase shape k z)) same))
+        | inr late' ↦ late_take shape k x xs t late ∙ sym (late_take shape k y ys t late')
       ]
-  same_items shape k is (x ∷ xs) [] a b made t p q l r reach =
-      elim (at_most_or_above (events_in (take_phrase shape k x)) t) [
-        | inl whole ↦
-            let (more, e) = reads_first shape k is x xs [] a b made p.0 q l r (omega (arith, whole, reach)) in
-            absurd (cc)
-        | inr late ↦ late_take shape k x xs t late
-      ]
-  same_items shape k is (x ∷ xs) (y ∷ ys) a b made t p q l r reach =
-      elim (at_most_or_above (events_in (take_phrase shape k x)) t) [
-        | inl whole ↦
-            let within : length (take_phrase shape k x) ≤ length made = omega (arith, whole, reach) in
-            let (more, e) = reads_first shape k is x xs (y ∷ ys) a b made p.0 q l r within in
-            let same : y ≡ x = cc in
-            let m : Count = count_after shape k x in
-            let is' : IsCount shape m = after_is_count shape k x is in
-            let phrase : List Made = take_phrase shape k x in
-            let are : AreTakes shape m.number ys b = subst (λ z. AreTakes shape (count_after shape k z).number ys b) same q.1 in
-            let begins : IsPrefix made (calls_from shape k (x ∷ ys) b) = subst (λ z. IsPrefix made (calls_from shape k (z ∷ ys) b)) same r in
-            let (rest, made_is, ends) = cut phrase (calls_from shape m xs a) made l.0 within (l.1 ∙ from_take shape k x xs a) in
-            let (more', f) = also_begins phrase rest made (calls_from shape k (x ∷ ys) b) made_is begins in
-            let ends' : rest ++ more' ≡ calls_from shape m ys b =
-            append_cancel_left phrase (rest ++ more') (calls_from shape m ys b) (f ∙ from_take shape k x ys b) in
-            let after : items_taken shape m xs (t - events_in phrase) ≡ items_taken shape m ys (t - events_in phrase) =
-            same_items shape m is' xs ys a b rest (t - events_in phrase) p.1 are (l.0, ends) (more', ends')
-            (omega (arith, reach, ap length made_is, length-append phrase rest)) in
-            first_taken shape k x xs t ∙ ap (λ l. item_ended shape k x t ++ l) after ∙ sym (first_taken shape k x ys t)
-            ∙ ap (λ z. items_taken shape k (z ∷ ys) t) (sym same)
-        | inr late ↦ elim (at_most_or_above (events_in (take_phrase shape k y)) t) [
-          | inl whole ↦
-              let (more, e) = reads_first shape k is y ys (x ∷ xs) b a made q.0 p r l (omega (arith, whole, reach)) in
-              let same : x ≡ y = cc in
-              absurd (omega (arith, late, whole, ap (λ z. length (take_phrase shape k z)) same))
-          | inr late' ↦ late_take shape k x xs t late ∙ sym (late_take shape k y ys t late')
-        ]
-      ]
+    ]
 
-  -- calls whose accesses begin with those of calls that end closed are those calls
-  same_closed :
-      (shape : Shape) (k : Count) (is : IsCount shape k) (xs ys : List Take) (a b : End) (zs : List Made) → AreTakes shape k.number xs a → AreTakes shape k.number ys b → Tells a →
-      calls_from shape k xs a ++ zs ≡ calls_from shape k ys b → (xs ≡ ys) × (a ≡ b)
-  same_closed shape k is [] ys Open b zs p q told e = absurd told
-  same_closed shape k is (x ∷ xs) ys Open b zs p q told e = absurd told
-  same_closed shape k is [] [] (Closed c c') Open zs p q told e =
-      absurd (no_scan (row_read_by C) c _ (sym e ∙ closed_on shape k c c' zs))
-  same_closed shape k is [] [] (Closed c c') (Closed d d') zs p q told e =
-      let twice : (c ≡ d) × (scan c' ++ zs ≡ scan d' ++ []) =
-      same_twice c c' d d' zs [] (sym (closed_on shape k c c' zs) ∙ e ∙ closed_first shape k d d') in
-      let first : c ≡ d = twice.0 in
-      let second : c' ≡ d' = (same_scan (row_read_by C) c' d' zs [] twice.1).0 in
-      (refl, cc)
-  same_closed shape k is [] (Item d j ∷ ys) (Closed c c') b zs (none, none') ((sees, fits), q) told e =
-      absurd (item_or_none shape k.number d c _ _ _ fits.some sees none (sym (item_first shape k d j ys b) ∙ sym e ∙ closed_on shape k c c' zs))
-  same_closed shape k is [] (ItemAfterClose d d' j ∷ ys) (Closed c c') b zs (none, none') ((before, sees, fits), q) told e =
-      absurd (after_or_closed shape k.number d d' c c' _ _ _ fits.some sees none' (sym (after_first shape k d d' j ys b) ∙ sym e ∙ closed_on shape k c c' zs))
-  same_closed shape k is [] (Empty d ∷ ys) (Closed c c') b zs p q told e =
-      absurd (open_or_closed d c _ _ (sym (empty_first shape k d ys b) ∙ sym e ∙ closed_on shape k c c' zs))
-  same_closed shape k is (x ∷ xs) [] (Closed c c') b zs p q told e =
-      let front : calls_from shape k (x ∷ xs) (Closed c c') ++ zs ≡ take_phrase shape k x ++ (calls_from shape (count_after shape k x) xs (Closed c c') ++ zs) =
-      ap (λ l. l ++ zs) (from_take shape k x xs (Closed c c'))
-      ∙ append_assoc (take_phrase shape k x) (calls_from shape (count_after shape k x) xs (Closed c c')) zs in
-      let (more, f) = same_first shape k is x [] b _ p.0 q (sym front ∙ e) in
-      absurd (cc)
-  same_closed shape k is (x ∷ xs) (y ∷ ys) (Closed c c') b zs p q told e =
-      let m : Count = count_after shape k x in
-      let is' : IsCount shape m = after_is_count shape k x is in
-      let a : End = Closed c c' in
-      let front : calls_from shape k (x ∷ xs) a ++ zs ≡ take_phrase shape k x ++ (calls_from shape m xs a ++ zs) =
-      ap (λ l. l ++ zs) (from_take shape k x xs a) ∙ append_assoc (take_phrase shape k x) (calls_from shape m xs a) zs in
-      let (more, f) = same_first shape k is x (y ∷ ys) b _ p.0 q (sym front ∙ e) in
-      let same : y ≡ x = cc in
-      let are : AreTakes shape m.number ys b = subst (λ z. AreTakes shape (count_after shape k z).number ys b) same q.1 in
-      let whole : calls_from shape k (y ∷ ys) b ≡ calls_from shape k (x ∷ ys) b = ap (λ z. calls_from shape k (z ∷ ys) b) same in
-      let tails : calls_from shape m xs a ++ zs ≡ calls_from shape m ys b =
-      append_cancel_left (take_phrase shape k x) (calls_from shape m xs a ++ zs) (calls_from shape m ys b) (sym front ∙ e ∙ whole ∙ from_take shape k x ys b) in
-      let rest : (xs ≡ ys) × (a ≡ b) = same_closed shape m is' xs ys a b zs p.1 are told tails in
-      let more_same : xs ≡ ys = rest.0 in
-      (cc, rest.1)
+-- calls whose accesses begin with those of calls that end closed are those calls
+same_closed :
+    (shape : Shape) (k : Count) (is : IsCount shape k) (xs ys : List Take) (a b : End) (zs : List Made) → AreTakes shape k.number xs a → AreTakes shape k.number ys b → Tells a →
+    calls_from shape k xs a ++ zs ≡ calls_from shape k ys b → (xs ≡ ys) × (a ≡ b)
+same_closed shape k is [] ys Open b zs p q told e = absurd told
+same_closed shape k is (x ∷ xs) ys Open b zs p q told e = absurd told
+same_closed shape k is [] [] (Closed c c') Open zs p q told e =
+    absurd (no_scan (row_read_by C) c _ (sym e ∙ closed_on shape k c c' zs))
+same_closed shape k is [] [] (Closed c c') (Closed d d') zs p q told e =
+    let twice : (c ≡ d) × (scan c' ++ zs ≡ scan d' ++ []) =
+    same_twice c c' d d' zs [] (sym (closed_on shape k c c' zs) ∙ e ∙ closed_first shape k d d') in
+    let first : c ≡ d = twice.0 in
+    let second : c' ≡ d' = (same_scan (row_read_by C) c' d' zs [] twice.1).0 in
+    (refl, cc)
+same_closed shape k is [] (Item d j ∷ ys) (Closed c c') b zs (none, none') ((sees, fits), q) told e =
+    absurd (item_or_none shape k.number d c _ _ _ fits.some sees none (sym (item_first shape k d j ys b) ∙ sym e ∙ closed_on shape k c c' zs))
+same_closed shape k is [] (ItemAfterClose d d' j ∷ ys) (Closed c c') b zs (none, none') ((before, sees, fits), q) told e =
+    absurd (after_or_closed shape k.number d d' c c' _ _ _ fits.some sees none' (sym (after_first shape k d d' j ys b) ∙ sym e ∙ closed_on shape k c c' zs))
+same_closed shape k is [] (Empty d ∷ ys) (Closed c c') b zs p q told e =
+    absurd (open_or_closed d c _ _ (sym (empty_first shape k d ys b) ∙ sym e ∙ closed_on shape k c c' zs))
+same_closed shape k is (x ∷ xs) [] (Closed c c') b zs p q told e =
+    let front : calls_from shape k (x ∷ xs) (Closed c c') ++ zs ≡ take_phrase shape k x ++ (calls_from shape (count_after shape k x) xs (Closed c c') ++ zs) =
+    ap (λ l. l ++ zs) (from_take shape k x xs (Closed c c'))
+    ∙ append_assoc (take_phrase shape k x) (calls_from shape (count_after shape k x) xs (Closed c c')) zs in
+    let (more, f) = same_first shape k is x [] b _ p.0 q (sym front ∙ e) in
+    absurd (cc)
+same_closed shape k is (x ∷ xs) (y ∷ ys) (Closed c c') b zs p q told e =
+    let m : Count = count_after shape k x in
+    let is' : IsCount shape m = after_is_count shape k x is in
+    let a : End = Closed c c' in
+    let front : calls_from shape k (x ∷ xs) a ++ zs ≡ take_phrase shape k x ++ (calls_from shape m xs a ++ zs) =
+    ap (λ l. l ++ zs) (from_take shape k x xs a) ∙ append_assoc (take_phrase shape k x) (calls_from shape m xs a) zs in
+    let (more, f) = same_first shape k is x (y ∷ ys) b _ p.0 q (sym front ∙ e) in
+    let same : y ≡ x = cc in
+    let are : AreTakes shape m.number ys b = subst (λ z. AreTakes shape (count_after shape k z).number ys b) same q.1 in
+    let whole : calls_from shape k (y ∷ ys) b ≡ calls_from shape k (x ∷ ys) b = ap (λ z. calls_from shape k (z ∷ ys) b) same in
+    let tails : calls_from shape m xs a ++ zs ≡ calls_from shape m ys b =
+    append_cancel_left (take_phrase shape k x) (calls_from shape m xs a ++ zs) (calls_from shape m ys b) (sym front ∙ e ∙ whole ∙ from_take shape k x ys b) in
+    let rest : (xs ≡ ys) × (a ≡ b) = same_closed shape m is' xs ys a b zs p.1 are told tails in
+    let more_same : xs ≡ ys = rest.0 in
+    (cc, rest.1)
 
-  -- where the takes of one reading have ended and the last is told that the ring is closed, so it is in the other
-  still_told :
-      (shape : Shape) (a b : Takes) (made : List Made) (t : ℕ) →
-      AreTakes shape 0 a.takes a.end → AreTakes shape 0 b.takes b.end →
-      IsPrefix made (take_program shape a) → IsPrefix made (take_program shape b) → t ≤ suc (2 * length made) →
-      IsTold shape a t → IsTold shape b t
-  still_told shape a b made t p q (r, l) begins reach (tells, ended) =
-      let program : List Made = take_program shape a in
-      let (rest, made_is, ends) = cut program [] made r (omega (arith, ended, reach)) (l ∙ sym (append-nil program)) in
-      let (more, f) = also_begins program rest made (take_program shape b) made_is begins in
-      let same : (a.takes ≡ b.takes) × (a.end ≡ b.end) = same_closed shape first_count (first_is_count shape) a.takes b.takes a.end b.end (rest ++ more) p q tells f in
-      let programs : program ≡ take_program shape b =
-      ap (λ l. calls_from shape first_count l a.end) same.0 ∙ ap (λ z. calls_from shape first_count b.takes z) same.1 in
-      (subst Tells same.1 tells, omega (arith, ended, ap length programs))
+-- where the takes of one reading have ended and the last is told that the ring is closed, so it is in the other
+still_told :
+    (shape : Shape) (a b : Takes) (made : List Made) (t : ℕ) →
+    AreTakes shape 0 a.takes a.end → AreTakes shape 0 b.takes b.end →
+    IsPrefix made (take_program shape a) → IsPrefix made (take_program shape b) → t ≤ suc (2 * length made) →
+    IsTold shape a t → IsTold shape b t
+still_told shape a b made t p q (r, l) begins reach (tells, ended) =
+    let program : List Made = take_program shape a in
+    let (rest, made_is, ends) = cut program [] made r (omega (arith, ended, reach)) (l ∙ sym (append-nil program)) in
+    let (more, f) = also_begins program rest made (take_program shape b) made_is begins in
+    let same : (a.takes ≡ b.takes) × (a.end ≡ b.end) = same_closed shape first_count (first_is_count shape) a.takes b.takes a.end b.end (rest ++ more) p q tells f in
+    let programs : program ≡ take_program shape b =
+    ap (λ l. calls_from shape first_count l a.end) same.0 ∙ ap (λ z. calls_from shape first_count b.takes z) same.1 in
+    (subst Tells same.1 tells, omega (arith, ended, ap length programs))
 
-  -- the items taken in a history, and whether it was told, are the same whichever takes its events are read as
-  pub taken-are_read : TakenAreRead
-  taken-are_read shape h a b p q =
-      let both : BeginBoth C (length (subhistory C h)) (take_program shape a) (take_program shape b) =
-      begin_both C (subhistory C h) (take_program shape a) (take_program shape b) p.events q.events in (
-        same_items shape first_count (first_is_count shape) a.takes b.takes a.end b.end both.made (length (subhistory C h)) p.are q.are both.begins_left both.begins_right both.reach,
-        λ told. still_told shape a b both.made (length (subhistory C h)) p.are q.are both.begins_left both.begins_right both.reach told,
-      )
+-- the items taken in a history, and whether it was told, are the same whichever takes its events are read as
+pub taken-are_read : TakenAreRead
+taken-are_read shape h a b p q =
+    let both : BeginBoth C (length (subhistory C h)) (take_program shape a) (take_program shape b) =
+    begin_both C (subhistory C h) (take_program shape a) (take_program shape b) p.events q.events in (
+      same_items shape first_count (first_is_count shape) a.takes b.takes a.end b.end both.made (length (subhistory C h)) p.are q.are both.begins_left both.begins_right both.reach,
+      λ told. still_told shape a b both.made (length (subhistory C h)) p.are q.are both.begins_left both.begins_right both.reach told,
+    )
 
-  -- ---- whole calls that begin others
+-- ---- whole calls that begin others
 
-  pub first_takes :
-      (shape : Shape) (k : Count) (is : IsCount shape k) (xs ys : List Take) (a b : End) (zs : List Made) → AreTakes shape k.number xs a → AreTakes shape k.number ys b →
-      take_phrases shape k xs ++ zs ≡ calls_from shape k ys b → (more : List Take) × (ys ≡ xs ++ more)
-  first_takes shape k is [] ys a b zs p q e = (ys, refl)
-  first_takes shape k is (x ∷ xs) ys a b zs p q e =
-      let m : Count = count_after shape k x in
-      let is' : IsCount shape m = after_is_count shape k x is in
-      let phrase : List Made = take_phrase shape k x in
-      let tail : List Made = take_phrases shape m xs ++ zs in
-      let parts : phrase ++ tail ≡ calls_from shape k ys b = sym (append_assoc phrase (take_phrases shape m xs) zs) ∙ e in
-      let (rest, same) = same_first shape k is x ys b tail p.0 q parts in
-      let are : AreTakes shape m.number rest b = (subst (λ l. AreTakes shape k.number l b) same q).1 in
-      let whole : phrase ++ tail ≡ phrase ++ calls_from shape m rest b = parts ∙ ap (λ l. calls_from shape k l b) same ∙ from_take shape k x rest b in
-      let (more, f) = first_takes shape m is' xs rest a b zs p.1 are (append_cancel_left phrase tail (calls_from shape m rest b) whole) in
-      (more, same ∙ ap (λ l. x ∷ l) f)
+pub first_takes :
+    (shape : Shape) (k : Count) (is : IsCount shape k) (xs ys : List Take) (a b : End) (zs : List Made) → AreTakes shape k.number xs a → AreTakes shape k.number ys b →
+    take_phrases shape k xs ++ zs ≡ calls_from shape k ys b → (more : List Take) × (ys ≡ xs ++ more)
+first_takes shape k is [] ys a b zs p q e = (ys, refl)
+first_takes shape k is (x ∷ xs) ys a b zs p q e =
+    let m : Count = count_after shape k x in
+    let is' : IsCount shape m = after_is_count shape k x is in
+    let phrase : List Made = take_phrase shape k x in
+    let tail : List Made = take_phrases shape m xs ++ zs in
+    let parts : phrase ++ tail ≡ calls_from shape k ys b = sym (append_assoc phrase (take_phrases shape m xs) zs) ∙ e in
+    let (rest, same) = same_first shape k is x ys b tail p.0 q parts in
+    let are : AreTakes shape m.number rest b = (subst (λ l. AreTakes shape k.number l b) same q).1 in
+    let whole : phrase ++ tail ≡ phrase ++ calls_from shape m rest b = parts ∙ ap (λ l. calls_from shape k l b) same ∙ from_take shape k x rest b in
+    let (more, f) = first_takes shape m is' xs rest a b zs p.1 are (append_cancel_left phrase tail (calls_from shape m rest b) whole) in
+    (more, same ∙ ap (λ l. x ∷ l) f)
 
-  pub takes-are_first : TakesAreFirst
-  takes-are_first shape a b p q begins =
-      let (rest, e) = made_first C (take_program shape a) (take_program shape b) begins in (
-        first_takes shape first_count (first_is_count shape) a.takes b.takes a.end b.end (end_phrase a.end ++ rest) p q (sym (append_assoc (take_phrases shape first_count a.takes) (end_phrase a.end) rest) ∙ e),
-        λ tells.
-            (let (takes, ends) = same_closed shape first_count (first_is_count shape) a.takes b.takes a.end b.end rest p q tells e in
-            same_calls a b takes ends),
-      )
+pub takes-are_first : TakesAreFirst
+takes-are_first shape a b p q begins =
+    let (rest, e) = made_first C (take_program shape a) (take_program shape b) begins in (
+      first_takes shape first_count (first_is_count shape) a.takes b.takes a.end b.end (end_phrase a.end ++ rest) p q (sym (append_assoc (take_phrases shape first_count a.takes) (end_phrase a.end) rest) ∙ e),
+      λ tells.
+          (let (takes, ends) = same_closed shape first_count (first_is_count shape) a.takes b.takes a.end b.end rest p q tells e in
+          same_calls a b takes ends),
+    )

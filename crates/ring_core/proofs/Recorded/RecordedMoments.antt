@@ -21,8 +21,8 @@ use Rattle.ring_core.proofs.OverSpans.RingOfSpans.{LawOfSpans}
 use Rattle.ring_core.proofs.Machines.Following.{length-events}
 use Rattle.ring_core.proofs.HistoryClocks.{clock-yes, clock-no, clock-zero}
 use Rattle.ring_core.proofs.OwnEvents.{one_place, clock_within}
-use Rattle.ring_core.proofs.CloseReads.{OwnFacts}
 use Rattle.ring_core.proofs.Recorded.RecordedStates.{before_close, PutAt, TakeAt}
+use Rattle.bits_core.proofs.LawLemmas.{subhistory_has_place}
 
 -- ---- the clocks
 
@@ -69,15 +69,15 @@ pub next_q : (h : List Event) (t p q : ℕ) (e : Event) (rest : List Event) → 
 next_q h t p q e rest by m = omega (arith, at_q h (suc t) p (suc q) rest (past_q h t p q e rest by m), clock_within C h (suc t))
 
 -- and stands there
-place_here : OwnFacts → (s : Side) (h : List Event) (t i : ℕ) → clock s h t ≡ i → clock s h (suc t) ≡ suc i → IsPlaceOf s h i t
-place_here facts s h t i here past =
-    subst (IsPlaceOf s h i) (sym (one_place facts.has_place s h i t (here, past))) (facts.has_place s h i (omega (arith, past, clock_within s h (suc t))))
+place_here : (s : Side) (h : List Event) (t i : ℕ) → clock s h t ≡ i → clock s h (suc t) ≡ suc i → IsPlaceOf s h i t
+place_here s h t i here past =
+    subst (IsPlaceOf s h i) (sym (one_place s h i t (here, past))) (subhistory_has_place s h i (omega (arith, past, clock_within s h (suc t))))
 
-pub place_p : OwnFacts → (h : List Event) (t p q : ℕ) (e : Event) (rest : List Event) → e.side ≡ P → Moment h t p q (e ∷ rest) → IsPlaceOf P h p t
-place_p facts h t p q e rest by m = place_here facts P h t p (at_p h t p q (e ∷ rest) m) (at_p h (suc t) (suc p) q rest (past_p h t p q e rest by m))
+pub place_p : (h : List Event) (t p q : ℕ) (e : Event) (rest : List Event) → e.side ≡ P → Moment h t p q (e ∷ rest) → IsPlaceOf P h p t
+place_p h t p q e rest by m = place_here P h t p (at_p h t p q (e ∷ rest) m) (at_p h (suc t) (suc p) q rest (past_p h t p q e rest by m))
 
-pub place_q : OwnFacts → (h : List Event) (t p q : ℕ) (e : Event) (rest : List Event) → e.side ≡ C → Moment h t p q (e ∷ rest) → IsPlaceOf C h q t
-place_q facts h t p q e rest by m = place_here facts C h t q (at_q h t p q (e ∷ rest) m) (at_q h (suc t) p (suc q) rest (past_q h t p q e rest by m))
+pub place_q : (h : List Event) (t p q : ℕ) (e : Event) (rest : List Event) → e.side ≡ C → Moment h t p q (e ∷ rest) → IsPlaceOf C h q t
+place_q h t p q e rest by m = place_here C h t q (at_q h t p q (e ∷ rest) m) (at_q h (suc t) p (suc q) rest (past_q h t p q e rest by m))
 
 -- a side has no more events than its calls
 few_own : (s : Side) (subhistory all : List Event) → IsPrefix subhistory all → length subhistory ≤ length all

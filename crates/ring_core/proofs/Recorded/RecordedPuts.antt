@@ -22,7 +22,6 @@ use Rattle.ring_core.proofs.OverSpans.Spans.{Passes, Stops, counts_ended}
 use Rattle.ring_core.proofs.OverSpans.LookSpans.{look, span_of, put_spans, take_spans}
 use Rattle.ring_core.proofs.Readings.Cuts.{at_most_or_above}
 use Rattle.ring_core.proofs.OverSpans.RingOfSpans.{LawOfSpans}
-use Rattle.ring_core.proofs.CloseReads.{OwnFacts}
 use Rattle.ring_core.proofs.Linear.PutTurns.{by_test, put_long, put_some, before_put_ends}
 use Rattle.ring_core.proofs.Linear.PutTurnFacts.{long_is}
 use Rattle.ring_core.proofs.Recorded.RecordedSpans.{stands_next, begun_here, counted_here}
@@ -45,7 +44,7 @@ few_close true = omega arith
 few_close false = omega arith
 
 -- fewer items than there were are as many as were asked for
-took_all : (room : ℕ) (items : List ℕ) → length (take room items) < length items → length (take room items) ≡ room
+pub took_all : (room : ℕ) (items : List ℕ) → length (take room items) < length items → length (take room items) ≡ room
 took_all room items l = elim (at_most_or_above room (length items)) [
   | inl m ↦ length-take-le room items m
   | inr m ↦ absurd (omega (arith, l, ap length (take_all room items (omega (arith, m)))))
@@ -54,7 +53,7 @@ took_all room items l = elim (at_most_or_above room (length items)) [
 fills : (d room capacity : ℕ) → room ≡ capacity - d → 1 ≤ room → d + room ≡ capacity
 fills d room capacity e l = omega (arith, e, l)
 
-module _ (facts : OwnFacts) (shape : Shape) (offers : ℕ → List ℕ) (wants : ℕ → ℕ) (h : List Event) (puts : Puts) (takes : Takes) (run : IsRun shape h puts takes)
+module _ (shape : Shape) (offers : ℕ → List ℕ) (wants : ℕ → ℕ) (h : List Event) (puts : Puts) (takes : Takes) (run : IsRun shape h puts takes)
     (law : LawOfSpans shape h puts takes) where
   abbrev Here : ℕ → ℕ → ℕ → List Event → Kept → Type 0
   Here = Now shape offers wants h puts takes
@@ -120,7 +119,7 @@ module _ (facts : OwnFacts) (shape : Shape) (offers : ℕ → List ℕ) (wants :
             left_is = refl;
             put_is = refl;
             no_room = λ over fewer.
-                lacks c now.stored x more t p (counts_ended (take_spans shape takes) q) (length k.inside) b (place_p facts h t p q e rest by now.moment)
+                lacks c now.stored x more t p (counts_ended (take_spans shape takes) q) (length k.inside) b (place_p h t p q e rest by now.moment)
                 (ap (counts_ended (take_spans shape takes)) (at_q h t p q (e ∷ rest) now.moment))
                 (omega (arith, view.ended, ap length same, length-append now.taken k.inside)) over fewer;
           }));

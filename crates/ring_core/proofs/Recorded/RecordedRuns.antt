@@ -17,7 +17,6 @@ use Rattle.ring_core.specs.RingLaw.{IsRun}
 use Rattle.ring_core.specs.Recorded.{put_told, take_told, by_side, calls_told, recorded, AreOffered}
 use Rattle.ring_core.specs.GoingOn.{AreWanted}
 use Rattle.ring_core.proofs.OverSpans.RingOfSpans.{LawOfSpans}
-use Rattle.ring_core.proofs.CloseReads.{OwnFacts}
 use Rattle.ring_core.proofs.Recorded.RecordedCalls.{puts_first, takes_first}
 use Rattle.ring_core.proofs.Recorded.RecordedMoments.{moment_first, Now, move_on}
 use Rattle.ring_core.proofs.Recorded.RecordedPuts.{put_step}
@@ -32,7 +31,7 @@ abbrev told_by : (f g : ℕ → List calls.Event) → (p q : ℕ) → List Event
 told_by f g p q rest s = by_side s (f p) (g q) ++ calls_told f g (by_side s (suc p) p) (by_side s q (suc q)) rest
 
 -- every take wants an item, also the one that is told the ring is closed
-module _ (facts : OwnFacts) (shape : Shape) (offers : ℕ → List ℕ) (wants : ℕ → ℕ) (h : List Event) (puts : Puts) (takes : Takes) (run : IsRun shape h puts takes)
+module _ (shape : Shape) (offers : ℕ → List ℕ) (wants : ℕ → ℕ) (h : List Event) (puts : Puts) (takes : Takes) (run : IsRun shape h puts takes)
     (law : LawOfSpans shape h puts takes) (some_wanted : (j : ℕ) → 0 < wants j) where
   abbrev f : ℕ → List calls.Event
   f = put_told shape offers 0 first_count puts.puts puts.closes
@@ -45,11 +44,11 @@ module _ (facts : OwnFacts) (shape : Shape) (offers : ℕ → List ℕ) (wants :
   goes [] t p q k now = tt
   goes (e ∷ rest) t p q k now = elim (side_of e.side) [
     | inl by ↦ (
-        let s = put_step facts shape offers wants h puts takes run law t p q e rest k by now in
+        let s = put_step shape offers wants h puts takes run law t p q e rest k by now in
         subst (λ x. AreCounted (exactly (capacity_of shape)) k (told_by f g p q rest x)) (sym by)
         (move_on (exactly (capacity_of shape)) k s.after (f p) (calls_told f g (suc p) q rest) s.moves (goes rest (suc t) (suc p) q s.after s.now)))
     | inr by ↦ (
-        let s = take_step facts shape offers wants h puts takes run law some_wanted t p q e rest k by now in
+        let s = take_step shape offers wants h puts takes run law some_wanted t p q e rest k by now in
         subst (λ x. AreCounted (exactly (capacity_of shape)) k (told_by f g p q rest x)) (sym by)
         (move_on (exactly (capacity_of shape)) k s.after (g q) (calls_told f g p (suc q) rest) s.moves (goes rest (suc t) p (suc q) s.after s.now)))
   ]

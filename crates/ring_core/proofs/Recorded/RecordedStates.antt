@@ -98,7 +98,7 @@ first_stored shape n items (Stored seen stored) e =
     (drop room items, ap (λ l. l ++ drop room items) e ∙ take-append-drop room items)
 first_stored shape n items (Full seen) e = (items, refl)
 
-longer : (a b whole : List ℕ) → IsPrefix a b → IsPrefix b whole → IsPrefix a whole
+pub longer : (a b whole : List ℕ) → IsPrefix a b → IsPrefix b whole → IsPrefix a whole
 longer a b whole (more, e) (rest, f) = (more ++ rest, sym (append_assoc a more rest) ∙ ap (λ l. l ++ rest) e ∙ f)
 
 pub begun_behind : (front a b : List ℕ) → IsPrefix a b → IsPrefix (front ++ a) (front ++ b)
@@ -230,7 +230,7 @@ first_taken shape wants takes c start taken rest q l b =
     (ended_items (spans C shape c (take_looks rest takes.end)) (q - start), sym (ap (ended_items (take_spans shape takes)) on ∙ b.spans_are.ended (q - start)))
 
 -- a take takes no more than it wants
-few_items : (shape : Shape) (k wanted : ℕ) (x : Take) → IsTakeOf shape k wanted x → length (taken_of x) ≤ wanted
+pub few_items : (shape : Shape) (k wanted : ℕ) (x : Take) → IsTakeOf shape k wanted x → length (taken_of x) ≤ wanted
 few_items shape k wanted (Item seen items) e = e.0
 few_items shape k wanted (ItemAfterClose seen again items) e = e.0
 few_items shape k wanted (Empty seen) e = omega arith

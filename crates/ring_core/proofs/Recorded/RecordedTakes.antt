@@ -30,13 +30,13 @@ use Rattle.ring_core.proofs.Machines.Lengths.{length-scan}
 use Rattle.ring_core.proofs.OwnEvents.{clock_rises}
 use Rattle.ring_core.proofs.OverSpans.CallSpans.{stands_at, take_phrase-item, take_phrase-after, take_phrase-empty}
 use Rattle.ring_core.proofs.CallCounts.{phrase_some}
-use Rattle.ring_core.proofs.CloseReads.{OwnFacts}
 use Rattle.ring_core.proofs.Linear.PutTurns.{by_test}
 use Rattle.ring_core.proofs.Linear.TakeTurns.{take_long, end_long, end_some}
 use Rattle.ring_core.proofs.Recorded.RecordedSpans.{stands_next, counted_here}
 use Rattle.ring_core.proofs.Recorded.RecordedCalls.{told_first, told_between, told_last, TakesBehind, takes_past}
 use Rattle.ring_core.proofs.Recorded.RecordedStates.{before_close, IsClosing, TakeRuns, TakeEnds, put_view, end_ended}
 use Rattle.ring_core.proofs.Recorded.RecordedMoments.{at_p, at_q, past_q, next_q, place_q, few_takes, within_at, prefix_at, Now, Stepped, by_events}
+use Rattle.bits_core.proofs.LawLemmas.{subhistory_has_place}
 
 -- a take has two events
 take_two : (shape : Shape) (c : Count) (x : Take) → 2 ≤ take_long shape c x
@@ -51,7 +51,7 @@ takes_shown wanted shown m (inl e) l = absurd (omega (arith, e, l))
 takes_shown wanted shown m (inr e) l = sym e
 
 -- every take wants an item, also the one that is told the ring is closed
-module _ (facts : OwnFacts) (shape : Shape) (offers : ℕ → List ℕ) (wants : ℕ → ℕ) (h : List Event) (puts : Puts) (takes : Takes) (run : IsRun shape h puts takes)
+module _ (shape : Shape) (offers : ℕ → List ℕ) (wants : ℕ → ℕ) (h : List Event) (puts : Puts) (takes : Takes) (run : IsRun shape h puts takes)
     (law : LawOfSpans shape h puts takes) (some_wanted : (j : ℕ) → 0 < wants j) where
   abbrev Here : ℕ → ℕ → ℕ → List Event → Kept → Type 0
   Here = Now shape offers wants h puts takes
@@ -96,7 +96,7 @@ module _ (facts : OwnFacts) (shape : Shape) (offers : ℕ → List ℕ) (wants :
   drained c taken seen items t s st number shown some over l =
       let z : Span = span_of C shape c (look seen (Passes items)) in
       let there : ℕ = place_of C h s in
-      let place : IsPlaceOf C h s there = facts.has_place C h s (omega (arith, over, length-scan (row_read_by C) seen)) in
+      let place : IsPlaceOf C h s there = subhistory_has_place C h s (omega (arith, over, length-scan (row_read_by C) seen)) in
       let shown' = ap (λ n. distance (modulus_of shape) seen (n % modulus_of shape)) (sym number) ∙ shown in
       let few = law.drain s (length taken) z st some shown' (omega (arith, over)) there place in
       let order : t ≤ there =
@@ -162,7 +162,7 @@ module _ (facts : OwnFacts) (shape : Shape) (offers : ℕ → List ℕ) (wants :
       omega (arith, view.left_by, ap length now.items, length-append now.taken k.inside, length-append now.stored now.left) in
       let here_p = at_p h t p q (e ∷ rest) now.moment in
       let here_q = at_q h t p q (e ∷ rest) now.moment in
-      let place = place_q facts h t p q e rest by now.moment in
+      let place = place_q h t p q e rest by now.moment in
       by_events shape offers wants h puts takes (suc t) p (suc q) rest k (TakeBegin wanted ∷ []) (told q)
       (ap told here ∙ b.told 0 ∙ told_first (take_long shape c x) (TakeBegin wanted) (take_answer x) _ (omega (arith, two)))
       (record {

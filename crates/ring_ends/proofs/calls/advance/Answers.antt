@@ -1,7 +1,6 @@
 use Rattle.std.proofs.Common.{refl}
 use Rattle.ring_ends.proofs.MachineMoves.{begun, can_there, ended, one_there, right_there}
 use Rattle.ring_ends.proofs.MachineWhole.{answered_nothing}
-use Rattle.ring_seats.proofs.LawLemmas.{laws_below}
 use Rattle.ring_ends.proofs.calls.advance.Goals as goal
 
 pub step-requires-clause-right : goal.step-requires-clause-right
@@ -12,13 +11,13 @@ step-requires-clause-right g c =
 pub step-requires-clause-can : goal.step-requires-clause-can
 step-requires-clause-can g c =
     let k = g.M.SideMachine in
-    can_there laws_below k.kind c.laws.ensures c.args.stepper.now (k.state c.args.machine.now) c.requires.at.0 c.requires.at.1 c.requires.at.2 c.in-Some.access c.in-Some.ensures
+    can_there k.kind c.laws.ensures c.args.stepper.now (k.state c.args.machine.now) c.requires.at.0 c.requires.at.1 c.requires.at.2 c.in-Some.access c.in-Some.ensures
 
 pub feed-requires : goal.feed-requires
 feed-requires g c =
     let k = g.M.SideMachine in (
       (c.in-Some.access, c.in-Some.ensures.is),
-      one_there laws_below k.kind c.laws.ensures c.args.stepper.now (k.state c.args.machine.now) c.requires.at.0 c.requires.at.1 c.requires.at.2 c.in-Some.access c.in-Some.ensures c.step.new.self c.in-Some-step.answer c.in-Some-step.ensures.stepped,
+      one_there k.kind c.laws.ensures c.args.stepper.now (k.state c.args.machine.now) c.requires.at.0 c.requires.at.1 c.requires.at.2 c.in-Some.access c.in-Some.ensures c.step.new.self c.in-Some-step.answer c.in-Some-step.ensures.stepped,
     )
 
 pub returns-in-None-clause-stepped : goal.returns-in-None-clause-stepped
@@ -36,7 +35,7 @@ returns-in-None-step-clause-stepped g c =
     record {
       kind = refl;
       rests = λ none. absurd (c.laws.ensures.never (k.state c.args.machine.now) on.0 none on.1);
-      steps = λ calls made at call busy. begun laws_below k.kind c.laws.ensures c.args.stepper.now (k.state c.args.machine.now) calls made at c.in-Some.access c.in-Some.ensures c.step.new.self c.in-None-step.ensures.stepped;
+      steps = λ calls made at call busy. begun k.kind c.laws.ensures c.args.stepper.now (k.state c.args.machine.now) calls made at c.in-Some.access c.in-Some.ensures c.step.new.self c.in-None-step.ensures.stepped;
       answered = c.in-None-step.ensures.answered;
     }
 
@@ -47,6 +46,6 @@ returns-in-Some-step-clause-stepped g c =
     record {
       kind = c.feed.ensures.kind;
       rests = λ none. absurd (c.laws.ensures.never (k.state c.args.machine.now) on.0 none on.1);
-      steps = λ calls made at call busy. ended laws_below k.kind c.laws.ensures c.args.stepper.now (k.state c.args.machine.now) calls made at c.in-Some.access c.in-Some.ensures c.step.new.self c.in-Some-step.answer c.in-Some-step.ensures.stepped (k.state c.feed.new.self) c.feed.ensures;
+      steps = λ calls made at call busy. ended k.kind c.laws.ensures c.args.stepper.now (k.state c.args.machine.now) calls made at c.in-Some.access c.in-Some.ensures c.step.new.self c.in-Some-step.answer c.in-Some-step.ensures.stepped (k.state c.feed.new.self) c.feed.ensures;
       answered = c.in-Some-step.ensures.answered;
     }

@@ -3,7 +3,6 @@ use Rattle.ring_ends.specs.Machines.{MachineBusy, MachineWent}
 use Rattle.ring_ends.proofs.Accesses.{longer}
 use Rattle.ring_ends.proofs.MachineWhole.{access_can, access_feeds, access_right, access_went, below, ended_by, ready_busy, went_busy, went_nowhere, went_then}
 use Rattle.ring_ends.proofs.calls.finish.Given.{Over}
-use Rattle.ring_seats.proofs.LawLemmas.{laws_below}
 use Rattle.ring_ends.proofs.calls.finish.Goals.{After-write_count}
 use Rattle.ring_ends.proofs.calls.finish.Goals as goal
 
@@ -15,7 +14,7 @@ busy g c = ready_busy g.M.SideMachine.kind c.args.stepper.now (g.M.SideMachine.s
 so_far : (g : Over) (c : After-write_count g) →
     MachineWent g.M.SideMachine.kind c.args.stepper.now (g.M.SideMachine.state c.args.machine.now) c.write_count.new.stepper (g.M.SideMachine.state c.write_count.new.machine) (g.O.Oracle.answers c.args.oracle.now) (g.O.Oracle.answers c.write_count.new.oracle)
 so_far g c =
-    let l = laws_below in
+    let l = in
     went_then l g.M.SideMachine.kind (went_then l g.M.SideMachine.kind (went_then l g.M.SideMachine.kind c.accesses.invariant c.finish_scan.ensures) c.finish_word.ensures) c.write_count.ensures
 
 pub finish_scan-requires : goal.finish_scan-requires
@@ -26,28 +25,28 @@ finish_scan-requires g c =
 pub finish_word-requires : goal.finish_word-requires
 finish_word-requires g c =
     let k = g.M.SideMachine in
-    went_busy k.kind c.laws.ensures (went_then laws_below k.kind c.accesses.invariant c.finish_scan.ensures) (ready_busy k.kind c.args.stepper.now (k.state c.args.machine.now) c.requires.0 c.requires.1)
+    went_busy k.kind c.laws.ensures (went_then k.kind c.accesses.invariant c.finish_scan.ensures) (ready_busy k.kind c.args.stepper.now (k.state c.args.machine.now) c.requires.0 c.requires.1)
 
 pub write_count-requires : goal.write_count-requires
 write_count-requires g c =
     let k = g.M.SideMachine in
-    let l = laws_below in
+    let l = in
     went_busy k.kind c.laws.ensures (went_then l k.kind (went_then l k.kind c.accesses.invariant c.finish_scan.ensures) c.finish_word.ensures) (ready_busy k.kind c.args.stepper.now (k.state c.args.machine.now) c.requires.0 c.requires.1)
 
 pub make-answer-requires-clause-right : goal.make-answer-requires-clause-right
 make-answer-requires-clause-right g c =
     let t = (goal.at.make-answer-requires-clause-right g c).After-write_count in
-    access_right laws_below g.M.SideMachine.kind c.laws.ensures (busy g t) (so_far g t) c.in-Some.access c.in-Some.ensures
+    access_right g.M.SideMachine.kind c.laws.ensures (busy g t) (so_far g t) c.in-Some.access c.in-Some.ensures
 
 pub make-answer-requires-clause-can : goal.make-answer-requires-clause-can
 make-answer-requires-clause-can g c =
     let t = (goal.at.make-answer-requires-clause-can g c).After-write_count in
-    access_can laws_below g.M.SideMachine.kind c.laws.ensures (busy g t) (so_far g t) c.in-Some.access c.in-Some.ensures
+    access_can g.M.SideMachine.kind c.laws.ensures (busy g t) (so_far g t) c.in-Some.access c.in-Some.ensures
 
 pub feed-requires : goal.feed-requires
 feed-requires g c =
     let t = (goal.at.feed-requires g c).After-write_count in
-    access_feeds laws_below g.M.SideMachine.kind c.laws.ensures (busy g t) (so_far g t) c.in-Some.access c.in-Some.ensures c.make-answer.new.self c.make-answer.result c.make-answer.ensures.made
+    access_feeds g.M.SideMachine.kind c.laws.ensures (busy g t) (so_far g t) c.in-Some.access c.in-Some.ensures c.make-answer.new.self c.make-answer.result c.make-answer.ensures.made
 
 pub accesses-smaller : goal.accesses-smaller
 accesses-smaller g c =
@@ -58,7 +57,7 @@ accesses-smaller g c =
 pub accesses-preserved : goal.accesses-preserved
 accesses-preserved g c =
     let t = (goal.at.accesses-preserved g c).After-write_count in
-    access_went laws_below g.M.SideMachine.kind c.laws.ensures (busy g t) (so_far g t) c.in-Some.access c.in-Some.ensures c.make-answer.new.self c.make-answer.result c.make-answer.ensures.made (g.M.SideMachine.state c.feed.new.self) c.feed.ensures _ c.make-answer.ensures.answered
+    access_went g.M.SideMachine.kind c.laws.ensures (busy g t) (so_far g t) c.in-Some.access c.in-Some.ensures c.make-answer.new.self c.make-answer.result c.make-answer.ensures.made (g.M.SideMachine.state c.feed.new.self) c.feed.ensures _ c.make-answer.ensures.answered
 
 pub accesses-init : goal.accesses-init
 accesses-init g c = went_nowhere g.M.SideMachine.kind c.args.stepper.now (g.M.SideMachine.state c.args.machine.now) (g.O.Oracle.answers c.args.oracle.now)

@@ -1,25 +1,24 @@
 use Rattle.std.proofs.Common.{sym, ◌∙◌}
 use Rattle.ring_ends.proofs.Accesses.{same}
 use Rattle.ring_ends.proofs.MachineWhole.{access_can, access_feeds, access_right, access_went, went_nowhere}
-use Rattle.ring_seats.proofs.LawLemmas.{laws_below}
 use Rattle.ring_ends.proofs.calls.write_count.Goals as goal
 
 pub make-answer-requires-clause-right : goal.make-answer-requires-clause-right
-make-answer-requires-clause-right g c = access_right laws_below g.M.SideMachine.kind c.laws.ensures c.requires c.writes.invariant.1 c.in-Some.access c.in-Some.ensures
+make-answer-requires-clause-right g c = access_right g.M.SideMachine.kind c.laws.ensures c.requires c.writes.invariant.1 c.in-Some.access c.in-Some.ensures
 
 pub make-answer-requires-clause-can : goal.make-answer-requires-clause-can
-make-answer-requires-clause-can g c = access_can laws_below g.M.SideMachine.kind c.laws.ensures c.requires c.writes.invariant.1 c.in-Some.access c.in-Some.ensures
+make-answer-requires-clause-can g c = access_can g.M.SideMachine.kind c.laws.ensures c.requires c.writes.invariant.1 c.in-Some.access c.in-Some.ensures
 
 pub feed_count-requires : goal.feed_count-requires
 feed_count-requires g c = (
-  access_feeds laws_below g.M.SideMachine.kind c.laws.ensures c.requires c.writes.invariant.1 c.in-Some.access c.in-Some.ensures c.make-answer.new.self c.make-answer.result c.make-answer.ensures.made,
+  access_feeds g.M.SideMachine.kind c.laws.ensures c.requires c.writes.invariant.1 c.in-Some.access c.in-Some.ensures c.make-answer.new.self c.make-answer.result c.make-answer.ensures.made,
   c.is_counting.ensures.0 c.writes-test.true,
 )
 
 pub writes-preserved : goal.writes-preserved
 writes-preserved g c = (
   c.writes.invariant.0 ∙ sym (same c.writes.stepper c.make-answer.new.self c.in-Some.access c.make-answer.result c.make-answer.ensures.made).ring,
-  access_went laws_below g.M.SideMachine.kind c.laws.ensures c.requires c.writes.invariant.1 c.in-Some.access c.in-Some.ensures c.make-answer.new.self c.make-answer.result c.make-answer.ensures.made (g.M.SideMachine.state c.feed_count.new.self) c.feed_count.ensures.fed _ c.make-answer.ensures.answered,
+  access_went g.M.SideMachine.kind c.laws.ensures c.requires c.writes.invariant.1 c.in-Some.access c.in-Some.ensures c.make-answer.new.self c.make-answer.result c.make-answer.ensures.made (g.M.SideMachine.state c.feed_count.new.self) c.feed_count.ensures.fed _ c.make-answer.ensures.answered,
 )
 
 pub writes-init : goal.writes-init

@@ -8,11 +8,10 @@ use Rattle.ring_core.specs.ProducerCalls.{and_close}
 use Rattle.ring_seats.specs.Calls.{HasPuts}
 use Rattle.ring_seats.proofs.CounterPuts.{to_close, closed_is}
 use Rattle.ring_seats.proofs.CounterSteps.{same_shape}
-use Rattle.ring_seats.proofs.LawLemmas.{laws_below}
 use Rattle.ring_ends.proofs.counter_calls.close_open.Goals as goal
 
 pub write_close-requires-clause-program : goal.write_close-requires-clause-program
-write_close-requires-clause-program c = to_close laws_below c.args.stepper.now.ring.shape c.args.stepper.now.list c.requires.at.0 c.requires.at.2 c.requires.at.3
+write_close-requires-clause-program c = to_close c.args.stepper.now.ring.shape c.args.stepper.now.list c.requires.at.0 c.requires.at.2 c.requires.at.3
 
 pub returns-clause-has : goal.returns-clause-has
 returns-clause-has c =
@@ -21,4 +20,4 @@ returns-clause-has c =
     let g = c.write_close.ensures in
     λ calls has opened. subst (λ (z : Shape × List Event). HasPuts z.0 z.1 (and_close calls))
     (λ i. (sym (same_shape a b g.same) i, sym (g.list ∙ ap (λ (s : Side). a.list ++ events_of s (Write X true ∷ [])) c.requires.at.1) i))
-    (closed_is laws_below a.ring.shape a.list calls has opened)
+    (closed_is a.ring.shape a.list calls has opened)

@@ -5,7 +5,6 @@ use Rattle.ring_seats.specs.Ring.{RingEnd}
 use Rattle.ring_seats.proofs.CounterPuts.{first_fit}
 use Rattle.ring_ends.proofs.CounterPutterCalls.{Fitting, kept, kept_full, to_scan, full_put, to_store, to_count, stored_put}
 use Rattle.ring_seats.proofs.CounterSteps.{same_shape}
-use Rattle.ring_seats.proofs.LawLemmas.{laws_below}
 use Rattle.ring_ends.proofs.counter_calls.put_open.Goals.{After-fitting-most}
 use Rattle.ring_ends.proofs.counter_calls.put_open.Goals as goal
 
@@ -19,14 +18,14 @@ fit c =
     subst (λ (s : Shape). Fitting s c.args.count.now c.scan-seen.result c.args.items.now c.fitting-most.result) (shape_is c) (record { few = e.few; room = e.room; all = e.all })
 
 pub scan-seen-requires : goal.scan-seen-requires
-scan-seen-requires c = record { program = to_scan laws_below c.args.stepper.now c.args.count.now c.args.cell.now c.args.items.now c.requires.at.0 c.requires.at.1 c.requires.at.2 c.requires.batch }
+scan-seen-requires c = record { program = to_scan c.args.stepper.now c.args.count.now c.args.cell.now c.args.items.now c.requires.at.0 c.requires.at.1 c.requires.at.2 c.requires.batch }
 
 pub returns-then-most-eq0 : goal.returns-then-most-eq0
 returns-then-most-eq0 c =
     let a = c.args.stepper.now in
     let t = (goal.at.returns-then-most-eq0 c).After-fitting-most in
     λ calls at opened. kept_full a c.scan-seen.new.self c.args.count.now c.args.cell.now c.args.items.now calls at
-    (full_put laws_below a c.args.count.now c.args.cell.now c.args.items.now calls at opened c.requires.batch c.scan-seen.result c.scan-seen.ensures.below c.scan-seen.new.self c.scan-seen.ensures.grows c.fitting-most.result (fit t) c.if-most-eq0.true)
+    (full_put a c.args.count.now c.args.cell.now c.args.items.now calls at opened c.requires.batch c.scan-seen.result c.scan-seen.ensures.below c.scan-seen.new.self c.scan-seen.ensures.grows c.fitting-most.result (fit t) c.if-most-eq0.true)
 
 pub write_items-requires-clause-fit : goal.write_items-requires-clause-fit
 write_items-requires-clause-fit c =
@@ -36,13 +35,13 @@ pub write_items-requires-clause-program : goal.write_items-requires-clause-progr
 write_items-requires-clause-program c =
     let a = c.args.stepper.now in
     let t = (goal.at.write_items-requires-clause-program c).After-fitting-most in
-    to_store laws_below a c.args.count.now c.args.cell.now c.args.items.now c.requires.at.0 c.requires.at.1 c.requires.at.2 c.requires.batch c.scan-seen.result c.scan-seen.ensures.below c.scan-seen.new.self c.scan-seen.ensures.grows c.fitting-most.result (fit t) (omega (arith, c.if-most-eq0.false))
+    to_store a c.args.count.now c.args.cell.now c.args.items.now c.requires.at.0 c.requires.at.1 c.requires.at.2 c.requires.batch c.scan-seen.result c.scan-seen.ensures.below c.scan-seen.new.self c.scan-seen.ensures.grows c.fitting-most.result (fit t) (omega (arith, c.if-most-eq0.false))
 
 pub write_count-requires-clause-program : goal.write_count-requires-clause-program
 write_count-requires-clause-program c =
     let a = c.args.stepper.now in
     let t = (goal.at.write_count-requires-clause-program c).After-fitting-most in
-    to_count laws_below a c.args.count.now c.args.cell.now c.args.items.now c.requires.at.0 c.requires.at.1 c.requires.at.2 c.requires.batch c.scan-seen.result c.scan-seen.ensures.below c.scan-seen.new.self c.scan-seen.ensures.grows c.fitting-most.result (fit t) (omega (arith, c.if-most-eq0.false))
+    to_count a c.args.count.now c.args.cell.now c.args.items.now c.requires.at.0 c.requires.at.1 c.requires.at.2 c.requires.batch c.scan-seen.result c.scan-seen.ensures.below c.scan-seen.new.self c.scan-seen.ensures.grows c.fitting-most.result (fit t) (omega (arith, c.if-most-eq0.false))
     c.write_items.new.self c.write_items.ensures c.past_in.result (c.past_in.ensures ∙ ap (λ (m : ℕ). (c.args.count.now + c.fitting-most.result) % m) (c.modulus.ensures.value ∙ ap modulus_of (shape_is t)))
 
 pub returns : goal.returns
@@ -51,6 +50,6 @@ returns c =
     let t = (goal.at.returns c).After-fitting-most in
     let next = c.past_in.ensures ∙ ap (λ (m : ℕ). (c.args.count.now + c.fitting-most.result) % m) (c.modulus.ensures.value ∙ ap modulus_of (shape_is t)) in
     λ calls at opened. kept a c.write_count.new.self c.args.count.now c.args.cell.now c.args.items.now calls c.fitting-most.result at
-    (stored_put laws_below a c.args.count.now c.args.cell.now c.args.items.now calls at opened c.requires.batch c.scan-seen.result c.scan-seen.ensures.below c.scan-seen.new.self c.scan-seen.ensures.grows c.fitting-most.result (fit t) (omega (arith, c.if-most-eq0.false))
+    (stored_put a c.args.count.now c.args.cell.now c.args.items.now calls at opened c.requires.batch c.scan-seen.result c.scan-seen.ensures.below c.scan-seen.new.self c.scan-seen.ensures.grows c.fitting-most.result (fit t) (omega (arith, c.if-most-eq0.false))
     c.write_items.new.self c.write_items.ensures c.past_in.result next c.write_count.new.self c.write_count.ensures)
     c.past_in.result c.past_in-2.result next (c.past_in-2.ensures ∙ ap (λ (m : ℕ). (c.args.cell.now + c.fitting-most.result) % m) (c.capacity.ensures.value ∙ ap capacity_of (shape_is t)))

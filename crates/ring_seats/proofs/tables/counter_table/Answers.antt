@@ -5,12 +5,11 @@ use Rattle.atomic_table.specs.Table.{opening}
 use Rattle.ring_seats.specs.Rule.{joint}
 use Rattle.ring_seats.specs.Counters.{KeptWords, words_of}
 use Rattle.ring_seats.proofs.CounterMoves.{opens}
-use Rattle.ring_seats.proofs.LawLemmas.{laws_below}
 use Rattle.ring_seats.proofs.tables.counter_table.Goals as goal
 
 pub of_words-requires : goal.of_words-requires
 of_words-requires g c =
-    subst (λ (l : List ℕ). KeptWords c.args.shape (opening {S = Unit {0}} l [] (joint [] [] [] []))) (sym (c.as_slice.ensures.value ∙ c.in_ok-words.ensures)) (opens laws_below c.args.shape)
+    subst (λ (l : List ℕ). KeptWords c.args.shape (opening {S = Unit {0}} l [] (joint [] [] [] []))) (sym (c.as_slice.ensures.value ∙ c.in_ok-words.ensures)) (opens c.args.shape)
 
 -- the table's clause, with this number of words
 counted : {T E : Type 0} (P Q : T → Type 0) → ((t : T) → P t → Q t) → (r : Result T E) → IfOk r P → IfOk r Q

@@ -5,13 +5,12 @@ use Rattle.ring_ends.proofs.Idle.{closes_are, machine_idle, tells_are}
 use Rattle.ring_ends.proofs.PutterCalls.{call_seen, put_laws, put_seen}
 use Rattle.ring_ends.proofs.TakerCalls.{take_laws, take_seen, taking_seen}
 use Rattle.ring_core.proofs.LawLemmas.{ring_is_linearizable}
-use Rattle.ring_seats.proofs.LawLemmas.{laws_below}
 use Rattle.ring_ends.proofs.meetings.FlickerRing+Global.finish.Goals as goal
 
 pub join_steppers-seat-requires-clause-idle : goal.join_steppers-seat-requires-clause-idle
 join_steppers-seat-requires-clause-idle g c = (
-  machine_idle laws_below producing put_laws c.putter.inside.stepper c.putter.inside.machine _ c.putter.invariant.0 (call_seen c.putter.view_is ∙ c.requires.idle.0),
-  machine_idle laws_below consuming take_laws c.taker.inside.stepper c.taker.inside.machine _ c.taker.invariant.0 (taking_seen c.taker.view_is ∙ c.requires.idle.1),
+  machine_idle producing put_laws c.putter.inside.stepper c.putter.inside.machine _ c.putter.invariant.0 (call_seen c.putter.view_is ∙ c.requires.idle.0),
+  machine_idle consuming take_laws c.taker.inside.stepper c.taker.inside.machine _ c.taker.invariant.0 (taking_seen c.taker.view_is ∙ c.requires.idle.1),
 )
 
 pub returns-clause-told : goal.returns-clause-told

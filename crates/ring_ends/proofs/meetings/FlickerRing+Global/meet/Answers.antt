@@ -4,13 +4,12 @@ use Rattle.ring_ends.proofs.PutterCalls.{call_seen, put_laws}
 use Rattle.ring_ends.proofs.TakerCalls.{take_laws, taking_seen}
 use Rattle.std.proofs.Common.{◌∙◌}
 use Rattle.ring_core.proofs.LawLemmas.{ring_is_linearizable}
-use Rattle.ring_seats.proofs.LawLemmas.{laws_below}
 use Rattle.ring_ends.proofs.meetings.FlickerRing+Global.meet.Goals as goal
 
 pub meet_steppers-p-requires-clause-idle : goal.meet_steppers-p-requires-clause-idle
 meet_steppers-p-requires-clause-idle g c = (
-  machine_idle laws_below producing put_laws c.putter.inside.stepper c.putter.inside.machine _ c.putter.invariant.0 (call_seen c.putter.view_is ∙ c.requires.idle.0),
-  machine_idle laws_below consuming take_laws c.taker.inside.stepper c.taker.inside.machine _ c.taker.invariant.0 (taking_seen c.taker.view_is ∙ c.requires.idle.1),
+  machine_idle producing put_laws c.putter.inside.stepper c.putter.inside.machine _ c.putter.invariant.0 (call_seen c.putter.view_is ∙ c.requires.idle.0),
+  machine_idle consuming take_laws c.taker.inside.stepper c.taker.inside.machine _ c.taker.invariant.0 (taking_seen c.taker.view_is ∙ c.requires.idle.1),
 )
 
 pub returns-clause-linearizable : goal.returns-clause-linearizable

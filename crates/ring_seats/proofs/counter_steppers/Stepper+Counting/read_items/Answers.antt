@@ -3,10 +3,10 @@ use Rattle.std.proofs.lemmas.List.{take_more_set}
 use Rattle.bits_core.specs.declared.shapes.Shape.{Shape}
 use Rattle.bits_core.specs.Shape.{AllFit, capacity_of, width_of}
 use Rattle.ring_core.specs.Takes.{words_read}
+use Rattle.ring_core.proofs.LawLemmas.{words_by_one_more_fit}
 use Rattle.ring_seats.specs.Counters.{GrowsBy}
 use Rattle.ring_seats.proofs.CounterPuts.{length-first}
 use Rattle.ring_seats.proofs.CounterSteps.{same_shape, next_place, next_load, loaded_one}
-use Rattle.ring_seats.proofs.LawLemmas.{laws_below}
 use Rattle.ring_seats.proofs.counter_steppers.Stepper+Counting.read_items.Goals as goal
 
 pub read_cell-requires-clause-program : goal.read_cell-requires-clause-program
@@ -15,7 +15,7 @@ read_cell-requires-clause-program c item small =
     let i = c.loads.invariant in
     let before : List ℕ = take c.loads.index c.loads.into in
     let long : length before ≡ c.loads.index = length-first c.loads.index c.loads.into i.2 in
-    next_load laws_below a c.args.cell c.requires.stands.1 c.loads.self c.loads.place before i.0 (i.4 ∙ ap (λ (n : ℕ). (c.args.cell + n) % capacity_of a.ring.shape) (sym long)) (length c.args.into.now) item
+    next_load a c.args.cell c.requires.stands.1 c.loads.self c.loads.place before i.0 (i.4 ∙ ap (λ (n : ℕ). (c.args.cell + n) % capacity_of a.ring.shape) (sym long)) (length c.args.into.now) item
     (omega (arith, long, c.loads-test.true, i.3)) i.1 small c.requires.program
 
 pub loads-preserved : goal.loads-preserved
@@ -29,8 +29,8 @@ loads-preserved c =
     let plus : suc c.loads.index ≡ c.loads.index + 1 = omega arith in
     let one : c.loads.place + 1 ≡ suc c.loads.place = omega arith in
     let next = c.past_in-place.ensures ∙ (λ j. one j % i.6 j) in
-    let grows = loaded_one laws_below a c.args.cell c.requires.stands.1 c.loads.self c.loads.place before i.0 (i.4 ∙ ap (λ (n : ℕ). (c.args.cell + n) % capacity_of a.ring.shape) (sym long)) c.read_cell.new.self item c.read_cell.ensures.grows in
-    let fit = laws_below.one_fits a.ring.shape before item i.1 (subst (λ (s : Shape). item < 2 ^ width_of s) (same_shape a c.loads.self i.0.same) c.read_cell.ensures.fits) in (
+    let grows = loaded_one a c.args.cell c.requires.stands.1 c.loads.self c.loads.place before i.0 (i.4 ∙ ap (λ (n : ℕ). (c.args.cell + n) % capacity_of a.ring.shape) (sym long)) c.read_cell.new.self item c.read_cell.ensures.grows in
+    let fit = words_by_one_more_fit a.ring.shape before item i.1 (subst (λ (s : Shape). item < 2 ^ width_of s) (same_shape a c.loads.self i.0.same) c.read_cell.ensures.fits) in (
       subst (λ (l : List ℕ). GrowsBy a c.read_cell.new.self (words_read a.ring.shape c.args.cell l)) (sym more) grows,
       subst (AllFit a.ring.shape) (sym more) fit,
       omega (arith, c.loads-test.true, length-set c.loads.into c.loads.index item),

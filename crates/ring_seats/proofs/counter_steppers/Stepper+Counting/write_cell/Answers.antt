@@ -9,7 +9,6 @@ use Rattle.bits_core.specs.declared.shapes.Shape.{Shape}
 use Rattle.ring_seats.specs.Programs.{Follows}
 use Rattle.ring_seats.proofs.Accesses.{of_side}
 use Rattle.ring_seats.proofs.CounterMoves.{stores_cell}
-use Rattle.ring_seats.proofs.LawLemmas.{laws_below}
 use Rattle.ring_seats.proofs.counter_steppers.Stepper+Counting.write_cell.Goals as goal
 
 pub store-requires-clause-rule : goal.store-requires-clause-rule
@@ -17,5 +16,5 @@ store-requires-clause-rule c =
     let h = c.self.inside in
     let (mine, not_theirs, program) = of_side P h.ring h.side h.seat.me.0 c.self.view_is c.requires.side c.self.invariant.2 c.self.invariant.3
     (λ (s : Shape) (l : List Event). Follows s P (l ++ events_of P (word_write (width_of s) c.args.cell c.args.item))) c.requires.program in
-    stores_cell laws_below h.ring.shape h.ring.id.slots h.seat.id h.seat.me mine not_theirs c.args.cell c.args.item
+    stores_cell h.ring.shape h.ring.id.slots h.seat.id h.seat.me mine not_theirs c.args.cell c.args.item
     (subst (λ (e : RingEnd). c.args.cell < capacity_of e.ring.shape) (sym c.self.view_is) c.requires.below.0) (subst (λ (e : RingEnd). c.args.item < 2 ^ width_of e.ring.shape) (sym c.self.view_is) c.requires.below.1) program

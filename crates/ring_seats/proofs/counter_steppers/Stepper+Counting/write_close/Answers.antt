@@ -7,7 +7,6 @@ use Rattle.bits_core.specs.declared.shapes.Shape.{Shape}
 use Rattle.ring_seats.specs.Programs.{Follows}
 use Rattle.ring_seats.proofs.Accesses.{of_side}
 use Rattle.ring_seats.proofs.CounterMoves.{stores_close}
-use Rattle.ring_seats.proofs.LawLemmas.{laws_below}
 use Rattle.ring_seats.proofs.counter_steppers.Stepper+Counting.write_close.Goals as goal
 
 pub store-requires-clause-rule : goal.store-requires-clause-rule
@@ -15,4 +14,4 @@ store-requires-clause-rule c =
     let h = c.self.inside in
     let (mine, not_theirs, program) = of_side P h.ring h.side h.seat.me.0 c.self.view_is c.requires.side c.self.invariant.2 c.self.invariant.3
     (λ (s : Shape) (l : List Event). Follows s P (l ++ events_of P (Write X true ∷ []))) c.requires.program in
-    stores_close laws_below h.ring.shape h.ring.id.slots h.seat.id h.seat.me mine not_theirs program
+    stores_close h.ring.shape h.ring.id.slots h.seat.id h.seat.me mine not_theirs program

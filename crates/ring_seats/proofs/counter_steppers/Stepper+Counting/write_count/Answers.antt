@@ -10,7 +10,6 @@ use Rattle.ring_seats.specs.Rule.{list_of}
 use Rattle.ring_seats.specs.Counters.{KeptWords, AddedAll, GrowsBy, TellsNothing, unary_over}
 use Rattle.ring_seats.proofs.Accesses.{end_at}
 use Rattle.ring_seats.proofs.CounterMoves.{list_more, may_still, stores_count}
-use Rattle.ring_seats.proofs.LawLemmas.{laws_below}
 use Rattle.ring_seats.proofs.counter_steppers.Stepper+Counting.write_count.Goals as goal
 
 pub store-requires-clause-rule : goal.store-requires-clause-rule
@@ -19,7 +18,7 @@ store-requires-clause-rule c =
     let is = sym c.self.view_is in
     let shape = h.ring.shape in
     subst (λ (n : ℕ). Allows (KeptWords shape) h.ring.id.slots h.seat.id h.seat.me n (λ _. c.args.new) (λ _. AddedAll shape h.side (λ _. unary_over h.side (list_of h.side h.seat.me.0) c.args.new) TellsNothing h.seat.me c.args.new)) (sym c.ours.ensures)
-    (stores_count laws_below shape h.side h.ring.id.slots h.seat.id h.seat.me c.self.invariant.2 c.self.invariant.3 c.args.new
+    (stores_count shape h.side h.ring.id.slots h.seat.id h.seat.me c.self.invariant.2 c.self.invariant.3 c.args.new
     (subst (λ (e : RingEnd). c.args.new < modulus_of e.ring.shape) is c.requires.below)
     (subst (λ (e : RingEnd). Follows e.ring.shape e.side (e.list ++ events_of e.side (unary_over e.side e.list c.args.new))) is c.requires.program))
 

@@ -14,7 +14,6 @@ use Rattle.ring_seats.specs.Words.{agrees, answer_of}
 use Rattle.ring_seats.proofs.Moves.{ends_read, ends_write, opened_by}
 use Rattle.ring_seats.proofs.Answered.{asked_once, asked_so, quiet_step, read_step}
 use Rattle.ring_seats.proofs.Accesses.{end_at, grows, may_still}
-use Rattle.ring_seats.proofs.LawLemmas.{laws_below}
 use Rattle.ring_seats.proofs.steppers.Stepper+Flickering.end.Goals as goal
 
 pub load-found-requires-clause-rule : goal.load-found-requires-clause-rule
@@ -23,7 +22,7 @@ load-found-requires-clause-rule g c =
     let is = sym c.self.view_is in
     let right = subst (λ (z : RingEnd × Access). IsOpenRight z.0.ring.shape z.0.side z.1) (λ i. (is i, c.in-Read.is i)) c.requires.right in
     subst (λ (n : ℕ). Allows (KeepsFlickerRule h.ring.shape) h.ring.id.slots h.seat.id h.seat.me n (λ n. n) (Added h.ring.shape (λ n. event h.side c.in-Read.bit (ReadEnd (answer_of h.seat.me.0.first n (g.O.Oracle.answers c.args.oracle.now 0)))) h.seat.me)) (sym c.word_of-word.ensures.place)
-    (ends_read laws_below h.ring.shape h.side c.in-Read.bit h.ring.id.slots h.seat.id h.seat.me c.self.invariant.2 c.self.invariant.3 right.0 right.1
+    (ends_read h.ring.shape h.side c.in-Read.bit h.ring.id.slots h.seat.id h.seat.me c.self.invariant.2 c.self.invariant.3 right.0 right.1
     (subst (λ (z : RingEnd × Access). open_access z.0.side z.0.list ≡ Some z.1) (λ i. (is i, c.in-Read.is i)) c.requires.at)
     (subst (λ (z : RingEnd × Access). GoesOn z.0.ring.shape z.0.side z.1 z.0.list) (λ i. (is i, c.in-Read.is i)) c.requires.program)
     (g.O.Oracle.answers c.args.oracle.now 0))
@@ -36,7 +35,7 @@ store-requires-clause-rule g c =
     let shape = h.ring.shape in
     let right = subst (λ (z : RingEnd × Access). IsOpenRight z.0.ring.shape z.0.side z.1) (λ i. (is i, c.in-Write.is i)) c.requires.right in
     subst (λ (z : ℕ × ℕ). Allows (KeepsFlickerRule shape) h.ring.id.slots h.seat.id h.seat.me z.0 (λ _. z.1) (λ _. Added shape (λ _. event h.side b WriteEnd) h.seat.me z.1)) (λ i. (sym c.word_of-word-in-Write.ensures.place i, sym c.word_of-new.ensures i))
-    (ends_write laws_below shape h.side b h.ring.id.slots h.seat.id h.seat.me c.self.invariant.2 c.self.invariant.3 right.0 right.1 c.in-Write.value
+    (ends_write shape h.side b h.ring.id.slots h.seat.id h.seat.me c.self.invariant.2 c.self.invariant.3 right.0 right.1 c.in-Write.value
     (subst (λ (z : RingEnd × Access). open_access z.0.side z.0.list ≡ Some z.1) (λ i. (is i, c.in-Write.is i)) c.requires.at)
     (subst (λ (z : RingEnd × Access). GoesOn z.0.ring.shape z.0.side z.1 z.0.list) (λ i. (is i, c.in-Write.is i)) c.requires.program))
 
@@ -51,7 +50,7 @@ invariant_of-self-in-Write g c =
       l.ensures.told.carried ∙ c.self.invariant.1,
       may_still h.side c.in-Write.bit WriteEnd new h.seat.me.0 v1 view h.side true c.self.invariant.2,
       may_still h.side c.in-Write.bit WriteEnd new h.seat.me.0 v1 view (other h.side) false c.self.invariant.3,
-      (ap (λ (u : View). u.first) view ∙ c.self.invariant.4.0, sym (opened_by laws_below h.side c.in-Write.bit WriteEnd new h.seat.me.0 v1 view)),
+      (ap (λ (u : View). u.first) view ∙ c.self.invariant.4.0, sym (opened_by h.side c.in-Write.bit WriteEnd new h.seat.me.0 v1 view)),
     )
 
 pub returns-in-Read-clause-answered : goal.returns-in-Read-clause-answered
@@ -81,7 +80,7 @@ invariant_of-self g c =
       l.ensures.told.carried ∙ c.self.invariant.1,
       may_still h.side c.in-Read.bit a l.result h.seat.me.0 v1 view h.side true c.self.invariant.2,
       may_still h.side c.in-Read.bit a l.result h.seat.me.0 v1 view (other h.side) false c.self.invariant.3,
-      (ap (λ (u : View). u.first) view ∙ c.self.invariant.4.0, sym (opened_by laws_below h.side c.in-Read.bit a l.result h.seat.me.0 v1 view)),
+      (ap (λ (u : View). u.first) view ∙ c.self.invariant.4.0, sym (opened_by h.side c.in-Read.bit a l.result h.seat.me.0 v1 view)),
     )
 
 pub returns-in-Read-clause-grows : goal.returns-in-Read-clause-grows

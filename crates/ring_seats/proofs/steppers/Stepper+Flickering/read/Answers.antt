@@ -14,7 +14,6 @@ use Rattle.ring_seats.specs.Words.{answer_of, word_place, agrees}
 use Rattle.ring_seats.proofs.Accesses.{end_at, list_more, made_read, may_still, none_open}
 use Rattle.ring_seats.proofs.Moves.{begins_read, ends_read, opened_by}
 use Rattle.ring_seats.proofs.Answered.{answered_then, asked_so, quiet_step, read_step}
-use Rattle.ring_seats.proofs.LawLemmas.{laws_below}
 use Rattle.ring_seats.proofs.steppers.Stepper+Flickering.read.Goals as goal
 
 pub load-first-requires-clause-rule : goal.load-first-requires-clause-rule
@@ -26,7 +25,7 @@ load-first-requires-clause-rule g c =
     let can = subst (λ (e : RingEnd). CanMake e (Read b)) is c.requires.can in
     let word : word_place h.ring.shape b ≡ c.word_of-word.result = ap (λ (r : Ring). word_place r.shape b) (sym ring_is) ∙ sym c.word_of-word.ensures.place in
     subst (λ (z : Ring × ℕ). Allows (KeepsFlickerRule z.0.shape) z.0.id.slots h.seat.id h.seat.me z.1 (λ n. n) (Added z.0.shape (λ _. event h.side b ReadBegin) h.seat.me)) (λ i. (sym ring_is i, word i))
-    (begins_read laws_below h.ring.shape h.side b h.ring.id.slots h.seat.id h.seat.me c.self.invariant.2 c.self.invariant.3
+    (begins_read h.ring.shape h.side b h.ring.id.slots h.seat.id h.seat.me c.self.invariant.2 c.self.invariant.3
     (subst (λ (e : RingEnd). belongs e.ring.shape b ≡ true) is c.requires.bit.0)
     (subst (λ (e : RingEnd). e.side ≡ reader b) is c.requires.bit.1)
     can.0 can.1)
@@ -44,12 +43,12 @@ load-again-requires-clause-rule g c =
     let said = g.O.Oracle.answers c.args.oracle.now 0 in
     let word : word_place h.ring.shape b ≡ c.word_of-word.result = ap (λ (r : Ring). word_place r.shape b) (sym ring_is) ∙ sym c.word_of-word.ensures.place in
     subst (λ (z : Ring × ℕ). Allows (KeepsFlickerRule z.0.shape) z.0.id.slots seat.id seat.me z.1 (λ n. n) (Added z.0.shape (λ n. event h.side b (ReadEnd (answer_of seat.me.0.first n said))) seat.me)) (λ i. (sym ring_is i, word i))
-    (ends_read laws_below h.ring.shape h.side b h.ring.id.slots seat.id seat.me
+    (ends_read h.ring.shape h.side b h.ring.id.slots seat.id seat.me
     (may_still h.side b ReadBegin first h.seat.me.0 seat.me.0 view h.side true c.self.invariant.2)
     (may_still h.side b ReadBegin first h.seat.me.0 seat.me.0 view (other h.side) false c.self.invariant.3)
     (subst (λ (e : RingEnd). belongs e.ring.shape b ≡ true) is c.requires.bit.0)
     (subst (λ (e : RingEnd). e.side ≡ reader b) is c.requires.bit.1)
-    (opened_by laws_below h.side b ReadBegin first h.seat.me.0 seat.me.0 view)
+    (opened_by h.side b ReadBegin first h.seat.me.0 seat.me.0 view)
     (subst (λ (l : List Event). GoesOn h.ring.shape h.side (Read b) l) (sym (list_more h.side b ReadBegin first h.seat.me.0 seat.me.0 view)) can.2)
     said)
 
@@ -67,7 +66,7 @@ invariant_of-self g c =
       two.ensures.told.carried ∙ one.ensures.told.carried ∙ c.self.invariant.1,
       may_still h.side b a two.result v1 two.new.seat.me.0 two.ensures.told.view h.side true (may_still h.side b ReadBegin one.result h.seat.me.0 v1 one.ensures.told.view h.side true c.self.invariant.2),
       may_still h.side b a two.result v1 two.new.seat.me.0 two.ensures.told.view (other h.side) false (may_still h.side b ReadBegin one.result h.seat.me.0 v1 one.ensures.told.view (other h.side) false c.self.invariant.3),
-      (ap (λ (u : View). u.first) two.ensures.told.view ∙ ap (λ (u : View). u.first) one.ensures.told.view, none_open laws_below h.side b a two.result v1 two.new.seat.me.0 two.ensures.told.view refl h.kept.access _ c.self.invariant.4.1 can.0),
+      (ap (λ (u : View). u.first) two.ensures.told.view ∙ ap (λ (u : View). u.first) one.ensures.told.view, none_open h.side b a two.result v1 two.new.seat.me.0 two.ensures.told.view refl h.kept.access _ c.self.invariant.4.1 can.0),
     )
 
 pub returns-clause-made : goal.returns-clause-made

@@ -14,7 +14,6 @@ use Rattle.ring_seats.specs.Words.{word_place}
 use Rattle.ring_seats.proofs.Accesses.{end_at, list_more, made_write, may_still, none_open}
 use Rattle.ring_seats.proofs.Moves.{begins_write, ends_write, opened_by}
 use Rattle.ring_seats.proofs.Answered.{answered_then, quiet_step}
-use Rattle.ring_seats.proofs.LawLemmas.{laws_below}
 use Rattle.ring_seats.proofs.steppers.Stepper+Flickering.write.Goals as goal
 
 pub store-requires-clause-rule : goal.store-requires-clause-rule
@@ -27,7 +26,7 @@ store-requires-clause-rule c =
     let can = subst (λ (e : RingEnd). CanMake e (Write b v)) is c.requires.can in
     let word : word_place h.ring.shape b ≡ c.word_of-word.result = ap (λ (r : Ring). word_place r.shape b) (sym ring_is) ∙ sym c.word_of-word.ensures.place in
     subst (λ (z : Ring × ℕ). Allows (KeepsFlickerRule z.0.shape) z.0.id.slots h.seat.id h.seat.me z.1 (λ _. 2) (λ _. Added z.0.shape (λ _. event h.side b (WriteBegin v)) h.seat.me 2)) (λ i. (sym ring_is i, word i))
-    (begins_write laws_below h.ring.shape h.side b h.ring.id.slots h.seat.id h.seat.me c.self.invariant.2 c.self.invariant.3
+    (begins_write h.ring.shape h.side b h.ring.id.slots h.seat.id h.seat.me c.self.invariant.2 c.self.invariant.3
     (subst (λ (e : RingEnd). belongs e.ring.shape b ≡ true) is c.requires.bit.0)
     (subst (λ (e : RingEnd). e.side ≡ writer b) is c.requires.bit.1)
     can.0 v can.1)
@@ -47,13 +46,13 @@ store-requires-2-clause-rule c =
     let word : word_place h.ring.shape b ≡ c.word_of-word.result = ap (λ (r : Ring). word_place r.shape b) (sym ring_is) ∙ sym c.word_of-word.ensures.place in
     subst (λ (z : Ring × ℕ). Allows (KeepsFlickerRule z.0.shape) z.0.id.slots seat.id seat.me z.1 (λ _. new) (λ _. Added z.0.shape (λ _. event h.side b WriteEnd) seat.me new)) (λ i. (sym ring_is i, word i))
     (subst (λ (n : ℕ). Allows (KeepsFlickerRule shape) h.ring.id.slots seat.id seat.me (word_place shape b) (λ _. n) (λ _. Added shape (λ _. event h.side b WriteEnd) seat.me n)) (sym c.word_of-new.ensures)
-    (ends_write laws_below shape h.side b h.ring.id.slots seat.id seat.me
+    (ends_write shape h.side b h.ring.id.slots seat.id seat.me
     (may_still h.side b (WriteBegin v) 2 h.seat.me.0 seat.me.0 view h.side true c.self.invariant.2)
     (may_still h.side b (WriteBegin v) 2 h.seat.me.0 seat.me.0 view (other h.side) false c.self.invariant.3)
     (subst (λ (e : RingEnd). belongs e.ring.shape b ≡ true) is c.requires.bit.0)
     (subst (λ (e : RingEnd). e.side ≡ writer b) is c.requires.bit.1)
     v
-    (opened_by laws_below h.side b (WriteBegin v) 2 h.seat.me.0 seat.me.0 view)
+    (opened_by h.side b (WriteBegin v) 2 h.seat.me.0 seat.me.0 view)
     (subst (λ (l : List Event). GoesOn shape h.side (Write b v) l) (sym (list_more h.side b (WriteBegin v) 2 h.seat.me.0 seat.me.0 view)) can.2)))
 
 pub invariant_of-self : goal.invariant_of-self
@@ -71,7 +70,7 @@ invariant_of-self c =
       two.ensures.told.carried ∙ one.ensures.told.carried ∙ c.self.invariant.1,
       may_still h.side b WriteEnd new v1 two.new.seat.me.0 two.ensures.told.view h.side true (may_still h.side b (WriteBegin v) 2 h.seat.me.0 v1 one.ensures.told.view h.side true c.self.invariant.2),
       may_still h.side b WriteEnd new v1 two.new.seat.me.0 two.ensures.told.view (other h.side) false (may_still h.side b (WriteBegin v) 2 h.seat.me.0 v1 one.ensures.told.view (other h.side) false c.self.invariant.3),
-      (ap (λ (u : View). u.first) two.ensures.told.view ∙ ap (λ (u : View). u.first) one.ensures.told.view ∙ c.self.invariant.4.0, none_open laws_below h.side b WriteEnd new v1 two.new.seat.me.0 two.ensures.told.view refl h.kept.access _ c.self.invariant.4.1 can.0),
+      (ap (λ (u : View). u.first) two.ensures.told.view ∙ ap (λ (u : View). u.first) one.ensures.told.view ∙ c.self.invariant.4.0, none_open h.side b WriteEnd new v1 two.new.seat.me.0 two.ensures.told.view refl h.kept.access _ c.self.invariant.4.1 can.0),
     )
 
 pub returns-clause-made : goal.returns-clause-made

@@ -1,7 +1,6 @@
 use Rattle.std.proofs.Common.{ℕ, ◌<◌, sym, subst, ap, ◌∙◌}
 use Rattle.ring_seats.specs.Ring.{Ring}
 use Rattle.ring_seats.proofs.Moves.{joins}
-use Rattle.ring_seats.proofs.LawLemmas.{laws_below}
 use Rattle.ring_seats.proofs.words.Words.rejoin.Goals as goal
 
 pub join_seat-requires : goal.join_seat-requires
@@ -11,5 +10,5 @@ join_seat-requires g c =
       c.requires.own.1 ∙ sym id,
       c.requires.own.2,
       subst (λ (n : ℕ). 0 < n) (sym c.self.invariant.1) c.self.invariant.2,
-      joins laws_below _ _ _ _ _ _ _ c.requires.sides.0 c.requires.sides.1 c.requires.idle.0 c.requires.idle.1,
+      joins _ _ _ _ _ _ _ c.requires.sides.0 c.requires.sides.1 c.requires.idle.0 c.requires.idle.1,
     )
