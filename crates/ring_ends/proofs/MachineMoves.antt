@@ -16,7 +16,8 @@ use Rattle.ring_seats.specs.Programs.{Follows, IsRing, GoesOn, begin_of, ending_
 use Rattle.ring_seats.specs.Steppers.{Grows, IsSameEnd, StandsAs, CanMake, CanStep, HasStepped}
 use Rattle.ring_ends.specs.Machines.{ListIs, Machine, MachineAt, MachineStep}
 use Rattle.ring_ends.specs.Moves.{Due, Fed, MachineLaws, Next}
-use Rattle.ring_ends.proofs.Lists.{own-mine, own-theirs, ring_follows, events_begin, events_more, begun_open, shorter, no_zero, length-events_of}
+use Rattle.ring_seats.proofs.Histories.{own-mine, own-theirs}
+use Rattle.ring_ends.proofs.Lists.{ring_follows, events_begin, events_more, begun_open, shorter, no_zero, length-events_of}
 use Rattle.ring_ends.proofs.Steps.{by_end, not_by_end, list_closed, list_open, CanMakeAt, CanStepAt, last_false}
 use Rattle.bits_core.proofs.LawLemmas.{made_leave_none_open}
 

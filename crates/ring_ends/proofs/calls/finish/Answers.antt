@@ -14,8 +14,7 @@ busy g c = ready_busy g.M.SideMachine.kind c.args.stepper.now (g.M.SideMachine.s
 so_far : (g : Over) (c : After-write_count g) →
     MachineWent g.M.SideMachine.kind c.args.stepper.now (g.M.SideMachine.state c.args.machine.now) c.write_count.new.stepper (g.M.SideMachine.state c.write_count.new.machine) (g.O.Oracle.answers c.args.oracle.now) (g.O.Oracle.answers c.write_count.new.oracle)
 so_far g c =
-    let l = in
-    went_then l g.M.SideMachine.kind (went_then l g.M.SideMachine.kind (went_then l g.M.SideMachine.kind c.accesses.invariant c.finish_scan.ensures) c.finish_word.ensures) c.write_count.ensures
+    went_then g.M.SideMachine.kind (went_then g.M.SideMachine.kind (went_then g.M.SideMachine.kind c.accesses.invariant c.finish_scan.ensures) c.finish_word.ensures) c.write_count.ensures
 
 pub finish_scan-requires : goal.finish_scan-requires
 finish_scan-requires g c =
@@ -30,8 +29,7 @@ finish_word-requires g c =
 pub write_count-requires : goal.write_count-requires
 write_count-requires g c =
     let k = g.M.SideMachine in
-    let l = in
-    went_busy k.kind c.laws.ensures (went_then l k.kind (went_then l k.kind c.accesses.invariant c.finish_scan.ensures) c.finish_word.ensures) (ready_busy k.kind c.args.stepper.now (k.state c.args.machine.now) c.requires.0 c.requires.1)
+    went_busy k.kind c.laws.ensures (went_then k.kind (went_then k.kind c.accesses.invariant c.finish_scan.ensures) c.finish_word.ensures) (ready_busy k.kind c.args.stepper.now (k.state c.args.machine.now) c.requires.0 c.requires.1)
 
 pub make-answer-requires-clause-right : goal.make-answer-requires-clause-right
 make-answer-requires-clause-right g c =

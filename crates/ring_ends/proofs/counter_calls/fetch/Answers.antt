@@ -12,7 +12,6 @@ pub read_cell-item-requires-clause-program : goal.read_cell-item-requires-clause
 read_cell-item-requires-clause-program c item fits =
     let r = c.requires.at in
     let b = c.args.stepper.now in
-    let = in
     let below = cell_below r.0 b c.args.count.now c.args.cell.now r.1 1 1 r.2 in
     subst (λ (l : List Made). Follows b.ring.shape C (b.list ++ events_of C l)) (one_word b.ring.shape c.args.cell.now item below)
     (to_read r.0 b c.args.count.now c.args.cell.now r.1 1 1 r.2 (item ∷ []) refl (fits, tt))
@@ -21,7 +20,6 @@ pub write_count-requires-clause-program : goal.write_count-requires-clause-progr
 write_count-requires-clause-program c =
     let r = c.requires.at in
     let b = c.args.stepper.now in
-    let = in
     let shape : c.shape-shape.result ≡ r.0.ring.shape = c.shape-shape.ensures ∙ (same_shape r.0 b r.2.found.same) in
     let below = cell_below r.0 b c.args.count.now c.args.cell.now r.1 1 1 r.2 in
     to_count r.0 b c.args.count.now c.args.cell.now r.1 1 1 r.2 (c.read_cell-item.result ∷ []) refl (c.read_cell-item.ensures.fits, tt) c.read_cell-item.new.self
@@ -30,7 +28,6 @@ write_count-requires-clause-program c =
 pub returns : goal.returns
 returns c before calls l =
     let b = c.args.stepper.now in
-    let = in
     let shape : c.shape-shape.result ≡ before.ring.shape = c.shape-shape.ensures ∙ (same_shape before b l.found.same) in
     let next = c.past_in.ensures ∙ ap (λ (n : ℕ). (c.args.count.now + 1) % n) (c.modulus.ensures.value ∙ ap modulus_of shape) in
     let item = c.read_cell-item.result in
