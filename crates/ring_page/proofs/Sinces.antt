@@ -37,7 +37,7 @@ reason_fits shape h place e (OnlyBy side) is = omega arith
 reason_fits shape h place e (StillOpen access begun) is = omega arith
 reason_fits shape h place e NothingOpen is = omega arith
 reason_fits shape h place e (Held value None begun) is = omega arith
-reason_fits shape h place e (Held value (Some last) begun) (right, turn, refused, began, held, ended) =
+reason_fits shape h place e (Held value (Some last) begun) (right, turn, refused, began, (held, ended)) =
     slice_get_within h last ended.event (slice_get-from_take h place last ended.event (slice_get-from_take (take place h) begun last ended.event ended.at_place).0).0
 
 pub since_fits : (shape : Shape) (h : List Event) (verdict : Verdict) (why : Option Reason) → IsVerdict shape h verdict → TellsWhy shape h verdict why → since_in why ≤ length h
@@ -48,7 +48,7 @@ since_fits shape h (Fault place kind) why is tells =
 
 pub since_told : (shape : Shape) (h : List Event) (verdict : Verdict) (why : Option Reason) → TellsWhy shape h verdict why → TellsSince shape h verdict (since_in why)
 since_told shape h Lawful why tells = rw tells refl
-since_told shape h (Fault place kind) why tells e at = let (reason, same, behind) = tells e at in (reason, behind, rw same refl)
+since_told shape h (Fault place kind) why tells = λ e at. let (reason, same, behind) = tells e at in (reason, behind, rw same refl)
 
 pub break_within : (shape : Shape) (h : List Event) (put taken : List ℕ) (found : Found) → IsFinding shape h (statement_in put taken found) → BreakIsWithin (length h) found
 break_within shape h put taken (founds.Lawful n k told) is = tt
