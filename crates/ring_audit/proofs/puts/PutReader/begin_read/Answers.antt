@@ -9,19 +9,13 @@ use Rattle.ring_audit.specs.declared.puts.PutStep.TheVariants.{Stops}
 use Rattle.ring_audit.specs.declared.puts.Stage.TheVariants.{Scanning}
 use Rattle.ring_audit.specs.contracts.puts.PutReader.{the_view}
 use Rattle.ring_audit.specs.PutReading.{PutReading, IsReaderAt}
-use Rattle.ring_audit.proofs.PutReads.{lift, at_stage, no_read, scan_due}
+use Rattle.ring_audit.proofs.PutReads.{read_at, no_read, scan_due}
 use Rattle.ring_audit.proofs.puts.PutReader.begin_read.Goals as goal
 
 pub returns-else-is_same-clause-read : goal.returns-else-is_same-clause-read
 returns-else-is_same-clause-read c =
     let r : PutReading = the_view c.self.inside in
-    let now : PutReading = c.args.self.now in
-    let is : r ≡ now = c.self.view_is in
-    let stage : r.stage ≡ Scanning = ap (λ (z : PutReading). z.stage) is ∙ c.requires.stage in
-    let none : r.open_access ≡ None = ap (λ (z : PutReading). z.open_access) is ∙ c.requires.none in
-    let at : IsReaderAt Scanning r = at_stage r Scanning c.self.invariant stage in
     let a : Access = c.args.access in
-    let due : c.next.result ≡ Some (begins.Read (row_read_by P r.scan.zeros)) = c.next.ensures.due ∙ scan_due P (modulus_of r.shape) r.scan at.1 in
-    lift r now r (opening_event P a) Stops is
-    (λ es items stored st of_puts. no_read r.shape r es items stored a st none stage (at.2 none)
-    (λ same. (let clash : true ≡ false = sym (c.is_same.ensures.1 (due ∙ ap Some same)) ∙ c.if-is_same.false in absurd (cc))) of_puts)
+    read_at r c.args.self.now r (opening_event P a) Stops Scanning None c.self.view_is c.self.invariant c.requires.stage c.requires.none
+    (λ stage none at es items stored st of_puts. no_read r.shape r es items stored a st none stage (at.2 none)
+    (λ same. (let clash : true ≡ false = sym (c.is_same.ensures.1 (c.next.ensures.due ∙ scan_due P (modulus_of r.shape) r.scan at.1 ∙ ap Some same)) ∙ c.if-is_same.false in absurd (cc))) of_puts)
