@@ -21,8 +21,9 @@ use Rattle.ring_core.specs.Puts.{Put, Stored, stored_after, words_phrase, put_ph
 use Rattle.ring_core.specs.PutParts.{count_behind}
 use Rattle.ring_audit.specs.declared.puts.Stage.TheVariants.{Resting, Choosing, Storing, Counting}
 use Rattle.ring_audit.specs.PutReading.{PutReading, RowHolds, IsMost, has_items, InPut, InCount, PutsStand}
+use Rattle.ring_core.proofs.Machines.PutCalls.{phrases-push, stored-push, are-push}
 use Rattle.ring_audit.proofs.PutReads.{made_at}
-use Rattle.ring_audit.proofs.PutSteps.{phrases-push, left-push, are-push, put-push, stores_on, ended_so}
+use Rattle.ring_audit.proofs.PutSteps.{put-push, stores_on, ended_so}
 
 -- ---- words
 
@@ -267,7 +268,7 @@ ends_count shape r es items stored row a v st some stage side due left goes over
     let scan : List Made = scan_phrase (row_read_by P) s.seen in
     let words : List Made = words_phrase shape c.number s.batch in
     let whole : count_bits shape c s.batch ≡ s.writes = s.parts ∙ ap (λ ws. s.writes ++ ws) (no_writes row over) ∙ append-nil s.writes in
-    let after : count_behind shape (st.puts ++ x ∷ []) ≡ stored_after shape c x = left-push shape first_count st.puts x in
+    let after : count_behind shape (st.puts ++ x ∷ []) ≡ stored_after shape c x = stored-push shape first_count st.puts x in
     ended_so st a v Resting (st.puts ++ x ∷ []) some (are-push shape first_count st.puts x st.are s.is_put)
     (s.next_is ∙ ap (λ (z : Count). z.number % modulus_of shape) (sym after)) refl refl refl (
       record {

@@ -2,7 +2,6 @@
 use Rattle.std.proofs.Common.{◌≡◌, ◌≢◌, inl, inr, ℕ, zero, suc, ◌+◌, ◌%◌, ◌<◌, ◌≤◌, Bool, true, false, not, is_some, Option, Some, None, List, [], ◌∷◌, ◌++◌, length, if◌then◌else◌, nat_lt, refl, sym, ap, subst, ◌∙◌, arith, append_assoc, append-nil, length-append}
 use Rattle.std.proofs.Math.Path.{fun_ext}
 use Rattle.std.proofs.lemmas.Bool.Decides.{nat_tests}
-use Rattle.bits_core.specs.declared.events.Side.{Side}
 use Rattle.bits_core.specs.declared.events.Side.TheVariants.{P}
 use Rattle.bits_core.specs.declared.events.Bit.TheVariants.{S, X, Cell}
 use Rattle.bits_core.specs.declared.events.Access.{Access}
@@ -29,8 +28,12 @@ use Rattle.ring_audit.specs.PutReading.{PutReading, IsPutReading, HasReadPut, Is
 use Rattle.register_core.proofs.Items.{same_item}
 use Rattle.ring_core.proofs.Machines.PutParts.{counts-on, last-puts_read_one, scans-on, scans-or_closes, stores-on, stores-or_counts}
 use Rattle.ring_core.proofs.Readings.ItemsRead.{puts-are_first}
+use Rattle.ring_core.proofs.Readings.Phrases.{same_made}
+use Rattle.ring_core.proofs.Machines.Following.{events_of-append}
+use Rattle.ring_core.proofs.Machines.GoingOn.{access_back}
+use Rattle.ring_core.proofs.Machines.NextParts.{scan_due}
 use Rattle.ring_audit.proofs.Readers as readers
-use Rattle.ring_audit.proofs.Beginnings.{begin_is, access_is, same_access, same_made, GoesOnWith, GoesOnBy, events_of-append}
+use Rattle.ring_audit.proofs.Beginnings.{begin_is, same_access, GoesOnWith, GoesOnBy}
 
 -- calls whose events go on so
 rest_on :
@@ -45,11 +48,6 @@ work_on shape r es items stored st a e some (calls, are, begins) = readers.work_
 
 -- ---- where it stops
 
--- what a scan has due
-pub scan_due : (side : Side) (m : ℕ) (s : ScanState) → IsScanning side m s → due_scan s ≡ Some (begins.Read (row_read_by side s.zeros))
-scan_due side m s is =
-    ap (λ b. if b then None else Some (begins.Read (row_read_by s.side s.zeros))) is.not_found ∙ ap (λ t. Some (begins.Read (row_read_by t s.zeros))) is.side_is
-
 -- a 0 of the last bit
 pub zero_at_last :
     (shape : Shape) (r : PutReading) (es : List Event) (items stored : List ℕ) (a : Access) → PutsStand shape r es items stored → r.open_access ≡ Some a →
@@ -57,7 +55,7 @@ pub zero_at_last :
 zero_at_last shape r es items stored a st some scans due last of_puts =
     let on = work_on shape r es items stored st a (end_event P (answered a false)) some of_puts in
     let begun : begin_event P (answered a false) ≡ begin_event P on.next =
-    begin_is P (answered a false) ∙ ap (opening_event P) (access_is a false) ∙ on.begins in
+    begin_is P (answered a false) ∙ ap (opening_event P) (access_back a false) ∙ on.begins in
     let next_is : on.next ≡ answered a false = sym (same_made P (answered a false) on.next begun on.ends) in
     let both : Some a ≡ Some (begins.Read (row_read_by P r.scan.zeros)) = sym due ∙ scan_due P (modulus_of shape) r.scan scans in
     let a_is : a ≡ begins.Read (row_read_by P r.scan.zeros) = cc in

@@ -14,33 +14,18 @@ use Rattle.register_core.specs.WordState.{ReaderState, ReaderStands}
 use Rattle.register_core.specs.UnaryState.{UnaryState, due_writes, UnaryStands}
 use Rattle.register_core.specs.ScanState.{ScanState, scan_read, zero_reads, scan_phrase, row_read_by}
 use Rattle.ring_core.specs.Counts.{LeavesRoom, LeavesRoomFor, Count, first_count, count_bits}
-use Rattle.ring_core.specs.Puts.{Put, Stored, Full, stored_after, stored_count, words_phrase, put_phrase, put_phrases, IsPut, ArePuts}
+use Rattle.ring_core.specs.Puts.{Put, Stored, Full, words_phrase, put_phrases, ArePuts}
 use Rattle.ring_core.specs.Items.{all_put}
 use Rattle.ring_core.specs.PutParts.{count_behind}
 use Rattle.ring_audit.specs.declared.puts.Stage.{Stage}
 use Rattle.ring_audit.specs.declared.puts.Stage.TheVariants.{Resting, Scanning, Choosing, Storing, Counting, Closing, Closed}
 use Rattle.ring_audit.specs.Sides.{open_events}
 use Rattle.ring_audit.specs.PutReading.{PutReading, RowHolds, IsMost, has_items, AtRest, InPut, MadeWhile, PutsStand}
+use Rattle.ring_core.proofs.Machines.PutCalls.{phrases-push, stored-push, are-push}
 use Rattle.ring_audit.proofs.Readers.{opened, ended}
 use Rattle.ring_audit.proofs.PutReads.{made_at, count_due}
 
 -- ---- one put more
-
-pub phrases-push :
-    (shape : Shape) (c : Count) (xs : List Put) (x : Put) → put_phrases shape c (xs ++ x ∷ []) ≡ put_phrases shape c xs ++ put_phrase shape (stored_count shape c xs) x
-phrases-push shape c [] x = append-nil (put_phrase shape c x)
-phrases-push shape c (y ∷ xs) x =
-    ap (λ l. put_phrase shape c y ++ l) (phrases-push shape (stored_after shape c y) xs x) ∙
-    sym (append_assoc (put_phrase shape c y) (put_phrases shape (stored_after shape c y) xs) (put_phrase shape (stored_count shape (stored_after shape c y) xs) x))
-
-pub left-push : (shape : Shape) (c : Count) (xs : List Put) (x : Put) → stored_count shape c (xs ++ x ∷ []) ≡ stored_after shape (stored_count shape c xs) x
-left-push shape c [] x = refl
-left-push shape c (y ∷ xs) x = left-push shape (stored_after shape c y) xs x
-
-pub are-push :
-    (shape : Shape) (c : Count) (xs : List Put) (x : Put) → ArePuts shape c.number xs → IsPut shape (stored_count shape c xs).number x → ArePuts shape c.number (xs ++ x ∷ [])
-are-push shape c [] x are is = (is, record {})
-are-push shape c (y ∷ xs) x (here, are) is = (here, are-push shape (stored_after shape c y) xs x are is)
 
 pub put-push : (xs : List Put) (seen : ℕ) (items : List ℕ) → all_put (xs ++ Stored seen items ∷ []) ≡ all_put xs ++ items
 put-push [] seen items = append-nil items
@@ -287,7 +272,7 @@ ends_full shape r es items stored scan a v seen st some is stage not_found fed g
     let (one_read, zeros_is) = read_one r.scan v seen not_found (ap (λ (z : ScanState). if z.found then Some z.zeros else None) (sym fed) ∙ gives) in
     let seen_below : seen < modulus_of shape = subst (λ k. k < modulus_of shape) zeros_is below in
     let (rests, made_so) = scanned shape r es items stored st scan a v seen is stage not_found fed gives in
-    let left : count_behind shape (st.puts ++ Full seen ∷ []) ≡ count_behind shape st.puts = left-push shape first_count st.puts (Full seen) in
+    let left : count_behind shape (st.puts ++ Full seen ∷ []) ≡ count_behind shape st.puts = stored-push shape first_count st.puts (Full seen) in
     ended_so st a v Resting (st.puts ++ Full seen ∷ []) some
     (are-push shape first_count st.puts (Full seen) st.are (seen_below, λ l. full (subst (λ k. LeavesRoom shape k seen) (sym st.count_is) l)))
     (st.count_is ∙ ap (λ (z : Count). z.number % modulus_of shape) (sym left)) refl refl refl (

@@ -1,11 +1,11 @@
 use Rattle.bits_core.specs.Made.{opening_event}
-use Rattle.std.proofs.Common.{◌≡◌, true, false, Some, None, sym, ap, ◌∙◌}
+use Rattle.std.proofs.Common.{◌≡◌, true, false, Some, None, sym, ◌∙◌}
 use Rattle.bits_core.specs.declared.events.Side.TheVariants.{P}
 use Rattle.bits_core.specs.declared.events.Access.{Access}
 use Rattle.ring_audit.specs.declared.puts.PutStep.TheVariants.{Stops, GoesOn}
 use Rattle.ring_audit.specs.declared.puts.Stage.TheVariants.{Counting}
 use Rattle.ring_audit.specs.contracts.puts.PutReader.{the_view}
-use Rattle.ring_audit.specs.PutReading.{PutReading, IsReaderAt}
+use Rattle.ring_audit.specs.PutReading.{PutReading}
 use Rattle.ring_audit.proofs.PutReads.{read_at, no_bit}
 use Rattle.ring_audit.proofs.PutSteps.{begins_bit}
 use Rattle.ring_audit.proofs.puts.PutReader.begin_bit.Goals as goal

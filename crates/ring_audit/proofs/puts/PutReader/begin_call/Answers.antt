@@ -7,7 +7,7 @@ use Rattle.register_core.specs.ScanState.{row_read_by, due_scan}
 use Rattle.ring_audit.specs.declared.puts.PutStep.TheVariants.{Stops}
 use Rattle.ring_audit.specs.declared.puts.Stage.TheVariants.{Resting}
 use Rattle.ring_audit.specs.contracts.puts.PutReader.{the_view}
-use Rattle.ring_audit.specs.PutReading.{PutReading, IsReaderAt}
+use Rattle.ring_audit.specs.PutReading.{PutReading}
 use Rattle.ring_audit.proofs.PutReads.{read_at, no_call}
 use Rattle.ring_audit.proofs.puts.PutReader.begin_call.Goals as goal
 

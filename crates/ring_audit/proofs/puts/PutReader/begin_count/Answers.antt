@@ -8,7 +8,7 @@ use Rattle.register_core.specs.UnaryState.{due_unary}
 use Rattle.ring_audit.specs.declared.puts.PutStep.TheVariants.{Stops, Counts}
 use Rattle.ring_audit.specs.declared.puts.Stage.TheVariants.{Choosing, Counting, Closed}
 use Rattle.ring_audit.specs.contracts.puts.PutReader.{the_view}
-use Rattle.ring_audit.specs.PutReading.{PutReading, IsReaderAt}
+use Rattle.ring_audit.specs.PutReading.{PutReading}
 use Rattle.ring_audit.proofs.PutReads.{read_at, no_word_nor_count}
 use Rattle.ring_audit.proofs.PutSteps.{begins_count}
 use Rattle.ring_audit.proofs.puts.PutReader.begin_count.Goals as goal

@@ -4,11 +4,10 @@ use Rattle.bits_core.specs.declared.events.Side.TheVariants.{P}
 use Rattle.bits_core.specs.declared.events.Bit.TheVariants.{Cell}
 use Rattle.bits_core.specs.declared.events.Access.{Access}
 use Rattle.bits_core.specs.declared.events.Access.TheVariants as begins
-use Rattle.bits_core.specs.Shape.{width_of}
 use Rattle.ring_audit.specs.declared.puts.PutStep.TheVariants.{Stops, GoesOn}
 use Rattle.ring_audit.specs.declared.puts.Stage.TheVariants.{Storing}
 use Rattle.ring_audit.specs.contracts.puts.PutReader.{the_view}
-use Rattle.ring_audit.specs.PutReading.{PutReading, IsReaderAt}
+use Rattle.ring_audit.specs.PutReading.{PutReading}
 use Rattle.ring_audit.proofs.PutReads.{read_at, no_digit, read_due}
 use Rattle.ring_audit.proofs.PutSteps.{begins_digit}
 use Rattle.ring_audit.proofs.puts.PutReader.begin_digit.Goals as goal

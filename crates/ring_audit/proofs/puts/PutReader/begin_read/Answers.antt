@@ -2,14 +2,13 @@ use Rattle.bits_core.specs.Made.{opening_event}
 use Rattle.std.proofs.Common.{◌≡◌, true, false, Some, None, sym, ap, ◌∙◌}
 use Rattle.bits_core.specs.declared.events.Side.TheVariants.{P}
 use Rattle.bits_core.specs.declared.events.Access.{Access}
-use Rattle.bits_core.specs.declared.events.Access.TheVariants as begins
 use Rattle.bits_core.specs.Shape.{modulus_of}
-use Rattle.register_core.specs.ScanState.{row_read_by}
 use Rattle.ring_audit.specs.declared.puts.PutStep.TheVariants.{Stops}
 use Rattle.ring_audit.specs.declared.puts.Stage.TheVariants.{Scanning}
 use Rattle.ring_audit.specs.contracts.puts.PutReader.{the_view}
-use Rattle.ring_audit.specs.PutReading.{PutReading, IsReaderAt}
-use Rattle.ring_audit.proofs.PutReads.{read_at, no_read, scan_due}
+use Rattle.ring_audit.specs.PutReading.{PutReading}
+use Rattle.ring_core.proofs.Machines.NextParts.{scan_due}
+use Rattle.ring_audit.proofs.PutReads.{read_at, no_read}
 use Rattle.ring_audit.proofs.puts.PutReader.begin_read.Goals as goal
 
 pub returns-else-is_same-clause-read : goal.returns-else-is_same-clause-read

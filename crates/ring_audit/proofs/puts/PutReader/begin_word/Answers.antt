@@ -9,7 +9,7 @@ use Rattle.register_core.specs.WordState.{ReaderState, due_read}
 use Rattle.ring_audit.specs.declared.puts.PutStep.TheVariants.{Stops, GoesOn}
 use Rattle.ring_audit.specs.declared.puts.Stage.TheVariants.{Choosing, Storing}
 use Rattle.ring_audit.specs.contracts.puts.PutReader.{the_view}
-use Rattle.ring_audit.specs.PutReading.{PutReading, IsReaderAt}
+use Rattle.ring_audit.specs.PutReading.{PutReading}
 use Rattle.ring_audit.proofs.PutReads.{read_at, no_word_nor_count, read_due}
 use Rattle.ring_audit.proofs.PutSteps.{begins_word}
 use Rattle.ring_audit.proofs.puts.PutReader.begin_word.Goals as goal

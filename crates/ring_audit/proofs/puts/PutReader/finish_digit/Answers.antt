@@ -1,16 +1,13 @@
-use Rattle.std.proofs.Common.{◌≡◌, suc, ◌+◌, ◌-◌, ◌%◌, true, Some, None, List, [], ◌∷◌, ◌++◌, subst, ap, ◌∙◌, arith}
+use Rattle.std.proofs.Common.{◌≡◌, suc, ◌+◌, ◌-◌, ◌%◌, true, Some, None, ap, ◌∙◌, arith}
 use Rattle.bits_core.specs.declared.events.Side.TheVariants.{P}
-use Rattle.bits_core.specs.declared.events.Bit.TheVariants.{Cell}
 use Rattle.bits_core.specs.declared.events.Access.{Access}
-use Rattle.bits_core.specs.declared.events.Access.TheVariants as begins
 use Rattle.bits_core.specs.Shape.{width_of}
-use Rattle.bits_core.specs.Made.{Made, Read, answered, end_event}
-use Rattle.register_core.specs.WordState.{ReaderState, ReaderStands, read_digit}
+use Rattle.bits_core.specs.Made.{answered, end_event}
+use Rattle.register_core.specs.WordState.{ReaderState}
 use Rattle.ring_audit.specs.declared.puts.PutStep.TheVariants.{GoesOn, Stores}
 use Rattle.ring_audit.specs.declared.puts.Stage.TheVariants.{Choosing, Storing}
 use Rattle.ring_audit.specs.contracts.puts.PutReader.{the_view}
-use Rattle.ring_audit.specs.Sides.{told_of}
-use Rattle.ring_audit.specs.PutReading.{PutReading, IsReaderAt}
+use Rattle.ring_audit.specs.PutReading.{PutReading}
 use Rattle.ring_audit.proofs.PutReads.{read_at, fed_by_write, whole_word}
 use Rattle.ring_audit.proofs.PutItems.{ends_digit, ends_word}
 use Rattle.ring_audit.proofs.puts.PutReader.finish_digit.Goals as goal
