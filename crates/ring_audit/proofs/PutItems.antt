@@ -23,7 +23,7 @@ use Rattle.ring_audit.specs.declared.puts.Stage.TheVariants.{Resting, Choosing, 
 use Rattle.ring_audit.specs.PutReading.{PutReading, RowHolds, IsMost, has_items, InPut, InCount, PutsStand}
 use Rattle.ring_core.proofs.Machines.PutCalls.{phrases-push, stored-push, are-push}
 use Rattle.ring_audit.proofs.PutReads.{made_at}
-use Rattle.ring_audit.proofs.PutSteps.{put-push, stores_on, ended_so}
+use Rattle.ring_audit.proofs.PutSteps.{put-push, stores_on, counts_on, ended_so}
 
 -- ---- words
 
@@ -221,19 +221,9 @@ counted_on shape r es items stored st row a v stage side due left goes =
     let scan : List Made = scan_phrase (row_read_by P) s.seen in
     let words : List Made = words_phrase shape c.number s.batch in
     let bits : List Made = writes_in (row_bit P) s.writes in (
-      record {
-        seen = s.seen;
-        batch = s.batch;
-        is_put = s.is_put;
-        next_is = s.next_is;
-        cell_is = s.cell_is;
-        writes = s.writes ++ w ∷ [];
-        holds = subst (RowHolds row) (sym (bits_after-push c.bits s.writes w)) (row_on r.row row (bits_after c.bits s.writes) w a v s.holds is due goes);
-        parts = s.parts ∙ ap (λ ws. s.writes ++ ws) due_are ∙ sym (append_assoc s.writes (w ∷ []) more) ∙ ap (λ ws. (s.writes ++ w ∷ []) ++ ws) (sym (left w more due_are));
-        begun = λ e. begun_by_one s.writes w;
-        items_are = s.items_are;
-        none_stored = s.none_stored;
-      },
+      counts_on row None s (s.writes ++ w ∷ []) (subst (RowHolds row) (sym (bits_after-push c.bits s.writes w)) (row_on r.row row (bits_after c.bits s.writes) w a v s.holds is due goes))
+          (s.parts ∙ ap (λ ws. s.writes ++ ws) due_are ∙ sym (append_assoc s.writes (w ∷ []) more) ∙ ap (λ ws. (s.writes ++ w ∷ []) ++ ws) (sym (left w more due_are)))
+          (λ e. begun_by_one s.writes w),
       ap (λ l. l ++ answered a v ∷ []) made_is ∙ ap (λ z. (front ++ (scan ++ (words ++ bits))) ++ answered z v ∷ []) is
           ∙ writes-push (row_bit P) front scan words s.writes w,
     )

@@ -1,5 +1,5 @@
 -- The reader of puts goes on: it stands after one event more.
-use Rattle.std.proofs.Common.{◌≡◌, ℕ, suc, ◌+◌, ◌%◌, ◌<◌, ◌≤◌, Bool, true, false, Option, Some, None, List, [], ◌∷◌, ◌++◌, length, if◌then◌else◌, refl, sym, ap, subst, ◌∙◌, arith, append_assoc, append-nil}
+use Rattle.std.proofs.Common.{◌≡◌, ◌⊎◌, inl, inr, ℕ, suc, ◌+◌, ◌%◌, ◌<◌, ◌≤◌, Bool, true, false, Option, Some, None, List, [], ◌∷◌, ◌++◌, length, if◌then◌else◌, refl, sym, ap, subst, ◌∙◌, arith, append_assoc, append-nil}
 use Rattle.bits_core.specs.declared.events.Side.TheVariants.{P}
 use Rattle.bits_core.specs.declared.events.Bit.TheVariants.{X, Cell}
 use Rattle.bits_core.specs.declared.events.Access.{Access}
@@ -8,7 +8,7 @@ use Rattle.bits_core.specs.declared.events.Event.{Event}
 use Rattle.bits_core.specs.declared.shapes.Shape.{Shape}
 use Rattle.bits_core.specs.Shape.{capacity_of, modulus_of, batch_of}
 use Rattle.bits_core.specs.Made.{Made, Read, answered, end_event, events_of, opening_event}
-use Rattle.register_core.specs.Row.{row_bit, writes_in}
+use Rattle.register_core.specs.Row.{RowWrite, row_bit, bits_after, writes_in}
 use Rattle.register_core.specs.Word.{digit_writes}
 use Rattle.register_core.specs.WordState.{ReaderState, ReaderStands}
 use Rattle.register_core.specs.UnaryState.{UnaryState, due_writes, UnaryStands}
@@ -20,7 +20,7 @@ use Rattle.ring_core.specs.PutParts.{count_behind}
 use Rattle.ring_audit.specs.declared.puts.Stage.{Stage}
 use Rattle.ring_audit.specs.declared.puts.Stage.TheVariants.{Resting, Scanning, Choosing, Storing, Counting, Closing, Closed}
 use Rattle.ring_audit.specs.Sides.{open_events}
-use Rattle.ring_audit.specs.PutReading.{PutReading, RowHolds, IsMost, has_items, AtRest, InPut, MadeWhile, PutsStand}
+use Rattle.ring_audit.specs.PutReading.{PutReading, RowHolds, IsMost, has_items, AtRest, InPut, InCount, MadeWhile, PutsStand}
 use Rattle.ring_core.proofs.Machines.PutCalls.{phrases-push, stored-push, are-push}
 use Rattle.ring_audit.proofs.Readers.{opened, ended}
 use Rattle.ring_audit.proofs.PutReads.{made_at, count_due}
@@ -85,13 +85,6 @@ begins_word shape r es items stored word a st none stage new stands =
       made_is ∙ ap (λ l. front ++ (scan ++ l)) (sym (append-nil words)) ∙ ap (λ n. front ++ (scan ++ (words ++ writes_in (Cell r.cell) (digit_writes word.value n)))) (sym new),
     )
 
-pub begins_digit :
-    (shape : Shape) (r : PutReading) (es : List Event) (items stored : List ℕ) (a : Access) → PutsStand shape r es items stored → r.open_access ≡ None → r.stage ≡ Storing →
-    PutsStand shape (record r { open_access = Some a }) (es ++ opening_event P a ∷ []) items stored
-begins_digit shape r es items stored a st none stage =
-    let (s, reads, stands, made_is) = made_at shape r es items stored st Storing stage in
-    begun st a Storing none refl refl refl stage (stores_on s, reads, stands, made_is)
-
 some_items : (l : List ℕ) (b : Bool) → b ≡ has_items l → b ≡ true → 1 ≤ length l
 some_items [] b e f = let clash : true ≡ false = sym f ∙ e in absurd (cc)
 some_items (x ∷ l) b e f = omega arith
@@ -134,27 +127,38 @@ begins_count shape r es items stored row a st none stage some side row_is asks =
       made_is ∙ ap (λ l. front ++ (scan ++ l)) (sym (append-nil words)),
     )
 
-pub begins_bit :
-    (shape : Shape) (r : PutReading) (es : List Event) (items stored : List ℕ) (a : Access) → PutsStand shape r es items stored → r.open_access ≡ None → r.stage ≡ Counting →
-    PutsStand shape (record r { open_access = Some a }) (es ++ opening_event P a ∷ []) items stored
-begins_bit shape r es items stored a st none stage =
+-- a count write goes on, once these bit writes of it were made
+abbrev pub counts_on :
+    {shape : Shape} {r : PutReading} {puts : List Put} {items stored : List ℕ} (row : UnaryState) (open_access : Option Access) (s : InCount shape r puts items stored) (writes : List RowWrite) →
+    RowHolds row (bits_after (count_behind shape puts).bits writes) → count_bits shape (count_behind shape puts) s.batch ≡ writes ++ due_writes row →
+    (open_access ≡ None → (u : RowWrite) × (more : List RowWrite) × (writes ≡ u ∷ more)) → InCount shape (record r { row = row; open_access = open_access }) puts items stored
+counts_on row open_access s writes holds parts begun = record {
+  seen = s.seen;
+  batch = s.batch;
+  is_put = s.is_put;
+  next_is = s.next_is;
+  cell_is = s.cell_is;
+  writes = writes;
+  holds = holds;
+  parts = parts;
+  begun = begun;
+  items_are = s.items_are;
+  none_stored = s.none_stored;
+}
+
+-- the next access of what is under way begins
+pub begins_next :
+    (shape : Shape) (r : PutReading) (es : List Event) (items stored : List ℕ) (a : Access) → PutsStand shape r es items stored → r.open_access ≡ None →
+    (r.stage ≡ Scanning) ⊎ ((r.stage ≡ Storing) ⊎ (r.stage ≡ Counting)) → PutsStand shape (record r { open_access = Some a }) (es ++ opening_event P a ∷ []) items stored
+begins_next shape r es items stored a st none (inl stage) =
+    let (rests, made_is) = made_at shape r es items stored st Scanning stage in
+    begun st a Scanning none refl refl refl stage (record { holds = rests.holds; cell_is = rests.cell_is; items_are = rests.items_are; none_stored = rests.none_stored }, made_is)
+begins_next shape r es items stored a st none (inr (inl stage)) =
+    let (s, reads, stands, made_is) = made_at shape r es items stored st Storing stage in
+    begun st a Storing none refl refl refl stage (stores_on s, reads, stands, made_is)
+begins_next shape r es items stored a st none (inr (inr stage)) =
     let (s, made_is) = made_at shape r es items stored st Counting stage in
-    begun st a Counting none refl refl refl stage (
-      record {
-        seen = s.seen;
-        batch = s.batch;
-        is_put = s.is_put;
-        next_is = s.next_is;
-        cell_is = s.cell_is;
-        writes = s.writes;
-        holds = s.holds;
-        parts = s.parts;
-        begun = λ e. absurd (cc);
-        items_are = s.items_are;
-        none_stored = s.none_stored;
-      },
-      made_is,
-    )
+    begun st a Counting none refl refl refl stage (counts_on r.row (Some a) s s.writes s.holds s.parts (λ e. absurd (cc)), made_is)
 
 -- ---- an end
 
