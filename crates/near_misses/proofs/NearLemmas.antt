@@ -9,6 +9,7 @@ use Rattle.bits_core.specs.Oracle.{tape_answer, turn}
 use Rattle.bits_core.specs.declared.shapes.Shape.{Shape}
 use Rattle.ring_player.specs.Actors.{IsAtTurn}
 use Rattle.ring_player.proofs.LawLemmas.{TurnsAreByInterval}
+use Rattle.ring_player.proofs.Moves.{by_side, not_by}
 use Rattle.ring_script.specs.Content.{Content}
 use Rattle.near_misses.specs.declared.plays.NearWorld.{NearWorld}
 use Rattle.bits_core.specs.declared.events.Access.{Access}
@@ -20,14 +21,14 @@ use Rattle.bits_core.specs.declared.events.Bit.TheVariants.{S, R, X, Cell}
 use Rattle.bits_core.specs.declared.events.Event.{Event}
 use Rattle.bits_core.specs.declared.events.Side.{Side}
 use Rattle.bits_core.specs.declared.events.Side.TheVariants.{P, C}
-use Rattle.bits_core.specs.Bits.{begun_access, begun_by, is_by, other}
+use Rattle.bits_core.specs.Bits.{begun_access, begun_by, other}
 use Rattle.bits_core.specs.History.{open_access}
 use Rattle.bits_core.specs.Laws.{OpenChanges}
 use Rattle.near_misses.specs.NearPlays.{IsNearPlay, NearAsked, NearBegins, NearEnds, NearMakes, NearStand, NearStands, NearStep, NearStops, asked_by_script, items_told, near_stand_of, near_start, near_stopped, with_digit, with_digit_read, with_near_stand, with_read}
 use Rattle.near_misses.specs.NearSides.{IsAskedToPut, IsAskedToTake, IsInOpenCall, IsNearReady, IsOpenDue, NearHas, NearMoves, items_untold, put_stand, take_stand, with_ended}
 use Rattle.ring_player.specs.Tellings.{listed}
 use Rattle.queue_calls.specs.declared.events.CallEvent.{CallEvent}
-use Rattle.queue_calls.specs.declared.events.CallEvent.TheVariants.{PutBegins, PutStored, PutSome, PutFull, PutShort, PutNothing, PutClosed, CloseBegins, CloseEnds, TakeBegins, TakeItems, TakeSome, TakeEmpty, TakeShort, TakeNothing, TakeClosed}
+use Rattle.queue_calls.specs.declared.events.CallEvent.TheVariants.{PutBegins, CloseBegins, TakeBegins, TakeItems, TakeEmpty, TakeClosed}
 
 -- ---- the letters
 
@@ -98,23 +99,8 @@ makes_more asked n letters s h after told told_after taken taken_after t mid nex
 
 -- a side that has read none tells none
 pub none_told : (t : Option (CallEvent ℕ ℕ)) → items_told t [] ≡ []
-none_told None = refl
-none_told (Some (PutBegins k)) = refl
-none_told (Some (PutStored k)) = refl
-none_told (Some (PutSome k)) = refl
-none_told (Some PutFull) = refl
-none_told (Some PutShort) = refl
-none_told (Some PutNothing) = refl
-none_told (Some PutClosed) = refl
-none_told (Some CloseBegins) = refl
-none_told (Some CloseEnds) = refl
-none_told (Some (TakeBegins k)) = refl
 none_told (Some (TakeItems k)) = refl
-none_told (Some (TakeSome k)) = refl
-none_told (Some TakeEmpty) = refl
-none_told (Some TakeShort) = refl
-none_told (Some TakeNothing) = refl
-none_told (Some TakeClosed) = refl
+none_told t = refl
 
 -- the items that an event tells and those that are read and not told are so many more than before at most
 abbrev HoldsMore : (before : NearStand) (t : Option (CallEvent ℕ ℕ)) (after : NearStand) (more : ℕ) → Type 0
@@ -123,21 +109,7 @@ HoldsMore before t after more = length (items_told t after.read) + items_untold 
 begins_held : (asked : NearAsked) (before : NearStand) (t : Option (CallEvent ℕ ℕ)) (after : NearStand) → NearBegins asked C before t after → HoldsMore before t after 0
 begins_held asked before None after (in_call, is) = omega (arith, ap items_untold is)
 begins_held asked before (Some (TakeBegins k)) after (a, b, c, d, is) = omega (arith, ap items_untold is)
-begins_held asked before (Some (PutBegins k)) after x = absurd x
-begins_held asked before (Some (PutStored k)) after x = absurd x
-begins_held asked before (Some (PutSome k)) after x = absurd x
-begins_held asked before (Some PutFull) after x = absurd x
-begins_held asked before (Some PutShort) after x = absurd x
-begins_held asked before (Some PutNothing) after x = absurd x
-begins_held asked before (Some PutClosed) after x = absurd x
-begins_held asked before (Some CloseBegins) after x = absurd x
-begins_held asked before (Some CloseEnds) after x = absurd x
-begins_held asked before (Some (TakeItems k)) after x = absurd x
-begins_held asked before (Some (TakeSome k)) after x = absurd x
-begins_held asked before (Some TakeEmpty) after x = absurd x
-begins_held asked before (Some TakeShort) after x = absurd x
-begins_held asked before (Some TakeNothing) after x = absurd x
-begins_held asked before (Some TakeClosed) after x = absurd x
+begins_held asked before t after x = absurd x
 
 -- of a call under way all that is read is not told
 untold_is : (n : NearStand) → n.in_call ≡ true → items_untold n ≡ length n.read
@@ -148,19 +120,7 @@ ends_held asked before None after (in_call, is) = omega (arith, ap items_untold 
 ends_held asked before (Some (TakeItems k)) after (in_call, a, b, c, is) = omega (arith, ap items_untold is, ap (λ (n : NearStand). length n.read) is, untold_is before in_call)
 ends_held asked before (Some TakeEmpty) after (in_call, is) = omega (arith, ap items_untold is)
 ends_held asked before (Some TakeClosed) after (in_call, is) = omega (arith, ap items_untold is)
-ends_held asked before (Some (PutBegins k)) after x = absurd x
-ends_held asked before (Some (PutStored k)) after x = absurd x
-ends_held asked before (Some (PutSome k)) after x = absurd x
-ends_held asked before (Some PutFull) after x = absurd x
-ends_held asked before (Some PutShort) after x = absurd x
-ends_held asked before (Some PutNothing) after x = absurd x
-ends_held asked before (Some PutClosed) after x = absurd x
-ends_held asked before (Some CloseBegins) after x = absurd x
-ends_held asked before (Some CloseEnds) after x = absurd x
-ends_held asked before (Some (TakeBegins k)) after x = absurd x
-ends_held asked before (Some (TakeSome k)) after x = absurd x
-ends_held asked before (Some TakeShort) after x = absurd x
-ends_held asked before (Some TakeNothing) after x = absurd x
+ends_held asked before t after x = absurd x
 
 -- a digit more makes one item whole at most
 digit_held : (width : ℕ) (v : Bool) (i : ℕ) (n : NearStand) → items_untold (with_digit_read width v i n) ≤ items_untold n + 1
@@ -200,35 +160,7 @@ begins_in_call asked C before None after goes (in_call, is) = (ap (λ (x : NearS
 begins_in_call asked P before (Some (PutBegins k)) after goes (a, b, c, d, is) = (ap (λ (x : NearStand). x.in_call) is, ap (λ (x : NearStand). x.stopped) is ∙ goes)
 begins_in_call asked P before (Some CloseBegins) after goes (a, b, c, d, is) = (ap (λ (x : NearStand). x.in_call) is, ap (λ (x : NearStand). x.stopped) is ∙ goes)
 begins_in_call asked C before (Some (TakeBegins k)) after goes (a, b, c, d, is) = (ap (λ (x : NearStand). x.in_call) is, ap (λ (x : NearStand). x.stopped) is ∙ goes)
-begins_in_call asked P before (Some (PutStored k)) after goes x = absurd x
-begins_in_call asked P before (Some (PutSome k)) after goes x = absurd x
-begins_in_call asked P before (Some PutFull) after goes x = absurd x
-begins_in_call asked P before (Some PutShort) after goes x = absurd x
-begins_in_call asked P before (Some PutNothing) after goes x = absurd x
-begins_in_call asked P before (Some PutClosed) after goes x = absurd x
-begins_in_call asked P before (Some CloseEnds) after goes x = absurd x
-begins_in_call asked P before (Some (TakeBegins k)) after goes x = absurd x
-begins_in_call asked P before (Some (TakeItems k)) after goes x = absurd x
-begins_in_call asked P before (Some (TakeSome k)) after goes x = absurd x
-begins_in_call asked P before (Some TakeEmpty) after goes x = absurd x
-begins_in_call asked P before (Some TakeShort) after goes x = absurd x
-begins_in_call asked P before (Some TakeNothing) after goes x = absurd x
-begins_in_call asked P before (Some TakeClosed) after goes x = absurd x
-begins_in_call asked C before (Some (PutBegins k)) after goes x = absurd x
-begins_in_call asked C before (Some (PutStored k)) after goes x = absurd x
-begins_in_call asked C before (Some (PutSome k)) after goes x = absurd x
-begins_in_call asked C before (Some PutFull) after goes x = absurd x
-begins_in_call asked C before (Some PutShort) after goes x = absurd x
-begins_in_call asked C before (Some PutNothing) after goes x = absurd x
-begins_in_call asked C before (Some PutClosed) after goes x = absurd x
-begins_in_call asked C before (Some CloseBegins) after goes x = absurd x
-begins_in_call asked C before (Some CloseEnds) after goes x = absurd x
-begins_in_call asked C before (Some (TakeItems k)) after goes x = absurd x
-begins_in_call asked C before (Some (TakeSome k)) after goes x = absurd x
-begins_in_call asked C before (Some TakeEmpty) after goes x = absurd x
-begins_in_call asked C before (Some TakeShort) after goes x = absurd x
-begins_in_call asked C before (Some TakeNothing) after goes x = absurd x
-begins_in_call asked C before (Some TakeClosed) after goes x = absurd x
+begins_in_call asked s before t after goes x = absurd x
 
 step_in_call : (asked : NearAsked) (s : Side) (before : NearStand) (act : Act) (b : Bit) (t : Option (CallEvent ℕ ℕ)) (after : NearStand) (access : Access) → before.stopped ≡ false
     → begun_access b act ≡ Some access → NearStep asked s before act b t after → (after.in_call ≡ true) × (after.stopped ≡ false)
@@ -237,19 +169,11 @@ step_in_call asked s before (WriteBegin v) b t after access goes begun step = be
 step_in_call asked s before (ReadEnd v) b t after access goes begun step = absurd (cc)
 step_in_call asked s before WriteEnd b t after access goes begun step = absurd (cc)
 
-same_is_by : (s : Side) (e : Event) → e.side ≡ s → is_by s e ≡ true
-same_is_by P e is = ap (λ (x : Side). is_by P (record e { side = x })) is
-same_is_by C e is = ap (λ (x : Side). is_by C (record e { side = x })) is
-
-other_is_by : (s : Side) (e : Event) → e.side ≡ s → is_by (other s) e ≡ false
-other_is_by P e is = ap (λ (x : Side). is_by C (record e { side = x })) is
-other_is_by C e is = ap (λ (x : Side). is_by P (record e { side = x })) is
-
 pub moves_open : OpenChanges → (asked : NearAsked) (s : Side) (h : List Event) (before : NearStand) (t : Option (CallEvent ℕ ℕ)) (after : List Event) (next : NearStand)
     → NearMoves asked s h before t after next → IsInOpenCall s after next
 moves_open changes asked s h before t after next (inl (e, is, side, goes, step)) access opened =
     let begun : begun_by e ≡ Some access =
-    sym (changes s h e ∙ ap (λ (b : Bool). if b then begun_by e else open_access s h) (same_is_by s e side)) ∙ ap (open_access s) (sym is) ∙ opened in
+    sym (changes s h e ∙ ap (λ (b : Bool). if b then begun_by e else open_access s h) (by_side s e side)) ∙ ap (open_access s) (sym is) ∙ opened in
     step_in_call asked s before e.act e.bit t next access goes begun step
 moves_open changes asked s h before t after next (inr (is, untold, none, stops, next_is)) access opened = absurd (none_some access (sym none ∙ ap (open_access s) (sym is) ∙ opened))
   where
@@ -259,7 +183,7 @@ moves_open changes asked s h before t after next (inr (is, untold, none, stops, 
 pub moves_other : OpenChanges → (asked : NearAsked) (s : Side) (h : List Event) (before : NearStand) (t : Option (CallEvent ℕ ℕ)) (after : List Event) (next stand : NearStand)
     → NearMoves asked s h before t after next → IsInOpenCall (other s) h stand → IsInOpenCall (other s) after stand
 moves_other changes asked s h before t after next stand (inl (e, is, side, goes, step)) was access opened =
-    was access (sym (changes (other s) h e ∙ ap (λ (b : Bool). if b then begun_by e else open_access (other s) h) (other_is_by s e side)) ∙ ap (open_access (other s)) (sym is) ∙ opened)
+    was access (sym (changes (other s) h e ∙ ap (λ (b : Bool). if b then begun_by e else open_access (other s) h) (not_by s e side)) ∙ ap (open_access (other s)) (sym is) ∙ opened)
 moves_other changes asked s h before t after next stand (inr (is, untold, none, stops, next_is)) was access opened = was access (ap (open_access (other s)) (sym is) ∙ opened)
 
 -- where a side has nothing open, all that it has open is due
@@ -273,7 +197,7 @@ none_due due s h none a opened = absurd (none_some (sym none ∙ opened))
 pub other_due : (due : Access → Type 0) → OpenChanges → (asked : NearAsked) (s : Side) (h : List Event) (before : NearStand) (t : Option (CallEvent ℕ ℕ)) (after : List Event) (next : NearStand)
     → NearMoves asked s h before t after next → IsOpenDue (other s) h due → IsOpenDue (other s) after due
 other_due due changes asked s h before t after next (inl (e, is, side, goes, step)) was access opened =
-    was access (sym (changes (other s) h e ∙ ap (λ (b : Bool). if b then begun_by e else open_access (other s) h) (other_is_by s e side)) ∙ ap (open_access (other s)) (sym is) ∙ opened)
+    was access (sym (changes (other s) h e ∙ ap (λ (b : Bool). if b then begun_by e else open_access (other s) h) (not_by s e side)) ∙ ap (open_access (other s)) (sym is) ∙ opened)
 other_due due changes asked s h before t after next (inr (is, untold, none, stops, next_is)) was access opened = was access (ap (open_access (other s)) (sym is) ∙ opened)
 
 -- the producer reads no items

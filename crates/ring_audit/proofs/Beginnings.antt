@@ -1,5 +1,5 @@
 -- The events of a side that are a beginning of those of accesses, one event more.
-use Rattle.std.proofs.Common.{◌≡◌, ◌*◌, Bool, Some, None, List, [], ◌∷◌, ◌++◌, length, refl, sym, ap, ◌∙◌, arith}
+use Rattle.std.proofs.Common.{◌≡◌, Bool, Some, None, List, [], ◌∷◌, ◌++◌, refl, sym, ap, ◌∙◌}
 use Rattle.bits_core.specs.declared.events.Side.{Side}
 use Rattle.bits_core.specs.declared.events.Act.{Act}
 use Rattle.bits_core.specs.declared.events.Act.TheVariants.{ReadBegin, ReadEnd, WriteBegin, WriteEnd}
@@ -9,16 +9,13 @@ use Rattle.bits_core.specs.declared.events.Access.TheVariants as begins
 use Rattle.bits_core.specs.declared.events.Event.{Event}
 use Rattle.bits_core.specs.Bits.{begun_access, begun_by}
 use Rattle.bits_core.specs.Made.{Made, Read, Write, access_of, answered, begin_event, end_event, events_of, IsPrefix, opening_event}
+use Rattle.ring_core.proofs.Readings.Phrases.{same_made}
 
 -- ---- one access
 
 pub begin_is : (s : Side) (x : Made) → begin_event s x ≡ opening_event s (access_of x)
 begin_is s (Read b v) = refl
 begin_is s (Write b v) = refl
-
-pub access_is : (a : Access) (v : Bool) → access_of (answered a v) ≡ a
-access_is (begins.Read b) v = refl
-access_is (begins.Write b w) v = refl
 
 pub answer_is : (x : Made) → (v : Bool) × (x ≡ answered (access_of x) v)
 answer_is (Read b v) = (v, refl)
@@ -49,19 +46,6 @@ event_of s b WriteEnd a e = absurd (cc)
 
 pub begins_so : (s : Side) (e : Event) (a : Access) → e.side ≡ s → begun_by e ≡ Some a → e ≡ opening_event s a
 begins_so s e a by begun = event_of e.side e.bit e.act a begun ∙ ap (λ t. opening_event t a) by
-
--- an access is known by its events
-pub same_made : (s : Side) (x y : Made) → begin_event s x ≡ begin_event s y → end_event s x ≡ end_event s y → x ≡ y
-same_made s (Read b v) (Read c w) e f =
-    let bits : b ≡ c = ap (λ (x : Event). x.bit) e in
-    let acts : ReadEnd v ≡ ReadEnd w = ap (λ (x : Event). x.act) f in
-    cc
-same_made s (Read b v) (Write c w) e f = let acts : ReadBegin ≡ WriteBegin w = ap (λ (x : Event). x.act) e in absurd (cc)
-same_made s (Write b v) (Read c w) e f = let acts : WriteBegin v ≡ ReadBegin = ap (λ (x : Event). x.act) e in absurd (cc)
-same_made s (Write b v) (Write c w) e f =
-    let bits : b ≡ c = ap (λ (x : Event). x.bit) e in
-    let acts : WriteBegin v ≡ WriteBegin w = ap (λ (x : Event). x.act) e in
-    cc
 
 -- ---- one event more
 
@@ -112,12 +96,3 @@ next_ends s (m ∷ made) (y ∷ whole) b e (rest, p) =
     }
 
 -- ---- lists of events
-
-pub events_of-append : (s : Side) (xs ys : List Made) → events_of s (xs ++ ys) ≡ events_of s xs ++ events_of s ys
-events_of-append s [] ys = refl
-events_of-append s (x ∷ xs) ys = ap (λ l. begin_event s x ∷ end_event s x ∷ l) (events_of-append s xs ys)
-
--- an access has two events
-pub length-events : (s : Side) (xs : List Made) → length (events_of s xs) ≡ 2 * length xs
-length-events s [] = refl
-length-events s (x ∷ xs) = omega (arith, length-events s xs)

@@ -9,7 +9,7 @@ use Rattle.bits_core.specs.declared.events.Access.{Access}
 use Rattle.bits_core.specs.declared.events.Access.TheVariants as begins
 use Rattle.bits_core.specs.declared.events.Event.{Event}
 use Rattle.bits_core.specs.declared.shapes.Shape.{Shape}
-use Rattle.bits_core.specs.Shape.{AllFit, capacity_of, modulus_of, width_of, batch_of}
+use Rattle.bits_core.specs.Shape.{AllFit, capacity_of, modulus_of, width_of}
 use Rattle.bits_core.specs.Made.{Made, Read, Write, access_of, end_event, events_of, IsPrefix, opening_event}
 use Rattle.register_core.specs.Row.{RowWrite, row_bit, writes_in}
 use Rattle.register_core.specs.Word.{digit, digit_writes, word_write, word_read}
@@ -24,11 +24,13 @@ use Rattle.ring_audit.specs.declared.puts.Stage.{Stage}
 use Rattle.ring_audit.specs.declared.puts.Stage.TheVariants.{Resting, Scanning, Choosing, Storing, Counting, Closing, Closed}
 use Rattle.ring_audit.specs.Sides.{open_events}
 use Rattle.ring_audit.specs.PutReading.{PutReading, IsPutReading, IsReaderAt, IsMost, InCount, PutsStand, WerePut}
-use Rattle.ring_core.proofs.CountRow.{batch_by_below, batch_long, counted_is_count, first_is_count}
-use Rattle.ring_audit.proofs.Beginnings.{begin_is, events_of-append, length-events}
+use Rattle.ring_core.proofs.CountRow.{batch_by_below, batch_long, counted_is_count, first_is_count, has_batch}
+use Rattle.ring_core.proofs.Machines.Following.{events_of-append, length-events}
+use Rattle.ring_core.proofs.Machines.NextParts.{scan_due}
+use Rattle.ring_core.proofs.Machines.PutCalls.{phrases-push, are-push}
+use Rattle.ring_audit.proofs.Beginnings.{begin_is}
 use Rattle.ring_audit.proofs.Readers.{at_rest, open-short, open-long}
-use Rattle.ring_audit.proofs.PutReads.{made_at, at_stage, scan_due, same_open, read_due}
-use Rattle.ring_audit.proofs.PutSteps.{phrases-push, are-push}
+use Rattle.ring_audit.proofs.PutReads.{made_at, at_stage, same_open, read_due}
 use Rattle.ring_audit.proofs.PutItems.{first_of, fit-push, words-push, as_write, digits_of}
 
 -- ---- items
@@ -178,9 +180,6 @@ room_or_none shape n d = below_or_not (distance (modulus_of shape) n d) (capacit
   where
     below_or_not : (a b : ℕ) → (a < b) ⊎ (a < b → ⊥)
     below_or_not a b = grind arith
-
-has_batch : (shape : Shape) → 1 ≤ batch_of shape
-has_batch shape = omega (arith, shape.has_batch)
 
 scanning_put : (shape : Shape) (r : PutReading) (es : List Event) (items stored : List ℕ) → PutsStand shape r es items stored → r.stage ≡ Scanning → IsReaderAt Scanning r → WerePut shape es items
 scanning_put shape r es items stored st stage (idle, scans, some, due) =

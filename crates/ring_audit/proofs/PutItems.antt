@@ -20,10 +20,10 @@ use Rattle.ring_core.specs.Counts.{number_past, Count, first_count, count_bits, 
 use Rattle.ring_core.specs.Puts.{Put, Stored, stored_after, words_phrase, put_phrases}
 use Rattle.ring_core.specs.PutParts.{count_behind}
 use Rattle.ring_audit.specs.declared.puts.Stage.TheVariants.{Resting, Choosing, Storing, Counting}
-use Rattle.ring_audit.specs.PutReading.{PutReading, RowHolds, IsMost, has_items, InPut, InCount, MadeWhile, PutsStand}
-use Rattle.ring_audit.proofs.Readers.{ended}
+use Rattle.ring_audit.specs.PutReading.{PutReading, RowHolds, IsMost, has_items, InPut, InCount, PutsStand}
+use Rattle.ring_core.proofs.Machines.PutCalls.{phrases-push, stored-push, are-push}
 use Rattle.ring_audit.proofs.PutReads.{made_at}
-use Rattle.ring_audit.proofs.PutSteps.{phrases-push, left-push, are-push, put-push}
+use Rattle.ring_audit.proofs.PutSteps.{put-push, stores_on, counts_on, ended_so}
 
 -- ---- words
 
@@ -64,6 +64,16 @@ digits_of cell item w n value v later e =
     ∙ ap (λ l. l ++ map as_write later) (map-append as_write (digit_reads cell value n) (Read (Cell cell n) v ∷ []) ∙ ap (λ l. l ++ record { bit = n; value = v } ∷ []) (reads_as_writes cell value n))
     ∙ append_assoc (digit_writes value n) (record { bit = n; value = v } ∷ []) (map as_write later)
 
+-- one write more of a word or of a count
+writes-push :
+    (bit_of : ℕ → Bit) (front scan words : List Made) (ws : List RowWrite) (w : RowWrite) →
+    (front ++ (scan ++ (words ++ writes_in bit_of ws))) ++ Write (bit_of w.bit) w.value ∷ [] ≡ front ++ (scan ++ (words ++ writes_in bit_of (ws ++ w ∷ [])))
+writes-push bit_of front scan words ws w =
+    let here : List Made = Write (bit_of w.bit) w.value ∷ [] in
+    let behind : List Made = writes_in bit_of ws in
+    append_assoc front (scan ++ (words ++ behind)) here ∙ ap (λ l. front ++ l) (append_assoc scan (words ++ behind) here) ∙ ap (λ l. front ++ (scan ++ l)) (append_assoc words behind here)
+    ∙ ap (λ l. front ++ (scan ++ (words ++ l))) (sym (map-append (λ (z : RowWrite). Write (bit_of z.bit) z.value) ws (w ∷ [])))
+
 -- the accesses once a digit was written
 written :
     (shape : Shape) (r : PutReading) (es : List Event) (items stored : List ℕ) (st : PutsStand shape r es items stored) (word : ReaderState) (a : Access) (v w : Bool) →
@@ -87,16 +97,12 @@ written shape r es items stored st word a v w is cell stage fed goes =
     ap (λ l. l ++ Read (Cell r.word.cell n) w ∷ []) (sym stands.made_is) ∙ stands_on.made_is ∙ ap (λ k. digit_reads word.cell word.value k) read_is
     ∙ ap (λ j. digit_reads j word.value (suc n)) cell_is in
     let more : digit_writes r.word.value n ++ record { bit = n; value = w } ∷ [] ≡ digit_writes word.value word.read =
-    more_digits r.word.cell r.word.value word.value n w both ∙ ap (digit_writes word.value) (sym read_is) in
-    let here : RowWrite = record { bit = n; value = w } in (
+    more_digits r.word.cell r.word.value word.value n w both ∙ ap (digit_writes word.value) (sym read_is) in (
       s,
       reads ++ Read (Cell r.word.cell n) w ∷ [],
       stands_on,
       ap (λ l. l ++ answered a v ∷ []) made_is ∙ ap (λ z. (front ++ (scan ++ (words ++ digits))) ++ answered z v ∷ []) (is ∙ ap (λ j. begins.Write (Cell j n) w) cell)
-          ∙ append_assoc front (scan ++ (words ++ digits)) (Write (Cell r.cell n) w ∷ [])
-          ∙ ap (λ l. front ++ l) (append_assoc scan (words ++ digits) (Write (Cell r.cell n) w ∷ []))
-          ∙ ap (λ l. front ++ (scan ++ l)) (append_assoc words digits (Write (Cell r.cell n) w ∷ []))
-          ∙ ap (λ l. front ++ (scan ++ (words ++ l))) (sym (map-append (λ (z : RowWrite). Write (Cell r.cell z.bit) z.value) (digit_writes r.word.value n) (here ∷ [])))
+          ∙ writes-push (Cell r.cell) front scan words (digit_writes r.word.value n) (record { bit = n; value = w })
           ∙ ap (λ ws. front ++ (scan ++ (words ++ writes_in (Cell r.cell) ws))) more,
     )
 
@@ -107,29 +113,7 @@ pub ends_digit :
     PutsStand shape (record r { word = word; open_access = None }) (es ++ end_event P (answered a v) ∷ []) items stored
 ends_digit shape r es items stored word a v w st some is cell stage fed goes =
     let (s, reads, stands, made_so) = written shape r es items stored st word a v w is cell stage fed goes in
-    record {
-      puts = st.puts;
-      made = st.made ++ answered a v ∷ [];
-      shape_is = st.shape_is;
-      are = st.are;
-      count_is = st.count_is;
-      events_are = ended P es st.made r.open_access a v st.events_are some;
-      made_is = subst (λ z. MadeWhile z shape (record r { word = word; open_access = None }) st.puts items stored (st.made ++ answered a v ∷ [])) (sym stage) (
-        record {
-          seen = s.seen;
-          may = s.may;
-          fit = s.fit;
-          next_is = s.next_is;
-          cell_is = s.cell_is;
-          some_is = s.some_is;
-          holds = s.holds;
-          items_are = s.items_are;
-        },
-        reads,
-        stands,
-        made_so,
-      );
-    }
+    ended_so st a v Storing st.puts some st.are st.count_is refl refl stage (stores_on s, reads, stands, made_so)
 
 past-push : (n : ℕ) (l : List ℕ) (x : ℕ) → number_past n (l ++ x ∷ []) ≡ suc (number_past n l)
 past-push n [] x = refl
@@ -168,30 +152,22 @@ ends_word shape r es items stored word a v w item cell_on next_on st some is cel
     let scan : List Made = scan_phrase (row_read_by P) s.seen in
     let words : List Made = words_phrase shape n stored in
     let long : length stored + r.room ≡ length (stored ++ item ∷ []) + (r.room - 1) = omega (arith, length-append stored (item ∷ []), room) in
-    record {
-      puts = st.puts;
-      made = st.made ++ answered a v ∷ [];
-      shape_is = st.shape_is;
-      are = st.are;
-      count_is = st.count_is;
-      events_are = ended P es st.made r.open_access a v st.events_are some;
-      made_is = (
-        record {
-          seen = s.seen;
-          may = subst (IsMost shape n s.seen) long s.may;
-          fit = fit-push shape stored item s.fit (subst (λ z. z < 2 ^ width_of shape) (sym item_is) (subst (λ k. word.value < 2 ^ k) whole stands.fits));
-          next_is = next_up ∙ next_mod (modulus_of shape) r.next (number_past n stored) s.next_is ∙ ap (λ z. z % modulus_of shape) (sym (past-push n stored item));
-          cell_is = cell_up ∙ next_mod (capacity_of shape) r.cell (number_past n stored) s.cell_is ∙ ap (λ z. z % capacity_of shape) (sym (past-push n stored item));
-          some_is = sym (has-push stored item);
-          holds = s.holds;
-          items_are = s.items_are;
-        },
-        made_so ∙ ap (λ k. front ++ (scan ++ (words ++ writes_in (Cell r.cell) (digit_writes word.value k)))) whole
-            ∙ ap (λ z. front ++ (scan ++ (words ++ writes_in (Cell r.cell) (digit_writes z (width_of shape))))) (sym item_is)
-            ∙ ap (λ j. front ++ (scan ++ (words ++ word_write (width_of shape) j item))) s.cell_is
-            ∙ ap (λ l. front ++ (scan ++ l)) (sym (words-push shape n stored item)),
-      );
-    }
+    ended_so st a v Choosing st.puts some st.are st.count_is refl refl refl (
+      record {
+        seen = s.seen;
+        may = subst (IsMost shape n s.seen) long s.may;
+        fit = fit-push shape stored item s.fit (subst (λ z. z < 2 ^ width_of shape) (sym item_is) (subst (λ k. word.value < 2 ^ k) whole stands.fits));
+        next_is = next_up ∙ next_mod (modulus_of shape) r.next (number_past n stored) s.next_is ∙ ap (λ z. z % modulus_of shape) (sym (past-push n stored item));
+        cell_is = cell_up ∙ next_mod (capacity_of shape) r.cell (number_past n stored) s.cell_is ∙ ap (λ z. z % capacity_of shape) (sym (past-push n stored item));
+        some_is = sym (has-push stored item);
+        holds = s.holds;
+        items_are = s.items_are;
+      },
+      made_so ∙ ap (λ k. front ++ (scan ++ (words ++ writes_in (Cell r.cell) (digit_writes word.value k)))) whole
+          ∙ ap (λ z. front ++ (scan ++ (words ++ writes_in (Cell r.cell) (digit_writes z (width_of shape))))) (sym item_is)
+          ∙ ap (λ j. front ++ (scan ++ (words ++ word_write (width_of shape) j item))) s.cell_is
+          ∙ ap (λ l. front ++ (scan ++ l)) (sym (words-push shape n stored item)),
+    )
 
 -- ---- counts
 
@@ -245,24 +221,11 @@ counted_on shape r es items stored st row a v stage side due left goes =
     let scan : List Made = scan_phrase (row_read_by P) s.seen in
     let words : List Made = words_phrase shape c.number s.batch in
     let bits : List Made = writes_in (row_bit P) s.writes in (
-      record {
-        seen = s.seen;
-        batch = s.batch;
-        is_put = s.is_put;
-        next_is = s.next_is;
-        cell_is = s.cell_is;
-        writes = s.writes ++ w ∷ [];
-        holds = subst (RowHolds row) (sym (bits_after-push c.bits s.writes w)) (row_on r.row row (bits_after c.bits s.writes) w a v s.holds is due goes);
-        parts = s.parts ∙ ap (λ ws. s.writes ++ ws) due_are ∙ sym (append_assoc s.writes (w ∷ []) more) ∙ ap (λ ws. (s.writes ++ w ∷ []) ++ ws) (sym (left w more due_are));
-        begun = λ e. begun_by_one s.writes w;
-        items_are = s.items_are;
-        none_stored = s.none_stored;
-      },
+      counts_on row None s (s.writes ++ w ∷ []) (subst (RowHolds row) (sym (bits_after-push c.bits s.writes w)) (row_on r.row row (bits_after c.bits s.writes) w a v s.holds is due goes))
+          (s.parts ∙ ap (λ ws. s.writes ++ ws) due_are ∙ sym (append_assoc s.writes (w ∷ []) more) ∙ ap (λ ws. (s.writes ++ w ∷ []) ++ ws) (sym (left w more due_are)))
+          (λ e. begun_by_one s.writes w),
       ap (λ l. l ++ answered a v ∷ []) made_is ∙ ap (λ z. (front ++ (scan ++ (words ++ bits))) ++ answered z v ∷ []) is
-          ∙ append_assoc front (scan ++ (words ++ bits)) (Write (S w.bit) w.value ∷ [])
-          ∙ ap (λ l. front ++ l) (append_assoc scan (words ++ bits) (Write (S w.bit) w.value ∷ []))
-          ∙ ap (λ l. front ++ (scan ++ l)) (append_assoc words bits (Write (S w.bit) w.value ∷ []))
-          ∙ ap (λ l. front ++ (scan ++ (words ++ l))) (sym (map-append (λ (z : RowWrite). Write (row_bit P z.bit) z.value) s.writes (w ∷ []))),
+          ∙ writes-push (row_bit P) front scan words s.writes w,
     )
 
 pub ends_bit :
@@ -271,16 +234,8 @@ pub ends_bit :
     ((x : RowWrite) (rest : List RowWrite) → due_writes r.row ≡ x ∷ rest → due_writes row ≡ rest) →
     ((values : List ℕ) (made : List Made) (access : Access) → UnaryStands r.row values made → due_unary r.row ≡ Some access → UnaryStands row values (made ++ answered access v ∷ [])) →
     PutsStand shape (record r { row = row; open_access = None }) (es ++ end_event P (answered a v) ∷ []) items stored
-ends_bit shape r es items stored row a v st some stage side due left goes = record {
-  puts = st.puts;
-  made = st.made ++ answered a v ∷ [];
-  shape_is = st.shape_is;
-  are = st.are;
-  count_is = st.count_is;
-  events_are = ended P es st.made r.open_access a v st.events_are some;
-  made_is = subst (λ z. MadeWhile z shape (record r { row = row; open_access = None }) st.puts items stored (st.made ++ answered a v ∷ [])) (sym stage)
-      (counted_on shape r es items stored st row a v stage side due left goes);
-}
+ends_bit shape r es items stored row a v st some stage side due left goes =
+    ended_so st a v Counting st.puts some st.are st.count_is refl refl stage (counted_on shape r es items stored st row a v stage side due left goes)
 
 no_writes : (row : UnaryState) → due_unary row ≡ None → due_writes row ≡ []
 no_writes row none = by_writes (due_writes row) refl
@@ -303,22 +258,15 @@ ends_count shape r es items stored row a v st some stage side due left goes over
     let scan : List Made = scan_phrase (row_read_by P) s.seen in
     let words : List Made = words_phrase shape c.number s.batch in
     let whole : count_bits shape c s.batch ≡ s.writes = s.parts ∙ ap (λ ws. s.writes ++ ws) (no_writes row over) ∙ append-nil s.writes in
-    let after : count_behind shape (st.puts ++ x ∷ []) ≡ stored_after shape c x = left-push shape first_count st.puts x in
-    record {
-      puts = st.puts ++ x ∷ [];
-      made = st.made ++ answered a v ∷ [];
-      shape_is = st.shape_is;
-      are = are-push shape first_count st.puts x st.are s.is_put;
-      count_is = s.next_is ∙ ap (λ (z : Count). z.number % modulus_of shape) (sym after);
-      events_are = ended P es st.made r.open_access a v st.events_are some;
-      made_is = (
-        record {
-          holds = subst (λ (z : Count). RowHolds row z.bits) (sym after) (subst (λ ws. RowHolds row (bits_after c.bits ws)) (sym whole) s.holds);
-          cell_is = s.cell_is ∙ ap (λ (z : Count). z.number % capacity_of shape) (sym after);
-          items_are = s.items_are ∙ sym (put-push st.puts s.seen s.batch);
-          none_stored = s.none_stored;
-        },
-        made_so ∙ ap (λ ws. front ++ (scan ++ (words ++ writes_in (row_bit P) ws))) (sym whole)
-            ∙ ap (λ l. front ++ l) (sym (append_assoc scan words (batch_phrase shape P c s.batch))) ∙ sym (phrases-push shape first_count st.puts x),
-      );
-    }
+    let after : count_behind shape (st.puts ++ x ∷ []) ≡ stored_after shape c x = stored-push shape first_count st.puts x in
+    ended_so st a v Resting (st.puts ++ x ∷ []) some (are-push shape first_count st.puts x st.are s.is_put)
+    (s.next_is ∙ ap (λ (z : Count). z.number % modulus_of shape) (sym after)) refl refl refl (
+      record {
+        holds = subst (λ (z : Count). RowHolds row z.bits) (sym after) (subst (λ ws. RowHolds row (bits_after c.bits ws)) (sym whole) s.holds);
+        cell_is = s.cell_is ∙ ap (λ (z : Count). z.number % capacity_of shape) (sym after);
+        items_are = s.items_are ∙ sym (put-push st.puts s.seen s.batch);
+        none_stored = s.none_stored;
+      },
+      made_so ∙ ap (λ ws. front ++ (scan ++ (words ++ writes_in (row_bit P) ws))) (sym whole)
+          ∙ ap (λ l. front ++ l) (sym (append_assoc scan words (batch_phrase shape P c s.batch))) ∙ sym (phrases-push shape first_count st.puts x),
+    )

@@ -2,7 +2,6 @@
 use Rattle.std.proofs.Common.{◌≡◌, ◌≢◌, inl, inr, ℕ, zero, suc, ◌+◌, ◌%◌, ◌<◌, ◌≤◌, Bool, true, false, not, is_some, Option, Some, None, List, [], ◌∷◌, ◌++◌, length, if◌then◌else◌, nat_lt, refl, sym, ap, subst, ◌∙◌, arith, append_assoc, append-nil, length-append}
 use Rattle.std.proofs.Math.Path.{fun_ext}
 use Rattle.std.proofs.lemmas.Bool.Decides.{nat_tests}
-use Rattle.bits_core.specs.declared.events.Side.{Side}
 use Rattle.bits_core.specs.declared.events.Side.TheVariants.{P}
 use Rattle.bits_core.specs.declared.events.Bit.TheVariants.{S, X, Cell}
 use Rattle.bits_core.specs.declared.events.Access.{Access}
@@ -13,7 +12,7 @@ use Rattle.bits_core.specs.Shape.{capacity_of, modulus_of, width_of}
 use Rattle.bits_core.specs.Made.{Made, Read, Write, access_of, answered, begin_event, end_event, events_of, opening_event}
 use Rattle.register_core.specs.Row.{RowWrite, row_bit, first_bits, bits_after, writes_in}
 use Rattle.register_core.specs.Word.{digit_writes}
-use Rattle.register_core.specs.WordState.{ReaderState, due_read}
+use Rattle.register_core.specs.WordState.{ReaderState, ReaderStands, read_digit, due_read}
 use Rattle.register_core.specs.Unary.{unary_phrase}
 use Rattle.register_core.specs.UnaryState.{UnaryState, bit_in, due_writes, due_unary, first_access}
 use Rattle.register_core.specs.ScanState.{ScanState, LastIsDue, zero_reads, scan_phrase, row_read_by, due_scan}
@@ -24,13 +23,17 @@ use Rattle.ring_core.specs.PutParts.{GoesBehind, count_behind, count_access}
 use Rattle.ring_audit.specs.declared.puts.PutStep.{PutStep}
 use Rattle.ring_audit.specs.declared.puts.Stage.{Stage}
 use Rattle.ring_audit.specs.declared.puts.Stage.TheVariants.{Resting, Scanning, Choosing, Storing, Counting, Closed}
-use Rattle.ring_audit.specs.Sides.{AreOfPuts}
+use Rattle.ring_audit.specs.Sides.{AreOfPuts, told_of}
 use Rattle.ring_audit.specs.PutReading.{PutReading, IsPutReading, HasReadPut, IsReaderAt, RowHolds, IsMost, has_items, MadeWhile, PutsStand}
 use Rattle.register_core.proofs.Items.{same_item}
 use Rattle.ring_core.proofs.Machines.PutParts.{counts-on, last-puts_read_one, scans-on, scans-or_closes, stores-on, stores-or_counts}
 use Rattle.ring_core.proofs.Readings.ItemsRead.{puts-are_first}
+use Rattle.ring_core.proofs.Readings.Phrases.{same_made}
+use Rattle.ring_core.proofs.Machines.Following.{events_of-append}
+use Rattle.ring_core.proofs.Machines.GoingOn.{access_back}
+use Rattle.ring_core.proofs.Machines.NextParts.{scan_due}
 use Rattle.ring_audit.proofs.Readers as readers
-use Rattle.ring_audit.proofs.Beginnings.{begin_is, access_is, same_access, same_made, GoesOnWith, GoesOnBy, events_of-append}
+use Rattle.ring_audit.proofs.Beginnings.{begin_is, same_access, GoesOnWith, GoesOnBy}
 
 -- calls whose events go on so
 rest_on :
@@ -45,11 +48,6 @@ work_on shape r es items stored st a e some (calls, are, begins) = readers.work_
 
 -- ---- where it stops
 
--- what a scan has due
-pub scan_due : (side : Side) (m : ℕ) (s : ScanState) → IsScanning side m s → due_scan s ≡ Some (begins.Read (row_read_by side s.zeros))
-scan_due side m s is =
-    ap (λ b. if b then None else Some (begins.Read (row_read_by s.side s.zeros))) is.not_found ∙ ap (λ t. Some (begins.Read (row_read_by t s.zeros))) is.side_is
-
 -- a 0 of the last bit
 pub zero_at_last :
     (shape : Shape) (r : PutReading) (es : List Event) (items stored : List ℕ) (a : Access) → PutsStand shape r es items stored → r.open_access ≡ Some a →
@@ -57,7 +55,7 @@ pub zero_at_last :
 zero_at_last shape r es items stored a st some scans due last of_puts =
     let on = work_on shape r es items stored st a (end_event P (answered a false)) some of_puts in
     let begun : begin_event P (answered a false) ≡ begin_event P on.next =
-    begin_is P (answered a false) ∙ ap (opening_event P) (access_is a false) ∙ on.begins in
+    begin_is P (answered a false) ∙ ap (opening_event P) (access_back a false) ∙ on.begins in
     let next_is : on.next ≡ answered a false = sym (same_made P (answered a false) on.next begun on.ends) in
     let both : Some a ≡ Some (begins.Read (row_read_by P r.scan.zeros)) = sym due ∙ scan_due P (modulus_of shape) r.scan scans in
     let a_is : a ≡ begins.Read (row_read_by P r.scan.zeros) = cc in
@@ -250,15 +248,23 @@ no_more shape r es items stored a st none stage of_puts =
 
 -- ---- from what the reader is inside
 
--- what is read of its fields is read of it
-pub lift : (r now new : PutReading) (e : Event) (step : PutStep) → r ≡ now → HasReadPut r.shape r new e step → HasReadPut now.shape now new e step
-lift r now new e step is read = subst (λ (z : PutReading). HasReadPut z.shape z new e step) is read
-
 pub at_stage : (r : PutReading) (stage : Stage) → IsPutReading r → r.stage ≡ stage → IsReaderAt stage r
 at_stage r stage is e = subst (λ s. IsReaderAt s r) e is.at
 
+-- what is read of its fields at a stage, with such an access open, is read of it
+pub read_at :
+    (r now new : PutReading) (e : Event) (step : PutStep) (stage : Stage) (o : Option Access) → r ≡ now → IsPutReading r → now.stage ≡ stage → now.open_access ≡ o →
+    (r.stage ≡ stage → r.open_access ≡ o → IsReaderAt stage r → HasReadPut r.shape r new e step) → HasReadPut now.shape now new e step
+read_at r now new e step stage o is inside at_now open_now read =
+    let at : r.stage ≡ stage = ap (λ (z : PutReading). z.stage) is ∙ at_now in
+    subst (λ (z : PutReading). HasReadPut z.shape z new e step) is (read at (ap (λ (z : PutReading). z.open_access) is ∙ open_now) (at_stage r stage inside at))
+
 pub same_open : (o : Option Access) (a b : Access) → o ≡ Some a → o ≡ Some b → a ≡ b
 same_open o a b e f = let both : Some a ≡ Some b = sym e ∙ f in cc
+
+-- in a scan the open access is its next read
+pub reads_next : (r : PutReading) (a : Access) → IsReaderAt Scanning r → r.open_access ≡ Some a → a ≡ begins.Read (row_read_by P r.scan.zeros)
+reads_next r a at some = same_open (due_scan r.scan) a (begins.Read (row_read_by P r.scan.zeros)) (at.3 a some) (scan_due P (modulus_of r.shape) r.scan at.1)
 
 -- a word that goes on reads its next digit
 pub read_due : (w : ReaderState) → w.read < w.width → due_read w ≡ Some (begins.Read (Cell w.cell w.read))
@@ -267,6 +273,17 @@ read_due w l = by_test (nat_lt w.read w.width) refl
     by_test : (b : Bool) → nat_lt w.read w.width ≡ b → due_read w ≡ Some (begins.Read (Cell w.cell w.read))
     by_test true e = ap (λ b. if b then Some (begins.Read (Cell w.cell w.read)) else None) e
     by_test false e = absurd (grind (arith, nat_tests))
+
+-- it was fed the digit that the access writes
+pub fed_by_write :
+    (old new : ReaderState) (a : Access) (answer told w : Bool) → a ≡ begins.Write (Cell old.cell old.read) w → old.read < old.width → told ≡ told_of a answer → new ≡ read_digit old told →
+    ((made : List Made) (access : Access) → ReaderStands old made → due_read old ≡ Some access → ReaderStands new (made ++ answered access told ∷ [])) →
+    (new ≡ read_digit old w) × ((made : List Made) → ReaderStands old made → ReaderStands new (made ++ Read (Cell old.cell old.read) w ∷ []))
+fed_by_write old new a answer told w writes below told_is fed goes =
+    let is : told ≡ w = told_is ∙ ap (λ z. told_of z answer) writes in (
+      fed ∙ ap (read_digit old) is,
+      λ made stands. subst (λ v. ReaderStands new (made ++ Read (Cell old.cell old.read) v ∷ [])) is (goes made (begins.Read (Cell old.cell old.read)) stands (read_due old below)),
+    )
 
 pub not_whole : (w : ReaderState) → None ≡ (if nat_lt w.read w.width then None else Some w.value) → w.read < w.width
 not_whole w e = by_test (nat_lt w.read w.width) refl

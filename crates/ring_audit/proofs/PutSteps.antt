@@ -1,5 +1,5 @@
 -- The reader of puts goes on: it stands after one event more.
-use Rattle.std.proofs.Common.{◌≡◌, ℕ, suc, ◌+◌, ◌%◌, ◌<◌, ◌≤◌, Bool, true, false, Some, None, List, [], ◌∷◌, ◌++◌, length, if◌then◌else◌, refl, sym, ap, subst, ◌∙◌, arith, append_assoc, append-nil}
+use Rattle.std.proofs.Common.{◌≡◌, ◌⊎◌, inl, inr, ℕ, suc, ◌+◌, ◌%◌, ◌<◌, ◌≤◌, Bool, true, false, Option, Some, None, List, [], ◌∷◌, ◌++◌, length, if◌then◌else◌, refl, sym, ap, subst, ◌∙◌, arith, append_assoc, append-nil}
 use Rattle.bits_core.specs.declared.events.Side.TheVariants.{P}
 use Rattle.bits_core.specs.declared.events.Bit.TheVariants.{X, Cell}
 use Rattle.bits_core.specs.declared.events.Access.{Access}
@@ -7,38 +7,25 @@ use Rattle.bits_core.specs.declared.events.Access.TheVariants as begins
 use Rattle.bits_core.specs.declared.events.Event.{Event}
 use Rattle.bits_core.specs.declared.shapes.Shape.{Shape}
 use Rattle.bits_core.specs.Shape.{capacity_of, modulus_of, batch_of}
-use Rattle.bits_core.specs.Made.{Made, Read, answered, end_event, opening_event}
-use Rattle.register_core.specs.Row.{row_bit, writes_in}
+use Rattle.bits_core.specs.Made.{Made, Read, answered, end_event, events_of, opening_event}
+use Rattle.register_core.specs.Row.{RowWrite, row_bit, bits_after, writes_in}
 use Rattle.register_core.specs.Word.{digit_writes}
 use Rattle.register_core.specs.WordState.{ReaderState, ReaderStands}
 use Rattle.register_core.specs.UnaryState.{UnaryState, due_writes, UnaryStands}
 use Rattle.register_core.specs.ScanState.{ScanState, scan_read, zero_reads, scan_phrase, row_read_by}
 use Rattle.ring_core.specs.Counts.{LeavesRoom, LeavesRoomFor, Count, first_count, count_bits}
-use Rattle.ring_core.specs.Puts.{Put, Stored, Full, stored_after, stored_count, words_phrase, put_phrase, put_phrases, IsPut, ArePuts}
+use Rattle.ring_core.specs.Puts.{Put, Stored, Full, words_phrase, put_phrases, ArePuts}
 use Rattle.ring_core.specs.Items.{all_put}
 use Rattle.ring_core.specs.PutParts.{count_behind}
+use Rattle.ring_audit.specs.declared.puts.Stage.{Stage}
 use Rattle.ring_audit.specs.declared.puts.Stage.TheVariants.{Resting, Scanning, Choosing, Storing, Counting, Closing, Closed}
-use Rattle.ring_audit.specs.PutReading.{PutReading, RowHolds, IsMost, has_items, AtRest, MadeWhile, PutsStand}
+use Rattle.ring_audit.specs.Sides.{open_events}
+use Rattle.ring_audit.specs.PutReading.{PutReading, RowHolds, IsMost, has_items, AtRest, InPut, InCount, MadeWhile, PutsStand}
+use Rattle.ring_core.proofs.Machines.PutCalls.{phrases-push, stored-push, are-push}
 use Rattle.ring_audit.proofs.Readers.{opened, ended}
 use Rattle.ring_audit.proofs.PutReads.{made_at, count_due}
 
 -- ---- one put more
-
-pub phrases-push :
-    (shape : Shape) (c : Count) (xs : List Put) (x : Put) → put_phrases shape c (xs ++ x ∷ []) ≡ put_phrases shape c xs ++ put_phrase shape (stored_count shape c xs) x
-phrases-push shape c [] x = append-nil (put_phrase shape c x)
-phrases-push shape c (y ∷ xs) x =
-    ap (λ l. put_phrase shape c y ++ l) (phrases-push shape (stored_after shape c y) xs x) ∙
-    sym (append_assoc (put_phrase shape c y) (put_phrases shape (stored_after shape c y) xs) (put_phrase shape (stored_count shape (stored_after shape c y) xs) x))
-
-pub left-push : (shape : Shape) (c : Count) (xs : List Put) (x : Put) → stored_count shape c (xs ++ x ∷ []) ≡ stored_after shape (stored_count shape c xs) x
-left-push shape c [] x = refl
-left-push shape c (y ∷ xs) x = left-push shape (stored_after shape c y) xs x
-
-pub are-push :
-    (shape : Shape) (c : Count) (xs : List Put) (x : Put) → ArePuts shape c.number xs → IsPut shape (stored_count shape c xs).number x → ArePuts shape c.number (xs ++ x ∷ [])
-are-push shape c [] x are is = (is, record {})
-are-push shape c (y ∷ xs) x (here, are) is = (here, are-push shape (stored_after shape c y) xs x are is)
 
 pub put-push : (xs : List Put) (seen : ℕ) (items : List ℕ) → all_put (xs ++ Stored seen items ∷ []) ≡ all_put xs ++ items
 put-push [] seen items = append-nil items
@@ -52,40 +39,35 @@ full-push (Full u ∷ xs) seen = full-push xs seen
 
 -- ---- a begin
 
-pub begins_scan :
-    (shape : Shape) (r : PutReading) (es : List Event) (items stored : List ℕ) (scan : ScanState) (a : Access) → PutsStand shape r es items stored → r.open_access ≡ None → r.stage ≡ Resting →
-    scan.zeros ≡ 0 → PutsStand shape (record r { stage = Scanning; scan = scan; open_access = Some a }) (es ++ opening_event P a ∷ []) items stored
-begins_scan shape r es items stored scan a st none stage new =
-    let (rests, made_is) = made_at shape r es items stored st Resting stage in
-    let front : List Made = put_phrases shape first_count st.puts in
-    record {
-      puts = st.puts;
-      made = st.made;
-      shape_is = st.shape_is;
-      are = st.are;
-      count_is = st.count_is;
-      events_are = opened P es st.made r.open_access a st.events_are none;
-      made_is = (
-        record { holds = rests.holds; cell_is = rests.cell_is; items_are = rests.items_are; none_stored = rests.none_stored },
-        made_is ∙ sym (append-nil front) ∙ ap (λ n. front ++ zero_reads (row_read_by P) n) (sym new),
-      );
-    }
+-- an access begins, by which no access is made
+begun :
+    {shape : Shape} {r new : PutReading} {es : List Event} {items stored items_on stored_on : List ℕ} (st : PutsStand shape r es items stored) (a : Access) (stage : Stage) →
+    r.open_access ≡ None → new.shape ≡ r.shape → new.count ≡ r.count → new.open_access ≡ Some a → new.stage ≡ stage → MadeWhile stage shape new st.puts items_on stored_on st.made →
+    PutsStand shape new (es ++ opening_event P a ∷ []) items_on stored_on
+begun {shape = shape} {r = r} {new = new} {es = es} {items_on = items_on} {stored_on = stored_on} st a stage none shape_is count_is opens stage_is made_is = record {
+  puts = st.puts;
+  made = st.made;
+  shape_is = shape_is ∙ st.shape_is;
+  are = st.are;
+  count_is = count_is ∙ st.count_is;
+  events_are = opened P es st.made r.open_access a st.events_are none ∙ ap (λ o. events_of P st.made ++ open_events P o) (sym opens);
+  made_is = subst (λ z. MadeWhile z shape new st.puts items_on stored_on st.made) (sym stage_is) made_is;
+}
 
-pub begins_read :
-    (shape : Shape) (r : PutReading) (es : List Event) (items stored : List ℕ) (a : Access) → PutsStand shape r es items stored → r.open_access ≡ None → r.stage ≡ Scanning →
-    PutsStand shape (record r { open_access = Some a }) (es ++ opening_event P a ∷ []) items stored
-begins_read shape r es items stored a st none stage =
-    let (rests, made_is) = made_at shape r es items stored st Scanning stage in
-    record {
-      puts = st.puts;
-      made = st.made;
-      shape_is = st.shape_is;
-      are = st.are;
-      count_is = st.count_is;
-      events_are = opened P es st.made r.open_access a st.events_are none;
-      made_is = subst (λ s. MadeWhile s shape (record r { open_access = Some a }) st.puts items stored st.made) (sym stage)
-          (record { holds = rests.holds; cell_is = rests.cell_is; items_are = rests.items_are; none_stored = rests.none_stored }, made_is);
-    }
+-- a put that stores goes on with another word, or with more of it
+abbrev pub stores_on :
+    {shape : Shape} {r : PutReading} {puts : List Put} {items stored : List ℕ} {stage : Stage} {word : ReaderState} {open_access : Option Access} → InPut shape r puts items stored →
+    InPut shape (record r { stage = stage; word = word; open_access = open_access }) puts items stored
+stores_on s = record {
+  seen = s.seen;
+  may = s.may;
+  fit = s.fit;
+  next_is = s.next_is;
+  cell_is = s.cell_is;
+  some_is = s.some_is;
+  holds = s.holds;
+  items_are = s.items_are;
+}
 
 pub begins_word :
     (shape : Shape) (r : PutReading) (es : List Event) (items stored : List ℕ) (word : ReaderState) (a : Access) → PutsStand shape r es items stored → r.open_access ≡ None →
@@ -96,58 +78,12 @@ begins_word shape r es items stored word a st none stage new stands =
     let front : List Made = put_phrases shape first_count st.puts in
     let scan : List Made = scan_phrase (row_read_by P) s.seen in
     let words : List Made = words_phrase shape (count_behind shape st.puts).number stored in
-    record {
-      puts = st.puts;
-      made = st.made;
-      shape_is = st.shape_is;
-      are = st.are;
-      count_is = st.count_is;
-      events_are = opened P es st.made r.open_access a st.events_are none;
-      made_is = (
-        record {
-          seen = s.seen;
-          may = s.may;
-          fit = s.fit;
-          next_is = s.next_is;
-          cell_is = s.cell_is;
-          some_is = s.some_is;
-          holds = s.holds;
-          items_are = s.items_are;
-        },
-        [],
-        stands,
-        made_is ∙ ap (λ l. front ++ (scan ++ l)) (sym (append-nil words)) ∙ ap (λ n. front ++ (scan ++ (words ++ writes_in (Cell r.cell) (digit_writes word.value n)))) (sym new),
-      );
-    }
-
-pub begins_digit :
-    (shape : Shape) (r : PutReading) (es : List Event) (items stored : List ℕ) (a : Access) → PutsStand shape r es items stored → r.open_access ≡ None → r.stage ≡ Storing →
-    PutsStand shape (record r { open_access = Some a }) (es ++ opening_event P a ∷ []) items stored
-begins_digit shape r es items stored a st none stage =
-    let (s, reads, stands, made_is) = made_at shape r es items stored st Storing stage in
-    record {
-      puts = st.puts;
-      made = st.made;
-      shape_is = st.shape_is;
-      are = st.are;
-      count_is = st.count_is;
-      events_are = opened P es st.made r.open_access a st.events_are none;
-      made_is = subst (λ z. MadeWhile z shape (record r { open_access = Some a }) st.puts items stored st.made) (sym stage) (
-        record {
-          seen = s.seen;
-          may = s.may;
-          fit = s.fit;
-          next_is = s.next_is;
-          cell_is = s.cell_is;
-          some_is = s.some_is;
-          holds = s.holds;
-          items_are = s.items_are;
-        },
-        reads,
-        stands,
-        made_is,
-      );
-    }
+    begun st a Storing none refl refl refl refl (
+      stores_on s,
+      [],
+      stands,
+      made_is ∙ ap (λ l. front ++ (scan ++ l)) (sym (append-nil words)) ∙ ap (λ n. front ++ (scan ++ (words ++ writes_in (Cell r.cell) (digit_writes word.value n)))) (sym new),
+    )
 
 some_items : (l : List ℕ) (b : Bool) → b ≡ has_items l → b ≡ true → 1 ≤ length l
 some_items [] b e f = let clash : true ≡ false = sym f ∙ e in absurd (cc)
@@ -165,71 +101,83 @@ begins_count shape r es items stored row a st none stage some side row_is asks =
     let scan : List Made = scan_phrase (row_read_by P) s.seen in
     let words : List Made = words_phrase shape c.number stored in
     let due : due_writes row ≡ count_bits shape c stored = ap due_writes row_is ∙ count_due shape r.row c stored r.next side s.holds s.next_is in
-    record {
-      puts = st.puts;
-      made = st.made;
-      shape_is = st.shape_is;
-      are = st.are;
-      count_is = st.count_is;
-      events_are = opened P es st.made r.open_access a st.events_are none;
-      made_is = (
-        record {
-          seen = s.seen;
-          batch = stored;
-          is_put = (
-            s.may.below,
-            omega (arith, s.may.room),
-            record { some = some_items stored r.some s.some_is some; few = omega (arith, s.may.few); fit = s.fit },
-          );
-          next_is = s.next_is;
-          cell_is = s.cell_is;
-          writes = [];
-          holds = record {
-            values = s.holds.values ++ r.next ∷ [];
-            writes = s.holds.writes;
-            stands = asks s.holds.values (writes_in (row_bit P) s.holds.writes) s.holds.stands;
-            left = s.holds.left;
-          };
-          parts = sym due;
-          begun = λ e. absurd (cc);
-          items_are = ap (λ l. l ++ stored) s.items_are;
-          none_stored = refl;
-        },
-        made_is ∙ ap (λ l. front ++ (scan ++ l)) (sym (append-nil words)),
-      );
-    }
+    begun st a Counting none refl refl refl refl (
+      record {
+        seen = s.seen;
+        batch = stored;
+        is_put = (
+          s.may.below,
+          omega (arith, s.may.room),
+          record { some = some_items stored r.some s.some_is some; few = omega (arith, s.may.few); fit = s.fit },
+        );
+        next_is = s.next_is;
+        cell_is = s.cell_is;
+        writes = [];
+        holds = record {
+          values = s.holds.values ++ r.next ∷ [];
+          writes = s.holds.writes;
+          stands = asks s.holds.values (writes_in (row_bit P) s.holds.writes) s.holds.stands;
+          left = s.holds.left;
+        };
+        parts = sym due;
+        begun = λ e. absurd (cc);
+        items_are = ap (λ l. l ++ stored) s.items_are;
+        none_stored = refl;
+      },
+      made_is ∙ ap (λ l. front ++ (scan ++ l)) (sym (append-nil words)),
+    )
 
-pub begins_bit :
-    (shape : Shape) (r : PutReading) (es : List Event) (items stored : List ℕ) (a : Access) → PutsStand shape r es items stored → r.open_access ≡ None → r.stage ≡ Counting →
-    PutsStand shape (record r { open_access = Some a }) (es ++ opening_event P a ∷ []) items stored
-begins_bit shape r es items stored a st none stage =
+-- a count write goes on, once these bit writes of it were made
+abbrev pub counts_on :
+    {shape : Shape} {r : PutReading} {puts : List Put} {items stored : List ℕ} (row : UnaryState) (open_access : Option Access) (s : InCount shape r puts items stored) (writes : List RowWrite) →
+    RowHolds row (bits_after (count_behind shape puts).bits writes) → count_bits shape (count_behind shape puts) s.batch ≡ writes ++ due_writes row →
+    (open_access ≡ None → (u : RowWrite) × (more : List RowWrite) × (writes ≡ u ∷ more)) → InCount shape (record r { row = row; open_access = open_access }) puts items stored
+counts_on row open_access s writes holds parts begun = record {
+  seen = s.seen;
+  batch = s.batch;
+  is_put = s.is_put;
+  next_is = s.next_is;
+  cell_is = s.cell_is;
+  writes = writes;
+  holds = holds;
+  parts = parts;
+  begun = begun;
+  items_are = s.items_are;
+  none_stored = s.none_stored;
+}
+
+-- the next access of what is under way begins
+pub begins_next :
+    (shape : Shape) (r : PutReading) (es : List Event) (items stored : List ℕ) (a : Access) → PutsStand shape r es items stored → r.open_access ≡ None →
+    (r.stage ≡ Scanning) ⊎ ((r.stage ≡ Storing) ⊎ (r.stage ≡ Counting)) → PutsStand shape (record r { open_access = Some a }) (es ++ opening_event P a ∷ []) items stored
+begins_next shape r es items stored a st none (inl stage) =
+    let (rests, made_is) = made_at shape r es items stored st Scanning stage in
+    begun st a Scanning none refl refl refl stage (record { holds = rests.holds; cell_is = rests.cell_is; items_are = rests.items_are; none_stored = rests.none_stored }, made_is)
+begins_next shape r es items stored a st none (inr (inl stage)) =
+    let (s, reads, stands, made_is) = made_at shape r es items stored st Storing stage in
+    begun st a Storing none refl refl refl stage (stores_on s, reads, stands, made_is)
+begins_next shape r es items stored a st none (inr (inr stage)) =
     let (s, made_is) = made_at shape r es items stored st Counting stage in
-    record {
-      puts = st.puts;
-      made = st.made;
-      shape_is = st.shape_is;
-      are = st.are;
-      count_is = st.count_is;
-      events_are = opened P es st.made r.open_access a st.events_are none;
-      made_is = subst (λ z. MadeWhile z shape (record r { open_access = Some a }) st.puts items stored st.made) (sym stage) (
-        record {
-          seen = s.seen;
-          batch = s.batch;
-          is_put = s.is_put;
-          next_is = s.next_is;
-          cell_is = s.cell_is;
-          writes = s.writes;
-          holds = s.holds;
-          parts = s.parts;
-          begun = λ e. absurd (cc);
-          items_are = s.items_are;
-          none_stored = s.none_stored;
-        },
-        made_is,
-      );
-    }
+    begun st a Counting none refl refl refl stage (counts_on r.row (Some a) s s.writes s.holds s.parts (λ e. absurd (cc)), made_is)
 
 -- ---- an end
+
+-- the open access is made, and the puts are those so far
+pub ended_so :
+    {shape : Shape} {r new : PutReading} {es : List Event} {items stored items_on stored_on : List ℕ} (st : PutsStand shape r es items stored) (a : Access) (v : Bool) (stage : Stage)
+    (puts : List Put) → r.open_access ≡ Some a → ArePuts shape 0 puts → new.count ≡ (count_behind shape puts).number % modulus_of shape → new.shape ≡ r.shape → new.open_access ≡ None →
+    new.stage ≡ stage → MadeWhile stage shape new puts items_on stored_on (st.made ++ answered a v ∷ []) → PutsStand shape new (es ++ end_event P (answered a v) ∷ []) items_on stored_on
+ended_so {shape = shape} {r = r} {new = new} {es = es} {items_on = items_on} {stored_on = stored_on} st a v stage puts some are count_is shape_is none stage_is made_is =
+    let made : List Made = st.made ++ answered a v ∷ [] in
+    record {
+      puts = puts;
+      made = made;
+      shape_is = shape_is ∙ st.shape_is;
+      are = are;
+      count_is = count_is;
+      events_are = ended P es st.made r.open_access a v st.events_are some ∙ ap (λ o. events_of P made ++ open_events P o) (sym none);
+      made_is = subst (λ z. MadeWhile z shape new puts items_on stored_on made) (sym stage_is) made_is;
+    }
 
 pub ends_close :
     (shape : Shape) (r : PutReading) (es : List Event) (items stored : List ℕ) (a : Access) (v : Bool) → PutsStand shape r es items stored → r.open_access ≡ Some a →
@@ -237,18 +185,10 @@ pub ends_close :
     PutsStand shape (record r { stage = Closed; open_access = None }) (es ++ end_event P (answered a v) ∷ []) items stored
 ends_close shape r es items stored a v st some is stage =
     let (rests, made_is) = made_at shape r es items stored st Closing stage in
-    record {
-      puts = st.puts;
-      made = st.made ++ answered a v ∷ [];
-      shape_is = st.shape_is;
-      are = st.are;
-      count_is = st.count_is;
-      events_are = ended P es st.made r.open_access a v st.events_are some;
-      made_is = (
-        record { holds = rests.holds; cell_is = rests.cell_is; items_are = rests.items_are; none_stored = rests.none_stored },
-        ap (λ l. l ++ answered a v ∷ []) made_is ∙ ap (λ z. put_phrases shape first_count st.puts ++ answered z v ∷ []) is,
-      );
-    }
+    ended_so st a v Closed st.puts some st.are st.count_is refl refl refl (
+      record { holds = rests.holds; cell_is = rests.cell_is; items_are = rests.items_are; none_stored = rests.none_stored },
+      ap (λ l. l ++ answered a v ∷ []) made_is ∙ ap (λ z. put_phrases shape first_count st.puts ++ answered z v ∷ []) is,
+    )
 
 read_zero : (s : ScanState) (v : Bool) → (scan_read s v).found ≡ false → (v ≡ false) × ((scan_read s v).zeros ≡ suc s.zeros)
 read_zero s true e = absurd (cc)
@@ -264,20 +204,12 @@ ends_zero shape r es items stored scan a v st some is stage fed not_found =
     let zeros : List Made = zero_reads (row_read_by P) r.scan.zeros in
     let (zero_is, more) = read_zero r.scan v (sym (ap (λ (z : ScanState). z.found) fed) ∙ not_found) in
     let more_is : scan.zeros ≡ suc r.scan.zeros = ap (λ (z : ScanState). z.zeros) fed ∙ more in
-    record {
-      puts = st.puts;
-      made = st.made ++ answered a v ∷ [];
-      shape_is = st.shape_is;
-      are = st.are;
-      count_is = st.count_is;
-      events_are = ended P es st.made r.open_access a v st.events_are some;
-      made_is = subst (λ z. MadeWhile z shape (record r { scan = scan; open_access = None }) st.puts items stored (st.made ++ answered a v ∷ [])) (sym stage) (
-        record { holds = rests.holds; cell_is = rests.cell_is; items_are = rests.items_are; none_stored = rests.none_stored },
-        ap (λ l. l ++ answered a v ∷ []) made_is ∙ append_assoc front zeros (answered a v ∷ [])
-            ∙ ap (λ z. front ++ (zeros ++ answered z v ∷ [])) is ∙ ap (λ w. front ++ (zeros ++ Read (row_read_by P r.scan.zeros) w ∷ [])) zero_is
-            ∙ ap (λ n. front ++ zero_reads (row_read_by P) n) (sym more_is),
-      );
-    }
+    ended_so st a v Scanning st.puts some st.are st.count_is refl refl stage (
+      record { holds = rests.holds; cell_is = rests.cell_is; items_are = rests.items_are; none_stored = rests.none_stored },
+      ap (λ l. l ++ answered a v ∷ []) made_is ∙ append_assoc front zeros (answered a v ∷ [])
+          ∙ ap (λ z. front ++ (zeros ++ answered z v ∷ [])) is ∙ ap (λ w. front ++ (zeros ++ Read (row_read_by P r.scan.zeros) w ∷ [])) zero_is
+          ∙ ap (λ n. front ++ zero_reads (row_read_by P) n) (sym more_is),
+    )
 
 read_one : (s : ScanState) (v : Bool) (seen : ℕ) → s.found ≡ false → (if (scan_read s v).found then Some (scan_read s v).zeros else None) ≡ Some seen → (v ≡ true) × (s.zeros ≡ seen)
 read_one s true seen e f = (refl, cc)
@@ -332,15 +264,8 @@ ends_with_room shape r es items stored scan a v seen room st some is stage not_f
       },
       made_so ∙ ap (λ l. front ++ l) (sym (append-nil (scan_phrase (row_read_by P) seen))),
     ) in
-    record {
-      puts = st.puts;
-      made = st.made ++ answered a v ∷ [];
-      shape_is = st.shape_is;
-      are = st.are;
-      count_is = st.count_is;
-      events_are = ended P es st.made r.open_access a v st.events_are some;
-      made_is = subst (λ l. MadeWhile Choosing shape new st.puts items l (st.made ++ answered a v ∷ [])) (sym rests.none_stored) at;
-    }
+    ended_so st a v Choosing st.puts some st.are st.count_is refl refl refl
+    (subst (λ l. MadeWhile Choosing shape new st.puts items l (st.made ++ answered a v ∷ [])) (sym rests.none_stored) at)
 
 pub ends_full :
     (shape : Shape) (r : PutReading) (es : List Event) (items stored : List ℕ) (scan : ScanState) (a : Access) (v : Bool) (seen : ℕ) → PutsStand shape r es items stored →
@@ -351,21 +276,15 @@ ends_full shape r es items stored scan a v seen st some is stage not_found fed g
     let (one_read, zeros_is) = read_one r.scan v seen not_found (ap (λ (z : ScanState). if z.found then Some z.zeros else None) (sym fed) ∙ gives) in
     let seen_below : seen < modulus_of shape = subst (λ k. k < modulus_of shape) zeros_is below in
     let (rests, made_so) = scanned shape r es items stored st scan a v seen is stage not_found fed gives in
-    let left : count_behind shape (st.puts ++ Full seen ∷ []) ≡ count_behind shape st.puts = left-push shape first_count st.puts (Full seen) in
-    record {
-      puts = st.puts ++ Full seen ∷ [];
-      made = st.made ++ answered a v ∷ [];
-      shape_is = st.shape_is;
-      are = are-push shape first_count st.puts (Full seen) st.are (seen_below, λ l. full (subst (λ k. LeavesRoom shape k seen) (sym st.count_is) l));
-      count_is = st.count_is ∙ ap (λ (z : Count). z.number % modulus_of shape) (sym left);
-      events_are = ended P es st.made r.open_access a v st.events_are some;
-      made_is = (
-        record {
-          holds = subst (λ (z : Count). RowHolds r.row z.bits) (sym left) rests.holds;
-          cell_is = rests.cell_is ∙ ap (λ (z : Count). z.number % capacity_of shape) (sym left);
-          items_are = rests.items_are ∙ sym (full-push st.puts seen);
-          none_stored = rests.none_stored;
-        },
-        made_so ∙ sym (phrases-push shape first_count st.puts (Full seen)),
-      );
-    }
+    let left : count_behind shape (st.puts ++ Full seen ∷ []) ≡ count_behind shape st.puts = stored-push shape first_count st.puts (Full seen) in
+    ended_so st a v Resting (st.puts ++ Full seen ∷ []) some
+    (are-push shape first_count st.puts (Full seen) st.are (seen_below, λ l. full (subst (λ k. LeavesRoom shape k seen) (sym st.count_is) l)))
+    (st.count_is ∙ ap (λ (z : Count). z.number % modulus_of shape) (sym left)) refl refl refl (
+      record {
+        holds = subst (λ (z : Count). RowHolds r.row z.bits) (sym left) rests.holds;
+        cell_is = rests.cell_is ∙ ap (λ (z : Count). z.number % capacity_of shape) (sym left);
+        items_are = rests.items_are ∙ sym (full-push st.puts seen);
+        none_stored = rests.none_stored;
+      },
+      made_so ∙ sym (phrases-push shape first_count st.puts (Full seen)),
+    )

@@ -6,7 +6,9 @@ use Rattle.bits_core.specs.declared.events.Event.{Event}
 use Rattle.bits_core.specs.Bits.{begun_by}
 use Rattle.bits_core.specs.Made.{Made, access_of, answered, end_event, events_of, IsPrefix, opening_event}
 use Rattle.ring_audit.specs.Sides.{open_events, EndsSo}
-use Rattle.ring_audit.proofs.Beginnings.{begin_is, access_is, answer_is, begun_is, ended_is, same_access, GoesOnWith, next_begins, GoesOnBy, next_ends, events_of-append, length-events}
+use Rattle.ring_core.proofs.Machines.Following.{events_of-append, length-events}
+use Rattle.ring_core.proofs.Machines.GoingOn.{access_back}
+use Rattle.ring_audit.proofs.Beginnings.{begin_is, answer_is, begun_is, ended_is, same_access, GoesOnWith, next_begins, GoesOnBy, next_ends}
 
 -- ---- what was read
 
@@ -44,7 +46,7 @@ pub ended :
     es ++ end_event s (answered a v) ∷ [] ≡ events_of s (made ++ answered a v ∷ []) ++ open_events s None
 ended s es made o a v is some =
     at_work s es made o a (end_event s (answered a v)) is some
-    ∙ ap (λ b. events_of s made ++ b ∷ end_event s (answered a v) ∷ []) (sym (begin_is s (answered a v) ∙ ap (opening_event s) (access_is a v)))
+    ∙ ap (λ b. events_of s made ++ b ∷ end_event s (answered a v) ∷ []) (sym (begin_is s (answered a v) ∙ ap (opening_event s) (access_back a v)))
     ∙ sym (events_of-append s made (answered a v ∷ []))
     ∙ sym (append-nil (events_of s (made ++ answered a v ∷ [])))
 

@@ -17,6 +17,21 @@ use Rattle.bits_core.proofs.OwnEvents.{subhistory_changes}
 pub own_more : (s t : Side) (h : List Event) (e : Event) → e.side ≡ t → subhistory s (h ++ e ∷ []) ≡ (if same_side s t then subhistory s h ++ e ∷ [] else subhistory s h)
 own_more s t h e by = subhistory_changes s h e ∙ ap (λ (u : Side). if same_side s u then subhistory s h ++ e ∷ [] else subhistory s h) by
 
+-- both readers stand with the event, where each stands with what of it is its own
+stand_with :
+    (shape : Shape) (new : Reading) (s : Side) (h : List Event) (e : Event) (items stored : List ℕ) → e.side ≡ s →
+    PutsStand shape new.puts (if same_side P s then subhistory P h ++ e ∷ [] else subhistory P h) items stored →
+    TakesStand shape new.takes (if same_side C s then subhistory C h ++ e ∷ [] else subhistory C h) new.taken → new.put ≡ items ++ stored → new.counted ≡ length items →
+    ReadingStands shape new (h ++ e ∷ [])
+stand_with shape new s h e items stored by puts takes put_is counted_is = record {
+  items = items;
+  stored = stored;
+  puts_stand = subst (λ es. PutsStand shape new.puts es items stored) (sym (own_more P s h e by)) puts;
+  takes_stand = subst (λ es. TakesStand shape new.takes es new.taken) (sym (own_more C s h e by)) takes;
+  put_is = put_is;
+  counted_is = counted_is;
+}
+
 -- ---- an event of the producer
 
 pub put_stops :
@@ -28,38 +43,22 @@ put_stops shape r new e by read h st (of_puts, of_takes) =
 pub put_goes :
     (shape : Shape) (r : Reading) (new : PutReading) (e : Event) → e.side ≡ P → HasReadPut shape r.puts new e p.GoesOn →
     (h : List Event) → ReadingStands shape r h → ReadingStands shape (record r { puts = new }) (h ++ e ∷ [])
-put_goes shape r new e by read h st = record {
-  items = st.items;
-  stored = st.stored;
-  puts_stand = subst (λ es. PutsStand shape new es st.items st.stored) (sym (own_more P P h e by)) (read (subhistory P h) st.items st.stored st.puts_stand);
-  takes_stand = subst (λ es. TakesStand shape r.takes es r.taken) (sym (own_more C P h e by)) st.takes_stand;
-  put_is = st.put_is;
-  counted_is = st.counted_is;
-}
+put_goes shape r new e by read h st =
+    stand_with shape (record r { puts = new }) P h e st.items st.stored by (read (subhistory P h) st.items st.stored st.puts_stand) st.takes_stand st.put_is st.counted_is
 
 pub put_stores :
     (shape : Shape) (r : Reading) (new : PutReading) (e : Event) (item : ℕ) (put : List ℕ) → e.side ≡ P → HasReadPut shape r.puts new e (p.Stores item) →
     put ≡ r.put ++ item ∷ [] → (h : List Event) → ReadingStands shape r h → ReadingStands shape (record r { puts = new; put = put }) (h ++ e ∷ [])
-put_stores shape r new e item put by read more h st = record {
-  items = st.items;
-  stored = st.stored ++ item ∷ [];
-  puts_stand = subst (λ es. PutsStand shape new es st.items (st.stored ++ item ∷ [])) (sym (own_more P P h e by)) (read (subhistory P h) st.items st.stored st.puts_stand);
-  takes_stand = subst (λ es. TakesStand shape r.takes es r.taken) (sym (own_more C P h e by)) st.takes_stand;
-  put_is = more ∙ ap (λ l. l ++ item ∷ []) st.put_is ∙ append_assoc st.items st.stored (item ∷ []);
-  counted_is = st.counted_is;
-}
+put_stores shape r new e item put by read more h st =
+    stand_with shape (record r { puts = new; put = put }) P h e st.items (st.stored ++ item ∷ []) by (read (subhistory P h) st.items st.stored st.puts_stand) st.takes_stand
+    (more ∙ ap (λ l. l ++ item ∷ []) st.put_is ∙ append_assoc st.items st.stored (item ∷ [])) st.counted_is
 
 pub put_counts :
     (shape : Shape) (r : Reading) (new : PutReading) (e : Event) (counted : ℕ) → e.side ≡ P → HasReadPut shape r.puts new e p.Counts →
     counted ≡ length r.put → (h : List Event) → ReadingStands shape r h → ReadingStands shape (record r { puts = new; counted = counted }) (h ++ e ∷ [])
-put_counts shape r new e counted by read all h st = record {
-  items = st.items ++ st.stored;
-  stored = [];
-  puts_stand = subst (λ es. PutsStand shape new es (st.items ++ st.stored) []) (sym (own_more P P h e by)) (read (subhistory P h) st.items st.stored st.puts_stand);
-  takes_stand = subst (λ es. TakesStand shape r.takes es r.taken) (sym (own_more C P h e by)) st.takes_stand;
-  put_is = st.put_is ∙ sym (append-nil (st.items ++ st.stored));
-  counted_is = all ∙ ap length st.put_is;
-}
+put_counts shape r new e counted by read all h st =
+    stand_with shape (record r { puts = new; counted = counted }) P h e (st.items ++ st.stored) [] by (read (subhistory P h) st.items st.stored st.puts_stand) st.takes_stand
+    (st.put_is ∙ sym (append-nil (st.items ++ st.stored))) (all ∙ ap length st.put_is)
 
 -- ---- an event of the consumer
 
@@ -72,27 +71,15 @@ take_stops shape r new e by read h st (of_puts, of_takes) =
 pub take_goes :
     (shape : Shape) (r : Reading) (new : TakeReading) (e : Event) → e.side ≡ C → HasReadTake shape r.takes new e c.GoesOn →
     (h : List Event) → ReadingStands shape r h → ReadingStands shape (record r { takes = new }) (h ++ e ∷ [])
-take_goes shape r new e by read h st = record {
-  items = st.items;
-  stored = st.stored;
-  puts_stand = subst (λ es. PutsStand shape r.puts es st.items st.stored) (sym (own_more P C h e by)) st.puts_stand;
-  takes_stand = subst (λ es. TakesStand shape new es r.taken) (sym (own_more C C h e by)) (read (subhistory C h) r.taken st.takes_stand);
-  put_is = st.put_is;
-  counted_is = st.counted_is;
-}
+take_goes shape r new e by read h st =
+    stand_with shape (record r { takes = new }) C h e st.items st.stored by st.puts_stand (read (subhistory C h) r.taken st.takes_stand) st.put_is st.counted_is
 
 pub take_takes :
     (shape : Shape) (r : Reading) (new : TakeReading) (e : Event) (taken : List ℕ) → e.side ≡ C → HasReadTake shape r.takes new e c.Takes →
     taken ≡ r.taken ++ new.consumer.items → (h : List Event) → ReadingStands shape r h → ReadingStands shape (record r { takes = new; taken = taken }) (h ++ e ∷ [])
-take_takes shape r new e taken by read more h st = record {
-  items = st.items;
-  stored = st.stored;
-  puts_stand = subst (λ es. PutsStand shape r.puts es st.items st.stored) (sym (own_more P C h e by)) st.puts_stand;
-  takes_stand = subst (λ es. TakesStand shape new es taken) (sym (own_more C C h e by))
-      (subst (TakesStand shape new (subhistory C h ++ e ∷ [])) (sym more) (read (subhistory C h) r.taken st.takes_stand));
-  put_is = st.put_is;
-  counted_is = st.counted_is;
-}
+take_takes shape r new e taken by read more h st =
+    stand_with shape (record r { takes = new; taken = taken }) C h e st.items st.stored by st.puts_stand
+    (subst (TakesStand shape new (subhistory C h ++ e ∷ [])) (sym more) (read (subhistory C h) r.taken st.takes_stand)) st.put_is st.counted_is
 
 -- ---- the shape of the readers is this one
 

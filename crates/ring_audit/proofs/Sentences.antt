@@ -1,20 +1,16 @@
 -- The sentence of the ring of a history that was found lawful and of the programs.
 use Rattle.std.proofs.Common.{◌≡◌, ℕ, Bool, List, length, sym, ap, subst, ◌∙◌, arith}
-use Rattle.std.proofs.Math.Seq.{take-length}
-use Rattle.bits_core.specs.declared.events.Side.{Side}
 use Rattle.bits_core.specs.declared.events.Side.TheVariants.{P, C}
 use Rattle.bits_core.specs.declared.events.Event.{Event}
 use Rattle.bits_core.specs.declared.shapes.Shape.{Shape}
-use Rattle.bits_core.specs.Made.{clock, subhistory, IsPrefix}
+use Rattle.bits_core.specs.Made.{clock, IsPrefix}
 use Rattle.ring_core.specs.Counts.{first_count}
 use Rattle.ring_core.specs.Items.{items_put, items_taken, IsTold}
 use Rattle.ring_core.specs.Linear.{IsLinearizableRun}
 use Rattle.ring_core.specs.RingLaw.{InEveryRun, RingLaw}
 use Rattle.ring_core.specs.RunLaws.{ClosedStays}
 use Rattle.ring_audit.specs.Audit.{IsFound, MeetsSentence, Statement, Lawful, Fault, IsFinding, SaysLinearizable, SaysSentence}
-
-clock_end : (s : Side) (h : List Event) → clock s h (length h) ≡ length (subhistory s h)
-clock_end s h = ap (λ l. length (subhistory s l)) (take-length h)
+use Rattle.ring_core.proofs.OwnEvents.{clock_end}
 
 sentence : InEveryRun RingLaw → ClosedStays → (shape : Shape) (h : List Event) (put taken : List ℕ) (told : Bool) → IsFound shape h put taken told → MeetsSentence shape h put taken told
 sentence holds stays shape h put taken told f =

@@ -1,16 +1,15 @@
 -- What was taken and told so far, by calls that the events are a beginning of.
-use Rattle.std.proofs.Common.{◌≡◌, inl, inr, ℕ, zero, suc, ◌+◌, ◌-◌, ◌*◌, ◌%◌, ◌<◌, ◌≤◌, ◌↔◌, Bool, true, false, Option, Some, None, List, [], ◌∷◌, ◌++◌, length, refl, sym, ap, subst, ◌∙◌, arith, append_assoc, append-nil, length-append, if◌then◌else◌, IsTrue}
+use Rattle.std.proofs.Common.{◌≡◌, inl, inr, ℕ, suc, ◌+◌, ◌-◌, ◌*◌, ◌%◌, ◌<◌, ◌≤◌, ◌↔◌, Bool, true, false, Option, Some, None, List, [], ◌∷◌, ◌++◌, length, refl, sym, ap, subst, ◌∙◌, arith, append_assoc, append-nil, length-append, if◌then◌else◌, IsTrue}
 use Rattle.std.proofs.lemmas.Bool.{lt-leb, le-leb}
 use Rattle.bits_core.specs.declared.events.Side.TheVariants.{C}
-use Rattle.bits_core.specs.declared.events.Bit.TheVariants.{Cell}
 use Rattle.bits_core.specs.declared.events.Access.{Access}
 use Rattle.bits_core.specs.declared.events.Event.{Event}
 use Rattle.bits_core.specs.declared.shapes.Shape.{Shape}
 use Rattle.bits_core.specs.Shape.{capacity_of, width_of}
-use Rattle.bits_core.specs.Made.{Made, Read, answered, end_event, events_of, IsPrefix, opening_event}
+use Rattle.bits_core.specs.Made.{Made, answered, end_event, events_of, IsPrefix, opening_event}
 use Rattle.ring_core.specs.declared.replies.TakeReply.{TakeReply}
 use Rattle.ring_core.specs.declared.replies.TakeReply.TheVariants as replies
-use Rattle.register_core.specs.Word.{digit, digit_reads, word_read}
+use Rattle.register_core.specs.Word.{word_read}
 use Rattle.ring_core.specs.Counts.{Count, first_count, batch_phrase}
 use Rattle.ring_core.specs.Takes.{Take, Item, ItemAfterClose, Empty, Takes, End, Open, Closed, count_after, taken_count, words_read, items_phrase, accesses_before_word, take_phrase, take_phrases, end_phrase, take_program, AreTakes}
 use Rattle.ring_core.specs.Items.{taken_of, all_taken, take_ended, events_in, items_taken, Tells, IsTold}
@@ -18,8 +17,12 @@ use Rattle.ring_core.specs.ConsumerState.{ConsumerState, due_take, is_taking}
 use Rattle.ring_core.specs.ConsumerCalls.{ConsumerStands, HasTakeMore, TakeGoesOn, IsReplyToTake, items_reply, last_take_reply, reply_at_end}
 use Rattle.ring_audit.specs.Sides.{open_events}
 use Rattle.ring_audit.specs.TakeReading.{TakeReading, IsTakeReading, TakesStand, WereTaken, tells_closed}
+use Rattle.register_core.proofs.Digits.{length-reads}
+use Rattle.ring_core.proofs.Machines.Following.{events_of-append, length-events}
+use Rattle.ring_core.proofs.Machines.GoingOn.{access_back}
+use Rattle.ring_core.proofs.Machines.TakeCalls.{phrases-push}
 use Rattle.ring_audit.proofs.Readers.{open-short, open-long}
-use Rattle.ring_audit.proofs.Beginnings.{begin_is, access_is, events_of-append, length-events}
+use Rattle.ring_audit.proofs.Beginnings.{begin_is}
 use Rattle.ring_audit.proofs.TakeReads.{front_at}
 
 -- ---- items
@@ -96,15 +99,6 @@ told-over shape calls (Closed seen again) t e l = (λ is. (subst Tells (sym e) (
 
 -- ---- the take under way
 
-phrases-push :
-    (shape : Shape) (k : Count) (xs : List Take) (x : Take) →
-    take_phrases shape k (xs ++ x ∷ []) ≡ take_phrases shape k xs ++ take_phrase shape (taken_count shape k xs) x
-phrases-push shape k [] x = append-nil (take_phrase shape k x)
-phrases-push shape k (y ∷ xs) x =
-    let next : Count = count_after shape k y in
-    ap (λ l. take_phrase shape k y ++ l) (phrases-push shape next xs x) ∙
-    sym (append_assoc (take_phrase shape k y) (take_phrases shape next xs) (take_phrase shape (taken_count shape next xs) x))
-
 -- no item is brought before it has ended
 taken-under_way :
     (shape : Shape) (wanted : ℕ) (calls more : Takes) (t : ℕ) → HasTakeMore shape wanted calls more → events_in (take_phrases shape first_count calls.takes) ≤ t →
@@ -138,7 +132,7 @@ open_begins made rest a (Some b) same = (
   end_event C (answered a true) ∷ events_of C rest,
   append_assoc (events_of C made) (opening_event C b ∷ []) (end_event C (answered a true) ∷ events_of C rest)
       ∙ ap (λ z. events_of C made ++ opening_event C z ∷ end_event C (answered a true) ∷ events_of C rest) (same b refl)
-      ∙ ap (λ z. events_of C made ++ z ∷ end_event C (answered a true) ∷ events_of C rest) (sym (begin_is C (answered a true) ∙ ap (opening_event C) (access_is a true)))
+      ∙ ap (λ z. events_of C made ++ z ∷ end_event C (answered a true) ∷ events_of C rest) (sym (begin_is C (answered a true) ∙ ap (opening_event C) (access_back a true)))
       ∙ sym (events_of-append C made (answered a true ∷ rest)),
 )
 
@@ -207,16 +201,11 @@ has_taken p o due reply is due_is goes rests replies_so es items st =
 
 -- ---- how many items
 
--- each item was read by an access
-length-digits : (cell item n : ℕ) → length (digit_reads cell item n) ≡ n
-length-digits cell item zero = refl
-length-digits cell item (suc n) = omega (arith, length-digits cell item n, length-append (digit_reads cell item n) (Read (Cell cell n) (digit n item) ∷ []))
-
 words-long : (shape : Shape) (n : ℕ) (items : List ℕ) → length items ≤ length (words_read shape n items)
 words-long shape n [] = omega arith
 words-long shape n (item ∷ items) =
     let word : List Made = word_read (width_of shape) (n % capacity_of shape) item in
-    omega (arith, words-long shape (suc n) items, length-append word (words_read shape (suc n) items), length-digits (n % capacity_of shape) item (width_of shape), shape.has_digits)
+    omega (arith, words-long shape (suc n) items, length-append word (words_read shape (suc n) items), length-reads (n % capacity_of shape) item (width_of shape), shape.has_digits)
 
 items-long : (shape : Shape) (k : Count) (front : List Made) (items : List ℕ) → length items ≤ length (front ++ items_phrase shape k items)
 items-long shape k front items =

@@ -4,21 +4,14 @@ use Rattle.bits_core.specs.declared.shapes.Shape.{Shape}
 use Rattle.ring_core.specs.declared.replies.TakeReply.{TakeReply}
 use Rattle.ring_core.specs.declared.replies.TakeReply.TheVariants as replies
 use Rattle.ring_core.specs.Takes.{Take, Item, ItemAfterClose, Empty, Takes}
-use Rattle.ring_core.specs.ConsumerCalls.{take_reply_to, last_take_reply, last_items, reply_at_end, items_at_end, IsReplyToTake, AreItemsOfTake, IsAfterTake, items_reply}
+use Rattle.ring_core.specs.ConsumerCalls.{take_reply_to, reply_at_end, items_at_end, IsReplyToTake, AreItemsOfTake, IsAfterTake, items_reply}
 use Rattle.ring_core.specs.Items.{taken_of, all_taken}
 use Rattle.ring_audit.specs.TakeReading.{brought, step_by}
+use Rattle.ring_core.proofs.Machines.TakeCalls.{reply-push, items-push}
 
 -- the items that a reply tells of those kept
 abbrev pub replied : Option TakeReply → List ℕ → List ℕ
 replied reply kept = brought (step_by reply) kept
-
-last-push : (first : Option TakeReply) (xs : List Take) (x : Take) → last_take_reply first (xs ++ x ∷ []) ≡ Some (take_reply_to x)
-last-push first [] x = refl
-last-push first (y ∷ xs) x = last-push (Some (take_reply_to y)) xs x
-
-kept-push : (first : List ℕ) (xs : List Take) (x : Take) → last_items first (xs ++ x ∷ []) ≡ taken_of x
-kept-push first [] x = refl
-kept-push first (y ∷ xs) x = kept-push (taken_of y) xs x
 
 -- those of a take that is over are its own
 some_replied : (items : List ℕ) → replied (Some (items_reply items)) items ≡ items
@@ -43,8 +36,8 @@ items-after shape wanted true calls more reply kept same none any =
 items-after shape wanted false calls more reply kept has is are =
     elim has.is_one_more [
       | inl (x, of, more_is) ↦
-          let reply_is : reply ≡ Some (take_reply_to x) = is ∙ ap (λ (t : Takes). reply_at_end t.end t.takes) more_is ∙ last-push None calls.takes x in
-          let kept_is : kept ≡ taken_of x = are ∙ ap (λ (t : Takes). items_at_end t.end t.takes) more_is ∙ kept-push [] calls.takes x in
+          let reply_is : reply ≡ Some (take_reply_to x) = is ∙ ap (λ (t : Takes). reply_at_end t.end t.takes) more_is ∙ reply-push None calls.takes x in
+          let kept_is : kept ≡ taken_of x = are ∙ ap (λ (t : Takes). items_at_end t.end t.takes) more_is ∙ items-push [] calls.takes x in
           ap (λ (t : Takes). all_taken t.takes) more_is ∙ taken-push calls.takes x ∙ ap (λ l. all_taken calls.takes ++ l) (sym (ap₂ replied reply_is kept_is ∙ take_replied x))
       | inr (seen, again, more_is) ↦
           let reply_is : reply ≡ Some replies.Closed = is ∙ ap (λ (t : Takes). reply_at_end t.end t.takes) more_is in

@@ -31,8 +31,11 @@ use Rattle.register_core.proofs.Items.{same_item}
 use Rattle.ring_core.proofs.LastBits.{last-takes_read_one}
 use Rattle.ring_core.proofs.Machines.TakeParts.{takes-go_on}
 use Rattle.ring_core.proofs.Readings.TakenRead.{takes-are_first}
+use Rattle.ring_core.proofs.Readings.Phrases.{same_made}
+use Rattle.ring_core.proofs.Machines.Following.{events_of-append}
+use Rattle.ring_core.proofs.Machines.GoingOn.{access_back}
 use Rattle.ring_audit.proofs.Readers as readers
-use Rattle.ring_audit.proofs.Beginnings.{begin_is, access_is, same_access, same_made, GoesOnWith, GoesOnBy, events_of-append}
+use Rattle.ring_audit.proofs.Beginnings.{begin_is, same_access, GoesOnWith, GoesOnBy}
 
 -- calls whose events go on so
 rest_on :
@@ -54,7 +57,7 @@ pub zero_at_last :
 zero_at_last shape r es items a st some due (i, reads, last) of_takes =
     let on = work_on shape r es items st a (end_event C (answered a false)) some of_takes in
     let begun : begin_event C (answered a false) ≡ begin_event C on.next =
-    begin_is C (answered a false) ∙ ap (opening_event C) (access_is a false) ∙ on.begins in
+    begin_is C (answered a false) ∙ ap (opening_event C) (access_back a false) ∙ on.begins in
     let next_is : on.next ≡ answered a false = sym (same_made C (answered a false) on.next begun on.ends) in
     let both : Some a ≡ Some (begins.Read (row_read_by C i)) = sym due ∙ reads in
     let a_is : a ≡ begins.Read (row_read_by C i) = cc in

@@ -15,7 +15,7 @@ use Rattle.ring_core.specs.GoingOn.{EndInCellRead}
 use Rattle.ring_core.specs.ConsumerState.{ConsumerState, due_take, is_taking}
 use Rattle.ring_core.specs.ConsumerCalls.{ConsumerStands, ConsumerHasMoved, IsReplyToTake, IsAfterTake}
 use Rattle.ring_audit.specs.TakeReading.{TakeReading, TakesStand, WantsAll, HasReadTake, step_by}
-use Rattle.ring_audit.proofs.Beginnings.{access_is}
+use Rattle.ring_core.proofs.Machines.GoingOn.{access_back}
 use Rattle.ring_audit.proofs.Readers.{ended}
 use Rattle.ring_audit.proofs.TakeItems.{replied, items-after}
 use Rattle.ring_audit.proofs.TakeReads.{due_takes, last_same, count_writes_bits}
@@ -33,7 +33,7 @@ still_wants shape old new a v made due wanted counts wants = record {
     reads_no_cell : old.stage ≡ Counting → EndInCellRead (made ++ answered a v ∷ []) → ⊥
     reads_no_cell stage (before, j, i, w, e) =
         let last : answered a v ≡ Read (Cell j i) w = last_same made before (answered a v) (Read (Cell j i) w) e in
-        let reads : a ≡ begins.Read (Cell j i) = sym (access_is a v) ∙ ap access_of last in
+        let reads : a ≡ begins.Read (Cell j i) = sym (access_back a v) ∙ ap access_of last in
         count_writes_bits old (begins.Read (Cell j i)) stage (due ∙ ap Some reads) j i refl
 
 pub finish_goes_on :

@@ -1,5 +1,5 @@
 //! The producer's events, read as its puts.
-ghost use Rattle.std.specs.Prelude.{◌≡◌, ◌≢◌, ◌≤◌, ◌<◌, ◌↔◌, ◌++◌, ◌∷◌, [], ℕ, List, None, Some, Bool, true, false, IsTrue, ⊤};
+ghost use Rattle.std.specs.Prelude.{◌≡◌, ◌≢◌, ◌≤◌, ◌<◌, ◌↔◌, ◌⊎◌, ◌++◌, ◌∷◌, [], ℕ, List, None, Some, Bool, true, false, IsTrue, ⊤};
 ghost use Rattle.bits_core.specs.declared.events.Side.TheVariants.{P};
 ghost use Rattle.bits_core.specs.declared.events.Bit.TheVariants.{Cell};
 ghost use Rattle.bits_core.specs.Made.{answered, end_event, opening_event};
@@ -152,10 +152,10 @@ impl PutReader {
     {
         match self.stage {
             Stage::Resting => self.begin_call(access),
-            Stage::Scanning => self.begin_read(access),
+            Stage::Scanning => self.begin_next(access),
             Stage::Choosing => self.begin_word(access),
-            Stage::Storing => self.begin_digit(access),
-            Stage::Counting => self.begin_bit(access),
+            Stage::Storing => self.begin_next(access),
+            Stage::Counting => self.begin_next(access),
             Stage::Closing => PutStep::Stops,
             Stage::Closed => PutStep::Stops,
         }
@@ -184,14 +184,19 @@ impl PutReader {
         }
     }
 
-    // In a scan: the next read begins.
-    fn begin_read(&mut self, access: Access) -> PutStep
+    // In a scan, a word or a count write: its next access begins.
+    fn begin_next(&mut self, access: Access) -> PutStep
         requires none { self.old.open_access ≡ None }
-        requires stage { self.old.stage ≡ Scanning }
+        requires stage { (self.old.stage ≡ Scanning) ⊎ ((self.old.stage ≡ Storing) ⊎ (self.old.stage ≡ Counting)) }
         ensures shape { self.new.shape ≡ self.old.shape }
         ensures read { HasReadPut self.old.shape self.old self.new (opening_event P access) result }
     {
-        if is_same(self.scan.next(), access) {
+        let is_next = match self.stage {
+            Stage::Scanning => is_same(self.scan.next(), access),
+            Stage::Storing => writes_next(self.word.next(), access),
+            _ => is_same(self.row.next(), access),
+        };
+        if is_next {
             self.open_access = Some(access);
             PutStep::GoesOn
         } else {
@@ -235,36 +240,6 @@ impl PutReader {
         } else {
             // it has stopped, with a row that is at rest no more
             self.stage = Stage::Closed;
-            PutStep::Stops
-        }
-    }
-
-    // In a word: the write of its next digit begins.
-    fn begin_digit(&mut self, access: Access) -> PutStep
-        requires none { self.old.open_access ≡ None }
-        requires stage { self.old.stage ≡ Storing }
-        ensures shape { self.new.shape ≡ self.old.shape }
-        ensures read { HasReadPut self.old.shape self.old self.new (opening_event P access) result }
-    {
-        if writes_next(self.word.next(), access) {
-            self.open_access = Some(access);
-            PutStep::GoesOn
-        } else {
-            PutStep::Stops
-        }
-    }
-
-    // In a count write: its next bit write begins.
-    fn begin_bit(&mut self, access: Access) -> PutStep
-        requires none { self.old.open_access ≡ None }
-        requires stage { self.old.stage ≡ Counting }
-        ensures shape { self.new.shape ≡ self.old.shape }
-        ensures read { HasReadPut self.old.shape self.old self.new (opening_event P access) result }
-    {
-        if is_same(self.row.next(), access) {
-            self.open_access = Some(access);
-            PutStep::GoesOn
-        } else {
             PutStep::Stops
         }
     }

@@ -1,10 +1,9 @@
 -- The sentence of the ring, from its law.
 use Rattle.std.proofs.Common.{◌≡◌, ℕ, zero, suc, ◌+◌, ◌%◌, List, [], ◌∷◌, ◌++◌, length, take, drop, refl, sym, ap, ap₂, subst, ◌∙◌, arith}
-use Rattle.std.proofs.Math.Seq.{take-length}
 use Rattle.bits_core.specs.declared.events.Side.{Side}
 use Rattle.bits_core.specs.declared.events.Side.TheVariants.{P, C}
 use Rattle.bits_core.specs.declared.events.Event.{Event}
-use Rattle.bits_core.specs.Made.{clock, subhistory}
+use Rattle.bits_core.specs.Made.{clock}
 use Rattle.bits_core.specs.Shape.{batch_of, modulus_of}
 use Rattle.ring_core.specs.Counts.{first_count, number_past}
 use Rattle.ring_core.specs.Items.{all_put, items_put, items_put_in, IsTold, ItemsAreRead, ToldIn}
@@ -14,6 +13,8 @@ use Rattle.ring_core.specs.RingLaw.{ClosedIsTrue, InEveryRun, IsRun}
 use Rattle.ring_core.specs.Takes.{FollowsTakes, Takes}
 use Rattle.ring_player.specs.Plays.{AreAttempts, offered, Plays}
 use Rattle.ring_script.specs.Content.{Content}
+use Rattle.ring_core.proofs.CountRow.{past_is}
+use Rattle.ring_core.proofs.OwnEvents.{clock_end}
 
 drop-all : (n : ℕ) (xs : List ℕ) → n ≡ length xs → drop n xs ≡ []
 drop-all zero [] e = refl
@@ -45,10 +46,6 @@ parts (suc r) zero (x ∷ xs) = refl
 parts (suc r) (suc b) [] = refl
 parts (suc r) (suc b) (x ∷ xs) = ap (λ l. x ∷ l) (parts r b xs)
 
-pub past_is : (n : ℕ) (items : List ℕ) → number_past n items ≡ n + length items
-past_is n [] = omega arith
-past_is n (x ∷ items) = omega (arith, past_is (suc n) items)
-
 -- attempts that store all items store them in order
 pub all_items : (script : Content) (n : ℕ) (puts : List Put) → AreAttempts script n puts → stored_in n puts ≡ length script.items → all_put puts ≡ drop n script.items
 all_items script n [] m e = sym (drop-all n script.items e)
@@ -60,9 +57,6 @@ all_items script n (Stored seen items ∷ puts) (l, is, m) e =
     (all_items script (number_past n items) puts m e ∙ ap (λ k. drop k script.items) there ∙ sym (drop-drop (length (take room (offered script n))) n script.items))
     ∙ parts room (batch_of script.shape) left
 all_items script n (Full seen ∷ puts) (l, is, m) e = all_items script n puts m e
-
-clock_end : (s : Side) (h : List Event) → clock s h (length h) ≡ length (subhistory s h)
-clock_end s h = ap (λ l. length (subhistory s l)) (take-length h)
 
 pub put_all_items :
     InEveryRun ClosedIsTrue → ItemsAreRead → (script : Content) (letters : List Side) (h : List Event) → Plays script letters h → (puts : Puts) (takes : Takes) → FollowsPuts script.shape h puts →

@@ -1,4 +1,4 @@
-mod Moves
+pub mod Moves
 mod Nexts
 mod Overs
 mod Written

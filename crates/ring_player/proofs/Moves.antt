@@ -1,6 +1,6 @@
 -- What one event does to the words that a play is stated in.
-use Rattle.std.proofs.Common.{◌≡◌, inl, inr, ◌+◌, ◌*◌, ◌≤◌, Bool, true, false, Option, Some, None, List, [], ◌∷◌, ◌++◌, length, refl, sym, ap, subst, ◌∙◌, append_assoc, append-nil, length-append, arith}
-use Rattle.std.specs.Prelude.{if◌then◌else◌}
+use Rattle.std.proofs.Common.{◌≡◌, inl, inr, ◌+◌, ◌*◌, ◌<◌, ◌≤◌, Bool, true, false, Option, Some, None, List, [], ◌∷◌, ◌++◌, length, refl, sym, ap, subst, ◌∙◌, append_assoc, append-nil, length-append, arith}
+use Rattle.std.specs.Prelude.{if◌then◌else◌, IfSome}
 use Rattle.bits_core.specs.declared.events.Side.{Side}
 use Rattle.bits_core.specs.declared.events.Side.TheVariants.{P, C}
 use Rattle.bits_core.specs.declared.events.Access.{Access}
@@ -8,25 +8,25 @@ use Rattle.bits_core.specs.declared.events.Access.TheVariants as access
 use Rattle.bits_core.specs.declared.events.Event.{Event}
 use Rattle.bits_core.specs.Bits.{is_by, other, same_side}
 use Rattle.bits_core.specs.Laws.{SubhistoryChanges}
-use Rattle.bits_core.specs.Made.{Made, answered, begin_event, end_event, events_of, subhistory, opening_event}
+use Rattle.bits_core.specs.Made.{IsPrefix, Made, answered, begin_event, end_event, events_of, subhistory, opening_event}
+use Rattle.bits_core.specs.Open.{IsOpenRight}
+use Rattle.bits_core.specs.declared.shapes.Shape.{Shape}
 use Rattle.ring_core.specs.Puts.{put_program}
 use Rattle.ring_core.specs.Takes.{take_program}
 use Rattle.ring_player.specs.Actors.{so_far, IsMove}
 use Rattle.ring_player.specs.Plays.{AreMoves, IsDone, IsDoneAfter, IsProgram, event_sides}
 use Rattle.ring_script.specs.Content.{Content}
+use Rattle.bits_core.proofs.Changes.{same_side-same}
+use Rattle.ring_core.proofs.Machines.Following.{events_of-append, length-events}
 
 -- ---- the events of one side
-
-same_side-refl : (s : Side) → same_side s s ≡ true
-same_side-refl P = refl
-same_side-refl C = refl
 
 same_side-other : (s : Side) → same_side (other s) s ≡ false
 same_side-other P = refl
 same_side-other C = refl
 
 pub by_side : (s : Side) (e : Event) → e.side ≡ s → is_by s e ≡ true
-by_side s e by = ap (λ t. same_side s t) by ∙ same_side-refl s
+by_side s e by = ap (λ t. same_side s t) by ∙ same_side-same s
 
 pub not_by : (s : Side) (e : Event) → e.side ≡ s → is_by (other s) e ≡ false
 not_by s e by = ap (λ t. same_side (other s) t) by ∙ same_side-other s
@@ -39,14 +39,6 @@ own_other law s h e by = law (other s) h e ∙ ap (λ t. if t then subhistory (o
 
 -- ---- the events of accesses
 
-pub events-append : (s : Side) (xs ys : List Made) → events_of s (xs ++ ys) ≡ events_of s xs ++ events_of s ys
-events-append s [] ys = refl
-events-append s (x ∷ xs) ys = ap (λ l. begin_event s x ∷ end_event s x ∷ l) (events-append s xs ys)
-
-pub length-events : (s : Side) (xs : List Made) → length (events_of s xs) ≡ 2 * length xs
-length-events s [] = refl
-length-events s (x ∷ xs) = omega (arith, length-events s xs)
-
 -- an access begins alike whatever it is answered
 pub begins_as : (s : Side) (a : Access) (v : Bool) → begin_event s (answered a v) ≡ opening_event s a
 begins_as s (access.Read b) v = refl
@@ -55,13 +47,57 @@ begins_as s (access.Write b w) v = refl
 -- the events of one access more
 pub events-more : (s : Side) (list : List Made) (a : Access) (v : Bool) → events_of s (list ++ answered a v ∷ []) ≡ so_far s list (Some a) ++ end_event s (answered a v) ∷ []
 events-more s list a v =
-    events-append s list (answered a v ∷ []) ∙ ap (λ e. events_of s list ++ (e ∷ end_event s (answered a v) ∷ [])) (begins_as s a v)
+    events_of-append s list (answered a v ∷ []) ∙ ap (λ e. events_of s list ++ (e ∷ end_event s (answered a v) ∷ [])) (begins_as s a v)
     ∙ sym (append_assoc (events_of s list) (opening_event s a ∷ []) (end_event s (answered a v) ∷ []))
 
 pub so_far_length : (s : Side) (list : List Made) (o : Option Access) → (2 * length list ≤ length (so_far s list o)) × (length (so_far s list o) ≤ 2 * length list + 1)
 so_far_length s list None = (omega (arith, length-events s list), omega (arith, length-events s list))
 so_far_length s list (Some a) =
     (omega (arith, length-events s list, length-append (events_of s list) (opening_event s a ∷ [])), omega (arith, length-events s list, length-append (events_of s list) (opening_event s a ∷ [])))
+
+-- where the accesses whose events these are go on, those of the whole are more, and begin so
+pub goes_longer :
+    (s : Side) (list done whole rest : List Made) (a : Access) → events_of s list ≡ events_of s done → (list ++ answered a true ∷ []) ++ rest ≡ whole →
+    (2 * length done < 2 * length whole) × IsPrefix (events_of s done) (events_of s whole)
+goes_longer s list done whole rest a same e =
+    let more : List Made = answered a true ∷ rest in
+    let parts : list ++ more ≡ whole = sym (append_assoc list (answered a true ∷ []) rest) ∙ e in (
+      omega (arith, ap length parts, length-append list more, ap length same, length-events s list, length-events s done),
+      (events_of s more, ap (λ l. l ++ events_of s more) (sym same) ∙ sym (events_of-append s list more) ∙ ap (events_of s) parts),
+    )
+
+-- the access that is due is of a bit of this shape, by the side that may
+pub right : (of shape : Shape) (s : Side) (due : Option Access) (a : Access) → of ≡ shape → IfSome due (IsOpenRight of s) → due ≡ Some a → IsOpenRight shape s a
+right of shape s due a same ok is = subst (λ t. IsOpenRight t s a) same (subst (λ d. IfSome d (IsOpenRight of s)) is ok)
+
+-- a beginning of a beginning is one
+pub begins-trans : {A : Type 0} (xs ys zs : List A) → IsPrefix xs ys → IsPrefix ys zs → IsPrefix xs zs
+begins-trans xs ys zs (r, e) (r', f) = (r ++ r', sym (append_assoc xs r r') ∙ ap (λ l. l ++ r') e ∙ f)
+
+-- a list and its last element, where others begin it with one element more
+pub split_last : {A : Type 0} (xs ys zs : List A) (x y : A) → xs ++ x ∷ [] ≡ ys ++ y ∷ zs → (ws : List A) × (xs ≡ ys ++ ws)
+split_last xs [] zs x y e = (xs, refl)
+split_last [] (w ∷ []) zs x y e = absurd (cc)
+split_last [] (w ∷ v ∷ ys) zs x y e = absurd (cc)
+split_last (w ∷ xs) (v ∷ ys) zs x y e =
+    let tails : xs ++ x ∷ [] ≡ ys ++ y ∷ zs = cc in
+    let head : w ≡ v = cc in
+    let (ws, f) = split_last xs ys zs x y tails in
+    (ws, ap (λ l. w ∷ l) f ∙ ap (λ t. t ∷ (ys ++ ws)) head)
+
+-- an open access is the one that is due
+pub no_open : (o : Option Access) → ((a : Access) → o ≡ Some a → None ≡ Some a) → o ≡ None
+no_open None f = refl
+no_open (Some a) f = sym (f a refl)
+
+-- the events so far begin those with the due access made
+pub so_far_begins :
+    (s : Side) (list : List Made) (o : Option Access) (a : Access) (v : Bool) → ((b : Access) → o ≡ Some b → Some a ≡ Some b) → IsPrefix (so_far s list o) (events_of s (list ++ answered a v ∷ []))
+so_far_begins s list None a v due = (events_of s (answered a v ∷ []), sym (events_of-append s list (answered a v ∷ [])))
+so_far_begins s list (Some b) a v due =
+    let both : Some a ≡ Some b = due b refl in
+    let same : a ≡ b = cc in
+    (end_event s (answered a v) ∷ [], ap (λ x. so_far s list (Some x) ++ end_event s (answered a v) ∷ []) (sym same) ∙ sym (events-more s list a v))
 
 -- an open access is no whole list of accesses
 pub not_whole : (s : Side) (xs ys : List Made) (e : Event) → events_of s xs ++ e ∷ [] ≡ events_of s ys → ⊥

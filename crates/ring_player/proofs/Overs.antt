@@ -1,5 +1,5 @@
 -- The calls that are over, where all but the last are.
-use Rattle.std.proofs.Common.{◌≡◌, ℕ, ◌+◌, ◌-◌, ◌*◌, ◌<◌, ◌≤◌, Bool, true, false, cond, List, [], ◌∷◌, ◌++◌, length, refl, ap, ap₂, arith, length-append, nat_le}
+use Rattle.std.proofs.Common.{◌≡◌, ℕ, ◌-◌, ◌*◌, ◌<◌, ◌≤◌, Bool, true, false, cond, List, [], ◌∷◌, ◌++◌, length, refl, ap, ap₂, arith, nat_le}
 use Rattle.std.proofs.lemmas.Bool.{le-leb, leb-true, lt-leb}
 use Rattle.bits_core.specs.declared.shapes.Shape.{Shape}
 use Rattle.ring_core.specs.Counts.{Count}
@@ -7,18 +7,15 @@ use Rattle.ring_core.specs.Items.{events_in}
 use Rattle.ring_core.specs.Over.{over, puts_over, takes_over}
 use Rattle.ring_core.specs.Puts.{Put, put_phrase, put_phrases, stored_after}
 use Rattle.ring_core.specs.Takes.{Take, count_after, take_phrase, take_phrases}
+use Rattle.ring_core.proofs.Readings.Over.{total, puts_total, takes_total}
 
 module _ {S X : Type 0} (events : S → X → ℕ) (after : S → X → S) where
-  abbrev total : S → List X → ℕ
-  total s [] = 0
-  total s (x ∷ xs) = events s x + total (after s x) xs
-
-  all_over : (s : S) (xs : List X) (t : ℕ) → total s xs ≤ t → over events after s xs t ≡ xs
+  all_over : (s : S) (xs : List X) (t : ℕ) → total events after s xs ≤ t → over events after s xs t ≡ xs
   all_over s [] t l = refl
   all_over s (x ∷ xs) t l =
       ap₂ (λ (b : Bool) (r : List X). cond b (x ∷ r) []) (le-leb (events s x) t (omega (arith, l))) (all_over (after s x) xs (t - events s x) (omega (arith, l)))
 
-  cut_over : (s : S) (xs : List X) (x : X) (t : ℕ) → total s xs ≤ t → t < total s (xs ++ x ∷ []) → over events after s (xs ++ x ∷ []) t ≡ xs
+  cut_over : (s : S) (xs : List X) (x : X) (t : ℕ) → total events after s xs ≤ t → t < total events after s (xs ++ x ∷ []) → over events after s (xs ++ x ∷ []) t ≡ xs
   cut_over s [] x t l m = ap (λ (b : Bool). cond b (x ∷ []) []) (lt-leb (events s x) t (omega (arith, m)))
   cut_over s (y ∷ xs) x t l m =
       ap₂ (λ (b : Bool) (r : List X). cond b (y ∷ r) []) (le-leb (events s y) t (omega (arith, l))) (cut_over (after s y) xs x (t - events s y) (omega (arith, l)) (omega (arith, m)))
@@ -31,14 +28,6 @@ over_front {X = X} events after s (x ∷ xs) t = by_test (over_front events afte
     by_test : ((rest : List X) × (xs ≡ over events after (after s x) xs (t - events s x) ++ rest)) → (b : Bool) → (rest : List X) × (x ∷ xs ≡ cond b (x ∷ over events after (after s x) xs (t - events s x)) [] ++ rest)
     by_test (rest, e) true = (rest, ap (λ l. x ∷ l) e)
     by_test z false = (x ∷ xs, refl)
-
-puts_total : (shape : Shape) (c : Count) (xs : List Put) → total (λ c x. events_in (put_phrase shape c x)) (stored_after shape) c xs ≡ 2 * length (put_phrases shape c xs)
-puts_total shape c [] = refl
-puts_total shape c (x ∷ xs) = omega (arith, puts_total shape (stored_after shape c x) xs, length-append (put_phrase shape c x) (put_phrases shape (stored_after shape c x) xs))
-
-takes_total : (shape : Shape) (c : Count) (xs : List Take) → total (λ c x. events_in (take_phrase shape c x)) (count_after shape) c xs ≡ 2 * length (take_phrases shape c xs)
-takes_total shape c [] = refl
-takes_total shape c (x ∷ xs) = omega (arith, takes_total shape (count_after shape c x) xs, length-append (take_phrase shape c x) (take_phrases shape (count_after shape c x) xs))
 
 pub puts_all_over :
     (shape : Shape) (c : Count) (xs : List Put) (t : ℕ) → 2 * length (put_phrases shape c xs) ≤ t → over (λ c x. events_in (put_phrase shape c x)) (stored_after shape) c xs t ≡ xs

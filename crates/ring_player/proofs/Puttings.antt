@@ -1,15 +1,14 @@
 -- What the producer's actor does with its machine.
-use Rattle.std.proofs.Common.{◌≡◌, ℕ, zero, suc, ◌+◌, ◌*◌, ◌%◌, ◌<◌, ◌≤◌, Bool, true, false, cond, Option, Some, None, List, [], ◌∷◌, ◌++◌, length, take, drop, refl, sym, ap, subst, ◌∙◌, append_assoc, append-nil, length-append, arith}
-use Rattle.std.specs.Prelude.{is_some, IfSome}
+use Rattle.std.proofs.Common.{◌≡◌, ℕ, zero, suc, ◌+◌, ◌*◌, ◌%◌, ◌<◌, ◌≤◌, Bool, true, false, cond, Option, Some, None, List, [], ◌∷◌, ◌++◌, length, take, drop, refl, sym, ap, subst, ◌∙◌, append-nil, length-append, arith}
+use Rattle.std.specs.Prelude.{is_some}
 use Rattle.bits_core.specs.declared.events.Side.TheVariants.{P}
 use Rattle.bits_core.specs.declared.events.Access.{Access}
 use Rattle.bits_core.specs.declared.shapes.Shape.{Shape}
 use Rattle.bits_core.specs.Shape.{AllFit, batch_of, modulus_of, width_of}
-use Rattle.bits_core.specs.Made.{Made, answered, events_of, IsPrefix}
-use Rattle.bits_core.specs.Open.{IsOpenRight}
+use Rattle.bits_core.specs.Made.{Made, answered, events_of}
 use Rattle.ring_core.specs.declared.replies.BatchReply.{BatchReply}
 use Rattle.ring_core.specs.Calls.{LastBitIsDue}
-use Rattle.ring_core.specs.Counts.{number_past, Count, first_count}
+use Rattle.ring_core.specs.Counts.{Count, first_count}
 use Rattle.ring_core.specs.ProducerCalls.{and_put, closes_with, HasCallMore, ProducerHasMoved, IsAfterCall, IsPutOf, IsReplyToCall, last_put_reply, new_producer, no_puts, ProducerStands, put_reply_to, room_in}
 use Rattle.ring_core.specs.ProducerState.{batch_reply, Call, call_of, Close, due_put, ProducerState, Put}
 use Rattle.ring_core.specs.Puts as puts
@@ -20,8 +19,10 @@ use Rattle.ring_player.specs.Actors.{IsAsked, PutActorStands, PutTally, after_re
 use Rattle.ring_player.specs.Plays.{AreAttempts, ArePutsOf, IsDoneAfter, IsProgram, offered}
 use Rattle.ring_script.specs.Content.{Content}
 use Rattle.ring_script.specs.Script.{Fit}
+use Rattle.ring_core.proofs.Machines.Following.{events_of-append}
+use Rattle.ring_core.proofs.CountRow.{past_is}
 use Rattle.ring_player.proofs.Nexts.{IsNextPut, NextPut as NextOf}
-use Rattle.ring_player.proofs.Moves.{events-append, events-more, length-events, program_beginning}
+use Rattle.ring_player.proofs.Moves.{events-more, goes_longer, program_beginning, split_last}
 
 -- ---- the items offered
 
@@ -82,10 +83,6 @@ attempts-more script n (y ∷ xs) x (l', is', m) l is = (l', is', attempts-more 
 pub stored-more : (n : ℕ) (xs : List puts.Put) (x : puts.Put) → stored_in n (xs ++ x ∷ []) ≡ number_after (stored_in n xs) x
 stored-more n [] x = refl
 stored-more n (y ∷ xs) x = stored-more (number_after n y) xs x
-
-past_is : (n : ℕ) (items : List ℕ) → number_past n items ≡ n + length items
-past_is n [] = omega arith
-past_is n (x ∷ items) = omega (arith, past_is (suc n) items)
 
 after_more : (n : ℕ) (x : puts.Put) → n ≤ number_after n x
 after_more n (Stored seen items) = omega (arith, past_is n items)
@@ -153,7 +150,7 @@ goes_on :
 goes_on script None calls list a v m asked next one = absurd next
 goes_on script (Some c) calls list a v m asked next one =
     let (more, has, (rest, e)) = next v one in
-    (more, calls_asked script c calls more m asked has, (events_of P rest, sym (events-append P (list ++ answered a v ∷ []) rest) ∙ ap (events_of P) e))
+    (more, calls_asked script c calls more m asked has, (events_of P rest, sym (events_of-append P (list ++ answered a v ∷ []) rest) ∙ ap (events_of P) e))
 
 -- ---- one step of the actor
 
@@ -186,47 +183,36 @@ pub next_in :
     IsNextPut script.shape s.calls (call_of p) list due
 next_in script p kept list o due s next = subst (λ (t : Shape). IsNextPut t s.calls (call_of p) list due) s.same_shape (next s.calls list s.there)
 
+-- the same calls and counts, of a machine that stands with these accesses
+stands_with :
+    {script : Content} {p : ProducerState} {kept : PutTally} {list : List Made} {o : Option Access} (s : PutActorStands script p kept list o) (p' : ProducerState) (o' : Option Access) →
+    ProducerStands p' s.calls list → p'.shape ≡ script.shape → ((items : List ℕ) → call_of p' ≡ Some (Put items) → p'.batched ≡ true) → IsAsked script s.calls (call_of p') →
+    IsProgram script P (so_far P list o') → PutActorStands script p' kept list o'
+stands_with s p' o' there shape batched asked program = record {
+  calls = s.calls;
+  there = there;
+  same_shape = shape;
+  attempts = s.attempts;
+  counted = s.counted;
+  filled = s.filled;
+  long = s.long;
+  batched = batched;
+  asked = asked;
+  program = program;
+}
+
 pub begins_access :
     (script : Content) (p : ProducerState) (kept : PutTally) (list : List Made) (due : Option Access) (a : Access) → PutActorStands script p kept list None → NextOf p due → due ≡ Some a →
     PutActorStands script p kept list (Some a)
 begins_access script p kept list due a s next is =
     let n : IsNextPut script.shape s.calls (call_of p) list (Some a) = subst (λ d. IsNextPut script.shape s.calls (call_of p) list d) is (next_in script p kept list None due s next) in
-    record {
-      calls = s.calls;
-      there = s.there;
-      same_shape = s.same_shape;
-      attempts = s.attempts;
-      counted = s.counted;
-      filled = s.filled;
-      long = s.long;
-      batched = s.batched;
-      asked = s.asked;
-      program = program_beginning script P (so_far P list (Some a)) _
-          (subst (λ t. IsProgram script P t) (events-more P list a true) (goes_on script (call_of p) s.calls list a true s.attempts s.asked n (λ l. refl)));
-    }
-
--- the access that is due is of a bit of the script's shape, by the side that may
-pub right :
-    (script : Content) (p : ProducerState) (kept : PutTally) (list : List Made) (due : Option Access) (a : Access) → PutActorStands script p kept list None → IfSome due (IsOpenRight p.shape P) →
-    due ≡ Some a → IsOpenRight script.shape P a
-right script p kept list due a s ok is =
-    let there : IsOpenRight p.shape P a = subst (λ d. IfSome d (IsOpenRight p.shape P)) is ok in
-    subst (λ t. IsOpenRight t P a) s.same_shape there
+    stands_with s p (Some a) s.there s.same_shape s.batched s.asked (program_beginning script P (so_far P list (Some a)) _
+    (subst (λ t. IsProgram script P t) (events-more P list a true) (goes_on script (call_of p) s.calls list a true s.attempts s.asked n (λ l. refl))))
 
 -- ---- where an access is due the side is not done
 
 same_calls : (a b : Puts) → a.puts ≡ b.puts → a.closes ≡ b.closes → a ≡ b
 same_calls a b p q = ap (λ (t : List puts.Put). record { puts = t; closes = a.closes }) p ∙ ap (λ (t : Bool). record { puts = b.puts; closes = t }) q
-
-split_last : (xs ys zs : List puts.Put) (x y : puts.Put) → xs ++ x ∷ [] ≡ ys ++ y ∷ zs → (ws : List puts.Put) × (xs ≡ ys ++ ws)
-split_last xs [] zs x y e = (xs, refl)
-split_last [] (w ∷ []) zs x y e = absurd (cc)
-split_last [] (w ∷ v ∷ ys) zs x y e = absurd (cc)
-split_last (w ∷ xs) (v ∷ ys) zs x y e =
-    let tails : xs ++ x ∷ [] ≡ ys ++ y ∷ zs = cc in
-    let head : w ≡ v = cc in
-    let (ws, f) = split_last xs ys zs x y tails in
-    (ws, ap (λ l. w ∷ l) f ∙ ap (λ t. t ∷ (ys ++ ws)) head)
 
 pub unfinished :
     PutsAreFirst → (script : Content) (p : ProducerState) (kept : PutTally) (list : List Made) (due : Option Access) (a : Access) → PutActorStands script p kept list None → NextOf p due →
@@ -234,27 +220,6 @@ pub unfinished :
 unfinished law script p kept list due a s next is d =
     by_call (call_of p) s.asked (subst (λ t. IsNextPut script.shape s.calls (call_of p) list t) is (next_in script p kept list None due s next))
   where
-    -- the done calls begin the calls with the one under way, which have more accesses
-    longer : (more : Puts) (rest : List Made) → (list ++ answered a true ∷ []) ++ rest ≡ put_program script.shape more → 2 * length (put_program script.shape d.0) < 2 * length (put_program script.shape more)
-    longer more rest e =
-        omega (
-          arith,
-          ap length e,
-          length-append (list ++ answered a true ∷ []) rest,
-          length-append list (answered a true ∷ []),
-          ap length d.2,
-          length-events P list,
-          length-events P (put_program script.shape d.0),
-        )
-
-    begins_more : (more : Puts) (rest : List Made) → (list ++ answered a true ∷ []) ++ rest ≡ put_program script.shape more →
-        IsPrefix (events_of P (put_program script.shape d.0)) (events_of P (put_program script.shape more))
-    begins_more more rest e = (
-      events_of P (answered a true ∷ rest),
-      ap (λ l. l ++ events_of P (answered a true ∷ rest)) (sym d.2) ∙ sym (events-append P list (answered a true ∷ rest)) ∙
-          ap (events_of P) (sym (append_assoc list (answered a true ∷ []) rest) ∙ e),
-    )
-
     not_all : (more : Puts) → d.0 ≡ more → 2 * length (put_program script.shape d.0) < 2 * length (put_program script.shape more) → ⊥
     not_all more same l = absurd (omega (arith, l, ap (λ (t : Puts). length (put_program script.shape t)) same))
 
@@ -277,12 +242,14 @@ unfinished law script p kept list due a s next is d =
     by_call None asked n = absurd n
     by_call (Some (Put items)) (items_are, left) n =
         let (more, (x, of, more_is, are, o), (rest, e)) = n true (λ l. refl) in
-        let (rises, whole) = law script.shape d.0 more d.1 are (begins_more more rest e) in
-        put_less more x rises.0 more_is rises.1 whole (longer more rest e) left
+        let (longer, begins) = goes_longer P list (put_program script.shape d.0) (put_program script.shape more) rest a d.2 e in
+        let (rises, whole) = law script.shape d.0 more d.1 are begins in
+        put_less more x rises.0 more_is rises.1 whole longer left
     by_call (Some Close) (closes, all) n =
         let (more, (more_is, are, o), (rest, e)) = n true (λ l. refl) in
-        let (rises, whole) = law script.shape d.0 more d.1 are (begins_more more rest e) in
-        not_all more (whole (d.4 ∙ closes)) (longer more rest e)
+        let (longer, begins) = goes_longer P list (put_program script.shape d.0) (put_program script.shape more) rest a d.2 e in
+        let (rises, whole) = law script.shape d.0 more d.1 are begins in
+        not_all more (whole (d.4 ∙ closes)) longer
 
 -- ---- the next call begins
 
@@ -309,18 +276,9 @@ began_one script p p' kept list items s next left begun e =
 pub began_close :
     (script : Content) (p p' : ProducerState) (kept : PutTally) (list : List Made) → PutActorStands script p kept list None → length script.items ≤ kept.stored → script.closes ≡ true →
     p'.shape ≡ p.shape → call_of p' ≡ Some Close → StandsOn p p' → PutActorStands script p' kept list None
-began_close script p p' kept list s over closes shape call on = record {
-  calls = s.calls;
-  there = on s.calls list s.there;
-  same_shape = shape ∙ s.same_shape;
-  attempts = s.attempts;
-  counted = s.counted;
-  filled = s.filled;
-  long = s.long;
-  batched = λ items e. absurd (no_put items (sym call ∙ e));
-  asked = subst (λ t. IsAsked script s.calls t) (sym call) (closes, omega (arith, over, s.counted, attempts_within script 0 s.calls.puts (omega arith) s.attempts));
-  program = s.program;
-}
+began_close script p p' kept list s over closes shape call on =
+    stands_with s p' None (on s.calls list s.there) (shape ∙ s.same_shape) (λ items e. absurd (no_put items (sym call ∙ e)))
+    (subst (λ t. IsAsked script s.calls t) (sym call) (closes, omega (arith, over, s.counted, attempts_within script 0 s.calls.puts (omega arith) s.attempts))) s.program
   where
     no_put : (items : List ℕ) → Some Close ≡ Some (Put items) → ⊥
     no_put items e = absurd (cc)

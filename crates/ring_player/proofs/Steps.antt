@@ -1,5 +1,5 @@
 -- What one step of a side does.
-use Rattle.std.proofs.Common.{◌≡◌, ℕ, zero, suc, ◌<◌, ◌≤◌, Bool, true, false, Option, Some, None, List, [], ◌∷◌, ◌++◌, length, refl, sym, ap, subst, ◌∙◌, append_assoc, append-nil, length-append, arith}
+use Rattle.std.proofs.Common.{◌≡◌, ℕ, suc, ◌<◌, ◌≤◌, Bool, true, false, Option, Some, None, List, [], ◌∷◌, ◌++◌, length, refl, sym, ap, subst, ◌∙◌, append_assoc, append-nil, length-append, arith}
 use Rattle.std.specs.Prelude.{if◌then◌else◌, not, ◌^◌}
 use Rattle.std.proofs.lemmas.List.Filters.{length-filter_both}
 use Rattle.bits_core.specs.declared.events.Side.{Side}
@@ -15,15 +15,18 @@ use Rattle.bits_core.specs.Laws.{OpenChanges, SubhistoryChanges}
 use Rattle.bits_core.specs.Lawful.{IsLawful}
 use Rattle.bits_core.specs.Made.{Made, Read, answered, end_event, events_of, subhistory, opening_event}
 use Rattle.bits_core.specs.Open.{IsReading, IsWriting, bit_of}
+use Rattle.bits_core.specs.declared.shapes.Shape.{Shape}
 use Rattle.bits_core.specs.Shape.{modulus_of}
 use Rattle.register_core.specs.Row.{row_bit}
 use Rattle.register_core.specs.ScanState.{row_read_by, zero_reads}
 use Rattle.ring_core.specs.Calls.{EndsInZeros, LastBitIsDue}
-use Rattle.ring_core.specs.RunLaws.{PutsAreSeen, TakesAreSeen}
+use Rattle.ring_core.specs.RunLaws.{NeverMisses, PutsAreSeen, TakesAreSeen}
 use Rattle.ring_player.specs.Actors.{so_far, IsMove, IsPlaying}
 use Rattle.ring_player.specs.Plays.{IsProgram}
 use Rattle.ring_script.specs.Content.{Content}
-use Rattle.ring_player.proofs.Moves.{by_side, events-more, length-events, open_not_done, own_by, own_other, so_far_length}
+use Rattle.register_core.proofs.ScanMachine.{length-zeros}
+use Rattle.ring_core.proofs.Machines.Following.{length-events}
+use Rattle.ring_player.proofs.Moves.{by_side, events-more, open_not_done, own_by, own_other, so_far_length}
 
 abbrev pub Stands : Type 1
 Stands = List Made → Option Access → Type 0
@@ -65,13 +68,15 @@ writing None w = absurd w
 writing (Some (access.Read b)) w = absurd w
 writing (Some (access.Write b v)) w = (v, refl)
 
--- an open access ended
+-- the actor, which has made room, ends the access that its side has open
 pub after_end :
-    OpenChanges → SubhistoryChanges → (s : Side) (h h' : List Event) (due due' : Option Access) (stands stands' : Stands) (a : Access) (v : Bool) (e : Event) → (p : IsPlaying s h due stands) →
-    open_access s h ≡ Some a → h' ≡ h ++ e ∷ [] → e ≡ end_event s (answered a v) → e.side ≡ s → begun_by e ≡ None → stands' (p.list ++ answered a v ∷ []) None → IsPlaying s h' due' stands'
-after_end opens owns s h h' due due' stands stands' a v e p o is end by ends there =
+    OpenChanges → SubhistoryChanges → (s : Side) (h h' : List Event) (due mid due' : Option Access) (stands between stands' : Stands) (a : Access) (v : Bool) (e : Event) → IsPlaying s h due stands →
+    mid ≡ due → ((list : List Made) (o : Option Access) → stands list o → between list o) → open_access s h ≡ Some a → h' ≡ h ++ e ∷ [] → e ≡ end_event s (answered a v) → e.side ≡ s → begun_by e ≡ None →
+    ((list : List Made) (access : Access) → mid ≡ Some access → between list (Some access) → stands' (list ++ answered access v ∷ []) None) → IsPlaying s h' due' stands'
+after_end opens owns s h h' due mid due' stands between stands' a v e p same on o is end by ends moves =
     subst (λ (t : List Event). IsPlaying s t due' stands') (sym is)
-    (playing s (h ++ e ∷ []) due' stands' (p.list ++ answered a v ∷ []) None (open_by opens s h e by ∙ ends) there
+    (playing s (h ++ e ∷ []) due' stands' (p.list ++ answered a v ∷ []) None (open_by opens s h e by ∙ ends)
+    (moves p.list a (same ∙ p.is_due a o) (on p.list (Some a) (there_with s h due stands (Some a) p o)))
     (own_by owns s h e by ∙ ap (λ l. l ++ e ∷ []) (own_with s h due stands (Some a) p o) ∙ ap (λ x. so_far s p.list (Some a) ++ x ∷ []) end ∙ sym (events-more s p.list a v))
     (λ b f. none_some b f))
 
@@ -87,10 +92,6 @@ end_move script s h h' due stands a e p o is by = (e, is, by, open_not_done scri
 
 -- ---- the last bit of a count is not read as 0
 
-length-zeros : (row : ℕ → Bit) (n : ℕ) → length (zero_reads row n) ≡ n
-length-zeros row zero = refl
-length-zeros row (suc n) = omega (arith, length-append (zero_reads row n) (Read (row n) false ∷ []), length-zeros row n)
-
 -- reads of 0 in all bits
 all_zero :
     (row : ℕ → Bit) (list before : List Made) (last modulus : ℕ) (b : Bit) → list ≡ before ++ zero_reads row last → suc last ≡ modulus → b ≡ row last →
@@ -102,37 +103,31 @@ all_zero row list before last modulus b e f g =
 row_same : (s : Side) (i j : ℕ) (m : ℕ) → suc i ≡ m → suc j ≡ m → row_read_by s i ≡ row_read_by s j
 row_same s i j m e f = let same : i ≡ j = omega (arith, e, f) in ap (row_read_by s) same
 
+-- the other side has not read the last bit as 0 behind reads of 0 in all bits below
+not_missed :
+    (shape : Shape) (s : Side) (h : List Event) (list before : List Made) (b : Bit) (last : ℕ) → NeverMisses s shape h → subhistory (other s) h ≡ events_of (other s) (list ++ Read b false ∷ []) →
+    list ≡ before ++ zero_reads (row_bit s) last → suc last ≡ modulus_of shape → b ≡ row_bit s last → ⊥
+not_missed shape s h list before b last seen own_is list_is top b_is =
+    let zeros : List Made = zero_reads (row_bit s) (modulus_of shape) in
+    let made : list ++ Read b false ∷ [] ≡ before ++ (zeros ++ []) = all_zero (row_bit s) list before last (modulus_of shape) b list_is top b_is in
+    absurd (omega (
+      arith,
+      seen (list ++ Read b false ∷ []) before [] ([], append-nil (subhistory (other s) h) ∙ own_is) made,
+      ap length own_is,
+      length-events (other s) (list ++ Read b false ∷ []),
+      ap length made,
+      length-append before (zeros ++ []),
+      length-append zeros [],
+      length-zeros (row_bit s) (modulus_of shape),
+    ))
+
 never_false :
     PutsAreSeen → TakesAreSeen → (script : Content) (s : Side) (h : List Event) (list : List Made) (b : Bit) → IsLawful script.shape h → IsProgram script (other s) (subhistory (other s) h) →
     subhistory s h ≡ events_of s (list ++ Read b false ∷ []) → EndsInZeros script.shape s list → (i : ℕ) → b ≡ row_read_by s i → suc i ≡ modulus_of script.shape → ⊥
 never_false puts takes script P h list b lawful (calls, are, begins) own_is (before, last, top, list_is) i b_is i_top =
-    let made : list ++ Read b false ∷ [] ≡ before ++ (zero_reads (row_bit C) (modulus_of script.shape) ++ []) =
-    all_zero (row_bit C) list before last (modulus_of script.shape) b list_is top (b_is ∙ row_same P i last (modulus_of script.shape) i_top top) in
-    let fewer = (takes script.shape h calls lawful (record { are = are.0; events = begins })).1 (list ++ Read b false ∷ []) before [] ([], append-nil (subhistory P h) ∙ own_is) made in
-    absurd (omega (
-      arith,
-      fewer,
-      ap length own_is,
-      length-events P (list ++ Read b false ∷ []),
-      ap length made,
-      length-append before (zero_reads (row_bit C) (modulus_of script.shape) ++ []),
-      length-append (zero_reads (row_bit C) (modulus_of script.shape)) [],
-      length-zeros (row_bit C) (modulus_of script.shape),
-    ))
+    not_missed script.shape C h list before b last (takes script.shape h calls lawful (record { are = are.0; events = begins })).1 own_is list_is top (b_is ∙ row_same P i last (modulus_of script.shape) i_top top)
 never_false puts takes script C h list b lawful (calls, are, begins) own_is (before, last, top, list_is) i b_is i_top =
-    let made : list ++ Read b false ∷ [] ≡ before ++ (zero_reads (row_bit P) (modulus_of script.shape) ++ []) =
-    all_zero (row_bit P) list before last (modulus_of script.shape) b list_is top (b_is ∙ row_same C i last (modulus_of script.shape) i_top top) in
-    let fewer = (puts script.shape h calls lawful (record { are = are.are; events = begins })).1 (list ++ Read b false ∷ []) before [] ([], append-nil (subhistory C h) ∙ own_is) made in
-    absurd (omega (
-      arith,
-      fewer,
-      ap length own_is,
-      length-events C (list ++ Read b false ∷ []),
-      ap length made,
-      length-append before (zero_reads (row_bit P) (modulus_of script.shape) ++ []),
-      length-append (zero_reads (row_bit P) (modulus_of script.shape)) [],
-      length-zeros (row_bit P) (modulus_of script.shape),
-    ))
+    not_missed script.shape P h list before b last (puts script.shape h calls lawful (record { are = are.are; events = begins })).1 own_is list_is top (b_is ∙ row_same C i last (modulus_of script.shape) i_top top)
 
 same_read : (b c : Bit) → Some (access.Read b) ≡ Some (access.Read c) → b ≡ c
 same_read b c e = cc
@@ -155,6 +150,15 @@ answers_one puts takes owns script s h h' due stands b false p o is lawful other
 own-length : (s : Side) (h : List Event) → length (subhistory s h) ≤ length h
 own-length s h = omega (arith, length-filter_both (is_by s) (λ e. not (is_by s e)) (λ e. refl) h)
 
-pub accesses_few : (s : Side) (h : List Event) (due : Option Access) (stands : Stands) (n : ℕ) → (p : IsPlaying s h due stands) → n ≡ length h → n < 2 ^ 64 → length p.list < 2 ^ 63
-accesses_few s h due stands n p is few =
-    omega (arith, is, few, own-length s h, ap length p.own_is, so_far_length s p.list (open_access s h))
+-- what has to hold where it ends it
+pub ends_there :
+    (s : Side) (h : List Event) (due mid : Option Access) (stands between : Stands) (a : Access) (n : ℕ) → IsPlaying s h due stands → mid ≡ due →
+    ((list : List Made) (o : Option Access) → stands list o → between list o) → open_access s h ≡ Some a → n ≡ length h → n < 2 ^ 64 →
+    (list : List Made) × (access : Access) × (mid ≡ Some access) × between list (Some access) × (length list < 2 ^ 63)
+ends_there s h due mid stands between a n p same on o is few = (
+  p.list,
+  a,
+  same ∙ p.is_due a o,
+  on p.list (Some a) (there_with s h due stands (Some a) p o),
+  omega (arith, is, few, own-length s h, ap length p.own_is, so_far_length s p.list (open_access s h)),
+)

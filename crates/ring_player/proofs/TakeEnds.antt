@@ -16,8 +16,9 @@ use Rattle.ring_player.specs.Actors.{TakeActorStands, empty_in}
 use Rattle.ring_player.specs.Plays.{IsProgram}
 use Rattle.ring_player.specs.Wants.{AreTakesOf, wanted_at}
 use Rattle.ring_script.specs.Content.{Content}
+use Rattle.ring_core.proofs.Machines.TakeCalls.{reply-push, items-push}
 use Rattle.ring_player.proofs.Nexts.{IsNextTake, NextTake as NextOf}
-use Rattle.ring_player.proofs.TakeLists.{after_is, all-more, all_are, empties-more, items-more, last-more, take_of_calls, take_within, taken-more}
+use Rattle.ring_player.proofs.TakeLists.{after_is, all-more, all_are, empties-more, take_of_calls, take_within, taken-more}
 use Rattle.ring_player.proofs.Takings.{at_rest_is, goes_on, HasMovedFrom, next_in, one_more}
 
 -- what the actor keeps of a reply, by the items that the machine has
@@ -55,16 +56,15 @@ told_so (ItemAfterClose seen again []) told = refl
 told_so (ItemAfterClose seen again (item ∷ items)) told = refl
 told_so (Empty seen) told = refl
 
--- what the actor has once the access has ended
-abbrev pub Ended : Content → (p' : ConsumerState) → (taken : List ℕ) → (told : Bool) → (empty : ℕ) → (list : List Made) → Type 0
-Ended script p' taken told empty list =
-    TakeActorStands script p' (taken ++ kept_of (reply_of p') p'.items) (told_by (reply_of p') told) (empty + empty_in (reply_of p')) list None ×
-    (length (kept_of (reply_of p') p'.items) ≤ wanted_at script (length taken))
+-- what the actor has once the access has ended, by the machine's answer
+abbrev pub Ended : Content → (p' : ConsumerState) → (taken : List ℕ) → (told : Bool) → (empty : ℕ) → (list : List Made) → (reply : Option TakeBatchReply) → Type 0
+Ended script p' taken told empty list reply =
+    TakeActorStands script p' (taken ++ kept_of reply p'.items) (told_by reply told) (empty + empty_in reply) list None × (length (kept_of reply p'.items) ≤ wanted_at script (length taken))
 
 pub ended :
     (script : Content) (p p' : ConsumerState) (taken : List ℕ) (told : Bool) (empty : ℕ) (list : List Made) (due : Option Access) (a : Access) (v : Bool) → TakeActorStands script p taken told empty list (Some a) →
     NextOf p due → due ≡ due_take p → due_take p ≡ Some a → (LastBitIsDue script.shape C (due_take p) → v ≡ true) → HasMovedFrom p p' list a v → p'.shape ≡ p.shape → p'.wanted ≡ p.wanted → (due' : Option Access) → NextOf p' due' →
-    Ended script p' taken told empty (list ++ answered a v ∷ [])
+    Ended script p' taken told empty (list ++ answered a v ∷ []) (reply_of p')
 ended script p p' taken told empty list due a v s next due_is is one moved shape same_wanted due' next' =
     let n : IsNextTake script.shape (wanted_at script (taken_in 0 s.calls.takes)) s.calls (is_taking p) list (Some a) =
     subst (λ d. IsNextTake script.shape (wanted_at script (taken_in 0 s.calls.takes)) s.calls (is_taking p) list d) (due_is ∙ is) (next_in script p taken told empty list (Some a) due s next) in
@@ -76,7 +76,7 @@ ended script p p' taken told empty list due a v s next due_is is one moved shape
   where
     by_call :
         (b d : Bool) → is_taking p ≡ b → is_taking p' ≡ d → (more : Takes) → ConsumerStands p' more (list ++ answered a v ∷ []) → IsAfterTake script.shape p.wanted b d s.calls more →
-        IsProgram script C (events_of C (list ++ answered a v ∷ [])) → Ended script p' taken told empty (list ++ answered a v ∷ [])
+        IsProgram script C (events_of C (list ++ answered a v ∷ [])) → Ended script p' taken told empty (list ++ answered a v ∷ []) (reply_of p')
     by_call false d b_is d_is more there after goes = absurd after
     by_call true true b_is d_is more there more_is goes =
         let silent : reply_of p' ≡ None = ap (λ t. take_batch_reply t p'.items) (subst (λ t. IsReplyToTake more t p'.reply) d_is there.reply_is) in (
@@ -122,10 +122,10 @@ ended script p p' taken told empty list due a v s next due_is is one moved shape
         was_open = s.told_is ∙ ap ends_closed has.not_over
 
         by_more : ((x : Take) × IsTakeOf script.shape (count_taken script.shape s.calls).number (wanted_at script (taken_in 0 s.calls.takes)) x × (more ≡ and_take s.calls x)) ⊎ ((seen again : ℕ) × (more ≡ and_end s.calls seen again)) → p'.reply ≡ reply_at_end more.end more.takes →
-            p'.items ≡ items_at_end more.end more.takes → Ended script p' taken told empty (list ++ answered a v ∷ [])
+            p'.items ≡ items_at_end more.end more.takes → Ended script p' taken told empty (list ++ answered a v ∷ []) (reply_of p')
         by_more (inl (x, of, more_is)) reply_is items_is =
-            let items_are : p'.items ≡ taken_of x = items_is ∙ ap (λ (t : Takes). items_at_end t.end t.takes) more_is ∙ items-more [] s.calls.takes x in
-            let reply_here : p'.reply ≡ Some (take_reply_to x) = reply_is ∙ ap (λ (t : Takes). reply_at_end t.end t.takes) more_is ∙ last-more None s.calls.takes x in
+            let items_are : p'.items ≡ taken_of x = items_is ∙ ap (λ (t : Takes). items_at_end t.end t.takes) more_is ∙ items-push [] s.calls.takes x in
+            let reply_here : p'.reply ≡ Some (take_reply_to x) = reply_is ∙ ap (λ (t : Takes). reply_at_end t.end t.takes) more_is ∙ reply-push None s.calls.takes x in
             let answer : reply_of p' ≡ answer_of x = ap₂ take_batch_reply reply_here items_are in
             let is_of : IsTakeOf script.shape (taken_in 0 s.calls.takes) (wanted_at script (taken_in 0 s.calls.takes)) x =
             take_of_calls script.shape (wanted_at script (taken_in 0 s.calls.takes)) s.calls x of in

@@ -1,5 +1,5 @@
 -- What takes took, and what they told, one after the other.
-use Rattle.std.proofs.Common.{◌≡◌, ℕ, ◌+◌, ◌*◌, ◌<◌, ◌≤◌, Bool, true, false, Option, Some, List, [], ◌∷◌, ◌++◌, length, refl, sym, ap, ap₂, subst, ◌∙◌, append_assoc, append-nil, length-append, arith}
+use Rattle.std.proofs.Common.{◌≡◌, ℕ, ◌+◌, ◌*◌, ◌<◌, ◌≤◌, Bool, false, Some, List, [], ◌∷◌, ◌++◌, length, refl, sym, ap, ap₂, subst, ◌∙◌, append_assoc, append-nil, length-append, arith}
 use Rattle.std.specs.Prelude.{if◌then◌else◌, ◌-◌}
 use Rattle.std.proofs.lemmas.Bool.{le-leb, lt-leb}
 use Rattle.bits_core.specs.declared.events.Bit.TheVariants.{X}
@@ -7,14 +7,14 @@ use Rattle.bits_core.specs.declared.events.Side.TheVariants.{C}
 use Rattle.bits_core.specs.declared.shapes.Shape.{Shape}
 use Rattle.bits_core.specs.Made.{Read}
 use Rattle.register_core.specs.ScanState.{row_read_by, scan_phrase}
-use Rattle.ring_core.specs.declared.replies.TakeReply.{TakeReply}
-use Rattle.ring_core.specs.ConsumerCalls.{count_taken, ends_closed, IsTakeOf, last_items, last_take_reply, take_batch_reply, take_reply_to}
+use Rattle.ring_core.specs.ConsumerCalls.{count_taken, IsTakeOf, take_batch_reply, take_reply_to}
 use Rattle.ring_core.specs.Counts.{Count, first_count}
-use Rattle.ring_core.specs.Items.{all_taken, items_taken, take_ended, taken_of, Tells}
+use Rattle.ring_core.specs.Items.{all_taken, items_taken, take_ended, taken_of}
 use Rattle.ring_core.specs.Over.{empties}
-use Rattle.ring_core.specs.Takes.{AreTakes, Closed, count_after, Empty, End, IsTake, Item, ItemAfterClose, Open, Take, Takes, take_phrase, take_phrases, taken_after, taken_count, taken_in}
+use Rattle.ring_core.specs.Takes.{AreTakes, count_after, Empty, End, IsTake, Item, ItemAfterClose, Take, Takes, take_phrase, take_phrases, taken_after, taken_count, taken_in}
 use Rattle.ring_player.specs.Actors.{empty_in}
-use Rattle.ring_player.proofs.Headlines.{past_is}
+use Rattle.ring_core.proofs.CountRow.{past_is}
+use Rattle.ring_core.proofs.OverSpans.CallSpans.{taken_number}
 
 -- ---- the items taken
 
@@ -45,15 +45,6 @@ pub all_are : (k : ℕ) (xs : List Take) → k + length (all_taken xs) ≡ taken
 all_are k [] = omega arith
 all_are k (x ∷ xs) = omega (arith, all_are (taken_after k x) xs, after_is k x, length-append (taken_of x) (all_taken xs))
 
-pub tells_so : (end : End) → ends_closed end ≡ true → Tells end
-tells_so Open e = absurd (cc)
-tells_so (Closed seen again) e = tt
-
--- the number of the count that takes leave
-pub number_is : (shape : Shape) (c : Count) (xs : List Take) → (taken_count shape c xs).number ≡ taken_in c.number xs
-number_is shape c [] = refl
-number_is shape c (x ∷ xs) = number_is shape (count_after shape c x) xs
-
 -- each of some takes is one
 pub take_at : (shape : Shape) (k : ℕ) (xs : List Take) (x : Take) (ys : List Take) (end : End) → AreTakes shape k (xs ++ x ∷ ys) end → IsTake shape (taken_in k xs) x
 take_at shape k [] x ys end are = are.0
@@ -61,7 +52,7 @@ take_at shape k (y ∷ xs) x ys end are = take_at shape (taken_after k y) xs x y
 
 -- as it is told of calls
 pub take_of_calls : (shape : Shape) (wanted : ℕ) (calls : Takes) (x : Take) → IsTakeOf shape (count_taken shape calls).number wanted x → IsTakeOf shape (taken_in 0 calls.takes) wanted x
-take_of_calls shape wanted calls x of = subst (λ (k : ℕ). IsTakeOf shape k wanted x) (number_is shape first_count calls.takes) of
+take_of_calls shape wanted calls x of = subst (λ (k : ℕ). IsTakeOf shape k wanted x) (taken_number shape first_count calls.takes) of
 
 -- a take has no more items than it wants
 pub take_within : (shape : Shape) (k wanted : ℕ) (x : Take) → IsTakeOf shape k wanted x → length (taken_of x) ≤ wanted
@@ -70,14 +61,6 @@ take_within shape k wanted (ItemAfterClose seen again items) of = of.0
 take_within shape k wanted (Empty seen) of = omega arith
 
 -- ---- what they were answered
-
-pub last-more : (first : Option TakeReply) (xs : List Take) (x : Take) → last_take_reply first (xs ++ x ∷ []) ≡ Some (take_reply_to x)
-last-more first [] x = refl
-last-more first (y ∷ xs) x = last-more (Some (take_reply_to y)) xs x
-
-pub items-more : (first : List ℕ) (xs : List Take) (x : Take) → last_items first (xs ++ x ∷ []) ≡ taken_of x
-items-more first [] x = refl
-items-more first (y ∷ xs) x = items-more (taken_of y) xs x
 
 pub empties-more : (xs : List Take) (x : Take) → empties xs + empty_in (take_batch_reply (Some (take_reply_to x)) (taken_of x)) ≡ empties (xs ++ x ∷ [])
 empties-more [] (Item seen []) = refl
@@ -129,13 +112,6 @@ taken_all shape c (x ∷ xs) t l =
 -- a take that has not ended
 pub taken_none : (shape : Shape) (c : Count) (x : Take) (t : ℕ) → t < 2 * length (take_phrase shape c x) → items_taken shape c (x ∷ []) t ≡ []
 taken_none shape c x t l = append-nil (take_ended shape c x t) ∙ not_ended shape c x t l
-
-pub phrases-more :
-    (shape : Shape) (c : Count) (xs : List Take) (x : Take) → take_phrases shape c (xs ++ x ∷ []) ≡ take_phrases shape c xs ++ take_phrase shape (taken_count shape c xs) x
-phrases-more shape c [] x = append-nil (take_phrase shape c x)
-phrases-more shape c (y ∷ xs) x =
-    ap (λ l. take_phrase shape c y ++ l) (phrases-more shape (count_after shape c y) xs x) ∙
-    sym (append_assoc (take_phrase shape c y) (take_phrases shape (count_after shape c y) xs) (take_phrase shape (taken_count shape (count_after shape c y) xs) x))
 
 -- ---- no more than there are accesses
 

@@ -1,10 +1,10 @@
 -- What the consumer's actor has taken in its events so far.
-use Rattle.std.proofs.Common.{◌≡◌, ◌⊎◌, inl, inr, ℕ, ◌+◌, ◌*◌, ◌<◌, ◌≤◌, Bool, true, false, Option, Some, None, List, [], ◌∷◌, ◌++◌, length, refl, sym, ap, ap₂, subst, ◌∙◌, append_assoc, append-nil, length-append, arith}
+use Rattle.std.proofs.Common.{◌≡◌, ◌⊎◌, inl, inr, ℕ, ◌+◌, ◌*◌, ◌<◌, ◌≤◌, Bool, true, false, Option, Some, None, List, [], ◌∷◌, ◌++◌, length, refl, sym, ap, ap₂, subst, ◌∙◌, append-nil, length-append, arith}
 use Rattle.std.specs.Prelude.{◌-◌}
 use Rattle.bits_core.specs.declared.events.Side.TheVariants.{C}
 use Rattle.bits_core.specs.declared.events.Access.{Access}
 use Rattle.bits_core.specs.declared.shapes.Shape.{Shape}
-use Rattle.bits_core.specs.Made.{Made, answered, end_event, events_of, IsPrefix}
+use Rattle.bits_core.specs.Made.{Made, answered, events_of}
 use Rattle.ring_core.specs.ConsumerCalls.{and_end, and_take, count_taken, IsTakeOf, ends_closed}
 use Rattle.ring_core.specs.ConsumerState.{ConsumerState, is_taking}
 use Rattle.ring_core.specs.Counts.{first_count}
@@ -15,24 +15,14 @@ use Rattle.ring_player.specs.Actors.{TakeActorStands, so_far}
 use Rattle.ring_player.specs.Wants.{wanted_at}
 use Rattle.ring_player.specs.SoFar.{TakenSoFar}
 use Rattle.ring_script.specs.Content.{Content}
-use Rattle.ring_player.proofs.Moves.{events-append, events-more, length-events, so_far_length}
+use Rattle.ring_core.proofs.Machines.Following.{events_of-append, length-events}
+use Rattle.ring_core.proofs.Machines.TakeCalls.{phrases-push}
+use Rattle.ring_audit.proofs.TakeReads.{told-tells}
+use Rattle.ring_player.proofs.Moves.{begins-trans, no_open, so_far_begins, so_far_length}
 use Rattle.ring_player.proofs.Nexts.{IsNextTake, NextTake as NextOf}
 use Rattle.ring_player.proofs.Overs.{takes_all_over, takes_cut_over}
-use Rattle.ring_player.proofs.TakeLists.{all_are, empties_few, phrases-more, taken-append, taken_all, taken_none, tells_so}
+use Rattle.ring_player.proofs.TakeLists.{all_are, empties_few, taken-append, taken_all, taken_none}
 use Rattle.ring_player.proofs.Takings.{next_in}
-
--- the events so far begin those with the due access made
-so_far_begins : (list : List Made) (o : Option Access) (a : Access) (v : Bool) → ((b : Access) → o ≡ Some b → Some a ≡ Some b) → IsPrefix (so_far C list o) (events_of C (list ++ answered a v ∷ []))
-so_far_begins list None a v due = (events_of C (answered a v ∷ []), sym (events-append C list (answered a v ∷ [])))
-so_far_begins list (Some b) a v due =
-    let same : a ≡ b = some_same (due b refl) in
-    (end_event C (answered a v) ∷ [], ap (λ x. so_far C list (Some x) ++ end_event C (answered a v) ∷ []) (sym same) ∙ sym (events-more C list a v))
-  where
-    some_same : Some a ≡ Some b → a ≡ b
-    some_same e = cc
-
-begins-trans : {A : Type 0} (xs ys zs : List A) → IsPrefix xs ys → IsPrefix ys zs → IsPrefix xs zs
-begins-trans xs ys zs (r, e) (r', f) = (r ++ r', sym (append_assoc xs r r') ∙ ap (λ l. l ++ r') e ∙ f)
 
 pub taken_so_far :
     (script : Content) (p : ConsumerState) (taken : List ℕ) (told : Bool) (empty : ℕ) (list : List Made) (o due : Option Access) → TakeActorStands script p taken told empty list o → NextOf p due →
@@ -51,13 +41,6 @@ taken_so_far script p taken told empty list o due s next is_due = by_due due is_
     calls_are : AreTakes shape 0 calls.takes calls.end
     calls_are = subst (λ (t : Shape). AreTakes t 0 calls.takes calls.end) s.same_shape s.there.are
 
-    no_open : (o : Option Access) → ((a : Access) → o ≡ Some a → None ≡ Some a) → o ≡ None
-    no_open None f = refl
-    no_open (Some a) f = absurd (none_some (f a refl))
-      where
-        none_some : None ≡ Some a → ⊥
-        none_some e = absurd (cc)
-
     tells_if : (end : End) → Tells end → ends_closed end ≡ true
     tells_if Open t = absurd t
     tells_if (Closed seen again) t = refl
@@ -74,7 +57,7 @@ taken_so_far script p taken told empty list o due s next is_due = by_due due is_
           items = taken_all shape first_count calls.takes (length (so_far C list o)) (omega (arith, size, program-parts calls)) ∙ sym s.taken_is;
           over = ap empties (takes_all_over shape first_count calls.takes (length (so_far C list o)) (omega (arith, size, program-parts calls))) ∙ sym s.empty_is;
           ended = ap all_taken (takes_all_over shape first_count calls.takes (length (so_far C list o)) (omega (arith, size, program-parts calls))) ∙ sym s.taken_is;
-          tells = (λ t. (tells_so calls.end (sym s.told_is ∙ t), omega (arith, size)), λ t. s.told_is ∙ tells_if calls.end t.0);
+          tells = (λ t. (told-tells calls.end (sym s.told_is ∙ t), omega (arith, size)), λ t. s.told_is ∙ tells_if calls.end t.0);
         }
     by_due None f true next = absurd next
     by_due (Some a) f false next = absurd next
@@ -86,8 +69,8 @@ taken_so_far script p taken told empty list o due s next is_due = by_due due is_
         record {
           takes = more;
           are = has.are;
-          begins = begins-trans (so_far C list o) (events_of C (list ++ answered a true ∷ [])) (events_of C (take_program shape more)) (so_far_begins list o a true f)
-              (events_of C rest, sym (events-append C (list ++ answered a true ∷ []) rest) ∙ ap (events_of C) e);
+          begins = begins-trans (so_far C list o) (events_of C (list ++ answered a true ∷ [])) (events_of C (take_program shape more)) (so_far_begins C list o a true f)
+              (events_of C rest, sym (events_of-append C (list ++ answered a true ∷ []) rest) ∙ ap (events_of C) e);
           items = by_more more has.is_one_more longer ∙ sym s.taken_is;
           over = ap empties (over_more more has.is_one_more longer) ∙ sym s.empty_is;
           ended = ap all_taken (over_more more has.is_one_more longer) ∙ sym s.taken_is;
@@ -123,7 +106,7 @@ taken_so_far script p taken told empty list o due s next is_due = by_due due is_
               arith,
               ap (λ (m : Takes). length (take_program shape m)) more_is,
               ap length (append-nil (take_phrases shape first_count (calls.takes ++ x ∷ []))),
-              ap length (phrases-more shape first_count calls.takes x),
+              ap length (phrases-push shape first_count calls.takes x),
               length-append (take_phrases shape first_count calls.takes) (take_phrase shape (taken_count shape first_count calls.takes) x),
             ) in
             ap (λ (m : Takes). items_taken shape first_count m.takes t) more_is ∙ taken-append shape first_count calls.takes (x ∷ []) t

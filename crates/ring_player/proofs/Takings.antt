@@ -1,11 +1,9 @@
 -- What the consumer's actor does with its machine.
-use Rattle.std.proofs.Common.{◌≡◌, ◌⊎◌, inl, inr, ℕ, ◌*◌, ◌<◌, ◌≤◌, Bool, true, false, Option, Some, None, List, [], ◌∷◌, ◌++◌, length, refl, sym, ap, subst, ◌∙◌, append_assoc, append-nil, length-append, arith}
-use Rattle.std.specs.Prelude.{IfSome}
+use Rattle.std.proofs.Common.{◌≡◌, ◌⊎◌, inl, inr, ℕ, ◌*◌, ◌<◌, ◌≤◌, Bool, true, false, Option, Some, None, List, [], ◌∷◌, ◌++◌, length, refl, sym, ap, subst, ◌∙◌, append-nil, arith}
 use Rattle.bits_core.specs.declared.events.Side.TheVariants.{C}
 use Rattle.bits_core.specs.declared.events.Access.{Access}
 use Rattle.bits_core.specs.declared.shapes.Shape.{Shape}
-use Rattle.bits_core.specs.Made.{Made, answered, events_of, IsPrefix}
-use Rattle.bits_core.specs.Open.{IsOpenRight}
+use Rattle.bits_core.specs.Made.{Made, answered, events_of}
 use Rattle.ring_core.specs.Calls.{LastBitIsDue}
 use Rattle.ring_core.specs.ConsumerCalls.{and_end, and_take, count_taken, ConsumerStands, ConsumerHasMoved, HasTakeMore, IsTakeOf, new_consumer, no_takes}
 use Rattle.ring_core.specs.ConsumerState.{ConsumerState, is_taking}
@@ -16,9 +14,11 @@ use Rattle.ring_player.specs.Actors.{TakeActorStands, so_far}
 use Rattle.ring_player.specs.Plays.{AreWantedBy, IsDoneAfter, IsProgram}
 use Rattle.ring_player.specs.Wants.{AreTakesOf, wanted_at}
 use Rattle.ring_script.specs.Content.{Content}
+use Rattle.ring_core.proofs.Machines.Following.{events_of-append}
+use Rattle.ring_audit.proofs.TakeReads.{told-tells}
 use Rattle.ring_player.proofs.Nexts.{IsNextTake, NextTake as NextOf}
-use Rattle.ring_player.proofs.Moves.{events-append, events-more, length-events, program_beginning}
-use Rattle.ring_player.proofs.TakeLists.{all_are, taken_rises, take_of_calls, tells_so}
+use Rattle.ring_player.proofs.Moves.{events-more, goes_longer, program_beginning, split_last}
+use Rattle.ring_player.proofs.TakeLists.{all_are, taken_rises, take_of_calls}
 
 -- ---- takes that the script wants
 
@@ -62,7 +62,7 @@ goes_on script false calls list a v are left next one = absurd next
 goes_on script true calls list a v are left next one =
     let (more, has, (rest, e)) = next v one in
     let all = one_more script calls more are (left refl) has in
-    (more, (all.are, all.wanted, all.ends), (events_of C rest, sym (events-append C (list ++ answered a v ∷ []) rest) ∙ ap (events_of C) e))
+    (more, (all.are, all.wanted, all.ends), (events_of C rest, sym (events_of-append C (list ++ answered a v ∷ []) rest) ∙ ap (events_of C) e))
 
 idle :
     (shape : Shape) (wanted : ℕ) (calls : Takes) (taking : Bool) (made : List Made) → IsNextTake shape wanted calls taking made None → (taking ≡ false) × (made ≡ take_program shape calls)
@@ -95,47 +95,36 @@ next_in script p taken told empty list o due s next =
     of_wanted script.shape p.wanted (wanted_at script (taken_in 0 s.calls.takes)) s.calls (is_taking p) list due s.wants
     (subst (λ (t : Shape). IsNextTake t p.wanted s.calls (is_taking p) list due) s.same_shape (next s.calls list s.there))
 
+-- the same takes, of a machine that stands with these accesses
+stands_with :
+    {script : Content} {p : ConsumerState} {taken : List ℕ} {told : Bool} {empty : ℕ} {list : List Made} {o : Option Access} (s : TakeActorStands script p taken told empty list o) (p' : ConsumerState) (o' : Option Access) →
+    ConsumerStands p' s.calls list → p'.shape ≡ script.shape → (is_taking p' ≡ true → p'.wanted ≡ wanted_at script (taken_in 0 s.calls.takes)) →
+    (is_taking p' ≡ true → taken_in 0 s.calls.takes < script.takes) → IsProgram script C (so_far C list o') → TakeActorStands script p' taken told empty list o'
+stands_with s p' o' there shape wants asked program = record {
+  calls = s.calls;
+  there = there;
+  same_shape = shape;
+  taken_is = s.taken_is;
+  told_is = s.told_is;
+  empty_is = s.empty_is;
+  takes_are = s.takes_are;
+  wants = wants;
+  few = s.few;
+  long = s.long;
+  asked = asked;
+  program = program;
+}
+
 pub begins_access :
     (script : Content) (p : ConsumerState) (taken : List ℕ) (told : Bool) (empty : ℕ) (list : List Made) (due : Option Access) (a : Access) → TakeActorStands script p taken told empty list None → NextOf p due →
     due ≡ Some a → TakeActorStands script p taken told empty list (Some a)
 begins_access script p taken told empty list due a s next is =
     let n : IsNextTake script.shape (wanted_at script (taken_in 0 s.calls.takes)) s.calls (is_taking p) list (Some a) =
     subst (λ d. IsNextTake script.shape (wanted_at script (taken_in 0 s.calls.takes)) s.calls (is_taking p) list d) is (next_in script p taken told empty list None due s next) in
-    record {
-      calls = s.calls;
-      there = s.there;
-      same_shape = s.same_shape;
-      taken_is = s.taken_is;
-      told_is = s.told_is;
-      empty_is = s.empty_is;
-      takes_are = s.takes_are;
-      wants = s.wants;
-      few = s.few;
-      long = s.long;
-      asked = s.asked;
-      program = program_beginning script C (so_far C list (Some a)) _
-          (subst (λ t. IsProgram script C t) (events-more C list a true) (goes_on script (is_taking p) s.calls list a true s.takes_are s.asked n (λ l. refl)));
-    }
-
--- the access that is due is of a bit of the script's shape, by the side that may
-pub right :
-    (script : Content) (p : ConsumerState) (taken : List ℕ) (told : Bool) (empty : ℕ) (list : List Made) (due : Option Access) (a : Access) → TakeActorStands script p taken told empty list None →
-    IfSome due (IsOpenRight p.shape C) → due ≡ Some a → IsOpenRight script.shape C a
-right script p taken told empty list due a s ok is =
-    let there : IsOpenRight p.shape C a = subst (λ d. IfSome d (IsOpenRight p.shape C)) is ok in
-    subst (λ t. IsOpenRight t C a) s.same_shape there
+    stands_with s p (Some a) s.there s.same_shape s.wants s.asked (program_beginning script C (so_far C list (Some a)) _
+    (subst (λ t. IsProgram script C t) (events-more C list a true) (goes_on script (is_taking p) s.calls list a true s.takes_are s.asked n (λ l. refl))))
 
 -- ---- where an access is due the side is not done
-
-split_last : (xs ys zs : List Take) (x y : Take) → xs ++ x ∷ [] ≡ ys ++ y ∷ zs → (ws : List Take) × (xs ≡ ys ++ ws)
-split_last xs [] zs x y e = (xs, refl)
-split_last [] (w ∷ []) zs x y e = absurd (cc)
-split_last [] (w ∷ v ∷ ys) zs x y e = absurd (cc)
-split_last (w ∷ xs) (v ∷ ys) zs x y e =
-    let tails : xs ++ x ∷ [] ≡ ys ++ y ∷ zs = cc in
-    let head : w ≡ v = cc in
-    let (ws, f) = split_last xs ys zs x y tails in
-    (ws, ap (λ l. w ∷ l) f ∙ ap (λ t. t ∷ (ys ++ ws)) head)
 
 same_calls : (a b : Takes) → a.takes ≡ b.takes → a.end ≡ b.end → a ≡ b
 same_calls a b p q = ap (λ (t : List Take). record { takes = t; end = a.end }) p ∙ ap (λ (t : End). record { takes = b.takes; end = t }) q
@@ -146,27 +135,6 @@ pub unfinished :
 unfinished law script p taken told empty list due a s next is d =
     by_call (is_taking p) refl (subst (λ t. IsNextTake script.shape (wanted_at script (taken_in 0 s.calls.takes)) s.calls (is_taking p) list t) is (next_in script p taken told empty list None due s next))
   where
-    longer : (more : Takes) (rest : List Made) → (list ++ answered a true ∷ []) ++ rest ≡ take_program script.shape more →
-        2 * length (take_program script.shape d.0) < 2 * length (take_program script.shape more)
-    longer more rest e =
-        omega (
-          arith,
-          ap length e,
-          length-append (list ++ answered a true ∷ []) rest,
-          length-append list (answered a true ∷ []),
-          ap length d.2,
-          length-events C list,
-          length-events C (take_program script.shape d.0),
-        )
-
-    begins_more : (more : Takes) (rest : List Made) → (list ++ answered a true ∷ []) ++ rest ≡ take_program script.shape more →
-        IsPrefix (events_of C (take_program script.shape d.0)) (events_of C (take_program script.shape more))
-    begins_more more rest e = (
-      events_of C (answered a true ∷ rest),
-      ap (λ l. l ++ events_of C (answered a true ∷ rest)) (sym d.2) ∙ sym (events-append C list (answered a true ∷ rest)) ∙
-          ap (events_of C) (sym (append_assoc list (answered a true ∷ []) rest) ∙ e),
-    )
-
     not_all : (more : Takes) → d.0 ≡ more → 2 * length (take_program script.shape d.0) < 2 * length (take_program script.shape more) → ⊥
     not_all more same l = absurd (omega (arith, l, ap (λ (t : Takes). length (take_program script.shape t)) same))
 
@@ -200,28 +168,18 @@ unfinished law script p taken told empty list due a s next is d =
     by_call false e n = absurd n
     by_call true e n =
         let (more, has, (rest, f)) = n true (λ l. refl) in
-        let (rises, whole) = law script.shape d.0 more d.1 has.are (begins_more more rest f) in
-        by_end more has rises.0 rises.1 whole (longer more rest f) (s.asked e) d.0.end refl
+        let (longer, begins) = goes_longer C list (take_program script.shape d.0) (take_program script.shape more) rest a d.2 f in
+        let (rises, whole) = law script.shape d.0 more d.1 has.are begins in
+        by_end more has rises.0 rises.1 whole longer (s.asked e) d.0.end refl
 
 -- ---- the next take begins
 
 pub began_take :
     (script : Content) (p p' : ConsumerState) (taken : List ℕ) (told : Bool) (empty : ℕ) (list : List Made) → TakeActorStands script p taken told empty list None → length taken < script.takes →
     told ≡ false → (p.told ≡ false → (is_taking p' ≡ true) × (p'.wanted ≡ wanted_at script (length taken))) → p'.shape ≡ p.shape → StandsOn p p' → TakeActorStands script p' taken told empty list None
-began_take script p p' taken told empty list s left not_told begun shape on = let count : length taken ≡ taken_in 0 s.calls.takes = omega (arith, ap length s.taken_is, all_are 0 s.calls.takes) in record {
-  calls = s.calls;
-  there = on s.calls list s.there;
-  same_shape = shape ∙ s.same_shape;
-  taken_is = s.taken_is;
-  told_is = s.told_is;
-  empty_is = s.empty_is;
-  takes_are = s.takes_are;
-  wants = λ e. (begun (s.there.told_is ∙ sym s.told_is ∙ not_told)).1 ∙ ap (wanted_at script) count;
-  few = s.few;
-  long = s.long;
-  asked = λ e. omega (arith, left, ap length s.taken_is, all_are 0 s.calls.takes);
-  program = s.program;
-}
+began_take script p p' taken told empty list s left not_told begun shape on =
+    let count : length taken ≡ taken_in 0 s.calls.takes = omega (arith, ap length s.taken_is, all_are 0 s.calls.takes) in
+    stands_with s p' None (on s.calls list s.there) (shape ∙ s.same_shape) (λ e. (begun (s.there.told_is ∙ sym s.told_is ∙ not_told)).1 ∙ ap (wanted_at script) count) (λ e. omega (arith, left, count)) s.program
 
 -- it has begun one
 pub began_one :
@@ -246,7 +204,7 @@ is_done script p taken told empty list s next over =
     )
   where
     by_over : (told ≡ true) ⊎ (script.takes ≤ length taken) → (taken_in 0 s.calls.takes ≡ script.takes) ⊎ Tells s.calls.end
-    by_over (inl t) = inr (tells_so s.calls.end (sym s.told_is ∙ t))
+    by_over (inl t) = inr (told-tells s.calls.end (sym s.told_is ∙ t))
     by_over (inr l) = inl (omega (arith, l, s.few, ap length s.taken_is, all_are 0 s.calls.takes))
 
 -- an actor that has made no access

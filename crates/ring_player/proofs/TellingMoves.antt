@@ -2,9 +2,9 @@
 use Rattle.std.proofs.Common.{◌≡◌, ℕ, suc, ◌+◌, ◌<◌, Bool, true, false, if◌then◌else◌, Option, Some, None, List, [], ◌∷◌, ◌++◌, length, refl, sym, ap, ap₂, subst, ◌∙◌, arith, append-nil, append_assoc, length-append}
 use Rattle.std.specs.Prelude.{◌↔◌, replicate}
 use Rattle.std.proofs.lemmas.List.{map-append, replicate-append-replicate}
-use Rattle.bits_core.specs.Bits.{other}
+use Rattle.bits_core.specs.Bits.{is_by, other}
 use Rattle.bits_core.specs.Laws.{SubhistoryChanges}
-use Rattle.bits_core.specs.Made.{IsPrefix, subhistory}
+use Rattle.bits_core.specs.Made.{Made, IsPrefix, events_of, subhistory}
 use Rattle.bits_core.specs.declared.events.Event.{Event}
 use Rattle.bits_core.specs.declared.events.Side.{Side}
 use Rattle.bits_core.specs.declared.events.Side.TheVariants.{P, C}
@@ -26,7 +26,8 @@ use Rattle.ring_player.specs.declared.tellings.TakeStage.{TakeStage}
 use Rattle.ring_player.specs.declared.tellings.TakeStage.TheVariants as taking
 use Rattle.queue_calls.specs.declared.events.CallEvent.{CallEvent}
 use Rattle.ring_script.specs.Content.{Content}
-use Rattle.ring_player.proofs.Moves.{by_side as is_by_side, length-events, not_by, own_by, own_other}
+use Rattle.ring_core.proofs.Machines.Following.{length-events}
+use Rattle.ring_player.proofs.Moves.{by_side as is_by_side, not_by, own_by, own_other}
 use Rattle.ring_player.proofs.Overs.{none_over_puts, none_over_takes}
 
 -- ---- one event more
@@ -81,29 +82,44 @@ told-last f g h e =
 -- ---- what is told of it
 
 module _ (owns : SubhistoryChanges) (script : Content) (h h' : List Event) (e : Event) (is : h' ≡ h ++ e ∷ []) where
-  begins_own : (s : Side) → e.side ≡ s → (es : List Event) → IsPrefix (subhistory s h') es → IsPrefix (subhistory s h) es
-  begins_own s by es (rest, f) =
-      (e ∷ rest, sym (append_assoc (subhistory s h) (e ∷ []) rest) ∙ ap (λ l. l ++ rest) (sym (ap (subhistory s) is ∙ own_by owns s h e by)) ∙ f)
+  -- the events of a side that begin a list begin it without this one
+  begins_before : (s : Side) (es : List Event) → IsPrefix (subhistory s h') es → IsPrefix (subhistory s h) es
+  begins_before s es (rest, f) = by_test (is_by s e) (ap (subhistory s) is ∙ owns s h e)
+    where
+      by_test : (b : Bool) → subhistory s h' ≡ (if b then subhistory s h ++ e ∷ [] else subhistory s h) → IsPrefix (subhistory s h) es
+      by_test true own = (e ∷ rest, sym (append_assoc (subhistory s h) (e ∷ []) rest) ∙ ap (λ l. l ++ rest) (sym own) ∙ f)
+      by_test false own = (rest, ap (λ l. l ++ rest) (sym own) ∙ f)
 
-  begins_other : (s : Side) → e.side ≡ s → (es : List Event) → IsPrefix (subhistory (other s) h') es → IsPrefix (subhistory (other s) h) es
-  begins_other s by es b = subst (λ l. IsPrefix l es) (ap (subhistory (other s)) is ∙ own_other owns s h e by) b
+  -- a reading with the event is one without it
+  reading_before : (puts : Puts) (takes : Takes) → IsReadingAsked script h' puts takes → IsReadingAsked script h puts takes
+  reading_before puts takes r = record {
+    asked = r.asked;
+    puts_follow = record { are = r.puts_follow.are; events = begins_before P _ r.puts_follow.events };
+    takes_follow = record { are = r.takes_follow.are; events = begins_before C _ r.takes_follow.events };
+  }
+
+  one_more : (s : Side) → e.side ≡ s → length (subhistory s h') ≡ suc (length (subhistory s h))
+  one_more s by = omega (arith, ap length (ap (subhistory s) is ∙ own_by owns s h e by), length-append (subhistory s h) (e ∷ []))
+
+  -- the event is one of those of the calls
+  few : (s : Side) → e.side ≡ s → (program : List Made) → IsPrefix (subhistory s h') (events_of s program) → length (subhistory s h) < events_in program
+  few s by program (rest, b) = omega (arith, one_more s by, ap length b, length-append (subhistory s h') rest, length-events s program)
+
+  -- what is told of the events is told of them with this one, and what is told with it
+  tells_more :
+      (s : Side) → e.side ≡ s → (told : Option (CallEvent ℕ TakenItems)) →
+      ((puts : Puts) (takes : Takes) → IsReadingAsked script h' puts takes →
+      told_in script told ≡ by_side s (put_told script.shape (offers_of script puts) 0 first_count puts.puts puts.closes (length (subhistory P h)))
+      (take_told script.shape (wants_of script takes) 0 first_count takes.takes takes.end (length (subhistory C h)))) →
+      (events : List calls.Event) → TellsCalls script h events → TellsCalls script h' (events ++ told_in script told)
+  tells_more s by told told_is events tells puts takes r =
+      let f : Telling = put_told script.shape (offers_of script puts) 0 first_count puts.puts puts.closes in
+      let g : Telling = take_told script.shape (wants_of script takes) 0 first_count takes.takes takes.end in
+      ap₂ (λ (a : List calls.Event) (b : List calls.Event). a ++ b) (tells puts takes (reading_before puts takes r))
+      (told_is puts takes r ∙ sym (ap (λ t. by_side t (f (length (subhistory P h))) (g (length (subhistory C h)))) by))
+      ∙ sym (told-last f g h e) ∙ ap (calls_told f g 0 0) (sym is)
 
   module _ (by : e.side ≡ P) (stage next : PutStage) (t : TakeStage) (items : ℕ) (before now : PutTally) (told : Option (CallEvent ℕ TakenItems)) where
-    put_reading : (puts : Puts) (takes : Takes) → IsReadingAsked script h' puts takes → IsReadingAsked script h puts takes
-    put_reading puts takes r = record {
-      asked = r.asked;
-      puts_follow = record { are = r.puts_follow.are; events = begins_own P by _ r.puts_follow.events };
-      takes_follow = record { are = r.takes_follow.are; events = begins_other P by _ r.takes_follow.events };
-    }
-
-    one_put_more : length (subhistory P h') ≡ suc (length (subhistory P h))
-    one_put_more = omega (arith, ap length (ap (subhistory P) is ∙ own_by owns P h e by), length-append (subhistory P h) (e ∷ []))
-
-    put_few : (puts : Puts) → FollowsPuts script.shape h' puts → length (subhistory P h) < events_in (put_program script.shape puts)
-    put_few puts f =
-        let (rest, b) = f.events in
-        omega (arith, one_put_more, ap length b, length-append (subhistory P h') rest, length-events P (put_program script.shape puts))
-
     pub put_moves :
         SaysPut stage items before now next told → items ≡ length script.items → AreAt stage t script h →
         ((puts : Puts) → FollowsPuts script.shape h puts → before.stored ≡ stored_in 0 (puts_over_in script.shape h puts)) →
@@ -113,43 +129,23 @@ module _ (owns : SubhistoryChanges) (script : Content) (h h' : List Event) (e : 
         AreAt next t script h' × ((events : List calls.Event) → TellsCalls script h events → TellsCalls script h' (events ++ told_in script told))
     put_moves says all at stored full stored' full' = (
       (λ puts takes r. (
-        subst (IsPutStage next script puts) (sym one_put_more) (said puts takes r).1,
-        subst (λ l. IsTakeStage t script takes (length l)) (sym (ap (subhistory C) is ∙ own_other owns P h e by)) (at puts takes (put_reading puts takes r)).1,
+        subst (IsPutStage next script puts) (sym (one_more P by)) (said puts takes r).1,
+        subst (λ l. IsTakeStage t script takes (length l)) (sym (ap (subhistory C) is ∙ own_other owns P h e by)) (at puts takes (reading_before puts takes r)).1,
       )),
-      (λ events tells puts takes r.
-          let f : Telling = put_told script.shape (offers_of script puts) 0 first_count puts.puts puts.closes in
-          let g : Telling = take_told script.shape (wants_of script takes) 0 first_count takes.takes takes.end in
-          ap₂ (λ (a : List calls.Event) (b : List calls.Event). a ++ b) (tells puts takes (put_reading puts takes r))
-          ((said puts takes r).0 ∙ sym (ap (λ s. by_side s (f (length (subhistory P h))) (g (length (subhistory C h)))) by))
-          ∙ sym (told-last f g h e) ∙ ap (calls_told f g 0 0) (sym is)),
+      tells_more P by told (λ puts takes r. (said puts takes r).0),
     )
       where
         said :
             (puts : Puts) (takes : Takes) → IsReadingAsked script h' puts takes →
             (told_in script told ≡ put_told script.shape (offers_of script puts) 0 first_count puts.puts puts.closes (length (subhistory P h))) × IsPutStage next script puts (suc (length (subhistory P h)))
         said puts takes r =
-            let r' = put_reading puts takes r in
-            says script puts (length (subhistory P h)) r.asked all (put_few puts r.puts_follow) (at puts takes r').0 (stored puts r'.puts_follow, full puts r'.puts_follow) (
-              stored' puts r.puts_follow ∙ ap (λ n. stored_in 0 (puts_over script.shape first_count puts.puts n)) one_put_more,
-              full' puts r.puts_follow ∙ ap (λ n. fulls (puts_over script.shape first_count puts.puts n)) one_put_more,
+            let r' = reading_before puts takes r in
+            says script puts (length (subhistory P h)) r.asked all (few P by (put_program script.shape puts) r.puts_follow.events) (at puts takes r').0 (stored puts r'.puts_follow, full puts r'.puts_follow) (
+              stored' puts r.puts_follow ∙ ap (λ n. stored_in 0 (puts_over script.shape first_count puts.puts n)) (one_more P by),
+              full' puts r.puts_follow ∙ ap (λ n. fulls (puts_over script.shape first_count puts.puts n)) (one_more P by),
             )
 
   module _ (by : e.side ≡ C) (stage : PutStage) (t next : TakeStage) (wanted : ℕ) (before now : TakeTally) (told : Option (CallEvent ℕ TakenItems)) where
-    take_reading : (puts : Puts) (takes : Takes) → IsReadingAsked script h' puts takes → IsReadingAsked script h puts takes
-    take_reading puts takes r = record {
-      asked = r.asked;
-      puts_follow = record { are = r.puts_follow.are; events = begins_other C by _ r.puts_follow.events };
-      takes_follow = record { are = r.takes_follow.are; events = begins_own C by _ r.takes_follow.events };
-    }
-
-    one_take_more : length (subhistory C h') ≡ suc (length (subhistory C h))
-    one_take_more = omega (arith, ap length (ap (subhistory C) is ∙ own_by owns C h e by), length-append (subhistory C h) (e ∷ []))
-
-    take_few : (takes : Takes) → FollowsTakes script.shape h' takes → length (subhistory C h) < events_in (take_program script.shape takes)
-    take_few takes f =
-        let (rest, b) = f.events in
-        omega (arith, one_take_more, ap length b, length-append (subhistory C h') rest, length-events C (take_program script.shape takes))
-
     -- what is counted of takes in a history
     abbrev pub IsCounted : List Event → TakeTally → Type 0
     IsCounted es kept =
@@ -165,29 +161,24 @@ module _ (owns : SubhistoryChanges) (script : Content) (h h' : List Event) (e : 
         AreAt stage next script h' × ((events : List calls.Event) → TellsCalls script h events → TellsCalls script h' (events ++ told_in script told))
     take_moves says is_wanted at counted counted' first = (
       (λ puts takes r. (
-        subst (λ l. IsPutStage stage script puts (length l)) (sym (ap (subhistory P) is ∙ own_other owns C h e by)) (at puts takes (take_reading puts takes r)).0,
-        subst (IsTakeStage next script takes) (sym one_take_more) (said puts takes r).1,
+        subst (λ l. IsPutStage stage script puts (length l)) (sym (ap (subhistory P) is ∙ own_other owns C h e by)) (at puts takes (reading_before puts takes r)).0,
+        subst (IsTakeStage next script takes) (sym (one_more C by)) (said puts takes r).1,
       )),
-      (λ events tells puts takes r.
-          let f : Telling = put_told script.shape (offers_of script puts) 0 first_count puts.puts puts.closes in
-          let g : Telling = take_told script.shape (wants_of script takes) 0 first_count takes.takes takes.end in
-          ap₂ (λ (a : List calls.Event) (b : List calls.Event). a ++ b) (tells puts takes (take_reading puts takes r))
-          ((said puts takes r).0 ∙ sym (ap (λ s. by_side s (f (length (subhistory P h))) (g (length (subhistory C h)))) by))
-          ∙ sym (told-last f g h e) ∙ ap (calls_told f g 0 0) (sym is)),
+      tells_more C by told (λ puts takes r. (said puts takes r).0),
     )
       where
         said :
             (puts : Puts) (takes : Takes) → IsReadingAsked script h' puts takes →
             (told_in script told ≡ take_told script.shape (wants_of script takes) 0 first_count takes.takes takes.end (length (subhistory C h))) × IsTakeStage next script takes (suc (length (subhistory C h)))
         said puts takes r =
-            let r' = take_reading puts takes r in
+            let r' = reading_before puts takes r in
             let (now_taken, now_empty, now_told) = counted' takes r.takes_follow in
-            says script takes (length (subhistory C h)) (is_wanted takes r'.takes_follow ∙ ap (wanted_at script) (sym (counted takes r'.takes_follow).0)) (take_few takes r.takes_follow)
-            r.takes_follow.are (subst (λ n. IsPrefix (all_taken (takes_over script.shape first_count takes.takes n)) script.items) one_take_more (first takes r.takes_follow))
+            says script takes (length (subhistory C h)) (is_wanted takes r'.takes_follow ∙ ap (wanted_at script) (sym (counted takes r'.takes_follow).0)) (few C by (take_program script.shape takes) r.takes_follow.events)
+            r.takes_follow.are (subst (λ n. IsPrefix (all_taken (takes_over script.shape first_count takes.takes n)) script.items) (one_more C by) (first takes r.takes_follow))
             (at puts takes r').1 (counted takes r'.takes_follow) (
-              now_taken ∙ ap (λ n. length (all_taken (takes_over script.shape first_count takes.takes n))) one_take_more,
-              now_empty ∙ ap (λ n. empties (takes_over script.shape first_count takes.takes n)) one_take_more,
-              subst (λ n. (now.told ≡ true) ↔ IsTold script.shape takes n) one_take_more now_told,
+              now_taken ∙ ap (λ n. length (all_taken (takes_over script.shape first_count takes.takes n))) (one_more C by),
+              now_empty ∙ ap (λ n. empties (takes_over script.shape first_count takes.takes n)) (one_more C by),
+              subst (λ n. (now.told ≡ true) ↔ IsTold script.shape takes n) (one_more C by) now_told,
             )
 
 -- nothing was told of nothing

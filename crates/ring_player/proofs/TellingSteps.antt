@@ -17,7 +17,7 @@ use Rattle.ring_player.specs.Tellings.{IsPutStage, IsTakeStage, offers_of, wants
 use Rattle.ring_player.specs.declared.tellings.PutStage.TheVariants as put
 use Rattle.ring_player.specs.declared.tellings.TakeStage.TheVariants as taking
 use Rattle.ring_script.specs.Content.{Content}
-use Rattle.ring_player.proofs.Headlines.{past_is}
+use Rattle.ring_core.proofs.CountRow.{past_is}
 use Rattle.ring_player.proofs.Overs.{over_front}
 use Rattle.ring_player.proofs.Puttings.{fulls-more, stored-more}
 use Rattle.ring_player.proofs.TakeLists.{all-more, all_are, empties-more, take_at}

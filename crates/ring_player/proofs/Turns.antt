@@ -1,9 +1,9 @@
 -- The oracle's answers, by one event more.
 use Rattle.bits_core.specs.Made.{opening_event}
-use Rattle.std.proofs.Common.{◌≡◌, ◌⊎◌, inl, inr, ℕ, zero, suc, ◌+◌, ◌<◌, ◌≤◌, Bool, true, false, Option, Some, List, [], ◌∷◌, ◌++◌, length, refl, ap, ap₂, sym, subst, ◌∙◌, length-append, arith}
+use Rattle.std.proofs.Common.{◌≡◌, ◌⊎◌, inl, inr, ℕ, zero, suc, ◌+◌, ◌<◌, ◌≤◌, Bool, true, false, Option, Some, List, [], ◌∷◌, ◌++◌, length, refl, ap, ap₂, sym, subst, ◌∙◌, arith}
 use Rattle.std.specs.Prelude.{slice_get, if◌then◌else◌}
 use Rattle.std.specs.Option.{option_map_or}
-use Rattle.std.proofs.lemmas.List.{take-append-le, take_at}
+use Rattle.std.proofs.lemmas.List.{take-append-le}
 use Rattle.bits_core.specs.declared.events.Side.{Side}
 use Rattle.bits_core.specs.declared.events.Bit.{Bit}
 use Rattle.bits_core.specs.declared.events.Act.TheVariants.{ReadEnd}
@@ -13,6 +13,8 @@ use Rattle.bits_core.specs.declared.events.Event.{Event}
 use Rattle.bits_core.specs.History.{is_overlapped}
 use Rattle.bits_core.specs.Memory.{count_below, flicker_count, is_flicker, is_flicker_at}
 use Rattle.ring_player.specs.Actors.{IsAtTurn}
+use Rattle.bits_core.proofs.Flickers.{is_flicker_at-last, flicker_count-push}
+use Rattle.bits_core.proofs.Places.{slice_get-last}
 
 count_below-same : (n : ℕ) (f g : ℕ → Bool) → ((p : ℕ) → p < n → f p ≡ g p) → count_below n f ≡ count_below n g
 count_below-same zero f g same = refl
@@ -24,10 +26,6 @@ slice_get-front : (h : List Event) (e : Event) (p : ℕ) → p < length h → sl
 slice_get-front [] e p below = absurd (omega arith)
 slice_get-front (x ∷ h) e zero below = refl
 slice_get-front (x ∷ h) e (suc p) below = slice_get-front h e p (omega arith)
-
-slice_get-last : (h : List Event) (e : Event) → slice_get (h ++ e ∷ []) (length h) ≡ Some e
-slice_get-last [] e = refl
-slice_get-last (x ∷ h) e = slice_get-last h e
 
 -- a place that has an event is one before the last, or the last
 place_is : (h : List Event) (e x : Event) (p : ℕ) → slice_get (h ++ e ∷ []) p ≡ Some x → (p < length h) ⊎ (p ≡ length h)
@@ -41,18 +39,8 @@ is_flicker_at-front h e p below =
     let within : p ≤ length h = omega arith in
     ap₂ (λ (past : List Event) (o : Option Event). option_map_or (is_flicker past) o false) (take-append-le p h (e ∷ []) within) (slice_get-front h e p below)
 
-is_flicker_at-last : (h : List Event) (e : Event) → is_flicker_at (h ++ e ∷ []) (length h) ≡ is_flicker h e
-is_flicker_at-last h e =
-    ap₂ (λ (past : List Event) (o : Option Event). option_map_or (is_flicker past) o false) (take_at h (e ∷ []) (length h) refl) (slice_get-last h e)
-
 count-front : (h : List Event) (e : Event) (n : ℕ) → n ≤ length h → count_below n (is_flicker_at (h ++ e ∷ [])) ≡ count_below n (is_flicker_at h)
 count-front h e n l = count_below-same n (is_flicker_at (h ++ e ∷ [])) (is_flicker_at h) (λ p below. is_flicker_at-front h e p (omega (arith, l, below)))
-
-flicker_count-push : (h : List Event) (e : Event) → flicker_count (h ++ e ∷ []) ≡ flicker_count h + (if is_flicker h e then 1 else 0)
-flicker_count-push h e =
-    let longer : length (h ++ e ∷ []) ≡ suc (length h) = omega (arith, length-append h (e ∷ [])) in
-    ap (λ (n : ℕ). count_below n (is_flicker_at (h ++ e ∷ []))) longer
-    ∙ ap₂ (λ (c : ℕ) (b : Bool). c + (if b then 1 else 0)) (count-front h e (length h) (omega arith)) (is_flicker_at-last h e)
 
 some_same : (x y : Event) → Some x ≡ Some y → x ≡ y
 some_same x y e = cc

@@ -28,6 +28,7 @@ use Rattle.ring_core.specs.Takes.{FollowsTakes, Takes}
 use Rattle.ring_player.specs.Headline.{EveryPlayFills, EveryPlayHolds, HoldsHeadline, IsPlayOf}
 use Rattle.ring_player.specs.SoFar.{PutSoFar, TakenSoFar}
 use Rattle.ring_player.specs.Worlds.{IsWorld}
+use Rattle.ring_core.proofs.OwnEvents.{clock_end}
 use Rattle.ring_player.proofs.Flickers.{in_turn}
 use Rattle.ring_player.proofs.Moves.{moves-more, moves_step, not_by, own_other, sides-more}
 use Rattle.ring_player.proofs.Steps.{Stands}
@@ -177,9 +178,6 @@ ended_of read script cs h due stands taken told empty same p t takes follows =
 
 -- ---- the items taken are the script's first ones
 
-clock_end : (s : Side) (h : List Event) → clock s h (length h) ≡ length (subhistory s h)
-clock_end s h = ap (λ l. length (subhistory s l)) (take-length h)
-
 -- the items taken are the first of those put
 pub front_of :
     (script ps cs : Content) (h : List Event) (pd cd : Option Access) (pt ct : Stands) (put taken : List ℕ) (kept : PutTally) (told : Bool) (empty : ℕ) → ps ≡ script → cs ≡ script →
@@ -219,13 +217,17 @@ pub spelled-more :
 spelled-more xs i d l =
     ap spelled (take_more xs i d l) ∙ spelled-append (take i xs) (slice_index_or xs i d ∷ []) ∙ ap (λ t. spelled (take i xs) ++ t) (spelled-one (slice_index_or xs i d))
 
+-- the run past the last one
+abbrev pub no_run : LetterRun
+no_run = record { side = P; count = 0 }
+
 -- the letters of the first runs and of one more are some of all
-pub within_all : (xs : List LetterRun) (i : ℕ) (d : LetterRun) → i < length xs → length (spelled (take i xs)) + (get_or xs i d).count ≤ length (spelled xs)
+pub within_all : (xs : List LetterRun) (i : ℕ) → i < length xs → length (spelled (take i xs)) + (get_or xs i no_run).count ≤ length (spelled xs)
 unfolding spelled
-within_all [] i d h = absurd (omega (arith, h))
-within_all (x ∷ xs) zero d h = omega (arith, length-append (replicate x.count x.side) (spelled xs), length-replicate x.count x.side)
-within_all (x ∷ xs) (suc i) d h =
-    omega (arith, length-append (replicate x.count x.side) (spelled xs), length-append (replicate x.count x.side) (spelled (take i xs)), within_all xs i d (omega (arith, h)))
+within_all [] i h = absurd (omega (arith, h))
+within_all (x ∷ xs) zero h = omega (arith, length-append (replicate x.count x.side) (spelled xs), length-replicate x.count x.side)
+within_all (x ∷ xs) (suc i) h =
+    omega (arith, length-append (replicate x.count x.side) (spelled xs), length-append (replicate x.count x.side) (spelled (take i xs)), within_all xs i (omega (arith, h)))
 
 pub spelled-none : spelled [] ≡ []
 unfolding spelled
@@ -241,7 +243,7 @@ take_run left c s = elim (cases_lt c left) [
   | inr h ↦ take-replicate left c s h ∙ ap (λ (n : ℕ). replicate n s) (omega (arith, h))
 ]
 
-pub take-more : (k : ℕ) (xs : List Side) (c : ℕ) (s : Side) (left count : ℕ) → left ≡ k - length xs → count ≡ min c left → take k (xs ++ replicate c s) ≡ take k xs ++ replicate count s
+take-more : (k : ℕ) (xs : List Side) (c : ℕ) (s : Side) (left count : ℕ) → left ≡ k - length xs → count ≡ min c left → take k (xs ++ replicate c s) ≡ take k xs ++ replicate count s
 take-more k xs c s left count l e = elim (cases_lt (length xs) k) [
   | inl h ↦
       let all : take k xs ≡ xs = take_all k xs (omega (arith, h)) in
@@ -252,8 +254,27 @@ take-more k xs c s left count l e = elim (cases_lt (length xs) k) [
       take-append-le k xs (replicate c s) h ∙ sym (append-nil (take k xs)) ∙ ap (λ (n : ℕ). take k xs ++ replicate n s) none
 ]
 
-pub left-more : (k : ℕ) (xs : List Side) (c : ℕ) (s : Side) (left count : ℕ) → left ≡ k - length xs → count ≡ min c left → left - count ≡ k - length (xs ++ replicate c s)
+left-more : (k : ℕ) (xs : List Side) (c : ℕ) (s : Side) (left count : ℕ) → left ≡ k - length xs → count ≡ min c left → left - count ≡ k - length (xs ++ replicate c s)
 left-more k xs c s left count l e = omega (arith, length-append xs (replicate c s), length-replicate c s)
+
+-- with one run more, of which so many letters are among the first
+pub one_run_more :
+    (runs : List LetterRun) (i k left count : ℕ) → i < length runs → left ≡ k - length (spelled (take i runs)) → count ≡ min (slice_index_or runs i no_run).count left →
+    (take k (spelled (take (i + 1) runs)) ≡ take k (spelled (take i runs)) ++ replicate count (slice_index_or runs i no_run).side) ×
+    (left - count ≡ k - length (spelled (take (i + 1) runs))) ×
+    (length (spelled (take (i + 1) runs)) ≡ length (spelled (take i runs)) + (slice_index_or runs i no_run).count)
+one_run_more runs i k left count l left_is least =
+    let one : LetterRun = slice_index_or runs i no_run in
+    let before : List Side = spelled (take i runs) in
+    let after : spelled (take (i + 1) runs) ≡ before ++ replicate one.count one.side = spelled-more runs i no_run l in (
+      ap (take k) after ∙ take-more k before one.count one.side left count left_is least,
+      left-more k before one.count one.side left count left_is least ∙ ap (λ (t : List Side). k - length t) (sym after),
+      ap length after ∙ length-append before (replicate one.count one.side) ∙ ap (λ (n : ℕ). length before + n) (length-replicate one.count one.side),
+    )
+
+-- behind the last run they are all
+pub all_runs : (runs : List LetterRun) (i : ℕ) (letters : List Side) → i ≡ length runs → spelled runs ≡ letters → spelled (take i runs) ≡ letters
+all_runs runs i letters end all = ap (λ i. spelled (take i runs)) end ∙ ap spelled (take-length runs) ∙ all
 
 pub ok_is : {A E : Type 0} {G : Type 0} (r : Result A E) (a : A) → r ≡ Ok a → OnOk r G → G
 ok_is (Ok b) a e g = g

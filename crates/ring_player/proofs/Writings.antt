@@ -8,7 +8,7 @@ use Rattle.bits_core.specs.declared.events.Access.TheVariants as access
 use Rattle.bits_core.specs.declared.events.Bit.TheVariants as bit
 use Rattle.bits_core.specs.declared.shapes.Shape.{Shape}
 use Rattle.bits_core.specs.Shape.{batch_of, modulus_of, width_of}
-use Rattle.bits_core.specs.Made.{Made, Read, Write, answered, end_event, events_of, IsPrefix, opening_event}
+use Rattle.bits_core.specs.Made.{Made, Read, Write, answered, events_of, IsPrefix, opening_event}
 use Rattle.register_core.specs.ScanState.{row_read_by, zero_reads}
 use Rattle.ring_core.specs.Counts.{batch_phrase, Count, first_count}
 use Rattle.ring_core.specs.CountWrites.{CountsAreWritten, CountsShowNumbers}
@@ -22,8 +22,10 @@ use Rattle.ring_script.specs.Content.{Content}
 use Rattle.ring_player.specs.Actors.{digits_by, digits_in, HasWritten, IsAsked, PutActorStands, items_begun, put_once, PutTally, so_far, with_open}
 use Rattle.ring_player.specs.Plays.{AreAttempts, ArePutsOf, offered}
 use Rattle.ring_player.specs.SoFar.{PutSoFar}
-use Rattle.ring_player.proofs.Headlines.{drop-drop, parts, past_is}
-use Rattle.ring_player.proofs.Moves.{events-append, events-more, length-events, so_far_length}
+use Rattle.ring_core.proofs.Machines.Following.{events_of-append, length-events}
+use Rattle.ring_core.proofs.CountRow.{past_is}
+use Rattle.ring_player.proofs.Headlines.{drop-drop, parts}
+use Rattle.ring_player.proofs.Moves.{begins-trans, no_open, so_far_begins, so_far_length}
 use Rattle.ring_player.proofs.Nexts.{IsNextPut, NextPut}
 use Rattle.ring_player.proofs.Overs.{puts_all_over, puts_cut_over}
 use Rattle.ring_player.proofs.Puttings.{calls_asked, next_in}
@@ -147,9 +149,6 @@ attempts_first script n (Stored seen items ∷ list) (l, is, m) =
     )
 attempts_first script n (Full seen ∷ list) (l, is, m) = attempts_first script n list m
 
-begins-trans : {A : Type 0} (xs ys zs : List A) → IsPrefix xs ys → IsPrefix ys zs → IsPrefix xs zs
-begins-trans xs ys zs (r, e) (r', f) = (r ++ r', sym (append_assoc xs r r') ∙ ap (λ l. l ++ r') e ∙ f)
-
 none_dropped : (xs : List ℕ) → drop 0 xs ≡ xs
 none_dropped [] = refl
 none_dropped (x ∷ xs) = refl
@@ -212,13 +211,6 @@ put_so_far numbers written script p kept digits put list o due s h next is_due =
     come : 2 * front ≤ length (so_far P list o)
     come = omega (arith, s.long, program_parts calls, so_far_length P list o)
 
-    no_open : (o : Option Access) → ((a : Access) → o ≡ Some a → None ≡ Some a) → o ≡ None
-    no_open None f = refl
-    no_open (Some a) f = absurd (none_some (f a refl))
-      where
-        none_some : None ≡ Some a → ⊥
-        none_some e = absurd (cc)
-
     of_calls : IsAsked script calls None → ArePutsOf script calls
     of_calls closes = record { are = subst (λ (t : Shape). ArePuts t 0 calls.puts) s.same_shape s.there.are; attempts = s.attempts; closes = closes }
 
@@ -228,11 +220,6 @@ put_so_far numbers written script p kept digits put list o due s h next is_due =
     open_begins : (o : Option Access) (a : Access) → ((b : Access) → o ≡ Some b → Some a ≡ Some b) → IsPrefix (with_open list o) (list ++ answered a true ∷ [])
     open_begins None a f = (answered a true ∷ [], refl)
     open_begins (Some b) a f = ([], append-nil (list ++ answered b true ∷ []) ∙ ap (λ x. list ++ answered x true ∷ []) (sym (some_same a b (f b refl))))
-
-    events_begin : (o : Option Access) (a : Access) → ((b : Access) → o ≡ Some b → Some a ≡ Some b) → IsPrefix (so_far P list o) (events_of P (list ++ answered a true ∷ []))
-    events_begin None a f = (events_of P (answered a true ∷ []), sym (events-append P list (answered a true ∷ [])))
-    events_begin (Some b) a f =
-        (end_event P (answered a true) ∷ [], ap (λ x. so_far P list (Some x) ++ end_event P (answered a true) ∷ []) (sym (some_same a b (f b refl))) ∙ sym (events-more P list a true))
 
     over_more : (c : Call) (more : Puts) → HasCallMore shape c calls more → length list < length (put_program shape more) → puts_over shape first_count more.puts (length (so_far P list o)) ≡ calls.puts
     over_more (Put items) more (x, of, more_is, are, still) longer =
@@ -260,8 +247,8 @@ put_so_far numbers written script p kept digits put list o due s h next is_due =
         let longer : length list < length (put_program shape more) = omega (arith, ap length e, length-append (list ++ answered a true ∷ []) rest, length-append list (answered a true ∷ [])) in
         let whole : IsPrefix (list ++ answered a true ∷ []) (put_program shape more) = (rest, e) in
         let whole_events : IsPrefix (events_of P (list ++ answered a true ∷ [])) (events_of P (put_program shape more)) =
-        (events_of P rest, sym (events-append P (list ++ answered a true ∷ []) rest) ∙ ap (events_of P) e) in
+        (events_of P rest, sym (events_of-append P (list ++ answered a true ∷ []) rest) ∙ ap (events_of P) e) in
         reading_so_far numbers written script digits put kept list o h more (calls_asked script c calls more s.attempts asked has)
         (begins-trans (with_open list o) (list ++ answered a true ∷ []) (put_program shape more) (open_begins o a f) whole)
-        (begins-trans (so_far P list o) (events_of P (list ++ answered a true ∷ [])) (events_of P (put_program shape more)) (events_begin o a f) whole_events)
+        (begins-trans (so_far P list o) (events_of P (list ++ answered a true ∷ [])) (events_of P (put_program shape more)) (so_far_begins P list o a true f) whole_events)
         calls.puts (over_more c more has longer) s.filled s.counted

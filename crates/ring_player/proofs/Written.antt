@@ -12,11 +12,12 @@ use Rattle.bits_core.specs.Made.{Made, Read, Write, IsPrefix}
 use Rattle.register_core.specs.Row.{RowWrite, row_bit, writes_in}
 use Rattle.register_core.specs.ScanState.{scan_phrase, row_read_by, zero_reads}
 use Rattle.register_core.specs.Word.{digit_writes, word_write}
-use Rattle.ring_core.specs.Counts.{Count, batch_phrase, count_bits, number_past, IsCount}
+use Rattle.ring_core.specs.Counts.{Count, batch_phrase, count_bits, IsCount}
 use Rattle.ring_core.specs.CountWrites.{CountsAreWritten, CountsShowNumbers}
 use Rattle.ring_core.specs.Items.{events_in, items_put}
 use Rattle.ring_core.specs.Puts.{accesses_before_count, ArePuts, Full, Put, Stored, close_phrase, put_phrase, put_phrases, stored_after, words_phrase}
 use Rattle.ring_player.specs.Actors.{digits_in, items_begun}
+use Rattle.ring_core.proofs.CountRow.{past_is}
 
 -- ---- what is written
 
@@ -173,10 +174,6 @@ put_nothing shape c (Stored u items ∷ puts) t e =
     ap₂ (λ (b : Bool) (l : List ℕ). cond b items [] ++ l) (le-ltb front t (omega (arith, e)))
     (put_nothing shape (stored_after shape c (Stored u items)) puts (t - events_in (put_phrase shape c (Stored u items))) (omega (arith, e)))
 put_nothing shape c (Full u ∷ puts) t e = put_nothing shape c puts (t - events_in (put_phrase shape c (Full u))) (omega (arith, e))
-
-past_is : (n : ℕ) (items : List ℕ) → number_past n items ≡ n + length items
-past_is n [] = omega arith
-past_is n (x ∷ items) = omega (arith, past_is (suc n) items)
 
 divided : (w n k : ℕ) → 1 ≤ w → (n * w + k * w) / w ≡ n + k
 divided w n k l = ap (λ t. t / w) (sym (add-mul n k w)) ∙ mul-div_cancel (n + k) (omega (arith, l))

@@ -1,12 +1,8 @@
-use Rattle.std.proofs.Common.{◌≡◌, ◌∙◌, ℕ, ◌+◌, ◌-◌, inl, inr, min, List, ◌++◌, length, take, refl, sym, ap, subst, arith}
-use Rattle.std.specs.Prelude.{replicate, slice_index_or}
-use Rattle.std.proofs.Math.Seq.{take-length}
-use Rattle.std.proofs.lemmas.List.{length-append, length-replicate}
+use Rattle.std.proofs.Common.{◌∙◌, ℕ, inl, inr, List, length, take, refl, sym, ap, subst, arith}
 use Rattle.bits_core.specs.declared.events.Side.{Side}
-use Rattle.bits_core.specs.declared.events.Side.TheVariants.{P}
 use Rattle.ring_script.specs.declared.schedules.LetterRun.{LetterRun}
 use Rattle.ring_script.specs.Schedule.{spelled}
-use Rattle.ring_player.proofs.WorldParts.{left-more, on_err, spelled-more, spelled-none, take-more, take-none, within_all}
+use Rattle.ring_player.proofs.WorldParts.{all_runs, on_err, one_run_more, spelled-none, take-none, within_all}
 use Rattle.near_misses.specs.NearSides.{NearHas}
 use Rattle.near_misses.proofs.plays.run_first.Goals as goal
 
@@ -32,28 +28,19 @@ loop-run-init g c =
 
 pub loop-run-preserved : goal.loop-run-preserved
 loop-run-preserved g c =
-    let runs : List LetterRun = c.runs-run-items.result.now in
-    let i : ℕ = c.loop-run.run-index in
+    let before : List Side = spelled (take c.loop-run.run-index c.runs-run-items.result.now) in
     let k : ℕ = c.args.letters in
-    let none : LetterRun = record { side = P; count = 0 } in
-    let one : LetterRun = slice_index_or runs i none in
-    let count : ℕ = c.min-count.result in
-    let before : List Side = spelled (take i runs) in
-    let after : spelled (take (i + 1) runs) ≡ before ++ replicate one.count one.side = spelled-more runs i none c.loop-run-test.true in
     let l = c.loop-run.invariant in
-    let least : count ≡ min one.count c.loop-run.left = c.min-count.ensures in
-    let more : take k (before ++ replicate one.count one.side) ≡ take k before ++ replicate count one.side = take-more k before one.count one.side c.loop-run.left count l.left least in
+    let least = c.min-count.ensures in
+    let (more, left, longer) = one_run_more c.runs-run-items.result.now c.loop-run.run-index k c.loop-run.left c.min-count.result c.loop-run-test.true l.left least in
     let few = c.in_ok-repeat.ensures.few in
-    let longer : length (spelled (take (i + 1) runs)) ≡ length before + one.count =
-    ap length after ∙ length-append before (replicate one.count one.side) ∙ ap (λ (n : ℕ). length before + n) (length-replicate one.count one.side) in
     record {
       ready = c.in_ok-repeat.ensures.ready;
       shape = c.in_ok-repeat.ensures.shape ∙ l.shape;
       all = l.all;
       has = λ a oracle has.
-          subst (λ (t : List Side). NearHas g.T.Store.items g.I.Store.items a t oracle c.repeat.new.self) (sym (ap (λ (t : List Side). take k t) after ∙ more))
-          (c.in_ok-repeat.ensures.has a (take k before) oracle (l.has a oracle has));
-      left = left-more k before one.count one.side c.loop-run.left count l.left least ∙ ap (λ (t : List Side). k - length t) (sym after);
+          subst (λ (t : List Side). NearHas g.T.Store.items g.I.Store.items a t oracle c.repeat.new.self) (sym more) (c.in_ok-repeat.ensures.has a (take k before) oracle (l.has a oracle has));
+      left = left;
       event_room = c.repeat.ensures.rooms.0 ∙ l.event_room;
       told_room = c.repeat.ensures.rooms.1 ∙ l.told_room;
       item_room = c.repeat.ensures.rooms.2 ∙ l.item_room;
@@ -68,10 +55,9 @@ loop-run-preserved g c =
 pub returns-in_err-repeat-clause-full : goal.returns-in_err-repeat-clause-full
 returns-in_err-repeat-clause-full g c =
     let runs : List LetterRun = c.runs-run-items.result.now in
-    let none : LetterRun = record { side = P; count = 0 } in
     let l = c.loop-run.invariant in
     let w = c.loop-run.world in
-    let within = within_all runs c.loop-run.run-index none c.loop-run-test.true in
+    let within = within_all runs c.loop-run.run-index c.loop-run-test.true in
     let all = ap length c.runs-run-items.ensures in
     on_err c.from_residual.result (elim c.in_err-repeat.ensures.full [
       | inl h ↦ inl (omega (arith, h, l.event_room, l.few_events, l.events_within, c.min-count.ensures, within, all))
@@ -81,19 +67,15 @@ returns-in_err-repeat-clause-full g c =
 
 pub returns-clause-has : goal.returns-clause-has
 returns-clause-has g c a oracle has =
-    let runs : List LetterRun = c.runs-run-items.result.now in
     let l = c.loop-run.invariant in
-    let end : c.loop-run.run-index ≡ length runs = omega arith in
-    let all : spelled (take c.loop-run.run-index runs) ≡ spelled c.args.script.runs.now = ap (λ i. spelled (take i runs)) end ∙ ap spelled (take-length runs) ∙ l.all in
-    subst (λ (t : List Side). NearHas g.T.Store.items g.I.Store.items a (take c.args.letters t) oracle c.loop-run.world) all (l.has a oracle has)
+    subst (λ (t : List Side). NearHas g.T.Store.items g.I.Store.items a (take c.args.letters t) oracle c.loop-run.world)
+    (all_runs c.runs-run-items.result.now c.loop-run.run-index (spelled c.args.script.runs.now) (omega arith) l.all) (l.has a oracle has)
 
 pub returns-clause-few : goal.returns-clause-few
 returns-clause-few g c =
-    let runs : List LetterRun = c.runs-run-items.result.now in
     let l = c.loop-run.invariant in
-    let end : c.loop-run.run-index ≡ length runs = omega arith in
-    let all : spelled (take c.loop-run.run-index runs) ≡ spelled c.args.script.runs.now = ap (λ i. spelled (take i runs)) end ∙ ap spelled (take-length runs) ∙ l.all in (
-      omega (arith, l.few_events, l.events_within, ap length all),
-      omega (arith, l.few_told, l.told_within, ap length all),
-      omega (arith, l.few_items, l.items_within, ap length all),
+    let all = ap length (all_runs c.runs-run-items.result.now c.loop-run.run-index (spelled c.args.script.runs.now) (omega arith) l.all) in (
+      omega (arith, l.few_events, l.events_within, all),
+      omega (arith, l.few_told, l.told_within, all),
+      omega (arith, l.few_items, l.items_within, all),
     )

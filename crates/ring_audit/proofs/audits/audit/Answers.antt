@@ -1,4 +1,3 @@
-use Rattle.ring_core.specs.RingLaw.{InEveryRun, RingLaw}
 use Rattle.ring_audit.specs.Audit.{statement}
 use Rattle.ring_audit.proofs.Breaks.{exact_finding}
 use Rattle.ring_audit.proofs.Sentences.{says_linearizable, says_sentence}

@@ -1,4 +1,4 @@
-use Rattle.std.proofs.Common.{rules, ◌≡◌, Some, refl, sym, ap, subst, ◌∙◌}
+use Rattle.std.proofs.Common.{rules, ◌≡◌, refl, sym, ap, subst, ◌∙◌}
 use Rattle.bits_core.specs.declared.events.Access.TheVariants as access
 use Rattle.bits_core.specs.declared.events.Act.TheVariants.{ReadEnd}
 use Rattle.bits_core.specs.declared.events.Event.{Event}
@@ -13,7 +13,7 @@ use Rattle.ring_core.specs.Calls.{EndsInZeros, LastBitIsDue}
 use Rattle.ring_player.specs.Actors.{IsPlaying}
 use Rattle.ring_player.specs.Plays.{IsProgram}
 use Rattle.ring_script.specs.Content.{Content}
-use Rattle.ring_player.proofs.Steps.{accesses_few, after_end, answers_one, end_move, playing_on, reading, there_with}
+use Rattle.ring_player.proofs.Steps.{after_end, ends_there, answers_one, end_move, playing_on, reading}
 use Rattle.ring_player.proofs.Turns.{turn_read}
 use Rattle.bits_core.proofs.LawLemmas.{open_changes, subhistory_changes}
 use Rattle.ring_core.proofs.LawLemmas.{last_bit_is_one_puts, last_bit_is_one_takes}
@@ -40,18 +40,11 @@ end-requires-clause-one g c last =
 
 pub returns-clause-playing : goal.returns-clause-playing
 returns-clause-playing g c =
-    let a = c.reserve.new.self in
     let s = c.args.side in
     let h = c.args.memory.now.events in
     let b = bit_of (open_access s h) in
-    let p : IsPlaying s h (g.A.Actor.due a) (g.A.Actor.stands a) =
-    playing_on s h _ (g.A.Actor.due a) (g.A.Actor.stands c.args.actor.now) (g.A.Actor.stands a) c.requires.playing c.reserve.ensures.due c.reserve.ensures.stands in
-    let o = reading (open_access s h) c.requires.open in
-    let v = c.in_ok-answer.answer in
-    let e : Event = record { side = s; bit = b; act = ReadEnd v } in
-    after_end open_changes subhistory_changes s h c.end_read.new.self.events (g.A.Actor.due a) (g.A.Actor.due c.end.new.self) (g.A.Actor.stands a) (g.A.Actor.stands c.end.new.self)
-    (access.Read b) v e p o (ap (λ (m : MemoryState). m.events) c.in_ok-answer.ensures.ok) refl refl refl
-    (c.end.ensures.stands p.list (access.Read b) (p.is_due (access.Read b) o) (there_with s h (g.A.Actor.due a) (g.A.Actor.stands a) (Some (access.Read b)) p o))
+    after_end open_changes subhistory_changes s h c.end_read.new.self.events _ _ _ _ _ _ (access.Read b) c.in_ok-answer.answer (record { side = s; bit = b; act = ReadEnd c.in_ok-answer.answer }) c.requires.playing c.reserve.ensures.due c.reserve.ensures.stands
+    (reading (open_access s h) c.requires.open) (ap (λ (m : MemoryState). m.events) c.in_ok-answer.ensures.ok) refl refl refl c.end.ensures.stands
 
 pub returns-clause-ok : goal.returns-clause-ok
 returns-clause-ok g c =
@@ -72,16 +65,8 @@ returns-clause-turns g c turns t =
 
 pub end-requires-clause-there : goal.end-requires-clause-there
 end-requires-clause-there g c =
-    let a = c.reserve.new.self in
     let s = c.args.side in
     let h = c.args.memory.now.events in
     let b = bit_of (open_access s h) in
-    let p : IsPlaying s h (g.A.Actor.due a) (g.A.Actor.stands a) =
-    playing_on s h _ (g.A.Actor.due a) (g.A.Actor.stands c.args.actor.now) (g.A.Actor.stands a) c.requires.playing c.reserve.ensures.due c.reserve.ensures.stands in
-    let o = reading (open_access s h) c.requires.open in (
-      p.list,
-      access.Read b,
-      p.is_due (access.Read b) o,
-      there_with s h (g.A.Actor.due a) (g.A.Actor.stands a) (Some (access.Read b)) p o,
-      accesses_few s h (g.A.Actor.due a) (g.A.Actor.stands a) c.event_count.result p c.event_count.ensures (search rules),
-    )
+    ends_there s h _ _ _ _ (access.Read b) c.event_count.result c.requires.playing
+    c.reserve.ensures.due c.reserve.ensures.stands (reading (open_access s h) c.requires.open) c.event_count.ensures (search rules)

@@ -8,6 +8,7 @@ use Rattle.ring_script.specs.Borrowed.{content_of}
 use Rattle.ring_script.specs.Content.{Content}
 use Rattle.bits_core.specs.declared.events.Event.{Event}
 use Rattle.bits_core.specs.declared.events.Side.{Side}
+use Rattle.bits_core.specs.declared.shapes.Shape.{Shape}
 use Rattle.ring_player.specs.Headline.{IsPlayOf}
 use Rattle.ring_player.specs.Plays.{HasFlickers}
 use Rattle.ring_player.proofs.Flickers.{has_flickers}
@@ -30,40 +31,29 @@ returns-clause-flicker g c =
     subst (λ (l : List Event). HasFlickers l c.report.result.flicker) (sym c.report.ensures.history)
     (subst (HasFlickers w.history) (sym c.report.ensures.flicker) (has_flickers flicker_is_by_interval (content_of c.args.script).shape w.history c.in_ok-played.ensures.plays.played.lawful))
 
+-- what is said of the world's history is said of the report's
+reported : (says : Shape → List Event → Type 0) (script of : Content) (h history : List Event) → of ≡ script → history ≡ h → says of.shape h → says script.shape history
+reported says script of h history same is told = subst (says script.shape) (sym is) (subst (λ (t : Content). says t.shape h) same told)
+
 pub returns-clause-taken : goal.returns-clause-taken
 returns-clause-taken g c takes =
-    let w = c.run_first-played.new.world in
-    let taken = g.T.Store.items c.report.result.taken in
-    subst (λ (l : List Event). FollowsTakes (content_of c.args.script).shape l takes → taken ≡ items_taken_in (content_of c.args.script).shape l takes) (sym c.report.ensures.history)
-    (subst (λ (t : Content). FollowsTakes t.shape w.history takes → taken ≡ items_taken_in t.shape w.history takes) c.in_ok-played.ensures.script (c.report.ensures.taken takes))
+    reported (λ t l. FollowsTakes t l takes → g.T.Store.items c.report.result.taken ≡ items_taken_in t l takes) (content_of c.args.script) _ c.run_first-played.new.world.history _ c.in_ok-played.ensures.script c.report.ensures.history (c.report.ensures.taken takes)
 
 pub returns-clause-told : goal.returns-clause-told
 returns-clause-told g c takes =
-    let w = c.run_first-played.new.world in
-    let told = c.report.result.told in
-    subst (λ (l : List Event). FollowsTakes (content_of c.args.script).shape l takes → (told ≡ true) ↔ ToldIn (content_of c.args.script).shape l takes) (sym c.report.ensures.history)
-    (subst (λ (t : Content). FollowsTakes t.shape w.history takes → (told ≡ true) ↔ ToldIn t.shape w.history takes) c.in_ok-played.ensures.script (c.report.ensures.told takes))
+    reported (λ t l. FollowsTakes t l takes → (c.report.result.told ≡ true) ↔ ToldIn t l takes) (content_of c.args.script) _ c.run_first-played.new.world.history _ c.in_ok-played.ensures.script c.report.ensures.history (c.report.ensures.told takes)
 
 pub returns-clause-put : goal.returns-clause-put
 returns-clause-put g c puts =
-    let w = c.run_first-played.new.world in
-    let put = c.report.result.put.now in
-    subst (λ (l : List Event). FollowsPuts (content_of c.args.script).shape l puts → put ≡ items_put_in (content_of c.args.script).shape l puts) (sym c.report.ensures.history)
-    (subst (λ (t : Content). FollowsPuts t.shape w.history puts → put ≡ items_put_in t.shape w.history puts) c.in_ok-played.ensures.script (c.report.ensures.put puts))
+    reported (λ t l. FollowsPuts t l puts → c.report.result.put.now ≡ items_put_in t l puts) (content_of c.args.script) _ c.run_first-played.new.world.history _ c.in_ok-played.ensures.script c.report.ensures.history (c.report.ensures.put puts)
 
 pub returns-clause-full : goal.returns-clause-full
 returns-clause-full g c puts =
-    let w = c.run_first-played.new.world in
-    let full = c.report.result.full in
-    subst (λ (l : List Event). FollowsPuts (content_of c.args.script).shape l puts → full ≡ fulls (puts_over_in (content_of c.args.script).shape l puts)) (sym c.report.ensures.history)
-    (subst (λ (t : Content). FollowsPuts t.shape w.history puts → full ≡ fulls (puts_over_in t.shape w.history puts)) c.in_ok-played.ensures.script (c.report.ensures.full puts))
+    reported (λ t l. FollowsPuts t l puts → c.report.result.full ≡ fulls (puts_over_in t l puts)) (content_of c.args.script) _ c.run_first-played.new.world.history _ c.in_ok-played.ensures.script c.report.ensures.history (c.report.ensures.full puts)
 
 pub returns-clause-empty : goal.returns-clause-empty
 returns-clause-empty g c takes =
-    let w = c.run_first-played.new.world in
-    let empty = c.report.result.empty in
-    subst (λ (l : List Event). FollowsTakes (content_of c.args.script).shape l takes → empty ≡ empties (takes_over_in (content_of c.args.script).shape l takes)) (sym c.report.ensures.history)
-    (subst (λ (t : Content). FollowsTakes t.shape w.history takes → empty ≡ empties (takes_over_in t.shape w.history takes)) c.in_ok-played.ensures.script (c.report.ensures.empty takes))
+    reported (λ t l. FollowsTakes t l takes → c.report.result.empty ≡ empties (takes_over_in t l takes)) (content_of c.args.script) _ c.run_first-played.new.world.history _ c.in_ok-played.ensures.script c.report.ensures.history (c.report.ensures.empty takes)
 
 pub returns-clause-linearizable : goal.returns-clause-linearizable
 returns-clause-linearizable g c puts takes run =

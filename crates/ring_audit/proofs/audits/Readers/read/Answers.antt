@@ -1,10 +1,17 @@
-use Rattle.std.proofs.Common.{◌++◌, ◌∙◌, inr, arith, length-append, ℕ, ap, length, subst}
+use Rattle.std.proofs.Common.{◌≡◌, ◌++◌, ◌∙◌, inr, arith, length-append, ℕ, ap, length, subst}
 use Rattle.ring_audit.specs.declared.takes.TakeStep.TheVariants as takes
-use Rattle.ring_audit.specs.TakeReading.{HasReadTake}
+use Rattle.bits_core.specs.declared.events.Event.{Event}
+use Rattle.bits_core.specs.declared.shapes.Shape.{Shape}
+use Rattle.ring_audit.specs.declared.takes.TakeStep.{TakeStep}
+use Rattle.ring_audit.specs.TakeReading.{TakeReading, HasReadTake}
 use Rattle.ring_audit.specs.Reading.{reading}
 use Rattle.ring_audit.proofs.Readings.{put_stops, put_goes, put_stores, put_counts, take_stops, take_goes, take_takes}
 use Rattle.ring_audit.proofs.Rooms.{on_err, put_needs, take_needs, take_short}
 use Rattle.ring_audit.proofs.audits.Readers.read.Goals as goal
+
+-- what is read at this shape of the takes is read at that of the puts
+as_puts : (of shape : Shape) (old new : TakeReading) (e : Event) (step : TakeStep) → of ≡ shape → HasReadTake of old new e step → HasReadTake shape old new e step
+as_puts of shape old new e step same read = subst (λ s. HasReadTake s old new e step) same read
 
 pub returns-in_err-push-in-Stores-clause-refused : goal.returns-in_err-push-in-Stores-clause-refused
 returns-in_err-push-in-Stores-clause-refused g c =
@@ -16,18 +23,16 @@ returns-in_err-push-in-Stores-clause-refused g c =
 pub returns-in_err-push_all-in-Takes-clause-refused : goal.returns-in_err-push_all-in-Takes-clause-refused
 returns-in_err-push_all-in-Takes-clause-refused g c =
     let r = c.args.self.now in
-    let read : HasReadTake r.puts.shape r.takes c.read-in-C.new.self c.args.event takes.Takes = subst (λ s. HasReadTake s r.takes c.read-in-C.new.self c.args.event takes.Takes) c.requires c.in-Takes.ensures.read in
     on_err c.from_residual-in_err-push_all-in-Takes.result
     (take_needs r.puts.shape r.puts r.takes c.read-in-C.new.self r.counted (g.S.Store.items c.args.put.now) (g.S.Store.items c.args.taken.now) c.items.result.now c.args.event
-    (g.S.Store.room c.args.put.now) (g.S.Store.room c.args.taken.now) c.in-C.is read c.items.ensures c.in_err-push_all-in-Takes.ensures.full)
+    (g.S.Store.room c.args.put.now) (g.S.Store.room c.args.taken.now) c.in-C.is (as_puts r.takes.consumer.shape r.puts.shape r.takes c.read-in-C.new.self c.args.event takes.Takes c.requires c.in-Takes.ensures.read) c.items.ensures c.in_err-push_all-in-Takes.ensures.full)
 
 pub returns-in_err-push_all-in-Takes-clause-full : goal.returns-in_err-push_all-in-Takes-clause-full
 returns-in_err-push_all-in-Takes-clause-full g c =
     let r = c.args.self.now in
-    let read : HasReadTake r.puts.shape r.takes c.read-in-C.new.self c.args.event takes.Takes = subst (λ s. HasReadTake s r.takes c.read-in-C.new.self c.args.event takes.Takes) c.requires c.in-Takes.ensures.read in
     on_err c.from_residual-in_err-push_all-in-Takes.result
     (inr (take_short r.puts.shape r.puts r.takes c.read-in-C.new.self r.counted (g.S.Store.items c.args.put.now) (g.S.Store.items c.args.taken.now) c.items.result.now c.args.event
-    (g.S.Store.room c.args.taken.now) c.in-C.is read c.items.ensures c.in_err-push_all-in-Takes.ensures.full))
+    (g.S.Store.room c.args.taken.now) c.in-C.is (as_puts r.takes.consumer.shape r.puts.shape r.takes c.read-in-C.new.self c.args.event takes.Takes c.requires c.in-Takes.ensures.read) c.items.ensures c.in_err-push_all-in-Takes.ensures.full))
 
 pub returns-in-Stops-clause-stops : goal.returns-in-Stops-clause-stops
 returns-in-Stops-clause-stops g c f =
@@ -49,8 +54,7 @@ returns-in-Counts-clause-goes_on g c f =
 pub returns-in-Stops-read-clause-stops : goal.returns-in-Stops-read-clause-stops
 returns-in-Stops-read-clause-stops g c f =
     let r = c.args.self.now in
-    let read : HasReadTake r.puts.shape r.takes c.read-in-C.new.self c.args.event takes.Stops = subst (λ s. HasReadTake s r.takes c.read-in-C.new.self c.args.event takes.Stops) c.requires c.in-Stops-read.ensures.read in
-    take_stops r.puts.shape (reading r.puts r.takes r.counted (g.S.Store.items c.args.put.now) (g.S.Store.items c.args.taken.now)) c.read-in-C.new.self c.args.event c.in-C.is read
+    take_stops r.puts.shape (reading r.puts r.takes r.counted (g.S.Store.items c.args.put.now) (g.S.Store.items c.args.taken.now)) c.read-in-C.new.self c.args.event c.in-C.is (as_puts r.takes.consumer.shape r.puts.shape r.takes c.read-in-C.new.self c.args.event takes.Stops c.requires c.in-Stops-read.ensures.read)
 
 pub returns-in_ok-push-in-Stores-clause-few : goal.returns-in_ok-push-in-Stores-clause-few
 returns-in_ok-push-in-Stores-clause-few g c = omega (arith, length-append {A = ℕ}, ap length c.in_ok-push-in-Stores.ensures.pushed)
@@ -63,12 +67,10 @@ returns-in-GoesOn-clause-goes_on g c f =
 pub returns-in-GoesOn-read-clause-goes_on : goal.returns-in-GoesOn-read-clause-goes_on
 returns-in-GoesOn-read-clause-goes_on g c f =
     let r = c.args.self.now in
-    let read : HasReadTake r.puts.shape r.takes c.read-in-C.new.self c.args.event takes.GoesOn = subst (λ s. HasReadTake s r.takes c.read-in-C.new.self c.args.event takes.GoesOn) c.requires c.in-GoesOn-read.ensures.read in
-    take_goes r.puts.shape (reading r.puts r.takes r.counted (g.S.Store.items c.args.put.now) (g.S.Store.items c.args.taken.now)) c.read-in-C.new.self c.args.event c.in-C.is read
+    take_goes r.puts.shape (reading r.puts r.takes r.counted (g.S.Store.items c.args.put.now) (g.S.Store.items c.args.taken.now)) c.read-in-C.new.self c.args.event c.in-C.is (as_puts r.takes.consumer.shape r.puts.shape r.takes c.read-in-C.new.self c.args.event takes.GoesOn c.requires c.in-GoesOn-read.ensures.read)
 
 pub returns-in_ok-push_all-in-Takes-clause-goes_on : goal.returns-in_ok-push_all-in-Takes-clause-goes_on
 returns-in_ok-push_all-in-Takes-clause-goes_on g c f =
     let r = c.args.self.now in
-    let read : HasReadTake r.puts.shape r.takes c.read-in-C.new.self c.args.event takes.Takes = subst (λ s. HasReadTake s r.takes c.read-in-C.new.self c.args.event takes.Takes) c.requires c.in-Takes.ensures.read in
     take_takes r.puts.shape (reading r.puts r.takes r.counted (g.S.Store.items c.args.put.now) (g.S.Store.items c.args.taken.now)) c.read-in-C.new.self c.args.event
-    (g.S.Store.items c.push_all.new.store) c.in-C.is read (c.in_ok-push_all-in-Takes.ensures.pushed ∙ ap (λ l. g.S.Store.items c.args.taken.now ++ l) c.items.ensures)
+    (g.S.Store.items c.push_all.new.store) c.in-C.is (as_puts r.takes.consumer.shape r.puts.shape r.takes c.read-in-C.new.self c.args.event takes.Takes c.requires c.in-Takes.ensures.read) (c.in_ok-push_all-in-Takes.ensures.pushed ∙ ap (λ l. g.S.Store.items c.args.taken.now ++ l) c.items.ensures)

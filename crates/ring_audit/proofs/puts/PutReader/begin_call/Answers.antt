@@ -7,21 +7,16 @@ use Rattle.register_core.specs.ScanState.{row_read_by, due_scan}
 use Rattle.ring_audit.specs.declared.puts.PutStep.TheVariants.{Stops}
 use Rattle.ring_audit.specs.declared.puts.Stage.TheVariants.{Resting}
 use Rattle.ring_audit.specs.contracts.puts.PutReader.{the_view}
-use Rattle.ring_audit.specs.PutReading.{PutReading, IsReaderAt}
-use Rattle.ring_audit.proofs.PutReads.{lift, at_stage, no_call}
+use Rattle.ring_audit.specs.PutReading.{PutReading}
+use Rattle.ring_audit.proofs.PutReads.{read_at, no_call}
 use Rattle.ring_audit.proofs.puts.PutReader.begin_call.Goals as goal
 
 pub returns-else-is_same-2-clause-read : goal.returns-else-is_same-2-clause-read
 returns-else-is_same-2-clause-read c =
     let r : PutReading = the_view c.self.inside in
-    let now : PutReading = c.args.self.now in
-    let is : r ≡ now = c.self.view_is in
-    let stage : r.stage ≡ Resting = ap (λ (z : PutReading). z.stage) is ∙ c.requires.stage in
-    let none : r.open_access ≡ None = ap (λ (z : PutReading). z.open_access) is ∙ c.requires.none in
-    let at : IsReaderAt Resting r = at_stage r Resting c.self.invariant stage in
     let a : Access = c.args.access in
     let due : c.next.result ≡ Some (begins.Read (row_read_by P 0)) = c.next.ensures.due ∙ ap due_scan c.new-self-inside.ensures.state in
-    lift r now (record r { scan = c.new-self-inside.result }) (opening_event P a) Stops is
-    (λ es items stored st of_puts. no_call r.shape r es items stored a st none stage
+    read_at r c.args.self.now (record r { scan = c.new-self-inside.result }) (opening_event P a) Stops Resting None c.self.view_is c.self.invariant c.requires.stage c.requires.none
+    (λ stage none at es items stored st of_puts. no_call r.shape r es items stored a st none stage
     (λ same. (let clash : true ≡ false = sym (c.is_same.ensures.1 (ap Some same)) ∙ c.if-is_same.false in absurd (cc)))
     (λ same. (let clash : true ≡ false = sym (c.is_same-else-is_same.ensures.1 (due ∙ ap Some same)) ∙ c.if-is_same-2.false in absurd (cc))) of_puts)

@@ -8,35 +8,24 @@ use Rattle.register_core.specs.UnaryState.{due_unary}
 use Rattle.ring_audit.specs.declared.puts.PutStep.TheVariants.{Stops, Counts}
 use Rattle.ring_audit.specs.declared.puts.Stage.TheVariants.{Choosing, Counting, Closed}
 use Rattle.ring_audit.specs.contracts.puts.PutReader.{the_view}
-use Rattle.ring_audit.specs.PutReading.{PutReading, IsReaderAt}
-use Rattle.ring_audit.proofs.PutReads.{lift, at_stage, no_word_nor_count}
+use Rattle.ring_audit.specs.PutReading.{PutReading}
+use Rattle.ring_audit.proofs.PutReads.{read_at, no_word_nor_count}
 use Rattle.ring_audit.proofs.PutSteps.{begins_count}
 use Rattle.ring_audit.proofs.puts.PutReader.begin_count.Goals as goal
 
 pub returns-then-is_same-clause-read : goal.returns-then-is_same-clause-read
 returns-then-is_same-clause-read c =
     let r : PutReading = the_view c.self.inside in
-    let now : PutReading = c.args.self.now in
-    let is : r ≡ now = c.self.view_is in
-    let stage : r.stage ≡ Choosing = ap (λ (z : PutReading). z.stage) is ∙ c.requires.stage in
-    let none : r.open_access ≡ None = ap (λ (z : PutReading). z.open_access) is ∙ c.requires.none in
-    let at : IsReaderAt Choosing r = at_stage r Choosing c.self.invariant stage in
     let a : Access = c.args.access in
-    let some : r.some ≡ true = ap (λ (z : PutReading). z.some) is ∙ c.requires.some in
-    lift r now (record r { stage = Counting; row = c.write.new.self; open_access = Some a }) (opening_event P a) Counts is
-    (λ es items stored st. begins_count r.shape r es items stored c.write.new.self a st none stage some c.self.invariant.row_side c.write.ensures.state
-    (λ values made stands. c.write.ensures.stands values made stands))
+    read_at r c.args.self.now (record r { stage = Counting; row = c.write.new.self; open_access = Some a }) (opening_event P a) Counts Choosing None c.self.view_is c.self.invariant c.requires.stage c.requires.none
+    (λ stage none at es items stored st. begins_count r.shape r es items stored c.write.new.self a st none stage (ap (λ (z : PutReading). z.some) c.self.view_is ∙ c.requires.some)
+    c.self.invariant.row_side c.write.ensures.state c.write.ensures.stands)
 
 pub returns-else-is_same-clause-read : goal.returns-else-is_same-clause-read
 returns-else-is_same-clause-read c =
     let r : PutReading = the_view c.self.inside in
-    let now : PutReading = c.args.self.now in
-    let is : r ≡ now = c.self.view_is in
-    let stage : r.stage ≡ Choosing = ap (λ (z : PutReading). z.stage) is ∙ c.requires.stage in
-    let none : r.open_access ≡ None = ap (λ (z : PutReading). z.open_access) is ∙ c.requires.none in
-    let at : IsReaderAt Choosing r = at_stage r Choosing c.self.invariant stage in
     let a : Access = c.args.access in
-    lift r now (record r { stage = Closed; row = c.write.new.self }) (opening_event P a) Stops is
-    (λ es items stored st of_puts. no_word_nor_count r.shape r es items stored a st none stage c.self.invariant.row_side
-    (subst (λ (z : PutReading). (v : Bool) → 0 < z.room → a ≡ begins.Write (Cell z.cell 0) v → ⊥) (sym is) c.requires.no_word)
+    read_at r c.args.self.now (record r { stage = Closed; row = c.write.new.self }) (opening_event P a) Stops Choosing None c.self.view_is c.self.invariant c.requires.stage c.requires.none
+    (λ stage none at es items stored st of_puts. no_word_nor_count r.shape r es items stored a st none stage c.self.invariant.row_side
+    (subst (λ (z : PutReading). (v : Bool) → 0 < z.room → a ≡ begins.Write (Cell z.cell 0) v → ⊥) (sym c.self.view_is) c.requires.no_word)
     (λ some due. (let clash : true ≡ false = sym (c.is_same.ensures.1 (c.next.ensures.due ∙ ap due_unary c.write.ensures.state ∙ due)) ∙ c.if-is_same.false in absurd (cc))) of_puts)

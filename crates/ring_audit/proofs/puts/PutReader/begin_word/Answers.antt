@@ -9,8 +9,8 @@ use Rattle.register_core.specs.WordState.{ReaderState, due_read}
 use Rattle.ring_audit.specs.declared.puts.PutStep.TheVariants.{Stops, GoesOn}
 use Rattle.ring_audit.specs.declared.puts.Stage.TheVariants.{Choosing, Storing}
 use Rattle.ring_audit.specs.contracts.puts.PutReader.{the_view}
-use Rattle.ring_audit.specs.PutReading.{PutReading, IsReaderAt}
-use Rattle.ring_audit.proofs.PutReads.{lift, at_stage, no_word_nor_count, read_due}
+use Rattle.ring_audit.specs.PutReading.{PutReading}
+use Rattle.ring_audit.proofs.PutReads.{read_at, no_word_nor_count, read_due}
 use Rattle.ring_audit.proofs.PutSteps.{begins_word}
 use Rattle.ring_audit.proofs.puts.PutReader.begin_word.Goals as goal
 use Rattle.ring_audit.proofs.puts.PutReader.begin_word.Goals.{else-self-gt0-via-then-self-gt0+else-writes_next, else-self-gt0-via-else-self-gt0}
@@ -18,24 +18,14 @@ use Rattle.ring_audit.proofs.puts.PutReader.begin_word.Goals.{else-self-gt0-via-
 pub returns-then-writes_next-clause-read : goal.returns-then-writes_next-clause-read
 returns-then-writes_next-clause-read c =
     let r : PutReading = the_view c.self.inside in
-    let now : PutReading = c.args.self.now in
-    let is : r ≡ now = c.self.view_is in
-    let stage : r.stage ≡ Choosing = ap (λ (z : PutReading). z.stage) is ∙ c.requires.stage in
-    let none : r.open_access ≡ None = ap (λ (z : PutReading). z.open_access) is ∙ c.requires.none in
-    let at : IsReaderAt Choosing r = at_stage r Choosing c.self.invariant stage in
     let a : Access = c.args.access in
-    lift r now (record r { stage = Storing; word = c.new-self-inside.result; open_access = Some a }) (opening_event P a) GoesOn is
-    (λ es items stored st. begins_word r.shape r es items stored c.new-self-inside.result a st none stage
+    read_at r c.args.self.now (record r { stage = Storing; word = c.new-self-inside.result; open_access = Some a }) (opening_event P a) GoesOn Choosing None c.self.view_is c.self.invariant c.requires.stage c.requires.none
+    (λ stage none at es items stored st. begins_word r.shape r es items stored c.new-self-inside.result a st none stage
     (ap (λ (z : ReaderState). z.read) c.new-self-inside.ensures.state) c.new-self-inside.ensures.stands)
 
 pub returns-else-self-clause-read : goal.returns-else-self-clause-read
 returns-else-self-clause-read c =
     let r : PutReading = the_view c.self.inside in
-    let now : PutReading = c.args.self.now in
-    let is : r ≡ now = c.self.view_is in
-    let stage : r.stage ≡ Choosing = ap (λ (z : PutReading). z.stage) is ∙ c.requires.stage in
-    let none : r.open_access ≡ None = ap (λ (z : PutReading). z.open_access) is ∙ c.requires.none in
-    let at : IsReaderAt Choosing r = at_stage r Choosing c.self.invariant stage in
     let a : Access = c.args.access in
     let word : ReaderState = record { width = width_of r.shape; cell = r.cell; read = 0; value = 0 } in
     let no_word : (v : Bool) → 0 < r.room → a ≡ begins.Write (Cell r.cell 0) v → ⊥ = λ v room writes.
@@ -46,6 +36,6 @@ returns-else-self-clause-read c =
           absurd (cc)
       | else-self-gt0-via-else-self-gt0 w ↦ absurd (omega (arith, room, w.if-self-gt0.false))
     ]) in
-    lift r now r (opening_event P a) Stops is
-    (λ es items stored st of_puts. no_word_nor_count r.shape r es items stored a st none stage c.self.invariant.row_side no_word
+    read_at r c.args.self.now r (opening_event P a) Stops Choosing None c.self.view_is c.self.invariant c.requires.stage c.requires.none
+    (λ stage none at es items stored st of_puts. no_word_nor_count r.shape r es items stored a st none stage c.self.invariant.row_side no_word
     (λ some due. (let clash : true ≡ false = sym some ∙ c.if-self.false in absurd (cc))) of_puts)

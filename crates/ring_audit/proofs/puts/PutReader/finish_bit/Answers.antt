@@ -1,4 +1,4 @@
-use Rattle.std.proofs.Common.{◌≡◌, Some, None, sym, ap, ◌∙◌}
+use Rattle.std.proofs.Common.{◌≡◌, Some, None, sym, ◌∙◌}
 use Rattle.bits_core.specs.declared.events.Side.TheVariants.{P}
 use Rattle.bits_core.specs.declared.events.Access.{Access}
 use Rattle.bits_core.specs.Made.{answered, end_event}
@@ -6,32 +6,22 @@ use Rattle.register_core.specs.UnaryState.{due_unary}
 use Rattle.ring_audit.specs.declared.puts.PutStep.TheVariants.{GoesOn}
 use Rattle.ring_audit.specs.declared.puts.Stage.TheVariants.{Resting, Counting}
 use Rattle.ring_audit.specs.contracts.puts.PutReader.{the_view}
-use Rattle.ring_audit.specs.PutReading.{PutReading, IsReaderAt}
-use Rattle.ring_audit.proofs.PutReads.{lift, at_stage, no_due}
+use Rattle.ring_audit.specs.PutReading.{PutReading}
+use Rattle.ring_audit.proofs.PutReads.{read_at, no_due}
 use Rattle.ring_audit.proofs.PutItems.{ends_bit, ends_count}
 use Rattle.ring_audit.proofs.puts.PutReader.finish_bit.Goals as goal
 
 pub returns-then-is_none-clause-read : goal.returns-then-is_none-clause-read
 returns-then-is_none-clause-read c =
     let r : PutReading = the_view c.self.inside in
-    let now : PutReading = c.args.self.now in
-    let is : r ≡ now = c.self.view_is in
-    let stage : r.stage ≡ Counting = ap (λ (z : PutReading). z.stage) is ∙ c.requires.stage in
-    let some : r.open_access ≡ Some c.args.access = ap (λ (z : PutReading). z.open_access) is ∙ c.requires.open_access in
-    let at : IsReaderAt Counting r = at_stage r Counting c.self.invariant stage in
     let a : Access = c.args.access in
     let over : due_unary c.feed.new.self ≡ None = sym c.next.ensures.due ∙ no_due c.next.result c.is_none.result c.is_none.ensures c.if-is_none.true in
-    lift r now (record r { row = c.feed.new.self; count = r.next; stage = Resting; open_access = None }) (end_event P (answered a c.args.answer)) GoesOn is
-    (λ es items stored st. ends_count r.shape r es items stored c.feed.new.self a c.args.answer st some stage c.self.invariant.row_side (at.1 a some) c.feed.ensures.left c.feed.ensures.stands over)
+    read_at r c.args.self.now (record r { row = c.feed.new.self; count = r.next; stage = Resting; open_access = None }) (end_event P (answered a c.args.answer)) GoesOn Counting (Some a) c.self.view_is c.self.invariant c.requires.stage c.requires.open_access
+    (λ stage some at es items stored st. ends_count r.shape r es items stored c.feed.new.self a c.args.answer st some stage c.self.invariant.row_side (at.1 a some) c.feed.ensures.left c.feed.ensures.stands over)
 
 pub returns-else-is_none-clause-read : goal.returns-else-is_none-clause-read
 returns-else-is_none-clause-read c =
     let r : PutReading = the_view c.self.inside in
-    let now : PutReading = c.args.self.now in
-    let is : r ≡ now = c.self.view_is in
-    let stage : r.stage ≡ Counting = ap (λ (z : PutReading). z.stage) is ∙ c.requires.stage in
-    let some : r.open_access ≡ Some c.args.access = ap (λ (z : PutReading). z.open_access) is ∙ c.requires.open_access in
-    let at : IsReaderAt Counting r = at_stage r Counting c.self.invariant stage in
     let a : Access = c.args.access in
-    lift r now (record r { row = c.feed.new.self; open_access = None }) (end_event P (answered a c.args.answer)) GoesOn is
-    (λ es items stored st. ends_bit r.shape r es items stored c.feed.new.self a c.args.answer st some stage c.self.invariant.row_side (at.1 a some) c.feed.ensures.left c.feed.ensures.stands)
+    read_at r c.args.self.now (record r { row = c.feed.new.self; open_access = None }) (end_event P (answered a c.args.answer)) GoesOn Counting (Some a) c.self.view_is c.self.invariant c.requires.stage c.requires.open_access
+    (λ stage some at es items stored st. ends_bit r.shape r es items stored c.feed.new.self a c.args.answer st some stage c.self.invariant.row_side (at.1 a some) c.feed.ensures.left c.feed.ensures.stands)

@@ -9,7 +9,8 @@ use Rattle.ring_audit.specs.declared.choices.Dues.{Dues}
 use Rattle.ring_audit.specs.declared.puts.Stage.TheVariants.{Scanning, Storing, Counting, Closing}
 use Rattle.ring_audit.specs.contracts.puts.PutReader.{the_view}
 use Rattle.ring_audit.specs.PutReading.{PutReading, IsReaderAt}
-use Rattle.ring_audit.proofs.PutReads.{at_stage, scan_due, read_due, no_call, no_read, no_digit, no_bit, no_more}
+use Rattle.ring_core.proofs.Machines.NextParts.{scan_due}
+use Rattle.ring_audit.proofs.PutReads.{at_stage, read_due, no_call, no_read, no_digit, no_bit, no_more}
 use Rattle.ring_audit.proofs.DueLemmas.{begins_by, two_in_order}
 use Rattle.ring_audit.proofs.puts.PutReader.openings.Goals as goal
 

@@ -1,11 +1,11 @@
-use Rattle.std.proofs.Common.{subst}
+use Rattle.std.proofs.Common.{ap, subst, ◌∙◌}
 use Rattle.bits_core.specs.declared.events.Side.TheVariants.{P}
 use Rattle.bits_core.specs.Made.{events_of}
-use Rattle.bits_core.specs.Open.{IsOpenRight}
+use Rattle.ring_player.proofs.Moves.{right}
 use Rattle.ring_player.proofs.Nexts.{put_next}
 use Rattle.ring_player.specs.Plays.{IsDoneAfter}
 use Rattle.ring_script.specs.Content.{Content}
-use Rattle.ring_player.proofs.Puttings.{resting, right, unfinished}
+use Rattle.ring_player.proofs.Puttings.{resting, unfinished}
 use Rattle.ring_script.specs.Borrowed.{content_of}
 use Rattle.ring_core.proofs.LawLemmas.{calls_are_first_puts}
 use Rattle.ring_player.proofs.putting.PutActorActor.next.Goals as goal
@@ -18,9 +18,8 @@ returns-clause-unfinished c a is list s =
 
 pub returns-clause-right : goal.returns-clause-right
 returns-clause-right c a is list s =
-    let y = c.begin_call.new.self in
-    subst (λ (t : Content). IsOpenRight t.shape P a) c.begin_call.ensures.script
-    (right (content_of y.script) y.producer (record { stored = y.stored; full = y.full }) list c.next.result a (c.begin_call.ensures.stands list s.0) c.next.ensures.right is)
+    right c.begin_call.new.self.producer.shape (content_of c.args.self.now.script).shape P c.next.result a
+    ((c.begin_call.ensures.stands list s.0).same_shape ∙ ap (λ (t : Content). t.shape) c.begin_call.ensures.script) c.next.ensures.right is
 
 pub returns-clause-done : goal.returns-clause-done
 returns-clause-done c none list s =

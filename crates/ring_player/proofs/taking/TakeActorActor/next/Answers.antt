@@ -1,11 +1,11 @@
-use Rattle.std.proofs.Common.{subst}
+use Rattle.std.proofs.Common.{ap, subst, ◌∙◌}
 use Rattle.bits_core.specs.declared.events.Side.TheVariants.{C}
 use Rattle.bits_core.specs.Made.{events_of}
-use Rattle.bits_core.specs.Open.{IsOpenRight}
+use Rattle.ring_player.proofs.Moves.{right}
 use Rattle.ring_player.proofs.Nexts.{take_next}
 use Rattle.ring_player.specs.Plays.{IsDoneAfter}
 use Rattle.ring_script.specs.Content.{Content}
-use Rattle.ring_player.proofs.Takings.{resting, right, unfinished}
+use Rattle.ring_player.proofs.Takings.{resting, unfinished}
 use Rattle.ring_script.specs.Borrowed.{content_of}
 use Rattle.ring_core.proofs.LawLemmas.{calls_are_first_takes}
 use Rattle.ring_player.proofs.taking.TakeActorActor.next.Goals as goal
@@ -18,9 +18,8 @@ returns-clause-unfinished g c a is list s =
 
 pub returns-clause-right : goal.returns-clause-right
 returns-clause-right g c a is list s =
-    let y = c.begin_take.new.self in
-    subst (λ (t : Content). IsOpenRight t.shape C a) c.begin_take.ensures.script
-    (right (content_of y.script) y.consumer (g.T.Store.items y.taken) y.told y.empty list c.next.result a (c.begin_take.ensures.stands list s) c.next.ensures.right is)
+    right c.begin_take.new.self.consumer.shape (content_of c.args.self.now.script).shape C c.next.result a
+    ((c.begin_take.ensures.stands list s).same_shape ∙ ap (λ (t : Content). t.shape) c.begin_take.ensures.script) c.next.ensures.right is
 
 pub returns-clause-done : goal.returns-clause-done
 returns-clause-done g c none list s =
