@@ -73,7 +73,7 @@ module _ (s : Side) (h : List Event) (made : List Made) (follows : IsPrefix (sub
   turn : (n i : ℕ) → 2 * (n + suc i) < length (subhistory s h) → end_place s h n i < begin_place s h n (suc i)
   turn n i l = rise s h (suc (2 * (n + i))) (2 * (n + suc i)) (omega arith) l
 
-other_other : (s : Side) → other (other s) ≡ s
+pub other_other : (s : Side) → other (other s) ≡ s
 other_other P = refl
 other_other C = refl
 

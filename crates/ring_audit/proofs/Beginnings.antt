@@ -10,6 +10,7 @@ use Rattle.bits_core.specs.declared.events.Event.{Event}
 use Rattle.bits_core.specs.Bits.{begun_access, begun_by}
 use Rattle.bits_core.specs.Made.{Made, Read, Write, access_of, answered, begin_event, end_event, events_of, IsPrefix, opening_event}
 use Rattle.ring_core.proofs.Readings.Phrases.{same_made}
+pub use Rattle.bits_core.proofs.MadeLemmas.{begin_begins as begun_is, end_begins_none as ended_is}
 
 -- ---- one access
 
@@ -20,14 +21,6 @@ begin_is s (Write b v) = refl
 pub answer_is : (x : Made) → (v : Bool) × (x ≡ answered (access_of x) v)
 answer_is (Read b v) = (v, refl)
 answer_is (Write b v) = (v, refl)
-
-pub begun_is : (s : Side) (x : Made) → begun_by (begin_event s x) ≡ Some (access_of x)
-begun_is s (Read b v) = refl
-begun_is s (Write b v) = refl
-
-pub ended_is : (s : Side) (x : Made) → begun_by (end_event s x) ≡ None
-ended_is s (Read b v) = refl
-ended_is s (Write b v) = refl
 
 pub begun_of : (s : Side) (a : Access) → begun_by (opening_event s a) ≡ Some a
 begun_of s (begins.Read b) = refl

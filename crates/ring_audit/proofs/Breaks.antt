@@ -17,8 +17,7 @@ use Rattle.ring_audit.specs.Audit.{IsOfPrograms, IsFound, IsKindAt, IsFirstBreak
 use Rattle.ring_audit.specs.PutReading.{PutsStand, WerePut}
 use Rattle.ring_audit.specs.TakeReading.{TakesStand, WereTaken}
 use Rattle.ring_audit.specs.Reading.{Reading, ReadingStands, BothFollow}
-use Rattle.bits_core.proofs.LawProofs.{beginning_is_lawful}
-use Rattle.bits_core.proofs.FaultLemmas.{fault_breaks}
+use Rattle.bits_core.proofs.LawLemmas.{beginning_is_lawful, fault_breaks}
 
 pub of_programs : (shape : Shape) (h : List Event) → IsLawful shape h → BothFollow shape h → IsOfPrograms shape h
 of_programs shape h lawful ((puts, are, events), (takes, are', events')) =

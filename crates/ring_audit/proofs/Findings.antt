@@ -10,11 +10,9 @@ use Rattle.bits_core.specs.declared.shapes.Shape.{Shape}
 use Rattle.bits_core.specs.Audit.{IsFirstFault}
 use Rattle.bits_core.specs.Lawful.{IsLawful}
 use Rattle.ring_audit.specs.Audit.{IsOfPrograms, IsFound, IsKindAt, IsFirstBreak, Lawful, Fault, OneFinding}
-use Rattle.bits_core.proofs.FaultLemmas.{fault_breaks, one_verdict}
-use Rattle.register_core.proofs.Items.{same_item}
-use Rattle.ring_core.proofs.Readings.ItemsRead.{items-are_read}
-use Rattle.ring_core.proofs.Readings.TakenRead.{taken-are_read}
 use Rattle.ring_audit.proofs.Breaks.{programs_take}
+use Rattle.bits_core.proofs.LawLemmas.{fault_breaks, one_verdict}
+use Rattle.ring_core.proofs.LawLemmas.{items_put_are_read, items_taken_are_read}
 
 -- ---- what was put, taken and told
 
@@ -27,9 +25,9 @@ one_found :
     (shape : Shape) (h : List Event) (put taken put' taken' : List ℕ) (told told' : Bool) → IsFound shape h put taken told →
     IsFound shape h put' taken' told' → Lawful put taken told ≡ Lawful put' taken' told'
 one_found shape h put taken put' taken' told told' f g =
-    let same_put : put ≡ put' = f.put_is ∙ items-are_read same_item shape h f.puts g.puts f.run.puts_follow g.run.puts_follow ∙ sym g.put_is in
-    let (there, on) = taken-are_read same_item shape h f.takes g.takes f.run.takes_follow g.run.takes_follow in
-    let (back, on') = taken-are_read same_item shape h g.takes f.takes g.run.takes_follow f.run.takes_follow in
+    let same_put : put ≡ put' = f.put_is ∙ items_put_are_read shape h f.puts g.puts f.run.puts_follow g.run.puts_follow ∙ sym g.put_is in
+    let (there, on) = items_taken_are_read shape h f.takes g.takes f.run.takes_follow g.run.takes_follow in
+    let (back, on') = items_taken_are_read shape h g.takes f.takes g.run.takes_follow f.run.takes_follow in
     let same_taken : taken ≡ taken' = f.taken_is ∙ there ∙ sym g.taken_is in
     let same_told : told ≡ told' = same_truth told told' (λ e. g.told_is.1 (on (f.told_is.0 e))) (λ e. f.told_is.1 (on' (g.told_is.0 e))) in
     cc

@@ -32,11 +32,10 @@ use Rattle.ring_audit.proofs.Beginnings.{begin_is}
 use Rattle.ring_audit.proofs.Readers.{at_rest, open-short, open-long}
 use Rattle.ring_audit.proofs.PutReads.{made_at, at_stage, same_open, read_due}
 use Rattle.ring_audit.proofs.PutItems.{first_of, fit-push, words-push, as_write, digits_of}
+use Rattle.ring_audit.proofs.TakeEnds.{events_in-append}
+use Rattle.ring_core.proofs.Machines.ProducerNext.{room_or_none}
 
 -- ---- items
-
-events_in-append : (xs ys : List Made) → events_in (xs ++ ys) ≡ events_in xs + events_in ys
-events_in-append xs ys = omega (arith, length-append xs ys)
 
 -- where a put has ended and its count write has begun, its items are put
 begun_items :
@@ -174,12 +173,6 @@ moment shape r es items stored st part t made_is e =
     let lower : 2 * length st.made ≤ length es = subst (λ l. 2 * length st.made ≤ length l) (sym st.events_are) (open-long P st.made r.open_access) in
     let long : length st.made ≡ length front + length part = ap length made_is ∙ length-append front part in
     (omega (arith, lower, long, e), omega (arith, upper, long, e))
-
-room_or_none : (shape : Shape) (n d : ℕ) → LeavesRoom shape n d ⊎ (LeavesRoom shape n d → ⊥)
-room_or_none shape n d = below_or_not (distance (modulus_of shape) n d) (capacity_of shape)
-  where
-    below_or_not : (a b : ℕ) → (a < b) ⊎ (a < b → ⊥)
-    below_or_not a b = grind arith
 
 scanning_put : (shape : Shape) (r : PutReading) (es : List Event) (items stored : List ℕ) → PutsStand shape r es items stored → r.stage ≡ Scanning → IsReaderAt Scanning r → WerePut shape es items
 scanning_put shape r es items stored st stage (idle, scans, some, due) =

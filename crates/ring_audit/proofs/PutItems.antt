@@ -24,6 +24,7 @@ use Rattle.ring_audit.specs.PutReading.{PutReading, RowHolds, IsMost, has_items,
 use Rattle.ring_core.proofs.Machines.PutCalls.{phrases-push, stored-push, are-push}
 use Rattle.ring_audit.proofs.PutReads.{made_at}
 use Rattle.ring_audit.proofs.PutSteps.{put-push, stores_on, counts_on, ended_so}
+pub use Rattle.ring_core.proofs.Machines.ConsumerMoves.{item_fits as fit-push}
 
 -- ---- words
 
@@ -125,10 +126,6 @@ words-push shape n [] x = append-nil (word_write (width_of shape) (n % capacity_
 words-push shape n (y ∷ l) x =
     let word : List Made = word_write (width_of shape) (n % capacity_of shape) y in
     ap (λ z. word ++ z) (words-push shape (suc n) l x) ∙ sym (append_assoc word (words_phrase shape (suc n) l) (word_write (width_of shape) (number_past (suc n) l % capacity_of shape) x))
-
-pub fit-push : (shape : Shape) (l : List ℕ) (x : ℕ) → AllFit shape l → x < 2 ^ width_of shape → AllFit shape (l ++ x ∷ [])
-fit-push shape [] x f g = (g, record {})
-fit-push shape (y ∷ l) x (f, fs) g = (f, fit-push shape l x fs g)
 
 has-push : (l : List ℕ) (x : ℕ) → has_items (l ++ x ∷ []) ≡ true
 has-push [] x = refl

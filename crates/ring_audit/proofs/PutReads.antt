@@ -25,15 +25,14 @@ use Rattle.ring_audit.specs.declared.puts.Stage.{Stage}
 use Rattle.ring_audit.specs.declared.puts.Stage.TheVariants.{Resting, Scanning, Choosing, Storing, Counting, Closed}
 use Rattle.ring_audit.specs.Sides.{AreOfPuts, told_of}
 use Rattle.ring_audit.specs.PutReading.{PutReading, IsPutReading, HasReadPut, IsReaderAt, RowHolds, IsMost, has_items, MadeWhile, PutsStand}
-use Rattle.register_core.proofs.Items.{same_item}
-use Rattle.ring_core.proofs.Machines.PutParts.{counts-on, last-puts_read_one, scans-on, scans-or_closes, stores-on, stores-or_counts}
-use Rattle.ring_core.proofs.Readings.ItemsRead.{puts-are_first}
 use Rattle.ring_core.proofs.Readings.Phrases.{same_made}
 use Rattle.ring_core.proofs.Machines.Following.{events_of-append}
 use Rattle.ring_core.proofs.Machines.GoingOn.{access_back}
 use Rattle.ring_core.proofs.Machines.NextParts.{scan_due}
 use Rattle.ring_audit.proofs.Readers as readers
 use Rattle.ring_audit.proofs.Beginnings.{begin_is, same_access, GoesOnWith, GoesOnBy}
+pub use Rattle.ring_core.proofs.Machines.ConsumerNext.{read_due}
+use Rattle.ring_core.proofs.LawLemmas.{calls_are_first_puts, last_reads_are_one_puts, puts_go_on_between, puts_go_on_counts, puts_go_on_digits, puts_go_on_scans, puts_go_on_words}
 
 -- calls whose events go on so
 rest_on :
@@ -61,7 +60,7 @@ zero_at_last shape r es items stored a st some scans due last of_puts =
     let a_is : a ≡ begins.Read (row_read_by P r.scan.zeros) = cc in
     let next_reads : on.next ≡ Read (row_read_by P r.scan.zeros) false = next_is ∙ ap (λ z. answered z false) a_is in
     let clash : false ≡ true =
-    last-puts_read_one shape of_puts.0 of_puts.1 st.made r.scan.zeros false on.rest (on.whole_is ∙ ap (λ z. st.made ++ z ∷ on.rest) next_reads) (last.1 ∙ scans.modulus_is) in
+    last_reads_are_one_puts shape of_puts.0 of_puts.1 st.made r.scan.zeros false on.rest (on.whole_is ∙ ap (λ z. st.made ++ z ∷ on.rest) next_reads) (last.1 ∙ scans.modulus_is) in
     absurd (cc)
 
 -- ---- where it stops, by the stage
@@ -90,7 +89,7 @@ no_call shape r es items stored a st none stage no_close no_read of_puts =
     let on = rest_on shape r es items stored st (opening_event P a) none of_puts in
     let is_a : access_of on.next ≡ a = same_access P a on.next on.begins in
     let g = goes_behind shape r es items stored st [] (opening_event P a) (made_is ∙ sym (append-nil (put_phrases shape first_count st.puts))) of_puts on in
-    elim (scans-or_closes same_item shape st.puts on.next on.rest st.are g) [
+    elim (puts_go_on_between shape st.puts on.next on.rest st.are g) [
       | inl (v, e) ↦ no_read (sym (ap access_of e) ∙ is_a)
       | inr e ↦ no_close (sym (ap access_of e) ∙ is_a)
     ]
@@ -110,7 +109,7 @@ no_read shape r es items stored a st none stage some wrong of_puts =
         let is_a : access_of on.next ≡ a = same_access P a on.next on.begins in
         let g = goes_behind shape r es items stored st (zero_reads (row_read_by P) (suc zeros)) (opening_event P a)
         (made_is ∙ ap (λ n. put_phrases shape first_count st.puts ++ zero_reads (row_read_by P) n) e) of_puts on in
-        let (v, is) = scans-on same_item shape st.puts zeros on.next on.rest st.are g in
+        let (v, is) = puts_go_on_scans shape st.puts zeros on.next on.rest st.are g in
         wrong (ap (λ n. begins.Read (row_read_by P n)) e ∙ sym (ap access_of is) ∙ is_a)
 
 -- where something may be stored there is room
@@ -159,7 +158,7 @@ no_word_nor_count shape r es items stored a st none stage side no_word no_count 
     let on = rest_on shape r es items stored st (opening_event P a) none of_puts in
     let is_a : access_of on.next ≡ a = same_access P a on.next on.begins in
     let g = goes_behind shape r es items stored st (scan ++ words) (opening_event P a) made_is of_puts on in
-    elim (stores-or_counts same_item shape st.puts s.seen stored on.next on.rest st.are (has_room_then shape c.number s.seen (length stored + r.room) s.may) s.fit
+    elim (puts_go_on_words shape st.puts s.seen stored on.next on.rest st.are (has_room_then shape c.number s.seen (length stored + r.room) s.may) s.fit
     (subst (GoesBehind shape st.puts) (append_assoc scan words (on.next ∷ on.rest)) g)) [
       | inl (v, e, room, few) ↦
           let most : suc (length stored) ≤ length stored + r.room = s.may.most (suc (length stored)) room few in
@@ -198,7 +197,7 @@ no_digit shape r es items stored a st none stage below some wrong of_puts =
         let g = goes_behind shape r es items stored st (scan ++ (words ++ digits)) (opening_event P a) made_so of_puts on in
         let parts : (scan ++ (words ++ digits)) ++ on.next ∷ on.rest ≡ scan ++ (words ++ (digits ++ on.next ∷ on.rest)) =
         append_assoc scan (words ++ digits) (on.next ∷ on.rest) ∙ ap (λ l. scan ++ l) (append_assoc words digits (on.next ∷ on.rest)) in
-        let (v, is) = stores-on same_item shape st.puts s.seen stored r.word.value read on.next on.rest st.are
+        let (v, is) = puts_go_on_digits shape st.puts s.seen stored r.word.value read on.next on.rest st.are
         (has_room_then shape c.number s.seen (length stored + r.room) s.may) s.fit (omega (arith, below, e)) (subst (GoesBehind shape st.puts) parts g) in
         wrong v (sym is_a ∙ ap access_of is ∙ ap (λ j. begins.Write (Cell j (suc read)) v) (sym s.cell_is) ∙ ap (λ n. begins.Write (Cell r.cell n) v) (sym e))
 
@@ -227,7 +226,7 @@ no_bit shape r es items stored a st none stage side due wrong of_puts =
     append_assoc scan (words ++ bits) (on.next ∷ on.rest) ∙ ap (λ l. scan ++ l) (append_assoc words bits (on.next ∷ on.rest)) in
     let batch = s.is_put.2 in
     let room : LeavesRoom shape (c.number % modulus_of shape) s.seen = omega (arith, s.is_put.1, batch.some) in
-    let is = counts-on same_item shape st.puts s.seen s.batch u w writes more on.next on.rest st.are room batch.fit
+    let is = puts_go_on_counts shape st.puts s.seen s.batch u w writes more on.next on.rest st.are room batch.fit
     (s.parts ∙ ap (λ ws. ws ++ due_writes r.row) writes_are ∙ ap (λ ws. (u ∷ writes) ++ ws) due_are) (subst (GoesBehind shape st.puts) parts g) in
     wrong (first_due r.row w more side due_are ∙ ap Some (sym (ap access_of is) ∙ is_a))
 
@@ -243,7 +242,7 @@ no_more shape r es items stored a st none stage of_puts =
     let whole : put_program shape calls ++ more ≡ put_program shape of_puts.0 = ap (λ l. l ++ more) (sym made_is) ∙ sym on.whole_is in
     let events : events_of P (put_program shape calls) ++ events_of P more ≡ events_of P (put_program shape of_puts.0) =
     sym (events_of-append P (put_program shape calls) more) ∙ ap (events_of P) whole in
-    let all : calls ≡ of_puts.0 = (puts-are_first same_item shape calls of_puts.0 st.are of_puts.1 (events_of P more, events)).1 refl in
+    let all : calls ≡ of_puts.0 = (calls_are_first_puts shape calls of_puts.0 st.are of_puts.1 (events_of P more, events)).1 refl in
     absurd (omega (arith, ap length whole, length-append (put_program shape calls) more, ap (λ z. length (put_program shape z)) all))
 
 -- ---- from what the reader is inside
@@ -265,14 +264,6 @@ same_open o a b e f = let both : Some a ≡ Some b = sym e ∙ f in cc
 -- in a scan the open access is its next read
 pub reads_next : (r : PutReading) (a : Access) → IsReaderAt Scanning r → r.open_access ≡ Some a → a ≡ begins.Read (row_read_by P r.scan.zeros)
 reads_next r a at some = same_open (due_scan r.scan) a (begins.Read (row_read_by P r.scan.zeros)) (at.3 a some) (scan_due P (modulus_of r.shape) r.scan at.1)
-
--- a word that goes on reads its next digit
-pub read_due : (w : ReaderState) → w.read < w.width → due_read w ≡ Some (begins.Read (Cell w.cell w.read))
-read_due w l = by_test (nat_lt w.read w.width) refl
-  where
-    by_test : (b : Bool) → nat_lt w.read w.width ≡ b → due_read w ≡ Some (begins.Read (Cell w.cell w.read))
-    by_test true e = ap (λ b. if b then Some (begins.Read (Cell w.cell w.read)) else None) e
-    by_test false e = absurd (grind (arith, nat_tests))
 
 -- it was fed the digit that the access writes
 pub fed_by_write :

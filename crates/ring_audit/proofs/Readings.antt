@@ -12,10 +12,7 @@ use Rattle.ring_audit.specs.Sides.{AreOfPuts, AreOfTakes}
 use Rattle.ring_audit.specs.PutReading.{PutReading, PutsStand, HasReadPut}
 use Rattle.ring_audit.specs.TakeReading.{TakeReading, TakesStand, HasReadTake}
 use Rattle.ring_audit.specs.Reading.{Reading, ReadingStands, BothFollow, reading}
-use Rattle.bits_core.proofs.OwnEvents.{subhistory_changes}
-
-pub own_more : (s t : Side) (h : List Event) (e : Event) → e.side ≡ t → subhistory s (h ++ e ∷ []) ≡ (if same_side s t then subhistory s h ++ e ∷ [] else subhistory s h)
-own_more s t h e by = subhistory_changes s h e ∙ ap (λ (u : Side). if same_side s u then subhistory s h ++ e ∷ [] else subhistory s h) by
+pub use Rattle.ring_core.proofs.OneMore.{own_more}
 
 -- both readers stand with the event, where each stands with what of it is its own
 stand_with :

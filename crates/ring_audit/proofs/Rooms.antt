@@ -53,7 +53,7 @@ take_needs shape puts takes new counted put taken kept e put_room taken_room by 
 }
 
 -- no more items are taken than there are events
-length-own : (s : Side) (h : List Event) → length (subhistory s h) ≤ length h
+pub length-own : (s : Side) (h : List Event) → length (subhistory s h) ≤ length h
 length-own s [] = omega arith
 length-own s (e ∷ h) =
     elim (is_by s e) as (λ b. length (if b then e ∷ subhistory s h else subhistory s h) ≤ suc (length h)) [

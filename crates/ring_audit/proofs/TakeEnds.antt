@@ -49,7 +49,7 @@ ended_take shape k (ItemAfterClose seen again items) t l =
     ap (λ b. if b then items else []) (le-leb (events_in (take_phrase shape k (ItemAfterClose seen again items))) t l)
 ended_take shape k (Empty seen) t l = refl
 
-events_in-append : (xs ys : List Made) → events_in (xs ++ ys) ≡ events_in xs + events_in ys
+pub events_in-append : (xs ys : List Made) → events_in (xs ++ ys) ≡ events_in xs + events_in ys
 events_in-append xs ys = omega (arith, length-append xs ys)
 
 -- the items of takes that have all ended, and of those behind them

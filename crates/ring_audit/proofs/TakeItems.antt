@@ -23,7 +23,7 @@ take_replied (Item seen items) = some_replied items
 take_replied (ItemAfterClose seen again items) = some_replied items
 take_replied (Empty seen) = refl
 
-taken-push : (xs : List Take) (x : Take) → all_taken (xs ++ x ∷ []) ≡ all_taken xs ++ taken_of x
+pub taken-push : (xs : List Take) (x : Take) → all_taken (xs ++ x ∷ []) ≡ all_taken xs ++ taken_of x
 taken-push [] x = append-nil (taken_of x)
 taken-push (y ∷ xs) x = ap (λ l. taken_of y ++ l) (taken-push xs x) ∙ sym (append_assoc (taken_of y) (all_taken xs) (taken_of x))
 

@@ -27,15 +27,12 @@ use Rattle.ring_core.specs.ConsumerState.{ConsumerState, IsBetweenWords, consume
 use Rattle.ring_core.specs.ConsumerCalls.{Finding, Once, Twice, finding_phrase, count_taken, TakeGoesOn, ConsumerMadeAt, ConsumerStands, ends_closed}
 use Rattle.ring_audit.specs.Sides.{AreOfTakes}
 use Rattle.ring_audit.specs.TakeReading.{TakeReading, TakesStand}
-use Rattle.register_core.proofs.Items.{same_item}
-use Rattle.ring_core.proofs.LastBits.{last-takes_read_one}
-use Rattle.ring_core.proofs.Machines.TakeParts.{takes-go_on}
-use Rattle.ring_core.proofs.Readings.TakenRead.{takes-are_first}
 use Rattle.ring_core.proofs.Readings.Phrases.{same_made}
 use Rattle.ring_core.proofs.Machines.Following.{events_of-append}
 use Rattle.ring_core.proofs.Machines.GoingOn.{access_back}
 use Rattle.ring_audit.proofs.Readers as readers
 use Rattle.ring_audit.proofs.Beginnings.{begin_is, same_access, GoesOnWith, GoesOnBy}
+use Rattle.ring_core.proofs.LawLemmas.{calls_are_first_takes, last_reads_are_one_takes, takes_go_on}
 
 -- calls whose events go on so
 rest_on :
@@ -63,7 +60,7 @@ zero_at_last shape r es items a st some due (i, reads, last) of_takes =
     let a_is : a ≡ begins.Read (row_read_by C i) = cc in
     let next_reads : on.next ≡ Read (row_read_by C i) false = next_is ∙ ap (λ z. answered z false) a_is in
     let clash : false ≡ true =
-    last-takes_read_one shape of_takes.0 of_takes.1 st.made i false on.rest (on.whole_is ∙ ap (λ z. st.made ++ z ∷ on.rest) next_reads) last in
+    last_reads_are_one_takes shape of_takes.0 of_takes.1 st.made i false on.rest (on.whole_is ∙ ap (λ z. st.made ++ z ∷ on.rest) next_reads) last in
     absurd (cc)
 
 -- a take is under way while an access is due
@@ -195,7 +192,7 @@ next_or shape r es items p due a st none same stands goes of_takes =
     let (part, made_is) = front_at p.stage p st.calls st.made stands.made_is in
     let begins : IsPrefix (take_phrases shape first_count st.calls.takes) st.made = (part, sym (made_is ∙ ap (λ s. take_phrases s first_count st.calls.takes ++ part) same)) in
     subst (λ z. (z ≡ due) ⊎ (EndInCellRead st.made × TakesPart shape p.wanted due z)) is_a
-    (takes-go_on same_item shape p.wanted st.calls of_takes.0 st.made due on.next on.rest begins (subst (λ s. TakeGoesOn s p.wanted st.calls st.made due) same goes) of_takes.1 on.whole_is)
+    (takes_go_on shape p.wanted st.calls of_takes.0 st.made due on.next on.rest begins (subst (λ s. TakeGoesOn s p.wanted st.calls st.made due) same goes) of_takes.1 on.whole_is)
 
 -- an access that is not due: it counts, behind a whole word
 pub not_due :
@@ -225,7 +222,7 @@ not_due shape r es items p None a st none same stands due_is goes rests wants ov
         let whole : take_program shape st.calls ++ more ≡ take_program shape of_takes.0 = ap (λ l. l ++ more) (sym made_so) ∙ sym on.whole_is in
         let events : events_of C (take_program shape st.calls) ++ events_of C more ≡ events_of C (take_program shape of_takes.0) =
         sym (events_of-append C (take_program shape st.calls) more) ∙ ap (events_of C) whole in
-        let all : st.calls ≡ of_takes.0 = (takes-are_first same_item shape st.calls of_takes.0 are of_takes.1 (events_of C more, events)).1 tells_end in
+        let all : st.calls ≡ of_takes.0 = (calls_are_first_takes shape st.calls of_takes.0 are of_takes.1 (events_of C more, events)).1 tells_end in
         absurd (omega (arith, ap length whole, length-append (take_program shape st.calls) more, ap (λ calls. length (take_program shape calls)) all))
 
 -- where the take under way counts, no other write of the count may begin

@@ -28,6 +28,7 @@ use Rattle.ring_core.proofs.Machines.Lengths.{length-zero_reads}
 use Rattle.ring_core.proofs.OverSpans.RegularScans.{writes_unary, put_events, take_events}
 use Rattle.register_core.proofs.LawLemmas.{numbered_stay_within, reads_are_made_zeros, unary_has_one}
 use Rattle.bits_core.proofs.LawLemmas.{made_is_access, subhistory_has_one_place}
+use Rattle.register_core.proofs.MadeReads.{other_other as other_twice}
 
 -- ---- the values of a count
 
@@ -59,10 +60,6 @@ never_reads shape h lawful s looks behind quiet follows last e start stop zeros 
     (λ n _. numbered_stay_within (counted_in shape looks) last (counted_within shape 0 looks last e) n) zeros
 
 -- ---- the reads of a list of accesses
-
-other_twice : (s : Side) → other (other s) ≡ s
-other_twice P = refl
-other_twice C = refl
 
 -- what stands behind a list
 behind_list : (xs ys : List Made) (i n : ℕ) (x : Made) → n ≡ length xs + i → slice_get ys i ≡ Some x → slice_get (xs ++ ys) n ≡ Some x

@@ -12,7 +12,7 @@ use Rattle.ring_core.specs.RunLaws.{RunsByPut, RunsByTake}
 use Rattle.bits_core.proofs.LawLemmas.{lawful_by_one_more, subhistory_changes}
 
 -- a side's own events behind an event of a side, which is that one or the other
-own_more :
+pub own_more :
     (s t : Side) (h : List Event) (e : Event) → e.side ≡ t →
     subhistory s (h ++ e ∷ []) ≡ (if same_side s t then subhistory s h ++ e ∷ [] else subhistory s h)
 own_more s t h e by = subhistory_changes s h e ∙ ap (λ (u : Side). if same_side s u then subhistory s h ++ e ∷ [] else subhistory s h) by

@@ -8,6 +8,7 @@ use Rattle.ring_core.specs.RingLaw.{FillIsFresh, InEveryRun, IsRun}
 use Rattle.ring_player.specs.Headline.{EveryPlayFills}
 use Rattle.ring_player.specs.Plays.{AreAttempts, offered}
 use Rattle.ring_script.specs.Content.{Content}
+use Rattle.ring_core.proofs.Recorded.RecordedPuts.{took_all as taken_so}
 
 -- a put among attempts, behind others, is one of the items that are offered there
 attempt_at :
@@ -20,13 +21,6 @@ attempt_at script n (y ∷ before) after x (left, is, more) = attempt_at script 
 put_at : (shape : Shape) (n : ℕ) (before after : List Put) (x : Put) → ArePuts shape n (before ++ x ∷ after) → IsPut shape (stored_in n before) x
 put_at shape n [] after x p = p.0
 put_at shape n (y ∷ before) after x p = put_at shape (number_after n y) before after x p.1
-
--- where not all of them were taken, so many were
-taken_so : (r : ℕ) (xs : List ℕ) → length (take r xs) < length xs → length (take r xs) ≡ r
-taken_so zero [] l = refl
-taken_so zero (x ∷ xs) l = refl
-taken_so (suc r) [] l = absurd (omega (arith, l))
-taken_so (suc r) (x ∷ xs) l = ap suc (taken_so r xs (omega (arith, l)))
 
 pub fills : InEveryRun FillIsFresh → EveryPlayFills
 fills law script letters h plays puts takes asked p q seen items n start stop at ended few =

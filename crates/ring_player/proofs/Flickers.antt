@@ -11,13 +11,14 @@ use Rattle.bits_core.specs.Oracle.{turn}
 use Rattle.ring_player.specs.Actors.{IsAtTurn}
 use Rattle.ring_player.specs.Laws.{FlickersAreCounted}
 use Rattle.ring_player.specs.Plays.{AreInTurn, AreNumbered, EndsOverlapped, HasFlickers}
+use Rattle.bits_core.proofs.LawLemmas.{flicker_is_by_interval}
 
-module _ (law : FlickerIsByInterval) (shape : Shape) (h : List Event) (lawful : IsLawful shape h) where
+module _ (shape : Shape) (h : List Event) (lawful : IsLawful shape h) where
   marked : (place : ℕ) (v : Bool) → EndsOverlapped h place v → is_flicker_at h place ≡ true
-  marked place v (s, b, start, read, overlap) = (law shape h lawful place).1 (record { side = s; bit = b; answer = v; start = start; read = read; overlap = overlap })
+  marked place v (s, b, start, read, overlap) = (flicker_is_by_interval shape h lawful place).1 (record { side = s; bit = b; answer = v; start = start; read = read; overlap = overlap })
 
   ends : (place : ℕ) → is_flicker_at h place ≡ true → (v : Bool) × EndsOverlapped h place v
-  ends place is = let e = (law shape h lawful place).0 is in (e.answer, (e.side, e.bit, e.start, e.read, e.overlap))
+  ends place is = let e = (flicker_is_by_interval shape h lawful place).0 is in (e.answer, (e.side, e.bit, e.start, e.read, e.overlap))
 
   one_more : (place : ℕ) → is_flicker_at h place ≡ true → count_below (suc place) (is_flicker_at h) ≡ suc (count_below place (is_flicker_at h))
   one_more place is =
@@ -67,9 +68,9 @@ module _ (law : FlickerIsByInterval) (shape : Shape) (h : List Event) (lawful : 
       by_turn place v (s, b, start, read, overlap) =
           t.answered place (record { side = s; bit = b; act = ReadEnd v }) v read.ends refl (marked place v (s, b, start, read, overlap))
 
-pub counted_by_marks : FlickerIsByInterval → FlickersAreCounted
+pub counted_by_marks : FlickersAreCounted
 unfolding HasFlickers
-counted_by_marks law shape h count lawful = (
-  λ f. let (number, n, is) = f in is ∙ numbers_are_marks law shape h lawful number n (length h),
-  λ is. (λ place. count_below place (is_flicker_at h), numbered_by_marks law shape h lawful, is),
+counted_by_marks shape h count lawful = (
+  λ f. let (number, n, is) = f in is ∙ numbers_are_marks shape h lawful number n (length h),
+  λ is. (λ place. count_below place (is_flicker_at h), numbered_by_marks shape h lawful, is),
 )

@@ -7,17 +7,16 @@ use Rattle.bits_core.specs.declared.shapes.Shape.{Shape}
 use Rattle.bits_core.specs.Lawful.{IsLawful}
 use Rattle.bits_core.specs.Memory.{is_flicker}
 use Rattle.bits_core.specs.Oracle.{turn}
-use Rattle.bits_core.proofs.LawLemmas.{flicker_is_by_interval}
 use Rattle.ring_core.specs.RingLaw.{IsRun}
 use Rattle.ring_core.proofs.LawLemmas.{closed_stays, items_put_are_read, ring_law_closed, ring_law_empty, ring_law_fill, ring_law_full, ring_law_items, ring_law_prefix, ring_law_words}
 use Rattle.ring_player.specs.Headline.{EveryPlayFills, EveryPlayHolds}
 use Rattle.ring_player.specs.Actors.{IsAtTurn}
-use Rattle.ring_player.specs.Laws.{FlickersAreCounted}
 use Rattle.ring_player.specs.Plays.{AreInTurn}
 use Rattle.ring_player.proofs.Fillings.{fills}
-use Rattle.ring_player.proofs.Flickers.{counted_by_marks, in_turn}
+use Rattle.ring_player.proofs.Flickers.{in_turn}
 use Rattle.ring_player.proofs.Headlines.{put_all_items}
 use Rattle.ring_player.proofs.Turns.{more}
+pub use Rattle.ring_player.proofs.Flickers.{counted_by_marks as flickers_are_counted}
 
 pub every_play_holds : EveryPlayHolds
 every_play_holds script letters h plays puts takes p q =
@@ -36,9 +35,6 @@ every_play_holds script letters h plays puts takes p q =
 pub every_play_fills : EveryPlayFills
 every_play_fills = fills ring_law_fill
 
-pub flickers_are_counted : FlickersAreCounted
-flickers_are_counted = counted_by_marks flicker_is_by_interval
-
 -- the overlapped reads so far were answered in turn, with one event more: where it ends such a read, it has the oracle's next answer
 abbrev pub TurnsGoOn : Type 0
 TurnsGoOn =
@@ -53,4 +49,4 @@ abbrev pub TurnsAreByInterval : Type 0
 TurnsAreByInterval = (shape : Shape) (h : List Event) (oracle : List Bool) (answers : ℕ → Bool) → IsLawful shape h → IsAtTurn (turn oracle) h answers → AreInTurn oracle h
 
 pub turns_are_by_interval : TurnsAreByInterval
-turns_are_by_interval shape h oracle answers lawful = in_turn flicker_is_by_interval shape h lawful oracle answers
+turns_are_by_interval shape h oracle answers lawful = in_turn shape h lawful oracle answers

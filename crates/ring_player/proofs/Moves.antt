@@ -18,12 +18,10 @@ use Rattle.ring_player.specs.Plays.{AreMoves, IsDone, IsDoneAfter, IsProgram, ev
 use Rattle.ring_script.specs.Content.{Content}
 use Rattle.bits_core.proofs.Changes.{same_side-same}
 use Rattle.ring_core.proofs.Machines.Following.{events_of-append, length-events}
+use Rattle.bits_core.proofs.MarkLemmas.{by_other as same_side-other}
+use Rattle.bits_core.proofs.LawLemmas.{subhistory_changes}
 
 -- ---- the events of one side
-
-same_side-other : (s : Side) → same_side (other s) s ≡ false
-same_side-other P = refl
-same_side-other C = refl
 
 pub by_side : (s : Side) (e : Event) → e.side ≡ s → is_by s e ≡ true
 by_side s e by = ap (λ t. same_side s t) by ∙ same_side-same s
@@ -31,11 +29,11 @@ by_side s e by = ap (λ t. same_side s t) by ∙ same_side-same s
 pub not_by : (s : Side) (e : Event) → e.side ≡ s → is_by (other s) e ≡ false
 not_by s e by = ap (λ t. same_side (other s) t) by ∙ same_side-other s
 
-pub own_by : SubhistoryChanges → (s : Side) (h : List Event) (e : Event) → e.side ≡ s → subhistory s (h ++ e ∷ []) ≡ subhistory s h ++ e ∷ []
-own_by law s h e by = law s h e ∙ ap (λ t. if t then subhistory s h ++ e ∷ [] else subhistory s h) (by_side s e by)
+pub own_by : (s : Side) (h : List Event) (e : Event) → e.side ≡ s → subhistory s (h ++ e ∷ []) ≡ subhistory s h ++ e ∷ []
+own_by s h e by = subhistory_changes s h e ∙ ap (λ t. if t then subhistory s h ++ e ∷ [] else subhistory s h) (by_side s e by)
 
-pub own_other : SubhistoryChanges → (s : Side) (h : List Event) (e : Event) → e.side ≡ s → subhistory (other s) (h ++ e ∷ []) ≡ subhistory (other s) h
-own_other law s h e by = law (other s) h e ∙ ap (λ t. if t then subhistory (other s) h ++ e ∷ [] else subhistory (other s) h) (not_by s e by)
+pub own_other : (s : Side) (h : List Event) (e : Event) → e.side ≡ s → subhistory (other s) (h ++ e ∷ []) ≡ subhistory (other s) h
+own_other s h e by = subhistory_changes (other s) h e ∙ ap (λ t. if t then subhistory (other s) h ++ e ∷ [] else subhistory (other s) h) (not_by s e by)
 
 -- ---- the events of accesses
 

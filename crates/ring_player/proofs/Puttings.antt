@@ -23,6 +23,9 @@ use Rattle.ring_core.proofs.Machines.Following.{events_of-append}
 use Rattle.ring_core.proofs.CountRow.{past_is}
 use Rattle.ring_player.proofs.Nexts.{IsNextPut, NextPut as NextOf}
 use Rattle.ring_player.proofs.Moves.{events-more, goes_longer, program_beginning, split_last}
+use Rattle.ring_core.proofs.Readings.ItemsRead.{same_calls}
+pub use Rattle.bits_core.proofs.OwnOpen.{not_open as none_of}
+use Rattle.ring_core.proofs.LawLemmas.{calls_are_first_puts}
 
 -- ---- the items offered
 
@@ -160,10 +163,6 @@ StandsOn p p' = (calls : Puts) (made : List Made) → ProducerStands p calls mad
 abbrev HasMovedFrom : ProducerState → ProducerState → List Made → Access → Bool → Type 0
 HasMovedFrom p p' list a v = (calls : Puts) → ProducerStands p calls list → ProducerHasMoved p p' calls (list ++ answered a v ∷ [])
 
-pub none_of : {A : Type 0} → (o : Option A) → is_some o ≡ false → o ≡ None
-none_of None e = refl
-none_of (Some a) e = absurd (cc)
-
 -- where none is due, no call is under way, and the accesses are those of the calls
 idle : (shape : Shape) (calls : Puts) (c : Option Call) (made : List Made) → IsNextPut shape calls c made None → (c ≡ None) × (made ≡ put_program shape calls)
 idle shape calls None made next = (refl, next)
@@ -211,13 +210,10 @@ begins_access script p kept list due a s next is =
 
 -- ---- where an access is due the side is not done
 
-same_calls : (a b : Puts) → a.puts ≡ b.puts → a.closes ≡ b.closes → a ≡ b
-same_calls a b p q = ap (λ (t : List puts.Put). record { puts = t; closes = a.closes }) p ∙ ap (λ (t : Bool). record { puts = b.puts; closes = t }) q
-
 pub unfinished :
-    PutsAreFirst → (script : Content) (p : ProducerState) (kept : PutTally) (list : List Made) (due : Option Access) (a : Access) → PutActorStands script p kept list None → NextOf p due →
+    (script : Content) (p : ProducerState) (kept : PutTally) (list : List Made) (due : Option Access) (a : Access) → PutActorStands script p kept list None → NextOf p due →
     due ≡ Some a → ¬ IsDoneAfter script P (events_of P list)
-unfinished law script p kept list due a s next is d =
+unfinished script p kept list due a s next is d =
     by_call (call_of p) s.asked (subst (λ t. IsNextPut script.shape s.calls (call_of p) list t) is (next_in script p kept list None due s next))
   where
     not_all : (more : Puts) → d.0 ≡ more → 2 * length (put_program script.shape d.0) < 2 * length (put_program script.shape more) → ⊥
@@ -243,12 +239,12 @@ unfinished law script p kept list due a s next is d =
     by_call (Some (Put items)) (items_are, left) n =
         let (more, (x, of, more_is, are, o), (rest, e)) = n true (λ l. refl) in
         let (longer, begins) = goes_longer P list (put_program script.shape d.0) (put_program script.shape more) rest a d.2 e in
-        let (rises, whole) = law script.shape d.0 more d.1 are begins in
+        let (rises, whole) = calls_are_first_puts script.shape d.0 more d.1 are begins in
         put_less more x rises.0 more_is rises.1 whole longer left
     by_call (Some Close) (closes, all) n =
         let (more, (more_is, are, o), (rest, e)) = n true (λ l. refl) in
         let (longer, begins) = goes_longer P list (put_program script.shape d.0) (put_program script.shape more) rest a d.2 e in
-        let (rises, whole) = law script.shape d.0 more d.1 are begins in
+        let (rises, whole) = calls_are_first_puts script.shape d.0 more d.1 are begins in
         not_all more (whole (d.4 ∙ closes)) longer
 
 -- ---- the next call begins

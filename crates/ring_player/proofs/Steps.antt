@@ -27,6 +27,8 @@ use Rattle.ring_script.specs.Content.{Content}
 use Rattle.register_core.proofs.ScanMachine.{length-zeros}
 use Rattle.ring_core.proofs.Machines.Following.{length-events}
 use Rattle.ring_player.proofs.Moves.{by_side, events-more, open_not_done, own_by, own_other, so_far_length}
+use Rattle.ring_audit.proofs.Rooms.{length-own as own-length}
+use Rattle.ring_core.proofs.LawLemmas.{last_bit_is_one_puts, last_bit_is_one_takes}
 
 abbrev pub Stands : Type 1
 Stands = List Made → Option Access → Type 0
@@ -122,33 +124,30 @@ not_missed shape s h list before b last seen own_is list_is top b_is =
     ))
 
 never_false :
-    PutsAreSeen → TakesAreSeen → (script : Content) (s : Side) (h : List Event) (list : List Made) (b : Bit) → IsLawful script.shape h → IsProgram script (other s) (subhistory (other s) h) →
+    (script : Content) (s : Side) (h : List Event) (list : List Made) (b : Bit) → IsLawful script.shape h → IsProgram script (other s) (subhistory (other s) h) →
     subhistory s h ≡ events_of s (list ++ Read b false ∷ []) → EndsInZeros script.shape s list → (i : ℕ) → b ≡ row_read_by s i → suc i ≡ modulus_of script.shape → ⊥
-never_false puts takes script P h list b lawful (calls, are, begins) own_is (before, last, top, list_is) i b_is i_top =
-    not_missed script.shape C h list before b last (takes script.shape h calls lawful (record { are = are.0; events = begins })).1 own_is list_is top (b_is ∙ row_same P i last (modulus_of script.shape) i_top top)
-never_false puts takes script C h list b lawful (calls, are, begins) own_is (before, last, top, list_is) i b_is i_top =
-    not_missed script.shape P h list before b last (puts script.shape h calls lawful (record { are = are.are; events = begins })).1 own_is list_is top (b_is ∙ row_same C i last (modulus_of script.shape) i_top top)
+never_false script P h list b lawful (calls, are, begins) own_is (before, last, top, list_is) i b_is i_top =
+    not_missed script.shape C h list before b last (last_bit_is_one_takes script.shape h calls lawful (record { are = are.0; events = begins })).1 own_is list_is top (b_is ∙ row_same P i last (modulus_of script.shape) i_top top)
+never_false script C h list b lawful (calls, are, begins) own_is (before, last, top, list_is) i b_is i_top =
+    not_missed script.shape P h list before b last (last_bit_is_one_puts script.shape h calls lawful (record { are = are.are; events = begins })).1 own_is list_is top (b_is ∙ row_same C i last (modulus_of script.shape) i_top top)
 
 same_read : (b c : Bit) → Some (access.Read b) ≡ Some (access.Read c) → b ≡ c
 same_read b c e = cc
 
 pub answers_one :
-    PutsAreSeen → TakesAreSeen → SubhistoryChanges → (script : Content) (s : Side) (h h' : List Event) (due : Option Access) (stands : Stands) (b : Bit) (v : Bool) → (p : IsPlaying s h due stands) →
+    (script : Content) (s : Side) (h h' : List Event) (due : Option Access) (stands : Stands) (b : Bit) (v : Bool) → (p : IsPlaying s h due stands) →
     open_access s h ≡ Some (access.Read b) → h' ≡ h ++ record { side = s; bit = b; act = ReadEnd v } ∷ [] → IsLawful script.shape h' → IsProgram script (other s) (subhistory (other s) h) →
     (LastBitIsDue script.shape s due → EndsInZeros script.shape s p.list) → LastBitIsDue script.shape s due → v ≡ true
-answers_one puts takes owns script s h h' due stands b true p o is lawful other_is zeros last = refl
-answers_one puts takes owns script s h h' due stands b false p o is lawful other_is zeros last =
+answers_one script s h h' due stands b true p o is lawful other_is zeros last = refl
+answers_one script s h h' due stands b false p o is lawful other_is zeros last =
     let e : Event = record { side = s; bit = b; act = ReadEnd false } in
     let (i, due_is, top) = last in
     let there : subhistory s h' ≡ events_of s (p.list ++ Read b false ∷ []) =
-    ap (subhistory s) is ∙ own_by owns s h e refl ∙ ap (λ l. l ++ e ∷ []) (own_with s h due stands (Some (access.Read b)) p o) ∙ sym (events-more s p.list (access.Read b) false) in
-    let others : IsProgram script (other s) (subhistory (other s) h') = subst (λ t. IsProgram script (other s) t) (sym (ap (subhistory (other s)) is ∙ own_other owns s h e refl)) other_is in
-    absurd (never_false puts takes script s h' p.list b lawful others there (zeros last) i (same_read b (row_read_by s i) (sym (p.is_due (access.Read b) o) ∙ due_is)) top)
+    ap (subhistory s) is ∙ own_by s h e refl ∙ ap (λ l. l ++ e ∷ []) (own_with s h due stands (Some (access.Read b)) p o) ∙ sym (events-more s p.list (access.Read b) false) in
+    let others : IsProgram script (other s) (subhistory (other s) h') = subst (λ t. IsProgram script (other s) t) (sym (ap (subhistory (other s)) is ∙ own_other s h e refl)) other_is in
+    absurd (never_false script s h' p.list b lawful others there (zeros last) i (same_read b (row_read_by s i) (sym (p.is_due (access.Read b) o) ∙ due_is)) top)
 
 -- ---- no more accesses than a count can tell
-
-own-length : (s : Side) (h : List Event) → length (subhistory s h) ≤ length h
-own-length s h = omega (arith, length-filter_both (is_by s) (λ e. not (is_by s e)) (λ e. refl) h)
 
 -- what has to hold where it ends it
 pub ends_there :

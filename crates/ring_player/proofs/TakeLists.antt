@@ -15,6 +15,8 @@ use Rattle.ring_core.specs.Takes.{AreTakes, count_after, Empty, End, IsTake, Ite
 use Rattle.ring_player.specs.Actors.{empty_in}
 use Rattle.ring_core.proofs.CountRow.{past_is}
 use Rattle.ring_core.proofs.OverSpans.CallSpans.{taken_number}
+pub use Rattle.ring_audit.proofs.TakeItems.{taken-push as all-more}
+pub use Rattle.ring_core.proofs.Recorded.RecordedStates.{few_items as take_within}
 
 -- ---- the items taken
 
@@ -31,10 +33,6 @@ taken_rises k [] (y ∷ ys) = omega (arith, after_more k y, taken_rises (taken_a
     after_more k (ItemAfterClose seen again items) = omega (arith, past_is k items)
     after_more k (Empty seen) = omega arith
 taken_rises k (x ∷ xs) ys = taken_rises (taken_after k x) xs ys
-
-pub all-more : (xs : List Take) (x : Take) → all_taken (xs ++ x ∷ []) ≡ all_taken xs ++ taken_of x
-all-more [] x = append-nil (taken_of x)
-all-more (y ∷ xs) x = ap (λ l. taken_of y ++ l) (all-more xs x) ∙ sym (append_assoc (taken_of y) (all_taken xs) (taken_of x))
 
 pub after_is : (k : ℕ) (x : Take) → taken_after k x ≡ k + length (taken_of x)
 after_is k (Item seen items) = past_is k items
@@ -53,12 +51,6 @@ take_at shape k (y ∷ xs) x ys end are = take_at shape (taken_after k y) xs x y
 -- as it is told of calls
 pub take_of_calls : (shape : Shape) (wanted : ℕ) (calls : Takes) (x : Take) → IsTakeOf shape (count_taken shape calls).number wanted x → IsTakeOf shape (taken_in 0 calls.takes) wanted x
 take_of_calls shape wanted calls x of = subst (λ (k : ℕ). IsTakeOf shape k wanted x) (taken_number shape first_count calls.takes) of
-
--- a take has no more items than it wants
-pub take_within : (shape : Shape) (k wanted : ℕ) (x : Take) → IsTakeOf shape k wanted x → length (taken_of x) ≤ wanted
-take_within shape k wanted (Item seen items) of = of.0
-take_within shape k wanted (ItemAfterClose seen again items) of = of.0
-take_within shape k wanted (Empty seen) of = omega arith
 
 -- ---- what they were answered
 

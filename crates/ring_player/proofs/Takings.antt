@@ -19,6 +19,8 @@ use Rattle.ring_audit.proofs.TakeReads.{told-tells}
 use Rattle.ring_player.proofs.Nexts.{IsNextTake, NextTake as NextOf}
 use Rattle.ring_player.proofs.Moves.{events-more, goes_longer, program_beginning, split_last}
 use Rattle.ring_player.proofs.TakeLists.{all_are, taken_rises, take_of_calls}
+use Rattle.ring_core.proofs.Readings.TakenRead.{same_calls}
+use Rattle.ring_core.proofs.LawLemmas.{calls_are_first_takes}
 
 -- ---- takes that the script wants
 
@@ -126,13 +128,10 @@ begins_access script p taken told empty list due a s next is =
 
 -- ---- where an access is due the side is not done
 
-same_calls : (a b : Takes) → a.takes ≡ b.takes → a.end ≡ b.end → a ≡ b
-same_calls a b p q = ap (λ (t : List Take). record { takes = t; end = a.end }) p ∙ ap (λ (t : End). record { takes = b.takes; end = t }) q
-
 pub unfinished :
-    TakesAreFirst → (script : Content) (p : ConsumerState) (taken : List ℕ) (told : Bool) (empty : ℕ) (list : List Made) (due : Option Access) (a : Access) → TakeActorStands script p taken told empty list None →
+    (script : Content) (p : ConsumerState) (taken : List ℕ) (told : Bool) (empty : ℕ) (list : List Made) (due : Option Access) (a : Access) → TakeActorStands script p taken told empty list None →
     NextOf p due → due ≡ Some a → ¬ IsDoneAfter script C (events_of C list)
-unfinished law script p taken told empty list due a s next is d =
+unfinished script p taken told empty list due a s next is d =
     by_call (is_taking p) refl (subst (λ t. IsNextTake script.shape (wanted_at script (taken_in 0 s.calls.takes)) s.calls (is_taking p) list t) is (next_in script p taken told empty list None due s next))
   where
     not_all : (more : Takes) → d.0 ≡ more → 2 * length (take_program script.shape d.0) < 2 * length (take_program script.shape more) → ⊥
@@ -169,7 +168,7 @@ unfinished law script p taken told empty list due a s next is d =
     by_call true e n =
         let (more, has, (rest, f)) = n true (λ l. refl) in
         let (longer, begins) = goes_longer C list (take_program script.shape d.0) (take_program script.shape more) rest a d.2 f in
-        let (rises, whole) = law script.shape d.0 more d.1 has.are begins in
+        let (rises, whole) = calls_are_first_takes script.shape d.0 more d.1 has.are begins in
         by_end more has rises.0 rises.1 whole longer (s.asked e) d.0.end refl
 
 -- ---- the next take begins

@@ -29,6 +29,7 @@ use Rattle.ring_script.specs.Content.{Content}
 use Rattle.ring_core.proofs.Machines.Following.{length-events}
 use Rattle.ring_player.proofs.Moves.{by_side as is_by_side, not_by, own_by, own_other}
 use Rattle.ring_player.proofs.Overs.{none_over_puts, none_over_takes}
+use Rattle.bits_core.proofs.LawLemmas.{subhistory_changes}
 
 -- ---- one event more
 
@@ -81,10 +82,10 @@ told-last f g h e =
 
 -- ---- what is told of it
 
-module _ (owns : SubhistoryChanges) (script : Content) (h h' : List Event) (e : Event) (is : h' ≡ h ++ e ∷ []) where
+module _ (script : Content) (h h' : List Event) (e : Event) (is : h' ≡ h ++ e ∷ []) where
   -- the events of a side that begin a list begin it without this one
   begins_before : (s : Side) (es : List Event) → IsPrefix (subhistory s h') es → IsPrefix (subhistory s h) es
-  begins_before s es (rest, f) = by_test (is_by s e) (ap (subhistory s) is ∙ owns s h e)
+  begins_before s es (rest, f) = by_test (is_by s e) (ap (subhistory s) is ∙ subhistory_changes s h e)
     where
       by_test : (b : Bool) → subhistory s h' ≡ (if b then subhistory s h ++ e ∷ [] else subhistory s h) → IsPrefix (subhistory s h) es
       by_test true own = (e ∷ rest, sym (append_assoc (subhistory s h) (e ∷ []) rest) ∙ ap (λ l. l ++ rest) (sym own) ∙ f)
@@ -99,7 +100,7 @@ module _ (owns : SubhistoryChanges) (script : Content) (h h' : List Event) (e : 
   }
 
   one_more : (s : Side) → e.side ≡ s → length (subhistory s h') ≡ suc (length (subhistory s h))
-  one_more s by = omega (arith, ap length (ap (subhistory s) is ∙ own_by owns s h e by), length-append (subhistory s h) (e ∷ []))
+  one_more s by = omega (arith, ap length (ap (subhistory s) is ∙ own_by s h e by), length-append (subhistory s h) (e ∷ []))
 
   -- the event is one of those of the calls
   few : (s : Side) → e.side ≡ s → (program : List Made) → IsPrefix (subhistory s h') (events_of s program) → length (subhistory s h) < events_in program
@@ -130,7 +131,7 @@ module _ (owns : SubhistoryChanges) (script : Content) (h h' : List Event) (e : 
     put_moves says all at stored full stored' full' = (
       (λ puts takes r. (
         subst (IsPutStage next script puts) (sym (one_more P by)) (said puts takes r).1,
-        subst (λ l. IsTakeStage t script takes (length l)) (sym (ap (subhistory C) is ∙ own_other owns P h e by)) (at puts takes (reading_before puts takes r)).1,
+        subst (λ l. IsTakeStage t script takes (length l)) (sym (ap (subhistory C) is ∙ own_other P h e by)) (at puts takes (reading_before puts takes r)).1,
       )),
       tells_more P by told (λ puts takes r. (said puts takes r).0),
     )
@@ -161,7 +162,7 @@ module _ (owns : SubhistoryChanges) (script : Content) (h h' : List Event) (e : 
         AreAt stage next script h' × ((events : List calls.Event) → TellsCalls script h events → TellsCalls script h' (events ++ told_in script told))
     take_moves says is_wanted at counted counted' first = (
       (λ puts takes r. (
-        subst (λ l. IsPutStage stage script puts (length l)) (sym (ap (subhistory P) is ∙ own_other owns C h e by)) (at puts takes (reading_before puts takes r)).0,
+        subst (λ l. IsPutStage stage script puts (length l)) (sym (ap (subhistory P) is ∙ own_other C h e by)) (at puts takes (reading_before puts takes r)).0,
         subst (IsTakeStage next script takes) (sym (one_more C by)) (said puts takes r).1,
       )),
       tells_more C by told (λ puts takes r. (said puts takes r).0),
@@ -201,13 +202,13 @@ Stepped script script' h h' stage t told =
     AreAt stage t script' h' × ((events : List calls.Event) → TellsCalls script h events → TellsCalls script' h' (events ++ told_in script told))
 
 pub put_stepped :
-    SubhistoryChanges → (script script' : Content) (h h' : List Event) (stage next : PutStage) (t : TakeStage) (items : ℕ) (before now : PutTally) (told : Option (CallEvent ℕ TakenItems)) → script' ≡ script →
+    (script script' : Content) (h h' : List Event) (stage next : PutStage) (t : TakeStage) (items : ℕ) (before now : PutTally) (told : Option (CallEvent ℕ TakenItems)) → script' ≡ script →
     IsMove script P true h h' → SaysPut stage items before now next told → items ≡ length script.items → AreAt stage t script h → ArePutsCounted script h before →
     ArePutsCounted script' h' now → Stepped script script' h h' next t told
-put_stepped owns script script' h h' stage next t items before now told same (e, is, by, not) says all at counted counted' =
+put_stepped script script' h h' stage next t items before now told same (e, is, by, not) says all at counted counted' =
     let (stored', full') = subst (λ s. ArePutsCounted s h' now) same counted' in
     subst (λ s. Stepped script s h h' next t told) (sym same)
-    (put_moves owns script h h' e is by stage next t items before now told says all at counted.0 counted.1 stored' full')
+    (put_moves script h h' e is by stage next t items before now told says all at counted.0 counted.1 stored' full')
 
 abbrev pub AreTakesCounted : Content → List Event → TakeTally → Type 0
 AreTakesCounted script h kept =
@@ -220,14 +221,14 @@ abbrev pub AreFirst : Content → List Event → Type 0
 AreFirst script h = (takes : Takes) → FollowsTakes script.shape h takes → IsPrefix (all_taken (takes_over_in script.shape h takes)) script.items
 
 pub take_stepped :
-    SubhistoryChanges → (script script' : Content) (h h' : List Event) (stage : PutStage) (t next : TakeStage) (wanted : ℕ) (before now : TakeTally) (told : Option (CallEvent ℕ TakenItems)) → script' ≡ script →
+    (script script' : Content) (h h' : List Event) (stage : PutStage) (t next : TakeStage) (wanted : ℕ) (before now : TakeTally) (told : Option (CallEvent ℕ TakenItems)) → script' ≡ script →
     IsMove script C true h h' → SaysTake t wanted before now next told →
     ((takes : Takes) → FollowsTakes script.shape h takes → wanted ≡ wanted_at script (length (all_taken (takes_over_in script.shape h takes)))) →
     AreAt stage t script h → AreTakesCounted script h before → AreTakesCounted script' h' now → AreFirst script' h' → Stepped script script' h h' stage next told
-take_stepped owns script script' h h' stage t next wanted before now told same (e, is, by, not) says is_wanted at counted counted' first =
+take_stepped script script' h h' stage t next wanted before now told same (e, is, by, not) says is_wanted at counted counted' first =
     let (taken', empty', told') = subst (λ s. AreTakesCounted s h' now) same counted' in
     subst (λ s. Stepped script s h h' stage next told) (sym same)
-    (take_moves owns script h h' e is by stage t next wanted before now told says is_wanted at (λ takes f. (counted.0 takes f, counted.1 takes f, counted.2 takes f))
+    (take_moves script h h' e is by stage t next wanted before now told says is_wanted at (λ takes f. (counted.0 takes f, counted.1 takes f, counted.2 takes f))
     (λ takes f. (taken' takes f, empty' takes f, told' takes f)) (subst (λ s. AreFirst s h') same first))
 
 -- where the side was done

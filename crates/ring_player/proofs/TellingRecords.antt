@@ -24,6 +24,7 @@ use Rattle.ring_script.specs.Content.{Content}
 use Rattle.ring_player.proofs.Puttings.{left_some, stored-more, taken_some}
 use Rattle.ring_player.proofs.TakeBatches.{some_wanted}
 use Rattle.ring_player.proofs.TakeLists.{taken-more}
+use Rattle.ring_core.proofs.LawLemmas.{recorded_is_linearizable}
 
 -- ---- what puts are offered
 
@@ -87,9 +88,9 @@ same_calls f g g' p c (e ∷ h) same =
 
 -- what is told of a play is a linearizable history
 pub records :
-    RecordedIsLinearizable → (script : Content) (letters : List Side) (h : List Event) (told : List (CallEvent ℕ TakenItems)) → IsPlayOf script letters h → TellsCalls script h (call_events script told) →
+    (script : Content) (letters : List Side) (h : List Event) (told : List (CallEvent ℕ TakenItems)) → IsPlayOf script letters h → TellsCalls script h (call_events script told) →
     RecordsPlay script h told
-records law script letters h told play tells =
+records script letters h told play tells =
     let (puts, asked, begins) = play.plays.played.puts in
     let (takes, asked', begins') = play.plays.played.takes in
     let r : IsReadingAsked script h puts takes = record { asked = asked; puts_follow = record { are = asked.are; events = begins }; takes_follow = record { are = asked'.0; events = begins' } } in
@@ -99,15 +100,15 @@ records law script letters h told play tells =
     record {
       tells = tells;
       linearizable = subst (IsLinearizable (exactly (capacity_of script.shape))) (sym (tells puts takes r ∙ same))
-          (law script.shape (offers_of script puts) (some_of script takes) h puts takes (record { lawful = play.plays.played.lawful; puts_follow = r.puts_follow; takes_follow = r.takes_follow })
+          (recorded_is_linearizable script.shape (offers_of script puts) (some_of script takes) h puts takes (record { lawful = play.plays.played.lawful; puts_follow = r.puts_follow; takes_follow = r.takes_follow })
           (offered_all script puts [] puts.puts 0 0 refl refl refl asked.attempts) (λ j. omega arith) (wanted_all script takes [] takes.takes 0 0 refl refl refl asked'.1));
     }
 
 -- the play of a world
 pub play_records :
-    RecordedIsLinearizable → (script first : Content) (letters : List Side) (h : List Event) (told : List (CallEvent ℕ TakenItems)) → script ≡ first → IsPlayOf script letters h → Plays first first.letters h →
+    (script first : Content) (letters : List Side) (h : List Event) (told : List (CallEvent ℕ TakenItems)) → script ≡ first → IsPlayOf script letters h → Plays first first.letters h →
     TellsCalls script h (call_events script told) → (x : List Event) × IsPlayOf first first.letters x × RecordsPlay first x told
-play_records law script first letters h told same play plays tells =
+play_records script first letters h told same play plays tells =
     let p : IsPlayOf first letters h = subst (λ s. IsPlayOf s letters h) same play in
     let whole : IsPlayOf first first.letters h = record { plays = plays; headline = p.headline; batches = p.batches } in
-    (h, whole, records law first first.letters h told whole (subst (λ s. TellsCalls s h (call_events s told)) same tells))
+    (h, whole, records first first.letters h told whole (subst (λ s. TellsCalls s h (call_events s told)) same tells))

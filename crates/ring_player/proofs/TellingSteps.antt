@@ -21,6 +21,7 @@ use Rattle.ring_core.proofs.CountRow.{past_is}
 use Rattle.ring_player.proofs.Overs.{over_front}
 use Rattle.ring_player.proofs.Puttings.{fulls-more, stored-more}
 use Rattle.ring_player.proofs.TakeLists.{all-more, all_are, empties-more, take_at}
+use Rattle.ring_core.proofs.LawLemmas.{events_tell_by_one_puts, events_tell_by_one_takes}
 
 -- ---- lists
 
@@ -44,7 +45,7 @@ put_at : (shape : Shape) (n : ℕ) (xs : List Put) (x : Put) (ys : List Put) →
 put_at shape n [] x ys m = m.0
 put_at shape n (y ∷ xs) x ys m = put_at shape (number_after n y) xs x ys m.1
 
-module _ (law : PutsTellByOne) (script : Content) (puts : Puts) (i : ℕ) (asked : ArePutsOf script puts) (few : i < events_in (put_program script.shape puts)) where
+module _ (script : Content) (puts : Puts) (i : ℕ) (asked : ArePutsOf script puts) (few : i < events_in (put_program script.shape puts)) where
   abbrev shape : Shape
   shape = script.shape
 
@@ -58,7 +59,7 @@ module _ (law : PutsTellByOne) (script : Content) (puts : Puts) (i : ℕ) (asked
   told = put_told shape (offers_of script puts) 0 first_count puts.puts puts.closes i
 
   tells : PutTells shape (offers_of script puts) puts i before after told
-  tells = law shape (offers_of script puts) puts i few
+  tells = events_tell_by_one_puts shape (offers_of script puts) puts i few
 
   front : (rest : List Put) × (puts.puts ≡ before ++ rest)
   front = over_front _ _ first_count puts.puts i
@@ -176,7 +177,7 @@ module _ (law : PutsTellByOne) (script : Content) (puts : Puts) (i : ℕ) (asked
 
 -- ---- takes
 
-module _ (law : TakesTellByOne) (script : Content) (takes : Takes) (i : ℕ) (few : i < events_in (take_program script.shape takes)) where
+module _ (script : Content) (takes : Takes) (i : ℕ) (few : i < events_in (take_program script.shape takes)) where
   abbrev shape_of : Shape
   shape_of = script.shape
 
@@ -190,7 +191,7 @@ module _ (law : TakesTellByOne) (script : Content) (takes : Takes) (i : ℕ) (fe
   told_of = take_told shape_of (wants_of script takes) 0 first_count takes.takes takes.end i
 
   take_tells : TakeTells shape_of (wants_of script takes) takes i over_before over_after told_of
-  take_tells = law shape_of (wants_of script takes) takes i few
+  take_tells = events_tell_by_one_takes shape_of (wants_of script takes) takes i few
 
   wants_are : wants_of script takes (length over_before) ≡ wanted_at script (length (all_taken over_before))
   wants_are =

@@ -13,19 +13,8 @@ use Rattle.bits_core.specs.declared.events.Event.{Event}
 use Rattle.bits_core.specs.History.{is_overlapped}
 use Rattle.bits_core.specs.Memory.{count_below, flicker_count, is_flicker, is_flicker_at}
 use Rattle.ring_player.specs.Actors.{IsAtTurn}
-use Rattle.bits_core.proofs.Flickers.{is_flicker_at-last, flicker_count-push}
+use Rattle.bits_core.proofs.Flickers.{is_flicker_at-last, flicker_count-push, count_below-same, is_flicker_at-front, slice_get-front}
 use Rattle.bits_core.proofs.Places.{slice_get-last}
-
-count_below-same : (n : ℕ) (f g : ℕ → Bool) → ((p : ℕ) → p < n → f p ≡ g p) → count_below n f ≡ count_below n g
-count_below-same zero f g same = refl
-count_below-same (suc n) f g same =
-    ap₂ (λ (c : ℕ) (b : Bool). c + (if b then 1 else 0)) (count_below-same n f g (λ p below. same p (omega arith))) (same n (omega arith))
-
--- an event more at the end changes no place before it
-slice_get-front : (h : List Event) (e : Event) (p : ℕ) → p < length h → slice_get (h ++ e ∷ []) p ≡ slice_get h p
-slice_get-front [] e p below = absurd (omega arith)
-slice_get-front (x ∷ h) e zero below = refl
-slice_get-front (x ∷ h) e (suc p) below = slice_get-front h e p (omega arith)
 
 -- a place that has an event is one before the last, or the last
 place_is : (h : List Event) (e x : Event) (p : ℕ) → slice_get (h ++ e ∷ []) p ≡ Some x → (p < length h) ⊎ (p ≡ length h)
@@ -33,11 +22,6 @@ place_is [] e x zero is = inr refl
 place_is [] e x (suc p) is = absurd (cc)
 place_is (y ∷ h) e x zero is = inl (omega arith)
 place_is (y ∷ h) e x (suc p) is = elim (place_is h e x p is) [ inl l ↦ inl (omega (arith, l)) | inr l ↦ inr (omega (arith, l)) ]
-
-is_flicker_at-front : (h : List Event) (e : Event) (p : ℕ) → p < length h → is_flicker_at (h ++ e ∷ []) p ≡ is_flicker_at h p
-is_flicker_at-front h e p below =
-    let within : p ≤ length h = omega arith in
-    ap₂ (λ (past : List Event) (o : Option Event). option_map_or (is_flicker past) o false) (take-append-le p h (e ∷ []) within) (slice_get-front h e p below)
 
 count-front : (h : List Event) (e : Event) (n : ℕ) → n ≤ length h → count_below n (is_flicker_at (h ++ e ∷ [])) ≡ count_below n (is_flicker_at h)
 count-front h e n l = count_below-same n (is_flicker_at (h ++ e ∷ [])) (is_flicker_at h) (λ p below. is_flicker_at-front h e p (omega (arith, l, below)))

@@ -1,6 +1,6 @@
 -- What a step of one side leaves of the world.
 use Rattle.std.proofs.Common.{◌≡◌, ◌⊎◌, inl, inr, ℕ, ◌+◌, ◌-◌, ◌<◌, ◌≤◌, zero, suc, get_or, min, Bool, true, false, Option, Some, None, Result, Ok, Err, List, [], ◌∷◌, ◌++◌, length, take, drop, append_assoc, append-nil, refl, sym, ap, subst, ◌∙◌, arith}
-use Rattle.std.specs.Prelude.{if◌then◌else◌, IfOk, OnErr, OnOk, ◌↔◌}
+use Rattle.std.specs.Prelude.{if◌then◌else◌, IfOk, OnErr, OnOk, ◌↔◌, replicate, slice_index_or}
 use Rattle.bits_core.specs.declared.events.Side.{Side}
 use Rattle.bits_core.specs.declared.events.Side.TheVariants.{P, C}
 use Rattle.bits_core.specs.declared.events.Access.{Access}
@@ -14,7 +14,6 @@ use Rattle.bits_core.specs.Memory.{MemoryState}
 use Rattle.bits_core.specs.Oracle.{turn}
 use Rattle.ring_player.specs.Actors.{IsAtTurn, IsMove, IsPlaying, PutTally, so_far}
 use Rattle.ring_player.specs.Plays.{AreMoves, IsDone, IsPlayed, IsProgram, Plays, event_sides}
-use Rattle.std.specs.Prelude.{replicate, slice_index_or}
 use Rattle.std.proofs.lemmas.Bool.{cases_lt}
 use Rattle.std.proofs.lemmas.List.{length-append, length-replicate, take_all, take_more, take-append-drop, take-append-le, take-replicate}
 use Rattle.std.proofs.Math.Seq.{take-append-add, take-length}
@@ -32,6 +31,8 @@ use Rattle.ring_core.proofs.OwnEvents.{clock_end}
 use Rattle.ring_player.proofs.Flickers.{in_turn}
 use Rattle.ring_player.proofs.Moves.{moves-more, moves_step, not_by, own_other, sides-more}
 use Rattle.ring_player.proofs.Steps.{Stands}
+pub use Rattle.ring_audit.proofs.Rooms.{on_err}
+use Rattle.ring_core.proofs.LawLemmas.{calls_over_are_read_takes, items_taken_are_read}
 
 -- one event of the side, which was not done, or nothing
 abbrev pub Grown : Content → Side → (h h' : List Event) → Type 0
@@ -101,16 +102,16 @@ consumer_steps opens owns script m m' ps cs cs' pd cd cd' pt ct ct' a a' w shape
 -- ---- the history is a play
 
 pub plays_of :
-    FlickerIsByInterval → (script : Content) (m : MemoryState) (ps cs : Content) (pd cd : Option Access) (pt ct : Stands) (a : ℕ → Bool) → IsWorld script m ps cs pd cd pt ct a →
+    (script : Content) (m : MemoryState) (ps cs : Content) (pd cd : Option Access) (pt ct : Stands) (a : ℕ → Bool) → IsWorld script m ps cs pd cd pt ct a →
     IsLawful m.shape m.events → IsProgram ps P (subhistory P m.events) → IsProgram cs C (subhistory C m.events) → Plays script (event_sides m.events) m.events
-plays_of flicker script m ps cs pd cd pt ct a w lawful puts takes =
+plays_of script m ps cs pd cd pt ct a w lawful puts takes =
     let lawful' : IsLawful script.shape m.events = subst (λ t. IsLawful t m.events) w.shape lawful in
     record {
       played = record {
         lawful = lawful';
         puts = subst (λ (t : Content). IsProgram t P (subhistory P m.events)) w.put_script_is puts;
         takes = subst (λ (t : Content). IsProgram t C (subhistory C m.events)) w.take_script_is takes;
-        answers = in_turn flicker script.shape m.events lawful' script.oracle a w.oracle;
+        answers = in_turn script.shape m.events lawful' script.oracle a w.oracle;
       };
       moves = w.moves;
     }
@@ -154,27 +155,27 @@ new_world script m ps cs pd cd pt ct a shape empty p q puts takes oracle = recor
 -- ---- what was taken and told
 
 pub taken_of :
-    TakenAreRead → (script cs : Content) (h : List Event) (due : Option Access) (stands : Stands) (taken : List ℕ) (told : Bool) (empty : ℕ) → cs ≡ script → (p : IsPlaying C h due stands) →
+    (script cs : Content) (h : List Event) (due : Option Access) (stands : Stands) (taken : List ℕ) (told : Bool) (empty : ℕ) → cs ≡ script → (p : IsPlaying C h due stands) →
     TakenSoFar cs.shape (so_far C p.list (open_access C h)) taken told empty → (takes : Takes) → FollowsTakes script.shape h takes →
     (taken ≡ items_taken_in script.shape h takes) × ((told ≡ true) ↔ ToldIn script.shape h takes)
-taken_of read script cs h due stands taken told empty same p t takes follows =
+taken_of script cs h due stands taken told empty same p t takes follows =
     let u : TakenSoFar script.shape (subhistory C h) taken told empty =
     subst (λ (x : Content). TakenSoFar x.shape (subhistory C h) taken told empty) same (subst (λ l. TakenSoFar cs.shape l taken told empty) (sym p.own_is) t) in
     let mine : FollowsTakes script.shape h u.takes = record { are = u.are; events = u.begins } in
-    let (items, told_there) = read script.shape h u.takes takes mine follows in
-    let (items', told_back) = read script.shape h takes u.takes follows mine in
+    let (items, told_there) = items_taken_are_read script.shape h u.takes takes mine follows in
+    let (items', told_back) = items_taken_are_read script.shape h takes u.takes follows mine in
     (sym u.items ∙ items, (λ e. told_there (u.tells.0 e), λ e. u.tells.1 (told_back e)))
 
 -- ---- what was put
 
 pub ended_of :
-    TakesOverAreRead → (script cs : Content) (h : List Event) (due : Option Access) (stands : Stands) (taken : List ℕ) (told : Bool) (empty : ℕ) → cs ≡ script → (p : IsPlaying C h due stands) →
+    (script cs : Content) (h : List Event) (due : Option Access) (stands : Stands) (taken : List ℕ) (told : Bool) (empty : ℕ) → cs ≡ script → (p : IsPlaying C h due stands) →
     TakenSoFar cs.shape (so_far C p.list (open_access C h)) taken told empty → (takes : Takes) → FollowsTakes script.shape h takes → taken ≡ all_taken (takes_over_in script.shape h takes)
-ended_of read script cs h due stands taken told empty same p t takes follows =
+ended_of script cs h due stands taken told empty same p t takes follows =
     let u : TakenSoFar script.shape (subhistory C h) taken told empty =
     subst (λ (x : Content). TakenSoFar x.shape (subhistory C h) taken told empty) same (subst (λ l. TakenSoFar cs.shape l taken told empty) (sym p.own_is) t) in
     let mine : FollowsTakes script.shape h u.takes = record { are = u.are; events = u.begins } in
-    sym u.ended ∙ ap all_taken (read script.shape h u.takes takes mine follows)
+    sym u.ended ∙ ap all_taken (calls_over_are_read_takes script.shape h u.takes takes mine follows)
 
 -- ---- the items taken are the script's first ones
 
@@ -279,7 +280,3 @@ all_runs runs i letters end all = ap (λ i. spelled (take i runs)) end ∙ ap sp
 pub ok_is : {A E : Type 0} {G : Type 0} (r : Result A E) (a : A) → r ≡ Ok a → OnOk r G → G
 ok_is (Ok b) a e g = g
 ok_is (Err x) a e g = absurd (cc)
-
-pub on_err : {A E : Type 0} {G : Type 0} (r : Result A E) → G → OnErr r G
-on_err (Ok a) g = tt
-on_err (Err x) g = g

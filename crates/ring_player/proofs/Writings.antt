@@ -30,6 +30,7 @@ use Rattle.ring_player.proofs.Nexts.{IsNextPut, NextPut}
 use Rattle.ring_player.proofs.Overs.{puts_all_over, puts_cut_over}
 use Rattle.ring_player.proofs.Puttings.{calls_asked, next_in}
 use Rattle.ring_player.proofs.Written.{begun-append, digits-append, put_begun, put_nothing}
+use Rattle.ring_core.proofs.LawLemmas.{counts_are_written_numbers}
 
 -- ---- one access more
 
@@ -164,11 +165,11 @@ with_open_length list (Some a) = (
 
 -- by one reading
 reading_so_far :
-    CountsShowNumbers → CountsAreWritten → (script : Content) (digits put : ℕ) (kept : PutTally) (list : List Made) (o : Option Access) → HasWritten script digits put list o → (more : Puts) → ArePutsOf script more →
+    (script : Content) (digits put : ℕ) (kept : PutTally) (list : List Made) (o : Option Access) → HasWritten script digits put list o → (more : Puts) → ArePutsOf script more →
     IsPrefix (with_open list o) (put_program script.shape more) → IsPrefix (so_far P list o) (events_of P (put_program script.shape more)) →
     (ended : List puts.Put) → puts_over script.shape first_count more.puts (length (so_far P list o)) ≡ ended → kept.full ≡ fulls ended → kept.stored ≡ stored_in 0 ended →
     PutSoFar script.shape (so_far P list o) (take put script.items) kept
-reading_so_far numbers written script digits put kept list o s more asked begins events ended over full stored =
+reading_so_far script digits put kept list o s more asked begins events ended over full stored =
     let shape : Shape = script.shape in
     let t : ℕ = length (so_far P list o) in
     let bounds = with_open_length list o in
@@ -177,7 +178,7 @@ reading_so_far numbers written script digits put kept list o s more asked begins
     let none : 0 + length (items_put shape first_count more.puts t) ≡ length (items_put shape first_count more.puts t) = omega arith in
     let count : put ≡ length (items_put shape first_count more.puts t) =
     s.put_is ∙ ap (λ n. items_begun w n 0 (with_open list o)) (sym start)
-    ∙ put_begun numbers written shape first_count more.puts more.closes (with_open list o) t (numbers shape).0 asked.are begins bounds.0 bounds.1 ∙ none in
+    ∙ put_begun shape first_count more.puts more.closes (with_open list o) t (counts_are_written_numbers shape).0 asked.are begins bounds.0 bounds.1 ∙ none in
     let first : IsPrefix (items_put shape first_count more.puts t) script.items =
     begins-trans (items_put shape first_count more.puts t) (all_put more.puts) script.items (put_first shape first_count more.puts t)
     (subst (IsPrefix (all_put more.puts)) (none_dropped script.items) (attempts_first script 0 more.puts asked.attempts)) in
@@ -191,9 +192,9 @@ reading_so_far numbers written script digits put kept list o s more asked begins
     }
 
 pub put_so_far :
-    CountsShowNumbers → CountsAreWritten → (script : Content) (p : ProducerState) (kept : PutTally) (digits put : ℕ) (list : List Made) (o due : Option Access) → PutActorStands script p kept list o →
+    (script : Content) (p : ProducerState) (kept : PutTally) (digits put : ℕ) (list : List Made) (o due : Option Access) → PutActorStands script p kept list o →
     HasWritten script digits put list o → NextPut p due → ((a : Access) → o ≡ Some a → due ≡ Some a) → PutSoFar script.shape (so_far P list o) (take put script.items) kept
-put_so_far numbers written script p kept digits put list o due s h next is_due = by_due due is_due (call_of p) s.asked (next_in script p kept list o due s next)
+put_so_far script p kept digits put list o due s h next is_due = by_due due is_due (call_of p) s.asked (next_in script p kept list o due s next)
   where
     calls : Puts
     calls = s.calls
@@ -238,7 +239,7 @@ put_so_far numbers written script p kept digits put list o due s h next is_due =
         let none : o ≡ None = no_open o f in
         let made : with_open list o ≡ put_program shape calls = ap (with_open list) none ∙ whole in
         let es : so_far P list o ≡ events_of P (put_program shape calls) = ap (so_far P list) none ∙ ap (events_of P) whole in
-        reading_so_far numbers written script digits put kept list o h calls (of_calls asked) ([], append-nil (with_open list o) ∙ made) ([], append-nil (so_far P list o) ∙ es)
+        reading_so_far script digits put kept list o h calls (of_calls asked) ([], append-nil (with_open list o) ∙ made) ([], append-nil (so_far P list o) ∙ es)
         calls.puts (puts_all_over shape first_count calls.puts (length (so_far P list o)) come) s.filled s.counted
     by_due None f (Some c) asked next = absurd next
     by_due (Some a) f None asked next = absurd next
@@ -248,7 +249,7 @@ put_so_far numbers written script p kept digits put list o due s h next is_due =
         let whole : IsPrefix (list ++ answered a true ∷ []) (put_program shape more) = (rest, e) in
         let whole_events : IsPrefix (events_of P (list ++ answered a true ∷ [])) (events_of P (put_program shape more)) =
         (events_of P rest, sym (events_of-append P (list ++ answered a true ∷ []) rest) ∙ ap (events_of P) e) in
-        reading_so_far numbers written script digits put kept list o h more (calls_asked script c calls more s.attempts asked has)
+        reading_so_far script digits put kept list o h more (calls_asked script c calls more s.attempts asked has)
         (begins-trans (with_open list o) (list ++ answered a true ∷ []) (put_program shape more) (open_begins o a f) whole)
         (begins-trans (so_far P list o) (events_of P (list ++ answered a true ∷ [])) (events_of P (put_program shape more)) (so_far_begins P list o a true f) whole_events)
         calls.puts (over_more c more has longer) s.filled s.counted

@@ -18,6 +18,9 @@ use Rattle.ring_core.specs.Items.{events_in, items_put}
 use Rattle.ring_core.specs.Puts.{accesses_before_count, ArePuts, Full, Put, Stored, close_phrase, put_phrase, put_phrases, stored_after, words_phrase}
 use Rattle.ring_player.specs.Actors.{digits_in, items_begun}
 use Rattle.ring_core.proofs.CountRow.{past_is}
+use Rattle.ring_core.proofs.Cells.WordPlaces.{writes-append as map-append}
+pub use Rattle.ring_core.proofs.Readings.ItemsRead.{none_put as put_nothing}
+use Rattle.ring_core.proofs.LawLemmas.{counts_are_written_numbers, counts_are_written_written}
 
 -- ---- what is written
 
@@ -88,10 +91,6 @@ zeros_digits row (suc n) = digits-append (zero_reads row n) (Read (row n) false 
 
 scan_digits : (row : ℕ → Bit) (c : ℕ) → digits_in (scan_phrase row c) ≡ 0
 scan_digits row c = digits-append (zero_reads row c) (Read (row c) true ∷ []) ∙ ap (λ t. t + 0) (zeros_digits row c)
-
-map-append : (row : ℕ → Bit) (xs ys : List RowWrite) → writes_in row (xs ++ ys) ≡ writes_in row xs ++ writes_in row ys
-map-append row [] ys = refl
-map-append row (x ∷ xs) ys = ap (λ l. Write (row x.bit) x.value ∷ l) (map-append row xs ys)
 
 word_quiet : (j item n : ℕ) → NoCounts (writes_in (bit.Cell j) (digit_writes item n))
 word_quiet j item zero = tt
@@ -166,27 +165,18 @@ close_quiet false = tt
 begin_quiet : (made more : List Made) → NoCounts more → IsPrefix made more → NoCounts made
 begin_quiet made more p (r, e) = no_counts-first made r (subst NoCounts (sym e) p)
 
--- within no event nothing is put
-pub put_nothing : (shape : Shape) (c : Count) (puts : List Put) (t : ℕ) → t ≡ 0 → items_put shape c puts t ≡ []
-put_nothing shape c [] t e = refl
-put_nothing shape c (Stored u items ∷ puts) t e =
-    let front : ℕ = events_in (accesses_before_count shape c.number u items) in
-    ap₂ (λ (b : Bool) (l : List ℕ). cond b items [] ++ l) (le-ltb front t (omega (arith, e)))
-    (put_nothing shape (stored_after shape c (Stored u items)) puts (t - events_in (put_phrase shape c (Stored u items))) (omega (arith, e)))
-put_nothing shape c (Full u ∷ puts) t e = put_nothing shape c puts (t - events_in (put_phrase shape c (Full u))) (omega (arith, e))
-
 divided : (w n k : ℕ) → 1 ≤ w → (n * w + k * w) / w ≡ n + k
 divided w n k l = ap (λ t. t / w) (sym (add-mul n k w)) ∙ mul-div_cancel (n + k) (omega (arith, l))
 
 pub put_begun :
-    CountsShowNumbers → CountsAreWritten → (shape : Shape) (c : Count) (puts : List Put) (close : Bool) (made : List Made) (t : ℕ) → IsCount shape c → ArePuts shape c.number puts →
+    (shape : Shape) (c : Count) (puts : List Put) (close : Bool) (made : List Made) (t : ℕ) → IsCount shape c → ArePuts shape c.number puts →
     IsPrefix made (put_phrases shape c puts ++ close_phrase close) → t ≤ 2 * length made → 2 * length made ≤ t + 1 →
     items_begun (width_of shape) (c.number * width_of shape) c.number made ≡ c.number + length (items_put shape c puts t)
-put_begun numbers written shape c [] close made t is p begins low high =
+put_begun shape c [] close made t is p begins low high =
     let none : c.number ≡ c.number + 0 = omega arith in
     none_begun (width_of shape) (c.number * width_of shape) c.number made (begin_quiet made (close_phrase close) (close_quiet close) begins) ∙ none
-put_begun numbers written shape c (Full u ∷ puts) close made t is p begins low high =
-    by_split (put_begun numbers written shape c puts close) (split_front scan rest made (subst (IsPrefix made) (append_assoc scan (put_phrases shape c puts) (close_phrase close)) begins))
+put_begun shape c (Full u ∷ puts) close made t is p begins low high =
+    by_split (put_begun shape c puts close) (split_front scan rest made (subst (IsPrefix made) (append_assoc scan (put_phrases shape c puts) (close_phrase close)) begins))
   where
     w : ℕ
     w = width_of shape
@@ -213,8 +203,8 @@ put_begun numbers written shape c (Full u ∷ puts) close made t is p begins low
         ∙ ap₂ (λ a b. items_begun w (c.number * w + a) b more) (scan_digits (row_read_by P) u) (none_begun w (c.number * w) c.number scan (scan_quiet (row_read_by P) u))
         ∙ ap (λ a. items_begun w a c.number more) nothing
         ∙ again more (t - events_in scan) is p.1 q (omega (arith, low, size)) (omega (arith, high, size))
-put_begun numbers written shape c (Stored u items ∷ puts) close made t is p begins low high =
-    by_front (put_begun numbers written shape next puts close) (split_front front (batch ++ rest) made (subst (IsPrefix made) parts begins))
+put_begun shape c (Stored u items ∷ puts) close made t is p begins low high =
+    by_front (put_begun shape next puts close) (split_front front (batch ++ rest) made (subst (IsPrefix made) parts begins))
   where
     w : ℕ
     w = width_of shape
@@ -250,7 +240,7 @@ put_begun numbers written shape c (Stored u items ∷ puts) close made t is p be
         nothing n = omega arith
 
     filled : 1 ≤ length batch
-    filled = written shape P c items is p.0.2.some p.0.2.few
+    filled = counts_are_written_written shape P c items is p.0.2.some p.0.2.few
 
     whole : (c.number * w + digits_in front) / w ≡ c.number + length items
     whole = ap (λ t. (c.number * w + t) / w) digits ∙ divided w c.number (length items) (width_some shape)
@@ -326,7 +316,7 @@ put_begun numbers written shape c (Stored u items ∷ puts) close made t is p be
             (ap (items_begun w (c.number * w + digits_in front) (items_begun w (c.number * w) c.number front)) more_is
             ∙ begun-append w (c.number * w + digits_in front) (items_begun w (c.number * w) c.number front) batch last
             ∙ ap₂ (λ a b. items_begun w a b last) start there
-            ∙ again last t' ((numbers shape).1 c u items) p.1 r (omega (arith, low, size, size', both)) (omega (arith, high, size, size', both)))
+            ∙ again last t' ((counts_are_written_numbers shape).1 c u items) p.1 r (omega (arith, low, size, size', both)) (omega (arith, high, size, size', both)))
             sum
           where
             nothing : (n : ℕ) → n + 0 ≡ n

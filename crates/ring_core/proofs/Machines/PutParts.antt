@@ -17,7 +17,7 @@ use Rattle.ring_core.specs.GoingOn.{LastPutsReadOne}
 use Rattle.ring_core.proofs.Readings.Phrases.{scan-front, scan_begins, same_scan, same_word_write, same_writes, length-digit_writes, at_or_below}
 use Rattle.ring_core.proofs.Readings.PutsRead.{no_close, puts_stored, puts_full, no_room, NoCellFirst, count_first, words_first, digits_first, word_first}
 use Rattle.ring_core.proofs.CountRow.{batch_below, first_is_count, counted_is_count, bits_long}
-use Rattle.ring_core.proofs.Readings.ItemsRead.{same_stored, same_full}
+use Rattle.ring_core.proofs.Readings.ItemsRead.{same_stored, same_full, stored_is_count}
 use Rattle.ring_core.proofs.LastBits.{AllOne, one-append, one_at, one-scan, one-writes}
 
 -- the producer's scan of a count
@@ -36,10 +36,6 @@ record From (shape : Shape) (c : Count) (rest : List Made) : Type 0 where
   is_count : IsCount shape c
   are : ArePuts shape c.number puts
   rest_is : rest ≡ puts_from shape c puts close
-
-stored_is_count : (shape : Shape) (c : Count) (x : Put) → IsCount shape c → IsCount shape (stored_after shape c x)
-stored_is_count shape c (Stored seen items) is = counted_is_count shape c items
-stored_is_count shape c (Full seen) is = is
 
 -- calls that begin with a put
 same_put :

@@ -217,7 +217,7 @@ open_behind phrase rest left right t both l =
       same = o.same;
     }
 
-stored_is_count : (shape : Shape) (c : Count) (x : Put) → IsCount shape c → IsCount shape (stored_after shape c x)
+pub stored_is_count : (shape : Shape) (c : Count) (x : Put) → IsCount shape c → IsCount shape (stored_after shape c x)
 stored_is_count shape c (Stored seen items) is = counted_is_count shape c items
 stored_is_count shape c (Full seen) is = is
 

@@ -7,11 +7,11 @@ use Rattle.bits_core.specs.Auditors.{HeardEvents}
 use Rattle.bits_core.specs.Lawful.{IsLawful}
 use Rattle.ring_audit.specs.Audit.{HasTooFewSlots, IsFound}
 use Rattle.ring_audit.specs.Reading.{Reading, ReadingStands, BothFollow, reading}
-use Rattle.bits_core.proofs.FaultLemmas.{fault_is_first}
 use Rattle.ring_audit.proofs.Breaks.{break_of_program, break_of_bits}
 use Rattle.ring_audit.proofs.Readings.{followed}
 use Rattle.ring_audit.proofs.Rooms.{on_err, too_few_slots}
 use Rattle.ring_audit.proofs.audits.find_in.Goals as goal
+use Rattle.bits_core.proofs.LawLemmas.{fault_is_first}
 
 pub loop-i-init : goal.loop-i-init
 loop-i-init g c =

@@ -30,7 +30,7 @@ end-requires-clause-one g c last =
     let side_is : g.A.Actor.side a ≡ s = c.reserve.ensures.side ∙ c.requires.side in
     let ok = c.in_ok-answer.ensures.ok in
     let shape_is = ap (λ (m : MemoryState). m.shape) ok ∙ c.requires.shape ∙ ap (λ (t : Content). t.shape) (sym c.reserve.ensures.script) in
-    answers_one last_bit_is_one_puts last_bit_is_one_takes subhistory_changes script s h c.end_read.new.self.events (g.A.Actor.due a) (g.A.Actor.stands a)
+    answers_one script s h c.end_read.new.self.events (g.A.Actor.due a) (g.A.Actor.stands a)
     (bit_of (open_access s h)) c.in_ok-answer.answer p (reading (open_access s h) c.requires.open) (ap (λ (m : MemoryState). m.events) ok)
     (subst (λ t. IsLawful t c.end_read.new.self.events) shape_is c.events.ensures.lawful)
     (subst (λ (t : Content). IsProgram t (other s) (subhistory (other s) h)) (sym c.reserve.ensures.script) c.requires.other)

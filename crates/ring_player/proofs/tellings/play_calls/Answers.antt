@@ -67,5 +67,5 @@ returns g c =
     let l = c.loop-run.invariant in
     let runs : List LetterRun = c.runs-run-items.result.now in
     let whole : spelled (take c.loop-run.run-index runs) ≡ c.args.script.now.letters = ap spelled (take_all c.loop-run.run-index runs (omega (arith, c.loop-run-test.false))) ∙ l.all in
-    play_records recorded_is_linearizable c.loop-run.world.script c.args.script.now (event_sides c.loop-run.world.history) c.loop-run.world.history c.loop-run.told.items l.script
+    play_records c.loop-run.world.script c.args.script.now (event_sides c.loop-run.world.history) c.loop-run.world.history c.loop-run.told.items l.script
     c.history-2.ensures.plays (subst (λ (t : List Side). Plays c.args.script.now t c.loop-run.world.history) whole l.plays) l.told

@@ -21,7 +21,7 @@ goes :
     Stepped c.args.world.now.script c.step.new.self.script c.args.world.now.history c.step.new.self.history c.put_says-said.result.0 c.args.at.now.take c.put_says-said.result.1
 goes g c =
     let script = c.args.world.now.script in
-    put_stepped subhistory_changes script c.step.new.self.script c.args.world.now.history c.step.new.self.history c.args.at.now.put c.put_says-said.result.0 c.args.at.now.take c.args.items
+    put_stepped script c.step.new.self.script c.args.world.now.history c.step.new.self.history c.args.at.now.put c.put_says-said.result.0 c.args.at.now.take c.args.items
     (record { stored = c.put_count-before.result.stored; full = c.put_count-before.result.full }) (record { stored = c.put_count-now.result.stored; full = c.put_count-now.result.full })
     c.put_says-said.result.1 c.in_ok-moved.ensures.script
     (subst (λ b. IsMove script P b c.args.world.now.history c.step.new.self.history) c.if-not-moved.false c.in_ok-moved.ensures.ok) c.put_says-said.ensures c.requires.items c.requires.at

@@ -27,7 +27,7 @@ goes :
     Stepped c.args.world.now.script c.step.new.self.script c.args.world.now.history c.step.new.self.history c.args.at.now.put c.take_says-said.result.0 c.take_says-said.result.1
 goes g c =
     let script = c.args.world.now.script in
-    take_stepped subhistory_changes script c.step.new.self.script c.args.world.now.history c.step.new.self.history c.args.at.now.put c.args.at.now.take c.take_says-said.result.0
+    take_stepped script c.step.new.self.script c.args.world.now.history c.step.new.self.history c.args.at.now.put c.args.at.now.take c.take_says-said.result.0
     c.wanted-wanted.result (tally c.take_count-before.result) (tally c.take_count-now.result) c.take_says-said.result.1 c.in_ok-moved.ensures.script
     (subst (λ b. IsMove script C b c.args.world.now.history c.step.new.self.history) c.if-not-moved.false c.in_ok-moved.ensures.ok) c.take_says-said.ensures c.wanted-wanted.ensures.wanted c.requires.at
     (c.take_count-before.ensures.taken, c.take_count-before.ensures.empty, c.take_count-before.ensures.told)

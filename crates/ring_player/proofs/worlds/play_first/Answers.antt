@@ -29,7 +29,7 @@ pub returns-clause-flicker : goal.returns-clause-flicker
 returns-clause-flicker g c =
     let w = c.run_first-played.new.world in
     subst (λ (l : List Event). HasFlickers l c.report.result.flicker) (sym c.report.ensures.history)
-    (subst (HasFlickers w.history) (sym c.report.ensures.flicker) (has_flickers flicker_is_by_interval (content_of c.args.script).shape w.history c.in_ok-played.ensures.plays.played.lawful))
+    (subst (HasFlickers w.history) (sym c.report.ensures.flicker) (has_flickers (content_of c.args.script).shape w.history c.in_ok-played.ensures.plays.played.lawful))
 
 -- what is said of the world's history is said of the report's
 reported : (says : Shape → List Event → Type 0) (script of : Content) (h history : List Event) → of ≡ script → history ≡ h → says of.shape h → says script.shape history

@@ -8,5 +8,5 @@ use Rattle.ring_player.proofs.putting.PutActor.look.Goals as goal
 pub returns : goal.returns
 returns c list o s w due =
     let x = c.args.self.now in
-    put_so_far counts_are_written_numbers counts_are_written_written (content_of x.script) x.producer (record { stored = x.stored; full = x.full }) x.digits x.put list o c.next.result s w
+    put_so_far (content_of x.script) x.producer (record { stored = x.stored; full = x.full }) x.digits x.put list o c.next.result s w
     (put_next _ _ c.next.ensures.rest c.next.ensures.goes_on) (λ a e. c.next.ensures.due ∙ due a e)

@@ -14,7 +14,7 @@ pub returns-clause-unfinished : goal.returns-clause-unfinished
 returns-clause-unfinished c a is list s =
     let y = c.begin_call.new.self in
     subst (λ (t : Content). ¬ IsDoneAfter t P (events_of P list)) c.begin_call.ensures.script
-    (unfinished calls_are_first_puts (content_of y.script) y.producer (record { stored = y.stored; full = y.full }) list c.next.result a (c.begin_call.ensures.stands list s.0) (put_next _ _ c.next.ensures.rest c.next.ensures.goes_on) is)
+    (unfinished (content_of y.script) y.producer (record { stored = y.stored; full = y.full }) list c.next.result a (c.begin_call.ensures.stands list s.0) (put_next _ _ c.next.ensures.rest c.next.ensures.goes_on) is)
 
 pub returns-clause-right : goal.returns-clause-right
 returns-clause-right c a is list s =

@@ -14,7 +14,7 @@ pub returns-clause-unfinished : goal.returns-clause-unfinished
 returns-clause-unfinished g c a is list s =
     let y = c.begin_take.new.self in
     subst (λ (t : Content). ¬ IsDoneAfter t C (events_of C list)) c.begin_take.ensures.script
-    (unfinished calls_are_first_takes (content_of y.script) y.consumer (g.T.Store.items y.taken) y.told y.empty list c.next.result a (c.begin_take.ensures.stands list s) (take_next _ _ c.next.ensures.rest c.next.ensures.goes_on) is)
+    (unfinished (content_of y.script) y.consumer (g.T.Store.items y.taken) y.told y.empty list c.next.result a (c.begin_take.ensures.stands list s) (take_next _ _ c.next.ensures.rest c.next.ensures.goes_on) is)
 
 pub returns-clause-right : goal.returns-clause-right
 returns-clause-right g c a is list s =

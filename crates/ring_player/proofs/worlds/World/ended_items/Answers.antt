@@ -18,7 +18,7 @@ returns-clause-items g c takes =
     let w = c.self.inside in
     let i = c.self.invariant in
     subst (λ (t : Played). FollowsTakes t.script.shape t.history takes → c.taken.result.now ≡ all_taken (takes_over_in t.script.shape t.history takes)) c.self.view_is
-    (λ f. c.taken.ensures ∙ ended_of calls_over_are_read_takes (content_of w.script) (content_of w.consumer.script) w.memory.events _ _ (g.T.Store.items w.consumer.taken) w.consumer.told w.consumer.empty i.take_script_is i.takes (c.look-2.ensures i.takes.list (open_access C w.memory.events) i.takes.there i.takes.is_due) takes f)
+    (λ f. c.taken.ensures ∙ ended_of (content_of w.script) (content_of w.consumer.script) w.memory.events _ _ (g.T.Store.items w.consumer.taken) w.consumer.told w.consumer.empty i.take_script_is i.takes (c.look-2.ensures i.takes.list (open_access C w.memory.events) i.takes.there i.takes.is_due) takes f)
 
 pub returns-clause-first : goal.returns-clause-first
 returns-clause-first g c =

@@ -17,7 +17,7 @@ returns-clause-plays g c =
     let w = c.self.inside in
     let i = c.self.invariant in
     let plays : Plays (content_of w.script) (event_sides w.memory.events) w.memory.events =
-    plays_of flicker_is_by_interval (content_of w.script) w.memory (content_of w.producer.script) (content_of w.consumer.script) _ _ _ _ _ i c.events.ensures.lawful
+    plays_of (content_of w.script) w.memory (content_of w.producer.script) (content_of w.consumer.script) _ _ _ _ _ i c.events.ensures.lawful
     (subst (λ (t : List Event). IsProgram (content_of w.producer.script) P t) (sym i.puts.own_is) i.puts.there.0.program)
     (subst (λ (t : List Event). IsProgram (content_of w.consumer.script) C t) (sym i.takes.own_is) i.takes.there.program) in
     subst (λ (t : Played). IsPlayOf t.script (event_sides t.history) t.history) c.self.view_is

@@ -16,5 +16,5 @@ returns g c takes =
     let w = c.self.inside in
     let i = c.self.invariant in
     subst (λ (t : Played). FollowsTakes t.script.shape t.history takes → c.taken.result.now ≡ items_taken_in t.script.shape t.history takes) c.self.view_is
-    (λ f. c.taken.ensures ∙ (taken_of items_taken_are_read (content_of w.script) (content_of w.consumer.script) w.memory.events (due_take w.consumer.consumer) (TakeActorStands (content_of w.consumer.script) w.consumer.consumer (g.T.Store.items w.consumer.taken) w.consumer.told w.consumer.empty)
+    (λ f. c.taken.ensures ∙ (taken_of (content_of w.script) (content_of w.consumer.script) w.memory.events (due_take w.consumer.consumer) (TakeActorStands (content_of w.consumer.script) w.consumer.consumer (g.T.Store.items w.consumer.taken) w.consumer.told w.consumer.empty)
     (g.T.Store.items w.consumer.taken) w.consumer.told w.consumer.empty i.take_script_is i.takes (c.look.ensures i.takes.list (open_access C w.memory.events) i.takes.there i.takes.is_due) takes f).0)

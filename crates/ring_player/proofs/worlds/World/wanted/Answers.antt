@@ -18,4 +18,4 @@ returns-clause-wanted g c takes =
     let i = c.self.invariant in
     subst (λ (t : Played). FollowsTakes t.script.shape t.history takes → c.wanted.result ≡ wanted_at t.script (length (all_taken (takes_over_in t.script.shape t.history takes)))) c.self.view_is
     (λ f. c.wanted.ensures.value ∙ ap (λ (s : Content). wanted_at s (length (g.T.Store.items w.consumer.taken))) i.take_script_is ∙
-    ap (λ l. wanted_at (content_of w.script) (length l)) (ended_of calls_over_are_read_takes (content_of w.script) (content_of w.consumer.script) w.memory.events _ _ (g.T.Store.items w.consumer.taken) w.consumer.told w.consumer.empty i.take_script_is i.takes (c.look.ensures i.takes.list (open_access C w.memory.events) i.takes.there i.takes.is_due) takes f))
+    ap (λ l. wanted_at (content_of w.script) (length l)) (ended_of (content_of w.script) (content_of w.consumer.script) w.memory.events _ _ (g.T.Store.items w.consumer.taken) w.consumer.told w.consumer.empty i.take_script_is i.takes (c.look.ensures i.takes.list (open_access C w.memory.events) i.takes.there i.takes.is_due) takes f))
