@@ -109,13 +109,7 @@ module _ (past : List Event) (k : Kept) (a : Agrees past k) (capacity : Capacity
   ]
   moved PutClosed after entries left come are (n, is, e) moves other = moves ∙ come ∙ sym (late_stored past k a n is)
   moved (TakeItems items why) after entries left come are c moves other = moves ∙ ap (λ z. drop (length items) z) come ∙ sym (took past k a items why)
-  moved CloseBegin after entries left come are c moves other = moves ∙ come
-  moved CloseEnd after entries left come are c moves other = moves ∙ come
-  moved (TakeBegin wanted) after entries left come are c moves other = moves ∙ come
-  moved TakeEmpty after entries left come are c moves other = moves ∙ come
-  moved TakeShort after entries left come are c moves other = moves ∙ come
-  moved TakeNothing after entries left come are c moves other = moves ∙ come
-  moved TakeClosed after entries left come are c moves other = moves ∙ come
+  moved event after entries left come are c moves other = moves ∙ come
 
   -- and behind that one, where its line is written
   pub moved_stored :
@@ -189,29 +183,13 @@ quiet_remembers offered last w next capacity events (PutStored count why) q r sa
 quiet_remembers offered last w next capacity events CloseEnd q r same c inside t e d p s = absurd q
 quiet_remembers offered last w next capacity events (TakeItems items why) q r same c inside t e d p s = absurd q
 quiet_remembers offered last w next capacity events TakeClosed q r same c inside t e d p s = absurd q
-quiet_remembers offered last w next capacity events PutFull q r same c inside t e d p s =
-    next_remembers offered last w next capacity events PutFull r same c inside (taken_kept last w next (taken (reverse events)) t r.taken) (t.2 ∙ r.taken_last) (e ∙ r.ended) (d ∙ r.told) (p ∙ r.put_at) (s ∙ r.stored_at)
-quiet_remembers offered last w next capacity events PutShort q r same c inside t e d p s =
-    next_remembers offered last w next capacity events PutShort r same c inside (taken_kept last w next (taken (reverse events)) t r.taken) (t.2 ∙ r.taken_last) (e ∙ r.ended) (d ∙ r.told) (p ∙ r.put_at) (s ∙ r.stored_at)
-quiet_remembers offered last w next capacity events PutNothing q r same c inside t e d p s =
-    next_remembers offered last w next capacity events PutNothing r same c inside (taken_kept last w next (taken (reverse events)) t r.taken) (t.2 ∙ r.taken_last) (e ∙ r.ended) (d ∙ r.told) (p ∙ r.put_at) (s ∙ r.stored_at)
-quiet_remembers offered last w next capacity events PutClosed q r same c inside t e d p s =
-    next_remembers offered last w next capacity events PutClosed r same c inside (taken_kept last w next (taken (reverse events)) t r.taken) (t.2 ∙ r.taken_last) (e ∙ r.ended) (d ∙ r.told) (p ∙ r.put_at) (s ∙ r.stored_at)
-quiet_remembers offered last w next capacity events CloseBegin q r same c inside t e d p s =
-    next_remembers offered last w next capacity events CloseBegin r same c inside (taken_kept last w next (taken (reverse events)) t r.taken) (t.2 ∙ r.taken_last) (e ∙ r.ended) (d ∙ r.told) (p ∙ r.put_at) (s ∙ r.stored_at)
-quiet_remembers offered last w next capacity events (TakeBegin wanted) q r same c inside t e d p s =
-    next_remembers offered last w next capacity events (TakeBegin wanted) r same c inside (taken_kept last w next (taken (reverse events)) t r.taken) (t.2 ∙ r.taken_last) (e ∙ r.ended) (d ∙ r.told) (p ∙ r.put_at) (s ∙ r.stored_at)
-quiet_remembers offered last w next capacity events TakeEmpty q r same c inside t e d p s =
-    next_remembers offered last w next capacity events TakeEmpty r same c inside (taken_kept last w next (taken (reverse events)) t r.taken) (t.2 ∙ r.taken_last) (e ∙ r.ended) (d ∙ r.told) (p ∙ r.put_at) (s ∙ r.stored_at)
-quiet_remembers offered last w next capacity events TakeShort q r same c inside t e d p s =
-    next_remembers offered last w next capacity events TakeShort r same c inside (taken_kept last w next (taken (reverse events)) t r.taken) (t.2 ∙ r.taken_last) (e ∙ r.ended) (d ∙ r.told) (p ∙ r.put_at) (s ∙ r.stored_at)
-quiet_remembers offered last w next capacity events TakeNothing q r same c inside t e d p s =
-    next_remembers offered last w next capacity events TakeNothing r same c inside (taken_kept last w next (taken (reverse events)) t r.taken) (t.2 ∙ r.taken_last) (e ∙ r.ended) (d ∙ r.told) (p ∙ r.put_at) (s ∙ r.stored_at)
+quiet_remembers offered last w next capacity events event q r same c inside t e d p s =
+    next_remembers offered last w next capacity events event r same c inside (taken_kept last w next (taken (reverse events)) t r.taken) (t.2 ∙ r.taken_last) (e ∙ r.ended) (d ∙ r.told) (p ∙ r.put_at) (s ∙ r.stored_at)
 
 -- the line of the first of such events
-pub first_line : (b : Bool) (line this : ℕ) (old : Option ℕ) → old ≡ (if b then Some line else None) → option_or old (Some this) ≡ Some (if b then line else this)
-first_line true line this old e = ap (λ z. option_or z (Some this)) e
-first_line false line this old e = ap (λ z. option_or z (Some this)) e
+pub first_line : (b : Bool) (line this now : ℕ) (old : Option ℕ) → old ≡ (if b then Some line else None) → this ≡ now → option_or old (Some this) ≡ Some (if b then line else now)
+first_line true line this now old e same = ap (λ z. option_or z (Some this)) e
+first_line false line this now old e same = ap (λ z. option_or z (Some this)) e ∙ ap Some same
 
 pub kept_same :
     (inside inside' : List ℕ) (put put' : PutTurn) (take take' : TakeTurn) (shut shut' : Bool) → inside' ≡ inside → put' ≡ put → take' ≡ take → shut' ≡ shut →
@@ -223,19 +201,7 @@ kept_same inside inside' put put' take take' shut shut' i p t s =
 
 taken_more : (event : Event) (past : List Event) → k_of (event ∷ past) ≡ length (items_got event) + k_of past
 taken_more (TakeItems items why) past = omega (arith, length-append (taken past) (map (taken_at (line_behind past)) items), length-map items (taken_at (line_behind past)))
-taken_more (PutBegin items) past = omega arith
-taken_more (PutStored count why) past = omega arith
-taken_more PutFull past = omega arith
-taken_more PutShort past = omega arith
-taken_more PutNothing past = omega arith
-taken_more PutClosed past = omega arith
-taken_more CloseBegin past = omega arith
-taken_more CloseEnd past = omega arith
-taken_more (TakeBegin wanted) past = omega arith
-taken_more TakeEmpty past = omega arith
-taken_more TakeShort past = omega arith
-taken_more TakeNothing past = omega arith
-taken_more TakeClosed past = omega arith
+taken_more event past = omega arith
 
 taken_behind : (events past : List Event) → k_of (reverse events ++ past) ≡ length (all_got events) + k_of past
 taken_behind [] past = omega arith
@@ -274,17 +240,18 @@ module _ {S O T N B : Type 0} (offered : O → List Offered) (last : T → List 
       moved_stored (reverse events) (kept_of offered w) (agrees_of offered last w capacity events r) capacity count why after (offered w.auditor.inside.list) left r.inside are
       (counted_so (PutStored count why) after c) moves
 
-  -- what is remembered where nothing is kept of an event
+  -- what is remembered by another witness that keeps the same
   pub still_remembers :
-      (next : Witness S O T N B) → next.auditor.capacity ≡ w.auditor.capacity → kept_of offered next ≡ kept_of offered w → offered next.auditor.inside.list ≡ offered w.auditor.inside.list →
-      KeepsTaken w next → next.ended_at ≡ w.ended_at → next.told_at ≡ w.told_at → next.put_at ≡ w.put_at → next.stored_at ≡ w.stored_at → Remembers offered last next capacity events
-  still_remembers next same keeps inside t e d p s = record {
+      {S' O' T' N' B' : Type 0} (offered' : O' → List Offered) (last' : T' → List Taken) (next : Witness S' O' T' N' B') → next.auditor.capacity ≡ w.auditor.capacity →
+      kept_of offered' next ≡ kept_of offered w → offered' next.auditor.inside.list ≡ offered w.auditor.inside.list → last' next.taken ≡ last w.taken → next.limit ≡ w.limit →
+      next.last_taken ≡ w.last_taken → next.ended_at ≡ w.ended_at → next.told_at ≡ w.told_at → next.put_at ≡ w.put_at → next.stored_at ≡ w.stored_at → Remembers offered' last' next capacity events
+  still_remembers offered' last' next same keeps inside t m l e d p s = record {
     proper = r.proper;
     capacity_is = ap meant same ∙ r.capacity_is;
     counted = subst (λ z. CountTo capacity (kept [] Free Rests false) events z) (sym keeps) r.counted;
     inside = inside ∙ r.inside;
-    taken = taken_kept last w next (taken (reverse events)) t r.taken;
-    taken_last = t.2 ∙ r.taken_last;
+    taken = t ∙ r.taken ∙ ap (λ n. last_of n (taken (reverse events))) (sym m);
+    taken_last = l ∙ r.taken_last;
     ended = e ∙ r.ended;
     told = d ∙ r.told;
     put_at = p ∙ r.put_at;
