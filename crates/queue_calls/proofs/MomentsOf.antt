@@ -3,7 +3,7 @@ use Rattle.std.proofs.Common.{◌≡◌, inl, inr, ℕ, suc, ◌<◌, ◌≤◌,
 use Rattle.std.proofs.lemmas.List.{append-nil}
 use Rattle.queue_calls.specs.Queue.{Capacity, Operation, Queue, queue, Step, IsLegal}
 use Rattle.queue_calls.specs.Calls.{Event, Mark, Happens, Effect, Idle, Resting, QueueStep, Point, point, Leads, CanLeadTo, IsLinearizable}
-use Rattle.queue_calls.specs.Order.{Side, P, C, pick, side_of, doer_of, Numbered, numbered, own_events, OwnStep, Comes, Makes, numbered_in, RecordedOperation, recorded_operation, next_event, recorded_operations, recorded_of_side, recorded_does, IsAmong, KeepsRecordedTime, Linearization}
+use Rattle.queue_calls.specs.Order.{Side, P, C, pick, side_of, Numbered, numbered, own_events, OwnStep, Comes, Makes, numbered_in, RecordedOperation, recorded_operation, next_event, recorded_operations, recorded_of_side, recorded_does, IsAmong, KeepsRecordedTime, Linearization}
 use Rattle.queue_calls.proofs.OneSide.{AreCalls, Steps, Where, calls_come, calls_make, others_mark, pick_other, pick_same, picked}
 use Rattle.queue_calls.proofs.Points.{start, goes, happens}
 

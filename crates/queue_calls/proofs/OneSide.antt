@@ -1,7 +1,7 @@
 -- One of the two sides: where it is, the marks that move it, and what is picked by it.
 use Rattle.std.proofs.Common.{◌≡◌, ◌↔◌, ℕ, List, [], ◌∷◌, refl, subst}
-use Rattle.queue_calls.specs.Queue.{Capacity, Operation, Enqueue, FindNoRoom, FindShut, Close, Dequeue, FindFewer, FindClosed}
-use Rattle.queue_calls.specs.Calls.{Event, PutBegin, PutStored, PutFull, PutShort, PutNothing, PutClosed, CloseBegin, CloseEnd, TakeBegin, TakeItems, TakeEmpty, TakeShort, TakeNothing, TakeClosed, Mark, Happens, Effect, Producer, Consumer, ProducerStep, ConsumerStep, Point, Leads}
+use Rattle.queue_calls.specs.Queue.{Capacity, Operation, Dequeue, FindFewer, FindClosed}
+use Rattle.queue_calls.specs.Calls.{TakeBegin, TakeItems, TakeEmpty, TakeShort, TakeNothing, TakeClosed, Mark, Happens, Effect, Producer, Consumer, ProducerStep, ConsumerStep, Point, Leads}
 use Rattle.queue_calls.specs.Order.{Side, P, C, pick, side_of, doer_of, Numbered, numbered, OwnStep, Comes, Makes, AreProducerCalls, AreConsumerCalls}
 
 -- ---- what is picked

@@ -1,4 +1,4 @@
-use Rattle.std.proofs.Common.{◌≡◌, ◌≢◌, true, false, ap, ◌∙◌, ℕ, ◌+◌, List, [], ◌∷◌, ◌++◌, length, Option, Some, Result, Ok, Err, OnOk, IfErr, IfSome, inl, length-append, ap₂, sym, subst, arith}
+use Rattle.std.proofs.Common.{◌≡◌, ◌≢◌, true, false, ap, ◌∙◌, ℕ, ◌+◌, List, [], ◌∷◌, ◌++◌, length, Option, Some, IfSome, inl, length-append, ap₂, sym, subst, arith}
 use Rattle.std.proofs.lemmas.List.{nil_from_length}
 use Rattle.call_lines.specs.Lines.{IsLine}
 use Rattle.queue_calls.specs.Noting.{OutgrowsLists}

@@ -1,65 +1,38 @@
-use Rattle.std.proofs.Common.{rules, ◌≡◌, ◌⊎◌, inl, inr, ℕ, ◌+◌, ◌<◌, Bool, true, false, Bor, if◌then◌else◌, Some, None, List, [], ◌∷◌, ◌++◌, map, length, refl, ap, ap₂, sym, subst, ◌∙◌, reverse, arith, Err}
+use Rattle.std.proofs.Common.{rules, ◌≡◌, ◌⊎◌, inl, inr, ℕ, ◌<◌, Bool, true, false, Bor, List, [], ◌∷◌, ◌++◌, map, length, refl, ap, ap₂, sym, subst, ◌∙◌, reverse, arith, Err}
 use Rattle.queue_calls.specs.Queue.{Capacity}
-use Rattle.queue_calls.specs.Calls.{Event, PutBegin, PutStored, PutFull, PutShort, PutNothing, PutClosed, CloseBegin, CloseEnd, TakeBegin, TakeItems, TakeEmpty, TakeShort, TakeNothing, TakeClosed}
+use Rattle.queue_calls.specs.Calls.{Event, PutStored, PutFull, PutShort, PutNothing, PutClosed, CloseBegin, TakeBegin, TakeItems, TakeEmpty, TakeShort, TakeNothing}
 use Rattle.queue_calls.specs.Counting.{Counts, kept}
 use Rattle.queue_calls.specs.Insides.{Moves}
 use Rattle.queue_calls.specs.Noting.{OutgrowsLists, all_got}
-use Rattle.queue_calls.specs.Reasons.{before_put, before_stored, ended_line, has_ended, has_told, items_of, last_in, last_of, last_taken, line_behind, offered_at, taken, taken_at, told_closed_line}
+use Rattle.queue_calls.specs.Reasons.{items_of, last_in, last_of, offered_at, taken, taken_at}
 use Rattle.queue_calls.specs.Told.{meant, told}
 use Rattle.queue_calls.specs.Witnesses.{RefusesNext, Remembers}
-use Rattle.call_causes.specs.declared.entries.Offered.{Offered}
-use Rattle.call_causes.specs.declared.entries.Taken.{Taken}
 use Rattle.queue_calls.specs.declared.events.CallEvent.{CallEvent}
 use Rattle.queue_calls.specs.declared.events.CallEvent.TheVariants as said
 use Rattle.queue_calls.specs.declared.witnesses.Witness.{Witness}
-use Rattle.queue_calls.proofs.Hears.{IsQuiet, audits, counted_so, first_line, inside_after, kept_same, line_is, mark_items, next_remembers, quiet_remembers, refuses, still_remembers, stored_after, taken_all, taken_kept, told_so}
+use Rattle.queue_calls.proofs.Hears.{IsQuiet, audits, counted_so, first_line, heard, kept_same, line_is, mark_items, next_remembers, quiet_heard, refuses, still_remembers, stored_after, taken_all, taken_kept, told_so}
 use Rattle.queue_calls.proofs.Results.{then_err, then_ok}
 use Rattle.queue_calls.proofs.Remembering.{kept_of}
 use Rattle.queue_calls.proofs.Decided.{decides_reads}
 use Rattle.queue_calls.proofs.witnesses.Witness.hear.Goals as goal
 use Rattle.queue_calls.proofs.witnesses.Witness.hear.Goals.{in-PutStored, in-PutStored-2, in-TakeItems, in-TakeItems-2}
 
--- what is remembered behind an event of this line, but for the end of a put that stored some, where it leaves what is kept beside the auditor so
-heard :
-    {S O T N B : Type 0} (offered : O → List Offered) (last : T → List Taken) (w next : Witness S O T N B) (line : ℕ) (told' event : Event) → told' ≡ event → (capacity : Capacity) (events : List Event) →
-    Remembers offered last w capacity events → length events + 2 ≡ line → ((count : ℕ) (why : Bool) → event ≡ PutStored count why → ⊥) → next.auditor.capacity ≡ w.auditor.capacity →
-    Counts (meant w.auditor.capacity) (kept_of offered w) told' (kept_of offered next) →
-    Moves (offered_at line) w.auditor.shut told' (offered w.auditor.inside.list) (offered next.auditor.inside.list) → last next.taken ≡ last_of next.limit (taken (event ∷ reverse events)) →
-    next.last_taken ≡ last_taken (event ∷ reverse events) → next.ended_at ≡ (if has_ended (event ∷ reverse events) then Some (ended_line (event ∷ reverse events)) else None) →
-    next.told_at ≡ (if has_told (event ∷ reverse events) then Some (told_closed_line (event ∷ reverse events)) else None) → next.put_at ≡ line_behind (before_put (event ∷ reverse events)) →
-    next.stored_at ≡ line_behind (before_stored (event ∷ reverse events)) → Remembers offered last next capacity (events ++ told' ∷ [])
-heard offered last w next line told' event is capacity events r number other same counts moves t l e d p s =
-    let counts' : Counts (meant w.auditor.capacity) (kept_of offered w) event (kept_of offered next) = subst (λ z. Counts (meant w.auditor.capacity) (kept_of offered w) z (kept_of offered next)) is counts in
-    let moves' = subst (λ z. Moves (offered_at line) w.auditor.shut z (offered w.auditor.inside.list) (offered next.auditor.inside.list)) is moves in
-    told_so offered last next capacity events event told' is
-    (next_remembers offered last w next capacity events event r same (counted_so offered last w capacity events r event (kept_of offered next) counts')
-    (inside_after offered last w capacity events r event line (kept_of offered next) (offered next.auditor.inside.list) number refl counts' moves' other) t l e d p s)
-
 pub returns-in-PutBegins-clause-kept : goal.returns-in-PutBegins-clause-kept
 returns-in-PutBegins-clause-kept g c capacity events r number =
-    let s = c.args.self.now in
     let e = c.in_ok-feed_at.ensures in
-    heard g.S.Offered.Fifo.items g.S.Taken.Fifo.items s _ c.args.line (told c.args.event) (PutBegin c.in-PutBegins.field-0.now) (ap told c.in-PutBegins.is) capacity events r number
-    (λ count why f. absurd cc) e.decides.0 e.decides.1 e.entries r.taken r.taken_last r.ended r.told
-    (line_is g.S.Offered.Fifo.items g.S.Taken.Fifo.items s capacity events r c.args.line number) r.stored_at
+    heard r (ap told c.in-PutBegins.is) number (λ count why f. absurd cc) e.decides.0 e.decides.1 e.entries r.taken r.taken_last r.ended r.told (line_is r number) r.stored_at
 
 pub returns-in-CloseEnds-clause-kept : goal.returns-in-CloseEnds-clause-kept
 returns-in-CloseEnds-clause-kept g c capacity events r number =
-    let s = c.args.self.now in
     let e = c.in_ok-feed_at.ensures in
-    let now = line_is g.S.Offered.Fifo.items g.S.Taken.Fifo.items s capacity events r c.args.line number in
-    heard g.S.Offered.Fifo.items g.S.Taken.Fifo.items s _ c.args.line (told c.args.event) CloseEnd (ap told c.in-CloseEnds.is) capacity events r number
-    (λ count why f. absurd cc) e.decides.0 e.decides.1 e.entries r.taken r.taken_last
-    (c.or-self.ensures ∙ first_line (has_ended (reverse events)) (ended_line (reverse events)) c.args.line _ s.ended_at r.ended now) r.told r.put_at r.stored_at
+    heard r (ap told c.in-CloseEnds.is) number (λ count why f. absurd cc) e.decides.0 e.decides.1 e.entries r.taken r.taken_last
+    (c.or-self.ensures ∙ first_line _ _ _ _ _ r.ended (line_is r number)) r.told r.put_at r.stored_at
 
 pub returns-in-TakeClosed-clause-kept : goal.returns-in-TakeClosed-clause-kept
 returns-in-TakeClosed-clause-kept g c capacity events r number =
-    let s = c.args.self.now in
     let e = c.in_ok-feed_at.ensures in
-    let now = line_is g.S.Offered.Fifo.items g.S.Taken.Fifo.items s capacity events r c.args.line number in
-    heard g.S.Offered.Fifo.items g.S.Taken.Fifo.items s _ c.args.line (told c.args.event) TakeClosed (ap told c.in-TakeClosed.is) capacity events r number
-    (λ count why f. absurd cc) e.decides.0 e.decides.1 e.entries r.taken r.taken_last r.ended
-    (c.or-self-in-TakeClosed.ensures ∙ first_line (has_told (reverse events)) (told_closed_line (reverse events)) c.args.line _ s.told_at r.told now) r.put_at r.stored_at
+    heard r (ap told c.in-TakeClosed.is) number (λ count why f. absurd cc) e.decides.0 e.decides.1 e.entries r.taken r.taken_last r.ended
+    (c.or-self-in-TakeClosed.ensures ∙ first_line _ _ _ _ _ r.told (line_is r number)) r.put_at r.stored_at
 
 -- an end of a put or of a take, which says why or not
 stored_so : (event : CallEvent (Bor (List ℕ)) (Bor (List ℕ))) (count other : ℕ) → count ≡ other → (event ≡ said.PutStored other) ⊎ (event ≡ said.PutSome other) → (why : Bool) × (told event ≡ PutStored count why)
@@ -93,9 +66,9 @@ returns-in-PutStored-clause-kept g c capacity events r number =
     (ap items_of x.inside ∙ mark_items c.args.line count left) x.auditor.1 x.auditor.2 x.auditor.3 in
     told_so O T _ capacity events _ (told c.args.event) is
     (next_remembers O T s _ capacity events (PutStored count why) r (x.auditor.0 ∙ e.decides.0)
-    (subst (λ z. Counts capacity (kept_of O s) (PutStored count why) z) same (counted_so O T s capacity events r (PutStored count why) after counts))
-    (x.inside ∙ stored_after O T s capacity events r count why c.args.line after left number refl counts moves) (taken_kept T s m (taken past) x.taken r.taken) (x.taken.2 ∙ r.taken_last) (x.lines.1 ∙ r.ended) (x.lines.2 ∙ r.told) (x.lines.3 ∙ r.put_at)
-    (x.lines.0 ∙ line_is O T s capacity events r c.args.line number))
+    (subst (λ z. Counts capacity (kept_of O s) (PutStored count why) z) same (counted_so r (PutStored count why) after counts))
+    (x.inside ∙ stored_after r count why c.args.line after left number refl counts moves) (taken_kept T s m (taken past) x.taken r.taken) (x.taken.2 ∙ r.taken_last) (x.lines.1 ∙ r.ended) (x.lines.2 ∙ r.told) (x.lines.3 ∙ r.put_at)
+    (x.lines.0 ∙ line_is r number))
 
 pub returns-in-TakeItems : goal.returns-in-TakeItems
 returns-in-TakeItems g c =
@@ -113,8 +86,8 @@ returns-in-TakeItems g c =
     record {
       kept = then_ok c.takes.result c.takes.ensures.taken (λ took capacity events r number.
           let past = reverse events in
-          let now = line_is O T s capacity events r c.args.line number in
-          heard O T s m c.args.line (told c.args.event) (TakeItems items why) is capacity events r number (λ count why f. absurd cc) (ap (λ z. z.capacity) x.0 ∙ e.decides.0)
+          let now = line_is r number in
+          heard r is number (λ count why f. absurd cc) (ap (λ z. z.capacity) x.0 ∙ e.decides.0)
           (subst (λ z. Counts (meant s.auditor.capacity) (kept_of O s) (told c.args.event) (kept (items_of (O z.inside.list)) z.put z.take z.shut)) (sym x.0) e.decides.1)
           (subst (λ z. Moves (offered_at c.args.line) s.auditor.shut (told c.args.event) (O s.auditor.inside.list) (O z.inside.list)) (sym x.0) e.entries)
           (took (taken past) r.taken ∙ ap₂ (λ n z. last_of n (taken past ++ map (taken_at z) items)) (sym x.1) now)
@@ -136,13 +109,6 @@ quiet told' event e q = subst (λ z. IsQuiet z) (sym e) q
 
 pub returns-in-PutFull-clause-kept : goal.returns-in-PutFull-clause-kept
 returns-in-PutFull-clause-kept g c capacity events r number =
-    let s = c.args.self.now in
-    let n = c.feed_at.new.self in
-    let past = reverse events in
-    let O = g.S.Offered.Fifo.items in
-    let T = g.S.Taken.Fifo.items in
-    let left = O n.inside.list in
-    let after = kept (items_of left) n.put n.take n.shut in
     let e = c.in_ok-feed_at.ensures in
     let silent : IsQuiet (told c.args.event) = elim c.in-PutFull.is [
       | inl b ↦ quiet (told c.args.event) PutFull (ap told b) tt
@@ -166,9 +132,7 @@ returns-in-PutFull-clause-kept g c capacity events r number =
         ]
       ]
     ] in
-    let not_stored : (count : ℕ) (why : Bool) → told c.args.event ≡ PutStored count why → ⊥ = λ count why f. subst (λ z. IsQuiet z) f silent in
-    quiet_remembers O T s _ capacity events (told c.args.event) silent r e.decides.0 (counted_so O T s capacity events r (told c.args.event) after e.decides.1)
-    (inside_after O T s capacity events r (told c.args.event) c.args.line after left number refl e.decides.1 e.entries not_stored) (refl, refl, refl) refl refl refl refl
+    quiet_heard r (told c.args.event) silent number e.decides.0 e.decides.1 e.entries (refl, refl, refl) refl refl refl refl
 
 pub returns-in_err-feed_at-clause-refused : goal.returns-in_err-feed_at-clause-refused
 returns-in_err-feed_at-clause-refused g c =
@@ -184,8 +148,8 @@ returns-in_err-feed_at-clause-refused g c =
     let refused : (capacity : Capacity) (events : List Event) → Remembers O g.S.Taken.Fifo.items s capacity events →
     RefusesNext O g.S.Taken.Fifo.items o t next capacity events (told c.args.event) c.in_err-feed_at.field-0.0 =
     λ capacity events r.
-    refuses O g.S.Taken.Fifo.items s capacity events r next o t (told c.args.event) c.in_err-feed_at.field-0.0
-    (still_remembers O g.S.Taken.Fifo.items s capacity events r O g.S.Taken.Fifo.items next e.decides.0 e.decides.1.0 e.entries refl refl refl refl refl refl refl)
+    refuses r next o t (told c.args.event) c.in_err-feed_at.field-0.0
+    (still_remembers r O g.S.Taken.Fifo.items next e.decides.0 e.decides.1.0 e.entries refl refl refl refl refl refl refl)
     ((decides_reads (λ q. items_of (O q.list)) (λ q. g.S.Offered.Fifo.room q.list) s.auditor (told c.args.event) n (Err c.in_err-feed_at.field-0.0) e.decides).1 events
-    (audits O g.S.Taken.Fifo.items s capacity events r)).1 in
+    (audits r)).1 in
     search (rules, refused)
