@@ -57,6 +57,13 @@ one_length a b n small = omega (arith, length-append a (decimal n ++ b), length-
 last_length : (a : List ℕ) (n : ℕ) → IsSmall n → length (a ++ decimal n) ≤ length a + 20
 last_length a n small = omega (arith, length-append a (decimal n), digits n small)
 
+-- and with a text and a number behind it
+two_length : (a b : List ℕ) (n k : ℕ) → IsSmall n → IsSmall k → length (one a n (b ++ decimal k)) ≤ length a + length b + 40
+two_length a b n k small small' = omega (arith, one_length a (b ++ decimal k) n small, last_length b k small')
+
+three_length : (a b c : List ℕ) (n m k : ℕ) → IsSmall n × IsSmall m × IsSmall k → length (one a n (one b m (c ++ decimal k))) ≤ length a + length b + length c + 60
+three_length a b c n m k small = omega (arith, one_length a (one b m (c ++ decimal k)) n small.0, two_length b c m k small.1 small.2)
+
 next_length : (next : Option Offered) → AreSmallNext next → length (next_words next) ≤ 65
 next_length (Some next) small =
     let behind : List ℕ = one (codes " of line ") next.offered_at (codes " is next") in
@@ -65,43 +72,21 @@ next_length None small = omega arith
 
 since_length : (says : List ℕ) (inside : Offered) → AreSmallOffered inside → length (inside_words says inside) ≤ length says + 64
 since_length says inside small =
-    omega (arith, one_length says (codes " was inside since line " ++ decimal inside.stored_at) inside.item small.0, last_length (codes " was inside since line ") inside.stored_at small.2)
+    omega (arith, two_length says (codes " was inside since line ") inside.item inside.stored_at small.0 small.2)
 
 pub cause_length : (cause : Cause) → AreSmall cause → length (cause_words cause) ≤ 256
 cause_length (StoredAfterClose n) small = omega (arith, last_length (codes "stored, but closed at line ") n small)
 cause_length (OnlySomeStored count taken) small =
-    let last : List ℕ = codes " was taken at line " ++ decimal taken.taken_at in
-    omega (
-      arith,
-      one_length (codes "only ") (one (codes " stored, but item ") taken.item last) count small.0,
-      one_length (codes " stored, but item ") last taken.item small.1.0,
-      last_length (codes " was taken at line ") taken.taken_at small.1.1,
-    )
+    omega (arith, three_length (codes "only ") (codes " stored, but item ") (codes " was taken at line ") count taken.item taken.taken_at (small.0, small.1.0, small.1.1))
 cause_length (StoredTooMany n) small = omega (arith, one_length (codes "stored, but at least ") (codes " inside") n small)
 cause_length (OnlySomeWithRoom count n line) small =
-    let last : List ℕ = codes " inside since line " ++ decimal line in
-    omega (
-      arith,
-      one_length (codes "only ") (one (codes " stored, but before them at most ") n last) count small.0,
-      one_length (codes " stored, but before them at most ") last n small.1,
-      last_length (codes " inside since line ") line small.2,
-    )
-cause_length (FullWithRoom n line) small =
-    omega (arith, one_length (codes "full, but at most ") (codes " inside since line " ++ decimal line) n small.0, last_length (codes " inside since line ") line small.1)
+    omega (arith, three_length (codes "only ") (codes " stored, but before them at most ") (codes " inside since line ") count n line small)
+cause_length (FullWithRoom n line) small = omega (arith, two_length (codes "full, but at most ") (codes " inside since line ") n line small.0 small.1)
 cause_length (FullAfterClose n) small = omega (arith, last_length (codes "full, but closed at line ") n small)
-cause_length (NotStoredButTaken taken) small = omega (
-  arith,
-  one_length (codes "not stored, but item ") (codes " was taken at line " ++ decimal taken.taken_at) taken.item small.0,
-  last_length (codes " was taken at line ") taken.taken_at small.1,
-)
+cause_length (NotStoredButTaken taken) small =
+    omega (arith, two_length (codes "not stored, but item ") (codes " was taken at line ") taken.item taken.taken_at small.0 small.1)
 cause_length (ShortWithRoom offered n line) small =
-    let last : List ℕ = codes " inside since line " ++ decimal line in
-    omega (
-      arith,
-      one_length (codes "short for ") (one (codes ", but at most ") n last) offered small.0,
-      one_length (codes ", but at most ") last n small.1,
-      last_length (codes " inside since line ") line small.2,
-    )
+    omega (arith, three_length (codes "short for ") (codes ", but at most ") (codes " inside since line ") offered n line small)
 cause_length ClosedWithoutClose small = omega arith
 cause_length (ItemAfterTold n) small = omega (arith, last_length (codes "item, but closed was told at line ") n small)
 cause_length (NotNext item next) small =
@@ -122,8 +107,7 @@ cause_length (NotInside item next) small = omega (
   next_length next small.1,
 )
 cause_length (NoMoreWhileInside inside) small = omega (arith, since_length (codes "no more, but item ") inside small)
-cause_length (NotTaken n line) small =
-    omega (arith, one_length (codes "not taken, but at least ") (codes " inside since line " ++ decimal line) n small.0, last_length (codes " inside since line ") line small.1)
+cause_length (NotTaken n line) small = omega (arith, two_length (codes "not taken, but at least ") (codes " inside since line ") n line small.0 small.1)
 cause_length (EmptyAfterTold n) small = omega (arith, last_length (codes "empty, but closed was told at line ") n small)
 cause_length (EmptyWhileInside inside) small = omega (arith, since_length (codes "empty, but item ") inside small)
 cause_length (EmptyAfterClose n) small = omega (arith, last_length (codes "empty, but closed at line ") n small)

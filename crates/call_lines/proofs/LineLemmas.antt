@@ -60,24 +60,9 @@ word_at-text bytes x =
     (named-text [] Queue (codes "queue") bytes _ x refl (named-text [] Cut (codes "cut queue") bytes None x refl (no_word [] bytes x))))
 
 word_at-again : (w : Word) (numbers : List ℕ) → line_word_at (line_text w numbers) ≡ Some (w, numbers_text numbers)
-word_at-again Queue numbers = refl
-word_at-again Cut numbers = refl
-word_at-again Put numbers = refl
-word_at-again Stored numbers = refl
-word_at-again PutSome numbers = refl
-word_at-again Full numbers = refl
-word_at-again Short numbers = refl
-word_at-again PutNothing numbers = refl
-word_at-again PutClosed numbers = refl
 word_at-again Close [] = refl
 word_at-again Close (n ∷ numbers) = refl
-word_at-again Take numbers = refl
-word_at-again Item numbers = refl
-word_at-again TakeSome numbers = refl
-word_at-again Empty numbers = refl
-word_at-again TakeShort numbers = refl
-word_at-again TakeNothing numbers = refl
-word_at-again TakeClosed numbers = refl
+word_at-again w numbers = refl
 
 -- ---- the numbers
 
@@ -155,22 +140,7 @@ no_feed_text (b ∷ text) e =
 
 no_feed_word : (w : Word) → All IsOther (word_text w)
 no_feed_word Queue = no_feed_text (word_text Queue) refl
-no_feed_word Cut = no_feed_text (word_text Cut) refl
-no_feed_word Put = no_feed_text (word_text Put) refl
-no_feed_word Stored = no_feed_text (word_text Stored) refl
-no_feed_word PutSome = no_feed_text (word_text PutSome) refl
-no_feed_word Full = no_feed_text (word_text Full) refl
-no_feed_word Short = no_feed_text (word_text Short) refl
-no_feed_word PutNothing = no_feed_text (word_text PutNothing) refl
-no_feed_word PutClosed = no_feed_text (word_text PutClosed) refl
-no_feed_word Close = no_feed_text (word_text Close) refl
-no_feed_word Take = no_feed_text (word_text Take) refl
-no_feed_word Item = no_feed_text (word_text Item) refl
-no_feed_word TakeSome = no_feed_text (word_text TakeSome) refl
-no_feed_word Empty = no_feed_text (word_text Empty) refl
-no_feed_word TakeShort = no_feed_text (word_text TakeShort) refl
-no_feed_word TakeNothing = no_feed_text (word_text TakeNothing) refl
-no_feed_word TakeClosed = no_feed_text (word_text TakeClosed) refl
+no_feed_word w = no_feed_text (word_text w) refl
 
 -- in a line there is no line feed
 pub line_no_feed : (bytes : List ℕ) (w : Word) (numbers : List ℕ) → IsLine bytes w numbers → All IsOther bytes

@@ -1,5 +1,5 @@
 -- The parts of a line: what is read stands at the front, and what stands there is read again.
-use Rattle.std.proofs.Common.{◌≡◌, ◌≢◌, ◌⊎◌, ℕ, ◌+◌, ◌<◌, ◌^◌, true, Option, Some, None, List, [], ◌∷◌, ◌++◌, length, take, drop, refl, ap, ap₂, sym, subst, ◌∙◌, append_assoc, length-append, inl, inr, arith}
+use Rattle.std.proofs.Common.{◌≡◌, ◌≢◌, ◌⊎◌, ℕ, ◌+◌, ◌<◌, ◌^◌, Option, Some, None, List, [], ◌∷◌, ◌++◌, length, take, drop, refl, ap, ap₂, sym, subst, ◌∙◌, append_assoc, length-append, inl, inr, arith}
 use Rattle.std.specs.Prelude.{codes, decimal}
 use Rattle.std.specs.Str.{bytes_eq}
 use Rattle.std.proofs.lemmas.List.{take-append-drop, take_at, drop_at, append-nil}
@@ -16,14 +16,10 @@ use Rattle.call_lines.proofs.NumberReading.{EndsDigits, digits_at-text, digits_a
 pub after-text : (text bytes rest : List ℕ) → bytes_behind text bytes ≡ Some rest → bytes ≡ text ++ rest
 after-text text bytes rest e =
     let c = cond_some (bytes_eq (take (length text) bytes) text) (drop (length text) bytes) rest e in
-    let front : take (length text) bytes ≡ text = (bytes_eq-Decides (take (length text) bytes) text).0 c.0 in
-    sym (take-append-drop (length text) bytes) ∙ ap₂ (λ (a : List ℕ) (b : List ℕ). a ++ b) front c.1
+    sym (take-append-drop (length text) bytes) ∙ ap₂ (λ (a : List ℕ) (b : List ℕ). a ++ b) ((bytes_eq-Decides (take (length text) bytes) text).0 c.0) c.1
 
 pub after-again : (text rest : List ℕ) → bytes_behind text (text ++ rest) ≡ Some rest
-after-again text rest =
-    let front : take (length text) (text ++ rest) ≡ text = take_at text rest (length text) refl in
-    let same : bytes_eq (take (length text) (text ++ rest)) text ≡ true = (bytes_eq-Decides (take (length text) (text ++ rest)) text).1 front in
-    rw same (ap Some (drop_at text rest (length text) refl))
+after-again text rest = rw (take_at text rest (length text) refl, (bytes_eq-Decides text text).1 refl) (ap Some (drop_at text rest (length text) refl))
 
 -- what is read behind a text, or without it
 pub then_or_else-some : {B : Type 0} (r : Option (List ℕ)) (f : List ℕ → Option B) (other : Option B) (x : B) → then_or_else r f other ≡ Some x

@@ -46,6 +46,13 @@ pub take_of : (turn : TakeTurn) (n : ℕ) → call_of_take turn ≡ ATake n → 
 take_of Rests n e = absurd cc
 take_of (Waits wants inside closed) n e = (inside, closed, (let same : wants ≡ n = cc in ap (λ z. Waits z inside closed) same))
 
+-- the items that the put under way offers, or that the take wants, are so many
+pub offers_so_many : {n m inside : ℕ} {put : PutTurn} → call_of_put put ≡ APut n → put ≡ Offers m inside → m ≡ n
+offers_so_many {n} {m} turn is = let same : APut m ≡ APut n = ap call_of_put (sym is) ∙ turn in cc
+
+pub wants_so_many : {n m inside : ℕ} {closed : Bool} {turn : TakeTurn} → call_of_take turn ≡ ATake n → turn ≡ Waits m inside closed → m ≡ n
+wants_so_many {n} {m} call is = let same : ATake m ≡ ATake n = ap call_of_take (sym is) ∙ call in cc
+
 free_of : (put : PutTurn) → call_of_put put ≡ NoCall → put ≡ Free
 free_of Free e = refl
 free_of (Offers n inside) e = absurd cc

@@ -54,22 +54,22 @@ pub no_line : (b : Bool) (line : ℕ) (told : Option ℕ) → told ≡ (if b the
 no_line true line told e none = absurd (none line e)
 no_line false line told e none = refl
 
-module _ (capacity : Capacity) (past : List Event) (k : Kept) (a : Agrees past k) (z : Cause) where
+module _ (capacity : Capacity) {past : List Event} {k : Kept} (a : Agrees past k) where
   -- ---- puts
 
-  pub late_ends : (n : ℕ) → k.put ≡ Late n → has_ended past ≡ true
-  late_ends n is = (as_put past k a (Late n) is).2
+  pub late_ends : {n : ℕ} → k.put ≡ Late n → has_ended past ≡ true
+  late_ends {n} is = (as_put past k a (Late n) is).2
 
-  pub late_stored : (n count : ℕ) (why : Bool) → k.put ≡ Late n → stored_cause capacity count why past ≡ Some z → StoredAfterClose (ended_line past) ≡ z
-  late_stored n count why is e = told_on _ _ _ z (as_put past k a (Late n) is).1 e
+  pub late_stored : {n : ℕ} {z : Cause} (count : ℕ) (why : Bool) → k.put ≡ Late n → stored_cause capacity count why past ≡ Some z → StoredAfterClose (ended_line past) ≡ z
+  late_stored {n} count why is e = told_on _ _ _ _ (as_put past k a (Late n) is).1 e
 
-  pub late_full : (n : ℕ) → k.put ≡ Late n → full_cause capacity past ≡ Some z → FullAfterClose (ended_line past) ≡ z
-  late_full n is e = told_on _ _ _ z (as_put past k a (Late n) is).1 e
+  pub late_full : {n : ℕ} {z : Cause} → k.put ≡ Late n → full_cause capacity past ≡ Some z → FullAfterClose (ended_line past) ≡ z
+  late_full {n} is e = told_on _ _ _ _ (as_put past k a (Late n) is).1 e
 
-  pub late_short : (n : ℕ) → k.put ≡ Late n → put_short_cause capacity past ≡ Some z → ShortAfterClose (ended_line past) ≡ z
-  late_short n is e = told_on _ _ _ z (as_put past k a (Late n) is).1 e
+  pub late_short : {n : ℕ} {z : Cause} → k.put ≡ Late n → put_short_cause capacity past ≡ Some z → ShortAfterClose (ended_line past) ≡ z
+  late_short {n} is e = told_on _ _ _ _ (as_put past k a (Late n) is).1 e
 
-  module _ (n inside : ℕ) (is : k.put ≡ Offers n inside) where
+  module _ {n inside : ℕ} (is : k.put ≡ Offers n inside) where
     early : has_ended (before_put past) ≡ false
     early = (as_put past k a (Offers n inside) is).1
 
@@ -85,49 +85,50 @@ module _ (capacity : Capacity) (past : List Event) (k : Kept) (a : Agrees past k
     pub all_gone : length k.inside < n → nat_lt (n_of past) (k_of past) ≡ true
     all_gone l = lt-ltb (n_of past) (k_of past) (omega (arith, l, long past k a, offered))
 
-    pub stored_gone : (count : ℕ) (why : Bool) → count ≤ n → length k.inside < n - count → stored_cause capacity count why past ≡ Some z → OnlySomeStored count (last_taken past) ≡ z
-    stored_gone count why few l e = told_on _ _ _ z (gone count few l) (told_off _ _ _ z early e)
+    pub stored_gone : {z : Cause} (count : ℕ) (why : Bool) → count ≤ n → length k.inside < n - count → stored_cause capacity count why past ≡ Some z → OnlySomeStored count (last_taken past) ≡ z
+    stored_gone count why few l e = told_on _ _ _ _ (gone count few l) (told_off _ _ _ _ early e)
 
     pub stored_over :
-        (count : ℕ) (why : Bool) → count ≤ n → n - count ≤ length k.inside → ¬ MayHold capacity ((length k.inside - (n - count)) - asked_by k.take) → stored_cause capacity count why past ≡ Some z →
-        StoredTooMany ((length k.inside - (n - count)) - asked_by k.take) ≡ z
-    stored_over count why few l over e =
-        let least : ℕ = (n_of past + count) - (k_of past + wanted past) in
-        let same : least ≡ (length k.inside - (n - count)) - asked_by k.take = least_stored capacity past k a n inside count is few in
-        let not_held : can_hold capacity least ≡ false = (cannot_hold_tells capacity least).1 (λ h. over (subst (λ y. MayHold capacity y) same h)) in
-        ap StoredTooMany (sym same) ∙ told_on _ _ _ z (ap not not_held) (told_off _ _ _ z (none_gone count few l) (told_off _ _ _ z early e))
+        {z : Cause} (count : ℕ) (why : Bool) → count ≤ n → (rest least : ℕ) → rest ≡ n - count → rest ≤ length k.inside → least ≡ (length k.inside - rest) - asked_by k.take → ¬ MayHold capacity least →
+        stored_cause capacity count why past ≡ Some z → StoredTooMany least ≡ z
+    stored_over count why few rest least behind l is_least over e =
+        let stored : ℕ = (n_of past + count) - (k_of past + wanted past) in
+        let same : stored ≡ least = least_stored capacity past k a n inside count is few ∙ omega (arith, behind, is_least) in
+        let not_held : can_hold capacity stored ≡ false = (cannot_hold_tells capacity stored).1 (λ h. over (subst (λ y. MayHold capacity y) same h)) in
+        ap StoredTooMany (sym same) ∙ told_on _ _ _ _ (ap not not_held) (told_off _ _ _ _ (none_gone count few (omega (arith, behind, l))) (told_off _ _ _ _ early e))
 
     pub stored_room :
-        (count : ℕ) (why : Bool) → count ≤ n → n - count ≤ length k.inside → MayHold capacity ((length k.inside - (n - count)) - asked_by k.take) → stored_cause capacity count why past ≡ Some z →
-        OnlySomeWithRoom count inside (line_behind (before_put past)) ≡ z
-    stored_room count why few l fits e =
+        {z : Cause} (count : ℕ) (why : Bool) → count ≤ n → (rest least : ℕ) → rest ≡ n - count → rest ≤ length k.inside → least ≡ (length k.inside - rest) - asked_by k.take → MayHold capacity least →
+        stored_cause capacity count why past ≡ Some z → OnlySomeWithRoom count inside (line_behind (before_put past)) ≡ z
+    stored_room count why few rest least behind l is_least fits e =
+        let held : MayHold capacity ((length k.inside - (n - count)) - asked_by k.take) = subst (λ y. MayHold capacity y) (omega (arith, behind, is_least)) fits in
         ap (λ y. OnlySomeWithRoom count y (line_behind (before_put past))) (sym (most_inside capacity past k a n inside is)) ∙
-        told_last _ _ z (told_off _ _ _ z ((stored_fit capacity past k a n inside count is few).1 fits) (told_off _ _ _ z (none_gone count few l) (told_off _ _ _ z early e)))
+        told_last _ _ _ (told_off _ _ _ _ ((stored_fit capacity past k a n inside count is few).1 held) (told_off _ _ _ _ (none_gone count few (omega (arith, behind, l))) (told_off _ _ _ _ early e)))
 
-    pub full_gone : length k.inside < n → full_cause capacity past ≡ Some z → NotStoredButTaken (last_taken past) ≡ z
-    full_gone l e = told_on _ _ _ z (all_gone l) (told_off _ _ _ z early e)
+    pub full_gone : {z : Cause} → length k.inside < n → full_cause capacity past ≡ Some z → NotStoredButTaken (last_taken past) ≡ z
+    full_gone l e = told_on _ _ _ _ (all_gone l) (told_off _ _ _ _ early e)
 
-    pub full_room : n ≤ length k.inside → full_cause capacity past ≡ Some z → FullWithRoom inside (line_behind (before_put past)) ≡ z
+    pub full_room : {z : Cause} → n ≤ length k.inside → full_cause capacity past ≡ Some z → FullWithRoom inside (line_behind (before_put past)) ≡ z
     full_room l e =
         ap (λ y. FullWithRoom y (line_behind (before_put past))) (sym (most_inside capacity past k a n inside is)) ∙
-        told_last _ _ z (told_off _ _ _ z ((all_inside capacity past k a n inside is).1 l) (told_off _ _ _ z early e))
+        told_last _ _ _ (told_off _ _ _ _ ((all_inside capacity past k a n inside is).1 l) (told_off _ _ _ _ early e))
 
-    pub short_gone : length k.inside < n → put_short_cause capacity past ≡ Some z → NotStoredButTaken (last_taken past) ≡ z
-    short_gone l e = told_on _ _ _ z (all_gone l) (told_off _ _ _ z early e)
+    pub short_gone : {z : Cause} → length k.inside < n → put_short_cause capacity past ≡ Some z → NotStoredButTaken (last_taken past) ≡ z
+    short_gone l e = told_on _ _ _ _ (all_gone l) (told_off _ _ _ _ early e)
 
-    pub short_room : n ≤ length k.inside → put_short_cause capacity past ≡ Some z → ShortWithRoom n inside (line_behind (before_put past)) ≡ z
+    pub short_room : {z : Cause} → n ≤ length k.inside → put_short_cause capacity past ≡ Some z → ShortWithRoom n inside (line_behind (before_put past)) ≡ z
     short_room l e =
         ap (λ y. ShortWithRoom y inside (line_behind (before_put past))) (sym offered) ∙
         ap (λ y. ShortWithRoom (length (offers past)) y (line_behind (before_put past))) (sym (most_inside capacity past k a n inside is)) ∙
-        told_last _ _ z (told_off _ _ _ z ((all_inside capacity past k a n inside is).1 l) (told_off _ _ _ z early e))
+        told_last _ _ _ (told_off _ _ _ _ ((all_inside capacity past k a n inside is).1 l) (told_off _ _ _ _ early e))
 
   -- ---- takes
 
-  pub too_few : (count : ℕ) → not_taken_cause capacity count past ≡ Some z → NotTaken ((length k.inside - count) - offered_by k.put) (line_behind (before_stored past)) ≡ z
+  pub too_few : {z : Cause} (count : ℕ) → not_taken_cause capacity count past ≡ Some z → NotTaken ((length k.inside - count) - offered_by k.put) (line_behind (before_stored past)) ≡ z
   too_few count e =
-      ap (λ y. NotTaken y (line_behind (before_stored past))) (sym (least_left capacity past k a count)) ∙ told_else _ _ z e
+      ap (λ y. NotTaken y (line_behind (before_stored past))) (sym (least_left capacity past k a count)) ∙ told_else _ _ _ e
 
-  module _ (n before : ℕ) (closed : Bool) (is : k.take ≡ Waits n before closed) where
+  module _ {n before : ℕ} {closed : Bool} (is : k.take ≡ Waits n before closed) where
     wants : wanted past ≡ n
     wants = (as_take past k a (Waits n before closed) is).0
 
@@ -137,20 +138,20 @@ module _ (capacity : Capacity) (past : List Event) (k : Kept) (a : Agrees past k
     ends : closed ≡ (has_ended (before_take past) || has_told past)
     ends = (as_take past k a (Waits n before closed) is).2
 
-    pub fewer_inside : (count : ℕ) (why : Bool) → why ≡ true → count < n → count < before → fewer_cause capacity count why past ≡ Some z → NoMoreWhileInside (at (coming past) count) ≡ z
+    pub fewer_inside : {z : Cause} (count : ℕ) (why : Bool) → why ≡ true → count < n → count < before → fewer_cause capacity count why past ≡ Some z → NoMoreWhileInside (at (coming past) count) ≡ z
     fewer_inside count why says l m e =
         let one : nat_lt count (wanted past) ≡ true = lt-ltb count (wanted past) (omega (arith, l, wants)) in
         let two : nat_lt (k_of past + count) (n_of (before_take past)) ≡ true = lt-ltb (k_of past + count) (n_of (before_take past)) (omega (arith, m, left)) in
-        told_on _ _ _ z
+        told_on _ _ _ _
         (ap (λ y. y && (nat_lt count (wanted past) && nat_lt (k_of past + count) (n_of (before_take past)))) says ∙
         (ap (λ y. y && nat_lt (k_of past + count) (n_of (before_take past))) one ∙ two)) e
 
-    pub fewer_left : (count : ℕ) (why : Bool) → (why ≡ true → count < n → before ≤ count) → fewer_cause capacity count why past ≡ Some z → not_taken_cause capacity count past ≡ Some z
-    fewer_left count why f e = told_off _ _ _ z ((no_more capacity past k a n before closed count why is).1 f) e
+    pub fewer_left : {z : Cause} (count : ℕ) (why : Bool) → (why ≡ true → count < n → before ≤ count) → fewer_cause capacity count why past ≡ Some z → not_taken_cause capacity count past ≡ Some z
+    fewer_left count why f e = told_off _ _ _ _ ((no_more capacity past k a n before closed count why is).1 f) e
 
     module _ (open' : has_told past ≡ false) where
-      pub empty_inside : 0 < before → empty_cause capacity past ≡ Some z → EmptyWhileInside (at (coming past) 0) ≡ z
-      empty_inside l e = told_on _ _ _ z (lt-ltb (k_of past) (n_of (before_take past)) (omega (arith, l, left))) (told_off _ _ _ z open' e)
+      pub empty_inside : {z : Cause} → 0 < before → empty_cause capacity past ≡ Some z → EmptyWhileInside (at (coming past) 0) ≡ z
+      empty_inside l e = told_on _ _ _ _ (lt-ltb (k_of past) (n_of (before_take past)) (omega (arith, l, left))) (told_off _ _ _ _ open' e)
 
       late : closed ≡ true → has_ended (before_take past) ≡ true
       late e = elim (bool_or (has_ended (before_take past))) [
@@ -164,30 +165,30 @@ module _ (capacity : Capacity) (past : List Event) (k : Kept) (a : Agrees past k
       pub take_ends : closed ≡ true → has_ended past ≡ true
       take_ends e = ended_grows past (late e)
 
-      pub empty_late : before ≡ 0 → closed ≡ true → empty_cause capacity past ≡ Some z → EmptyAfterClose (ended_line past) ≡ z
-      empty_late none e f = told_on _ _ _ z (late e) (told_off _ _ _ z ((none_found capacity past k a n before closed is).1 none) (told_off _ _ _ z open' f))
+      pub empty_late : {z : Cause} → before ≡ 0 → closed ≡ true → empty_cause capacity past ≡ Some z → EmptyAfterClose (ended_line past) ≡ z
+      empty_late none e f = told_on _ _ _ _ (late e) (told_off _ _ _ _ ((none_found capacity past k a n before closed is).1 none) (told_off _ _ _ _ open' f))
 
-      pub empty_early : before ≡ 0 → closed ≡ false → empty_cause capacity past ≡ Some z → not_taken_cause capacity 0 past ≡ Some z
+      pub empty_early : {z : Cause} → before ≡ 0 → closed ≡ false → empty_cause capacity past ≡ Some z → not_taken_cause capacity 0 past ≡ Some z
       empty_early none e f =
-          told_off _ _ _ z (early_take e) (told_off _ _ _ z ((none_found capacity past k a n before closed is).1 none) (told_off _ _ _ z open' f))
+          told_off _ _ _ _ (early_take e) (told_off _ _ _ _ ((none_found capacity past k a n before closed is).1 none) (told_off _ _ _ _ open' f))
 
-      pub short_inside : 0 < n → n ≤ before → take_short_cause capacity past ≡ Some z → ShortWhileInside (at (coming past) (n - 1)) ≡ z
+      pub short_inside : {z : Cause} → 0 < n → n ≤ before → take_short_cause capacity past ≡ Some z → ShortWhileInside (at (coming past) (n - 1)) ≡ z
       short_inside some l e =
           let last : ℕ = wanted past - 1 in
           let same : n - 1 ≡ last = ap (λ y. y - 1) (sym wants) in
           ap (λ y. ShortWhileInside (at (coming past) y)) same ∙
-          told_on _ _ _ z (lt-ltb (k_of past + last) (n_of (before_take past)) (omega (arith, l, left, some, wants))) (told_off _ _ _ z open' e)
+          told_on _ _ _ _ (lt-ltb (k_of past + last) (n_of (before_take past)) (omega (arith, l, left, some, wants))) (told_off _ _ _ _ open' e)
 
-      pub short_late : 0 < n → before < n → closed ≡ true → length k.inside ≡ 0 → take_short_cause capacity past ≡ Some z → ShortAfterClose (ended_line past) ≡ z
+      pub short_late : {z : Cause} → 0 < n → before < n → closed ≡ true → length k.inside ≡ 0 → take_short_cause capacity past ≡ Some z → ShortAfterClose (ended_line past) ≡ z
       short_late some l e none f =
           let no_offers : offers past ≡ [] = offers_none past k a (a.ended (take_ends e)) in
           let same : n_of past ≡ k_of past = omega (arith, none, long past k a, ap length no_offers) in
           let test : (has_ended (before_take past) && (n_of past == k_of past)) ≡ true =
           ap (λ y. y && (n_of past == k_of past)) (late e) ∙ eq-eqb (n_of past) (k_of past) same in
-          told_on _ _ _ z test (told_off _ _ _ z ((fewer_found capacity past k a n before closed is some).1 l) (told_off _ _ _ z open' f))
+          told_on _ _ _ _ test (told_off _ _ _ _ ((fewer_found capacity past k a n before closed is some).1 l) (told_off _ _ _ _ open' f))
 
       pub short_early :
-          0 < n → before < n → (closed ≡ true → 0 < length k.inside) → take_short_cause capacity past ≡ Some z → not_taken_cause capacity 0 past ≡ Some z
+          {z : Cause} → 0 < n → before < n → (closed ≡ true → 0 < length k.inside) → take_short_cause capacity past ≡ Some z → not_taken_cause capacity 0 past ≡ Some z
       short_early some l inside f =
           let test : (has_ended (before_take past) && (n_of past == k_of past)) ≡ false = elim (bool_or (has_ended (before_take past))) [
             | inl e ↦ (
@@ -197,20 +198,20 @@ module _ (capacity : Capacity) (past : List Event) (k : Kept) (a : Agrees past k
                 ap (λ y. y && (n_of past == k_of past)) e ∙ ne_eqb (n_of past) (k_of past) differ)
             | inr e ↦ ap (λ y. y && (n_of past == k_of past)) e
           ] in
-          told_off _ _ _ z test (told_off _ _ _ z ((fewer_found capacity past k a n before closed is some).1 l) (told_off _ _ _ z open' f))
+          told_off _ _ _ _ test (told_off _ _ _ _ ((fewer_found capacity past k a n before closed is some).1 l) (told_off _ _ _ _ open' f))
 
   -- the first of entries
-  first_entry : (entries : List Offered) → closed_cause entries ≡ Some z → ClosedWhileInside (at entries 0) ≡ z
+  first_entry : {z : Cause} (entries : List Offered) → closed_cause entries ≡ Some z → ClosedWhileInside (at entries 0) ≡ z
   first_entry [] e = absurd cc
   first_entry (next ∷ rest) e = cc
 
-  pub closed_inside : has_closed k.put k.shut ≡ true → (if has_begun past then closed_cause (coming past) else Some ClosedBeforeClose) ≡ Some z → ClosedWhileInside (at (coming past) 0) ≡ z
-  closed_inside e f =
+  pub closed_inside : {z : Cause} → has_closed k.put k.shut ≡ true → (if has_begun past then closed_cause (coming past) else Some ClosedBeforeClose) ≡ Some z → ClosedWhileInside (at (coming past) 0) ≡ z
+  closed_inside {z} e f =
       let F : Bool → Type 0 = λ b. (if b then closed_cause (coming past) else Some ClosedBeforeClose) ≡ Some z in
       first_entry (coming past) (subst F (begun_is past k a e) f)
 
-  pub closed_open : has_closed k.put k.shut ≡ false → (if has_begun past then closed_cause (coming past) else Some ClosedBeforeClose) ≡ Some z → ClosedBeforeClose ≡ z
-  closed_open e f =
+  pub closed_open : {z : Cause} → has_closed k.put k.shut ≡ false → (if has_begun past then closed_cause (coming past) else Some ClosedBeforeClose) ≡ Some z → ClosedBeforeClose ≡ z
+  closed_open {z} e f =
       let none : has_begun past ≡ false = false_from_ne_true (has_begun past) (λ g. both ⊥ (has_closed k.put k.shut) (closing past k a g) e) in
       let F : Bool → Type 0 = λ b. (if b then closed_cause (coming past) else Some ClosedBeforeClose) ≡ Some z in
       let G : Some ClosedBeforeClose ≡ Some z = subst F none f in cc

@@ -3,7 +3,7 @@ use Rattle.std.proofs.Common.{◌≡◌, inl, inr, ℕ, zero, suc, ◌+◌, ◌-
 use Rattle.std.proofs.lemmas.List.{length-map, length-reverse, length-take-le, take_all}
 use Rattle.std.specs.Option.{option_or}
 use Rattle.queue_calls.specs.Queue.{Capacity}
-use Rattle.queue_calls.specs.Calls.{Event, PutBegin, PutStored, PutFull, PutShort, PutNothing, PutClosed, CloseBegin, CloseEnd, TakeBegin, TakeItems, TakeEmpty, TakeShort, TakeNothing, TakeClosed, IsLinearizable}
+use Rattle.queue_calls.specs.Calls.{Event, PutBegin, PutStored, PutFull, PutShort, PutNothing, PutClosed, CloseEnd, TakeItems, TakeClosed, IsLinearizable}
 use Rattle.queue_calls.specs.Audits.{HasMoreItems, RefusesEvent}
 use Rattle.queue_calls.specs.Counting.{Kept, kept, without, Counts, CountTo}
 use Rattle.queue_calls.specs.Insides.{Moves}
@@ -109,13 +109,7 @@ module _ (past : List Event) (k : Kept) (a : Agrees past k) (capacity : Capacity
   ]
   moved PutClosed after entries left come are (n, is, e) moves other = moves ∙ come ∙ sym (late_stored past k a n is)
   moved (TakeItems items why) after entries left come are c moves other = moves ∙ ap (λ z. drop (length items) z) come ∙ sym (took past k a items why)
-  moved CloseBegin after entries left come are c moves other = moves ∙ come
-  moved CloseEnd after entries left come are c moves other = moves ∙ come
-  moved (TakeBegin wanted) after entries left come are c moves other = moves ∙ come
-  moved TakeEmpty after entries left come are c moves other = moves ∙ come
-  moved TakeShort after entries left come are c moves other = moves ∙ come
-  moved TakeNothing after entries left come are c moves other = moves ∙ come
-  moved TakeClosed after entries left come are c moves other = moves ∙ come
+  moved event after entries left come are c moves other = moves ∙ come
 
   -- and behind that one, where its line is written
   pub moved_stored :
@@ -179,39 +173,10 @@ IsQuiet (TakeItems items why) = ⊥
 IsQuiet TakeClosed = ⊥
 IsQuiet _ = Unit {0}
 
-pub quiet_remembers :
-    {S O T N B : Type 0} (offered : O → List Offered) (last : T → List Taken) (w next : Witness S O T N B) (capacity : Capacity) (events : List Event) (event : Event) → IsQuiet event →
-    Remembers offered last w capacity events → next.auditor.capacity ≡ w.auditor.capacity → Counts capacity (kept_of offered w) event (kept_of offered next) →
-    offered next.auditor.inside.list ≡ coming (event ∷ reverse events) → KeepsTaken w next → next.ended_at ≡ w.ended_at → next.told_at ≡ w.told_at → next.put_at ≡ w.put_at →
-    next.stored_at ≡ w.stored_at → Remembers offered last next capacity (events ++ event ∷ [])
-quiet_remembers offered last w next capacity events (PutBegin items) q r same c inside t e d p s = absurd q
-quiet_remembers offered last w next capacity events (PutStored count why) q r same c inside t e d p s = absurd q
-quiet_remembers offered last w next capacity events CloseEnd q r same c inside t e d p s = absurd q
-quiet_remembers offered last w next capacity events (TakeItems items why) q r same c inside t e d p s = absurd q
-quiet_remembers offered last w next capacity events TakeClosed q r same c inside t e d p s = absurd q
-quiet_remembers offered last w next capacity events PutFull q r same c inside t e d p s =
-    next_remembers offered last w next capacity events PutFull r same c inside (taken_kept last w next (taken (reverse events)) t r.taken) (t.2 ∙ r.taken_last) (e ∙ r.ended) (d ∙ r.told) (p ∙ r.put_at) (s ∙ r.stored_at)
-quiet_remembers offered last w next capacity events PutShort q r same c inside t e d p s =
-    next_remembers offered last w next capacity events PutShort r same c inside (taken_kept last w next (taken (reverse events)) t r.taken) (t.2 ∙ r.taken_last) (e ∙ r.ended) (d ∙ r.told) (p ∙ r.put_at) (s ∙ r.stored_at)
-quiet_remembers offered last w next capacity events PutNothing q r same c inside t e d p s =
-    next_remembers offered last w next capacity events PutNothing r same c inside (taken_kept last w next (taken (reverse events)) t r.taken) (t.2 ∙ r.taken_last) (e ∙ r.ended) (d ∙ r.told) (p ∙ r.put_at) (s ∙ r.stored_at)
-quiet_remembers offered last w next capacity events PutClosed q r same c inside t e d p s =
-    next_remembers offered last w next capacity events PutClosed r same c inside (taken_kept last w next (taken (reverse events)) t r.taken) (t.2 ∙ r.taken_last) (e ∙ r.ended) (d ∙ r.told) (p ∙ r.put_at) (s ∙ r.stored_at)
-quiet_remembers offered last w next capacity events CloseBegin q r same c inside t e d p s =
-    next_remembers offered last w next capacity events CloseBegin r same c inside (taken_kept last w next (taken (reverse events)) t r.taken) (t.2 ∙ r.taken_last) (e ∙ r.ended) (d ∙ r.told) (p ∙ r.put_at) (s ∙ r.stored_at)
-quiet_remembers offered last w next capacity events (TakeBegin wanted) q r same c inside t e d p s =
-    next_remembers offered last w next capacity events (TakeBegin wanted) r same c inside (taken_kept last w next (taken (reverse events)) t r.taken) (t.2 ∙ r.taken_last) (e ∙ r.ended) (d ∙ r.told) (p ∙ r.put_at) (s ∙ r.stored_at)
-quiet_remembers offered last w next capacity events TakeEmpty q r same c inside t e d p s =
-    next_remembers offered last w next capacity events TakeEmpty r same c inside (taken_kept last w next (taken (reverse events)) t r.taken) (t.2 ∙ r.taken_last) (e ∙ r.ended) (d ∙ r.told) (p ∙ r.put_at) (s ∙ r.stored_at)
-quiet_remembers offered last w next capacity events TakeShort q r same c inside t e d p s =
-    next_remembers offered last w next capacity events TakeShort r same c inside (taken_kept last w next (taken (reverse events)) t r.taken) (t.2 ∙ r.taken_last) (e ∙ r.ended) (d ∙ r.told) (p ∙ r.put_at) (s ∙ r.stored_at)
-quiet_remembers offered last w next capacity events TakeNothing q r same c inside t e d p s =
-    next_remembers offered last w next capacity events TakeNothing r same c inside (taken_kept last w next (taken (reverse events)) t r.taken) (t.2 ∙ r.taken_last) (e ∙ r.ended) (d ∙ r.told) (p ∙ r.put_at) (s ∙ r.stored_at)
-
 -- the line of the first of such events
-pub first_line : (b : Bool) (line this : ℕ) (old : Option ℕ) → old ≡ (if b then Some line else None) → option_or old (Some this) ≡ Some (if b then line else this)
-first_line true line this old e = ap (λ z. option_or z (Some this)) e
-first_line false line this old e = ap (λ z. option_or z (Some this)) e
+pub first_line : (b : Bool) (line this now : ℕ) (old : Option ℕ) → old ≡ (if b then Some line else None) → this ≡ now → option_or old (Some this) ≡ Some (if b then line else now)
+first_line true line this now old e same = ap (λ z. option_or z (Some this)) e
+first_line false line this now old e same = ap (λ z. option_or z (Some this)) e ∙ ap Some same
 
 pub kept_same :
     (inside inside' : List ℕ) (put put' : PutTurn) (take take' : TakeTurn) (shut shut' : Bool) → inside' ≡ inside → put' ≡ put → take' ≡ take → shut' ≡ shut →
@@ -223,19 +188,7 @@ kept_same inside inside' put put' take take' shut shut' i p t s =
 
 taken_more : (event : Event) (past : List Event) → k_of (event ∷ past) ≡ length (items_got event) + k_of past
 taken_more (TakeItems items why) past = omega (arith, length-append (taken past) (map (taken_at (line_behind past)) items), length-map items (taken_at (line_behind past)))
-taken_more (PutBegin items) past = omega arith
-taken_more (PutStored count why) past = omega arith
-taken_more PutFull past = omega arith
-taken_more PutShort past = omega arith
-taken_more PutNothing past = omega arith
-taken_more PutClosed past = omega arith
-taken_more CloseBegin past = omega arith
-taken_more CloseEnd past = omega arith
-taken_more (TakeBegin wanted) past = omega arith
-taken_more TakeEmpty past = omega arith
-taken_more TakeShort past = omega arith
-taken_more TakeNothing past = omega arith
-taken_more TakeClosed past = omega arith
+taken_more event past = omega arith
 
 taken_behind : (events past : List Event) → k_of (reverse events ++ past) ≡ length (all_got events) + k_of past
 taken_behind [] past = omega arith
@@ -250,9 +203,9 @@ taken_all events event =
     let all : k_of (reverse (events ++ event ∷ []) ++ []) ≡ length (all_got (events ++ event ∷ [])) + 0 = taken_behind (events ++ event ∷ []) [] in
     omega (arith, last, all, ap k_of (append-nil (reverse (events ++ event ∷ []))))
 
-module _ {S O T N B : Type 0} (offered : O → List Offered) (last : T → List Taken) (w : Witness S O T N B) (capacity : Capacity) (events : List Event) (r : Remembers offered last w capacity events) where
-  pub line_is : (line : ℕ) → length events + 2 ≡ line → line ≡ line_behind (reverse events)
-  line_is line number = sym number ∙ sym (ap (λ n. n + 2) (length-reverse events))
+module _ {S O T N B : Type 0} {offered : O → List Offered} {last : T → List Taken} {w : Witness S O T N B} {capacity : Capacity} {events : List Event} (r : Remembers offered last w capacity events) where
+  pub line_is : {line : ℕ} → length events + 2 ≡ line → line ≡ line_behind (reverse events)
+  line_is number = sym number ∙ sym (ap (λ n. n + 2) (length-reverse events))
 
   pub counted_so : (event : Event) (after : Kept) → Counts (meant w.auditor.capacity) (kept_of offered w) event after → Counts capacity (kept_of offered w) event after
   counted_so event after c = subst (λ z. Counts z (kept_of offered w) event after) r.capacity_is c
@@ -262,29 +215,30 @@ module _ {S O T N B : Type 0} (offered : O → List Offered) (last : T → List 
       (event : Event) (line : ℕ) (after : Kept) (left : List Offered) → length events + 2 ≡ line → items_of left ≡ after.inside → Counts (meant w.auditor.capacity) (kept_of offered w) event after →
       Moves (offered_at line) w.auditor.shut event (offered w.auditor.inside.list) left → ((count : ℕ) (why : Bool) → event ≡ PutStored count why → ⊥) → left ≡ coming (event ∷ reverse events)
   inside_after event line after left number are c moves other =
-      moved (reverse events) (kept_of offered w) (agrees_of offered last w capacity events r) capacity event after (offered w.auditor.inside.list) left r.inside are (counted_so event after c)
-      (subst (λ z. Moves (offered_at z) w.auditor.shut event (offered w.auditor.inside.list) left) (line_is line number) moves) other
+      moved (reverse events) (kept_of offered w) (agrees_of r) capacity event after (offered w.auditor.inside.list) left r.inside are (counted_so event after c)
+      (subst (λ z. Moves (offered_at z) w.auditor.shut event (offered w.auditor.inside.list) left) (line_is number) moves) other
 
   pub stored_after :
       (count : ℕ) (why : Bool) (line : ℕ) (after : Kept) (left : List Offered) → length events + 2 ≡ line → items_of left ≡ after.inside →
       Counts (meant w.auditor.capacity) (kept_of offered w) (PutStored count why) after → Moves (offered_at line) w.auditor.shut (PutStored count why) (offered w.auditor.inside.list) left →
       mark_last line count left ≡ coming (PutStored count why ∷ reverse events)
   stored_after count why line after left number are c moves =
-      ap (λ z. mark_last z count left) (line_is line number) ∙
-      moved_stored (reverse events) (kept_of offered w) (agrees_of offered last w capacity events r) capacity count why after (offered w.auditor.inside.list) left r.inside are
+      ap (λ z. mark_last z count left) (line_is number) ∙
+      moved_stored (reverse events) (kept_of offered w) (agrees_of r) capacity count why after (offered w.auditor.inside.list) left r.inside are
       (counted_so (PutStored count why) after c) moves
 
-  -- what is remembered where nothing is kept of an event
+  -- what is remembered by another witness that keeps the same
   pub still_remembers :
-      (next : Witness S O T N B) → next.auditor.capacity ≡ w.auditor.capacity → kept_of offered next ≡ kept_of offered w → offered next.auditor.inside.list ≡ offered w.auditor.inside.list →
-      KeepsTaken w next → next.ended_at ≡ w.ended_at → next.told_at ≡ w.told_at → next.put_at ≡ w.put_at → next.stored_at ≡ w.stored_at → Remembers offered last next capacity events
-  still_remembers next same keeps inside t e d p s = record {
+      {S' O' T' N' B' : Type 0} (offered' : O' → List Offered) (last' : T' → List Taken) (next : Witness S' O' T' N' B') → next.auditor.capacity ≡ w.auditor.capacity →
+      kept_of offered' next ≡ kept_of offered w → offered' next.auditor.inside.list ≡ offered w.auditor.inside.list → last' next.taken ≡ last w.taken → next.limit ≡ w.limit →
+      next.last_taken ≡ w.last_taken → next.ended_at ≡ w.ended_at → next.told_at ≡ w.told_at → next.put_at ≡ w.put_at → next.stored_at ≡ w.stored_at → Remembers offered' last' next capacity events
+  still_remembers offered' last' next same keeps inside t m l e d p s = record {
     proper = r.proper;
     capacity_is = ap meant same ∙ r.capacity_is;
     counted = subst (λ z. CountTo capacity (kept [] Free Rests false) events z) (sym keeps) r.counted;
     inside = inside ∙ r.inside;
-    taken = taken_kept last w next (taken (reverse events)) t r.taken;
-    taken_last = t.2 ∙ r.taken_last;
+    taken = t ∙ r.taken ∙ ap (λ n. last_of n (taken (reverse events))) (sym m);
+    taken_last = l ∙ r.taken_last;
     ended = e ∙ r.ended;
     told = d ∙ r.told;
     put_at = p ∙ r.put_at;
@@ -301,3 +255,34 @@ module _ {S O T N B : Type 0} (offered : O → List Offered) (last : T → List 
   refuses next o t event OutOfTurn still f = (still, f.0, subst (λ z. ¬ IsLinearizable z (events ++ event ∷ [])) r.capacity_is f.1)
   refuses next o t event NotLinearizable still f = (still, f.0, subst (λ z. ¬ IsLinearizable z (events ++ event ∷ [])) r.capacity_is f.1)
   refuses next o t event OutOfMemory still f = inl (subst (λ z. HasMoreItems o z (events ++ event ∷ [])) r.capacity_is f.1)
+
+  -- what is remembered behind an event of this line, but for the end of a put that stored some, where it leaves what is kept beside the auditor so
+  pub heard :
+      {next : Witness S O T N B} {line : ℕ} {told' event : Event} → told' ≡ event → length events + 2 ≡ line → ((count : ℕ) (why : Bool) → event ≡ PutStored count why → ⊥) →
+      next.auditor.capacity ≡ w.auditor.capacity → Counts (meant w.auditor.capacity) (kept_of offered w) told' (kept_of offered next) →
+      Moves (offered_at line) w.auditor.shut told' (offered w.auditor.inside.list) (offered next.auditor.inside.list) → last next.taken ≡ last_of next.limit (taken (event ∷ reverse events)) →
+      next.last_taken ≡ last_taken (event ∷ reverse events) → next.ended_at ≡ (if has_ended (event ∷ reverse events) then Some (ended_line (event ∷ reverse events)) else None) →
+      next.told_at ≡ (if has_told (event ∷ reverse events) then Some (told_closed_line (event ∷ reverse events)) else None) → next.put_at ≡ line_behind (before_put (event ∷ reverse events)) →
+      next.stored_at ≡ line_behind (before_stored (event ∷ reverse events)) → Remembers offered last next capacity (events ++ told' ∷ [])
+  heard {next} {line} {told'} {event} is number other same counts moves t l e d p s =
+      let counts' : Counts (meant w.auditor.capacity) (kept_of offered w) event (kept_of offered next) =
+      subst (λ z. Counts (meant w.auditor.capacity) (kept_of offered w) z (kept_of offered next)) is counts in
+      let moves' = subst (λ z. Moves (offered_at line) w.auditor.shut z (offered w.auditor.inside.list) (offered next.auditor.inside.list)) is moves in
+      told_so offered last next capacity events event told' is
+      (next_remembers offered last w next capacity events event r same (counted_so event (kept_of offered next) counts')
+      (inside_after event line (kept_of offered next) (offered next.auditor.inside.list) number refl counts' moves' other) t l e d p s)
+
+  -- and behind one whose line no cause tells, and that takes nothing
+  pub quiet_heard :
+      {next : Witness S O T N B} {line : ℕ} (event : Event) → IsQuiet event → length events + 2 ≡ line → next.auditor.capacity ≡ w.auditor.capacity →
+      Counts (meant w.auditor.capacity) (kept_of offered w) event (kept_of offered next) →
+      Moves (offered_at line) w.auditor.shut event (offered w.auditor.inside.list) (offered next.auditor.inside.list) → KeepsTaken w next → next.ended_at ≡ w.ended_at → next.told_at ≡ w.told_at →
+      next.put_at ≡ w.put_at → next.stored_at ≡ w.stored_at → Remembers offered last next capacity (events ++ event ∷ [])
+  quiet_heard (PutBegin items) q number same counts moves t e d p s = absurd q
+  quiet_heard (PutStored count why) q number same counts moves t e d p s = absurd q
+  quiet_heard CloseEnd q number same counts moves t e d p s = absurd q
+  quiet_heard (TakeItems items why) q number same counts moves t e d p s = absurd q
+  quiet_heard TakeClosed q number same counts moves t e d p s = absurd q
+  quiet_heard {next} event q number same counts moves t e d p s =
+      heard {event = event} refl number (λ count why f. subst (λ z. IsQuiet z) f q) same counts moves (taken_kept last w next (taken (reverse events)) t r.taken) (t.2 ∙ r.taken_last) (e ∙ r.ended)
+      (d ∙ r.told) (p ∙ r.put_at) (s ∙ r.stored_at)

@@ -3,7 +3,7 @@ use Rattle.std.proofs.Common.{◌≡◌, ◌⊎◌, inl, inr, ℕ, ◌+◌, ◌-
 use Rattle.std.specs.Prelude.{max}
 use Rattle.std.proofs.lemmas.List.{append-nil, take-append-drop, length-take, length-take-le}
 use Rattle.queue_calls.specs.Queue.{Capacity, Unbounded, Between, Queue, queue}
-use Rattle.queue_calls.specs.Calls.{Event, PutBegin, PutStored, PutFull, PutShort, PutNothing, PutClosed, CloseBegin, CloseEnd, TakeBegin, TakeItems, TakeEmpty, TakeShort, TakeNothing, TakeClosed, Producer, Idle, Putting, FoundShut, Closing, Consumer, Resting, Taking, FoundClosed, Point, point}
+use Rattle.queue_calls.specs.Calls.{Event, PutBegin, PutStored, PutFull, PutShort, PutNothing, PutClosed, CloseBegin, CloseEnd, TakeBegin, TakeItems, TakeEmpty, TakeShort, TakeNothing, TakeClosed, Producer, Idle, Putting, FoundShut, Closing, Consumer, Resting, Taking, Point, point}
 use Rattle.queue_calls.specs.Counting.{Kept, kept, without, Counts}
 use Rattle.queue_calls.specs.Reporting.{AtSome, AtEach, Surely, Perhaps, IsSurelyInside, IsPerhapsInside}
 use Rattle.queue_calls.specs.State.{IsProper, MayHold, taken_by, left_by, FitsPut, FitsTake, Describes, offered_by, asked_by, TellsPoint}
@@ -13,19 +13,12 @@ use Rattle.queue_calls.specs.declared.turns.PutTurn.TheVariants.{Free, Offers, L
 use Rattle.queue_calls.specs.declared.turns.TakeTurn.{TakeTurn}
 use Rattle.queue_calls.specs.declared.turns.TakeTurn.TheVariants.{Rests, Waits}
 use Rattle.queue_calls.proofs.CountedHistories.{Stands}
+use Rattle.queue_calls.proofs.Ends.PutEnds.{few_taken}
 use Rattle.queue_calls.proofs.Ends.TakeBegins.{keeps_nothing}
 
 -- ---- the points that are described
 
--- the take under way took no more than it may, and the put has no more left than it offered
-took_few : (turn : TakeTurn) (c : Consumer) (q : Queue) → FitsTake turn c q → length (taken_by c) ≤ asked_by turn
-took_few Rests Resting q f = omega arith
-took_few Rests (Taking lacked took left) q f = absurd f
-took_few Rests FoundClosed q f = absurd f
-took_few (Waits wanted before ended) Resting q f = absurd f
-took_few (Waits wanted before ended) (Taking lacked took left) q f = omega (arith, f.0)
-took_few (Waits wanted before ended) FoundClosed q f = omega arith
-
+-- the put under way has no more left than it offered
 left_few : (capacity : Capacity) (put : PutTurn) (shut : Bool) (p : Producer) (closed : Bool) → FitsPut capacity put shut p closed → length (left_by put p) ≤ offered_by put
 left_few capacity Free shut p closed f = omega arith
 left_few capacity (Offers offered before) shut Idle closed f = absurd f
@@ -95,7 +88,7 @@ module _ (capacity : Capacity) (h : List Event) (k : Kept) (j : Stands capacity 
   pub least_surely : Surely capacity (λ inside. least_kept k ≤ inside) h
   least_surely s r =
       let d = j.complete s r in
-      omega (arith, long_is s d, took_few k.take s.consumer s.queue d.consumer, left_few capacity k.put k.shut s.producer s.queue.closed d.producer)
+      omega (arith, long_is s d, few_taken k.take s.consumer s.queue d.consumer, left_few capacity k.put k.shut s.producer s.queue.closed d.producer)
 
   few_holds : MayHold capacity (least_kept k)
   few_holds = subst (λ z. MayHold capacity z) (omega arith) j.few

@@ -2,12 +2,12 @@
 use Rattle.std.proofs.Common.{◌≡◌, ◌⊎◌, inl, inr, ℕ, ◌+◌, ◌-◌, ◌<◌, ◌≤◌, Bool, true, false, List, [], ◌∷◌, ◌++◌, length, take, drop, refl, sym, ap, subst, ◌∙◌, arith, length-append, length-drop}
 use Rattle.std.proofs.lemmas.List.{append-nil, take-append-drop, length-take-le}
 use Rattle.queue_calls.specs.Queue.{Capacity, Queue, queue}
-use Rattle.queue_calls.specs.Calls.{Event, Happens, Idle, Putting, FoundShut, Closing, Consumer, Resting, Taking, Point, point, Leads, CanLeadTo, IsLinearizable}
+use Rattle.queue_calls.specs.Calls.{Event, Happens, Idle, Putting, FoundShut, Closing, Producer, Consumer, Resting, Taking, Point, point, Leads, CanLeadTo, IsLinearizable}
 use Rattle.queue_calls.specs.declared.turns.PutTurn.{PutTurn}
 use Rattle.queue_calls.specs.declared.turns.PutTurn.TheVariants.{Free, Offers, Late, Closes}
 use Rattle.queue_calls.specs.declared.turns.TakeTurn.{TakeTurn}
 use Rattle.queue_calls.specs.declared.turns.TakeTurn.TheVariants.{Rests, Waits}
-use Rattle.queue_calls.specs.State.{MayHold, taken_by, FitsTake, Describes, offered_by, asked_by, IsSoundPut, IsSoundTake, TellsPoint, Keeps, sides_of}
+use Rattle.queue_calls.specs.State.{MayHold, taken_by, left_by, FitsPut, FitsTake, Describes, offered_by, asked_by, IsSoundPut, IsSoundTake, TellsPoint, Keeps, sides_of}
 use Rattle.queue_calls.specs.InTurn.{NoCall, Sides, sides, MovesSides, CallsAreInTurn}
 use Rattle.queue_calls.proofs.Rooms.{holds_fewer, holds_none}
 use Rattle.queue_calls.proofs.TurnLemmas.{one_turn_more, last_turn, same_turns, linearizable_in_turn}
@@ -36,19 +36,22 @@ split xs n l = record {
 abbrev pub Some : Capacity → List ℕ → PutTurn → TakeTurn → Bool → Type 0
 Some capacity inside put take shut = (s : Point) × Describes capacity inside put take shut s × ((late : List ℕ) → TellsPoint late put s.producer)
 
+-- where nothing that is left of the put is behind the queue
+whole_queue :
+    (capacity : Capacity) (inside rest : List ℕ) (put : PutTurn) (take : TakeTurn) (shut closed : Bool) (p : Producer) (c : Consumer) → ((q : Queue) → FitsTake take c q) →
+    inside ≡ taken_by c ++ rest → MayHold capacity (length rest - 0) → left_by put p ≡ [] → FitsPut capacity put shut p closed → Describes capacity inside put take shut (point (queue rest closed) p c)
+whole_queue capacity inside rest put take shut closed p c fits e l none producer = record {
+  items = e ∙ ap (λ z. taken_by c ++ z) (sym (append-nil rest) ∙ ap (λ z. rest ++ z) (sym none));
+  room = holds_fewer capacity (length rest) (length rest - 0) (omega arith) l;
+  producer = producer;
+  consumer = fits (queue rest closed);
+}
+
 some_put :
     (capacity : Capacity) (inside rest : List ℕ) (put : PutTurn) (take : TakeTurn) (shut : Bool) (c : Consumer) →
     ((q : Queue) → FitsTake take c q) → inside ≡ taken_by c ++ rest → MayHold capacity (length rest - offered_by put) → Some capacity inside put take shut
-some_put capacity inside rest Free take shut c fits e l = (
-  point (queue rest shut) Idle c,
-  record {
-    items = e ∙ ap (λ z. taken_by c ++ z) (sym (append-nil rest));
-    room = holds_fewer capacity (length rest) (length rest - 0) (omega arith) l;
-    producer = refl;
-    consumer = fits (queue rest shut);
-  },
-  λ late. tt,
-)
+some_put capacity inside rest Free take shut c fits e l =
+    (point (queue rest shut) Idle c, whole_queue capacity inside rest Free take shut shut Idle c fits e l refl refl, λ late. tt)
 some_put capacity inside rest (Offers offered before) take shut c fits e l = elim (at_most_or_above offered (length rest)) [
   | inl few ↦ (
       let s : Split rest offered = split rest offered few in (
@@ -67,26 +70,10 @@ some_put capacity inside rest (Offers offered before) take shut c fits e l = eli
     λ late. tt,
   )
 ]
-some_put capacity inside rest (Late offered) take shut c fits e l = (
-  point (queue rest true) FoundShut c,
-  record {
-    items = e ∙ ap (λ z. taken_by c ++ z) (sym (append-nil rest));
-    room = holds_fewer capacity (length rest) (length rest - 0) (omega arith) l;
-    producer = refl;
-    consumer = fits (queue rest true);
-  },
-  λ late. tt,
-)
-some_put capacity inside rest (Closes again) take shut c fits e l = (
-  point (queue rest true) (Closing true) c,
-  record {
-    items = e ∙ ap (λ z. taken_by c ++ z) (sym (append-nil rest));
-    room = holds_fewer capacity (length rest) (length rest - 0) (omega arith) l;
-    producer = ((λ _. refl), (λ _. refl));
-    consumer = fits (queue rest true);
-  },
-  λ late. tt,
-)
+some_put capacity inside rest (Late offered) take shut c fits e l =
+    (point (queue rest true) FoundShut c, whole_queue capacity inside rest (Late offered) take shut true FoundShut c fits e l refl refl, λ late. tt)
+some_put capacity inside rest (Closes again) take shut c fits e l =
+    (point (queue rest true) (Closing true) c, whole_queue capacity inside rest (Closes again) take shut true (Closing true) c fits e l refl ((λ _. refl), (λ _. refl)), λ late. tt)
 
 pub some :
     (capacity : Capacity) (inside : List ℕ) (put : PutTurn) (take : TakeTurn) (shut : Bool) → MayHold capacity (length inside - (offered_by put + asked_by take)) →

@@ -1,8 +1,8 @@
 -- The loops of a witness over the items inside and those taken last.
 use Rattle.std.proofs.Common.{◌≡◌, ◌⊎◌, inl, inr, ℕ, suc, ◌+◌, ◌-◌, ◌<◌, ◌≤◌, Bool, true, false, List, [], ◌∷◌, ◌++◌, Some, None, length, get_or, set, take, drop, map, reverse, refl, sym, ap, ap₂, subst, ◌∙◌, arith, eq-eqb, append-nil, append_assoc, length-append, length-drop, length-take-le}
-use Rattle.std.specs.Prelude.{◌==◌, find}
+use Rattle.std.specs.Prelude.{◌==◌, find, nat_lt}
 use Rattle.std.proofs.lemmas.Bool.Decides.{nat_tests}
-use Rattle.std.proofs.lemmas.List.{drop-append-le, drop-drop, drop_all, drop_more, get_or-append_right, get_or-map, get_or_at, length-map, map_more, map_push, nil_from_length, reverse-append, set_at, take_more}
+use Rattle.std.proofs.lemmas.List.{drop-append-le, drop-drop, drop_all, drop_more, get_or-append_right, get_or-map, get_or_at, get_or_read, length-map, map_more, map_push, nil_from_length, reverse-append, set_at, take_more}
 use Rattle.call_causes.specs.declared.entries.Offered.{Offered}
 use Rattle.call_causes.specs.declared.entries.Taken.{Taken}
 use Rattle.queue_calls.specs.Reasons.{at, last_in, last_of, offered_at, stored_at, taken_at}
@@ -46,6 +46,12 @@ module _ (item place i : ℕ) (entries : List Offered) (same : comes item (drop 
   comes_not h = rw (same, drop_all i entries h) refl
 
 -- ---- how many of the first items are the next ones
+
+-- the entry that is got at a place stands there
+pub entry_at : (entries : List Offered) (i : ℕ) (next : Offered) → true ≡ nat_lt i (length entries) → next ≡ get_or entries i next → (i < length entries) × (next ≡ at entries i)
+entry_at entries i next within is =
+    let few : i < length entries = grind (arith, nat_tests, within) in
+    (few, get_or_read entries i next few is (offered_at 0 0))
 
 module _ (items : List ℕ) (entries : List Offered) (i : ℕ) (same : agreed items entries ≡ agreed (drop i items) (drop i entries) + i) where
   module _ (h : i < length items) where

@@ -1,10 +1,12 @@
 pub mod Ends
+pub mod Results
 pub mod Rooms
 pub mod Points
 pub mod Effects
 pub mod TurnLemmas
 pub mod Keeping
 pub mod Sides
+pub mod OneSide
 pub mod OrderOf
 pub mod MomentsOf
 mod Examples

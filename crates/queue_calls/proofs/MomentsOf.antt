@@ -1,61 +1,11 @@
 -- A history whose operations have an order can have them take effect at moments.
 use Rattle.std.proofs.Common.{◌≡◌, inl, inr, ℕ, suc, ◌<◌, ◌≤◌, false, List, [], ◌∷◌, ◌++◌, length, refl, sym, ap, subst, ◌∙◌, arith, append_assoc}
 use Rattle.std.proofs.lemmas.List.{append-nil}
-use Rattle.queue_calls.specs.Queue.{Capacity, Operation, Enqueue, FindNoRoom, FindShut, Close, Dequeue, FindFewer, FindClosed, Queue, queue, Step, IsLegal}
-use Rattle.queue_calls.specs.Calls.{Event, PutBegin, PutStored, PutFull, PutShort, PutNothing, PutClosed, CloseBegin, CloseEnd, TakeBegin, TakeItems, TakeEmpty, TakeShort, TakeNothing, TakeClosed, Happens, Effect, Producer, Idle, Consumer, Resting, ProducerStep, ConsumerStep, point, CanLeadTo, IsLinearizable}
-use Rattle.queue_calls.specs.Order.{Side, P, C, pick, side_of, doer_of, Numbered, numbered, own_events, OwnStep, Comes, Makes, numbered_in, AreProducerCalls, AreConsumerCalls, RecordedOperation, recorded_operation, next_event, recorded_operations, recorded_of_side, recorded_does, IsAmong, KeepsRecordedTime, Linearization}
+use Rattle.queue_calls.specs.Queue.{Capacity, Operation, Queue, queue, Step, IsLegal}
+use Rattle.queue_calls.specs.Calls.{Event, Mark, Happens, Effect, Idle, Resting, QueueStep, Point, point, Leads, CanLeadTo, IsLinearizable}
+use Rattle.queue_calls.specs.Order.{Side, P, C, pick, side_of, Numbered, numbered, own_events, OwnStep, Comes, Makes, numbered_in, RecordedOperation, recorded_operation, next_event, recorded_operations, recorded_of_side, recorded_does, IsAmong, KeepsRecordedTime, Linearization}
+use Rattle.queue_calls.proofs.OneSide.{AreCalls, Steps, Where, calls_come, calls_make, others_mark, pick_other, pick_same, picked}
 use Rattle.queue_calls.proofs.Points.{start, goes, happens}
-
--- what one side does leaves the other as it is
-producer_idle : (e : Event) (p : Producer) → side_of e ≡ C → ProducerStep p (Happens e) p
-producer_idle (PutBegin items) p s = absurd (cc)
-producer_idle (PutStored count why) p s = absurd (cc)
-producer_idle PutFull p s = absurd (cc)
-producer_idle PutShort p s = absurd (cc)
-producer_idle PutNothing p s = absurd (cc)
-producer_idle PutClosed p s = absurd (cc)
-producer_idle CloseBegin p s = absurd (cc)
-producer_idle CloseEnd p s = absurd (cc)
-producer_idle (TakeBegin wanted) p s = refl
-producer_idle (TakeItems items why) p s = refl
-producer_idle TakeEmpty p s = refl
-producer_idle TakeShort p s = refl
-producer_idle TakeNothing p s = refl
-producer_idle TakeClosed p s = refl
-
-consumer_idle : (e : Event) (c : Consumer) → side_of e ≡ P → ConsumerStep c (Happens e) c
-consumer_idle (PutBegin items) c s = refl
-consumer_idle (PutStored count why) c s = refl
-consumer_idle PutFull c s = refl
-consumer_idle PutShort c s = refl
-consumer_idle PutNothing c s = refl
-consumer_idle PutClosed c s = refl
-consumer_idle CloseBegin c s = refl
-consumer_idle CloseEnd c s = refl
-consumer_idle (TakeBegin wanted) c s = absurd (cc)
-consumer_idle (TakeItems items why) c s = absurd (cc)
-consumer_idle TakeEmpty c s = absurd (cc)
-consumer_idle TakeShort c s = absurd (cc)
-consumer_idle TakeNothing c s = absurd (cc)
-consumer_idle TakeClosed c s = absurd (cc)
-
-producer_rests : (d : Operation) (p : Producer) → doer_of d ≡ C → ProducerStep p (Effect d) p
-producer_rests (Enqueue item) p s = absurd (cc)
-producer_rests (FindNoRoom count) p s = absurd (cc)
-producer_rests FindShut p s = absurd (cc)
-producer_rests Close p s = absurd (cc)
-producer_rests (Dequeue item) p s = refl
-producer_rests (FindFewer count) p s = refl
-producer_rests FindClosed p s = refl
-
-consumer_rests : (d : Operation) (c : Consumer) → doer_of d ≡ P → ConsumerStep c (Effect d) c
-consumer_rests (Enqueue item) c s = refl
-consumer_rests (FindNoRoom count) c s = refl
-consumer_rests FindShut c s = refl
-consumer_rests Close c s = refl
-consumer_rests (Dequeue item) c s = absurd (cc)
-consumer_rests (FindFewer count) c s = absurd (cc)
-consumer_rests FindClosed c s = absurd (cc)
 
 -- numbers from this one on
 abbrev From : ℕ → List Numbered → Type 0
@@ -64,13 +14,9 @@ From m (x ∷ xs) = (m ≤ x.number) × From m xs
 
 own_from : (s : Side) (m n : ℕ) (h : List Event) → m ≤ n → From m (own_events s n h)
 own_from s m n [] l = tt
-own_from s m n (e ∷ h) l = by_side s (side_of e) (own_from s m (suc n) h (omega (arith, l)))
-  where
-    by_side : (y x : Side) → From m (own_events s (suc n) h) → From m (pick y x (numbered n e ∷ own_events s (suc n) h) (own_events s (suc n) h))
-    by_side P P r = (l, r)
-    by_side P C r = r
-    by_side C P r = r
-    by_side C C r = (l, r)
+own_from s m n (e ∷ h) l =
+    let more = own_from s m (suc n) h (omega (arith, l)) in
+    picked (From m) s (side_of e) (numbered n e ∷ own_events s (suc n) h) (own_events s (suc n) h) (λ is. (l, more)) (λ not. more)
 
 first_start :
     (s : Side) (end m k : ℕ) (calls : List OwnStep) (o : RecordedOperation) (rest : List RecordedOperation) → From m (numbered_in calls) → m ≤ k →
@@ -88,42 +34,62 @@ next_is end (Makes d ∷ calls) x rest e = next_is end calls x rest e
 
 among_side : (s : Side) (order : List RecordedOperation) (z : RecordedOperation) (rest : List RecordedOperation) → recorded_of_side s order ≡ z ∷ rest → IsAmong z order
 among_side s [] z rest e = absurd (cc)
-among_side s (o ∷ order) z rest e = by_side s o.side (λ r f. among_side s order z r f) e
-  where
-    by_side :
-        (y x : Side) → ((r : List RecordedOperation) → recorded_of_side s order ≡ z ∷ r → IsAmong z order) →
-        pick y x (o ∷ recorded_of_side s order) (recorded_of_side s order) ≡ z ∷ rest → IsAmong z (o ∷ order)
-    by_side P P next f = let first : o ≡ z = cc in inl (sym first)
-    by_side C C next f = let first : o ≡ z = cc in inl (sym first)
-    by_side P C next f = inr (next rest f)
-    by_side C P next f = inr (next rest f)
+among_side s (o ∷ order) z rest e =
+    picked (λ l. l ≡ z ∷ rest → IsAmong z (o ∷ order)) s o.side (o ∷ recorded_of_side s order) (recorded_of_side s order)
+    (λ is f. let first : o ≡ z = cc in inl (sym first)) (λ not f. inr (among_side s order z rest f)) e
 
 -- an operation of the one side that stands behind one of the other, whose call begins later, does not come before this event
 clash :
     (s s' : Side) (end n start k : ℕ) (e : Event) (h : List Event) (o : RecordedOperation) (order rest : List RecordedOperation) (calls calls' : List OwnStep) (d : Operation) →
-    side_of e ≡ s → pick s s (numbered n e ∷ own_events s (suc n) h) (own_events s (suc n) h) ≡ numbered_in calls →
-    own_events s' (suc n) h ≡ numbered_in calls' → suc n ≤ k → o ∷ rest ≡ recorded_operations s' end k calls' →
+    numbered n e ∷ own_events s (suc n) h ≡ numbered_in calls → own_events s' (suc n) h ≡ numbered_in calls' → suc n ≤ k → o ∷ rest ≡ recorded_operations s' end k calls' →
     recorded_of_side s order ≡ recorded_operation s d start (next_event end calls) ∷ recorded_operations s end start calls →
     ((z : RecordedOperation) → IsAmong z order → z.stop < o.start → ⊥) → ⊥
-clash s s' end n start k e h o order rest calls calls' d es ev ev' l first mine keeps =
+clash s s' end n start k e h o order rest calls calls' d ev ev' l first mine keeps =
     let z : RecordedOperation = recorded_operation s d start (next_event end calls) in
     let later : suc n ≤ o.start = first_start s' end (suc n) k calls' o rest (subst (From (suc n)) ev' (own_from s' (suc n) (suc n) h (omega arith))) l first in
     let i : IsAmong z order = among_side s order z (recorded_operations s end start calls) mine in
-    let ends : next_event end calls ≡ n = same_pick s ev in
+    let ends : next_event end calls ≡ n = next_is end calls (numbered n e) (own_events s (suc n) h) (sym ev) in
     keeps z i (omega (arith, later, ends))
-  where
-    same_pick : (y : Side) → pick y y (numbered n e ∷ own_events s (suc n) h) (own_events s (suc n) h) ≡ numbered_in calls → next_event end calls ≡ n
-    same_pick P f = next_is end calls (numbered n e) (own_events s (suc n) h) (sym f)
-    same_pick C f = next_is end calls (numbered n e) (own_events s (suc n) h) (sym f)
 
--- what is to come of an order, behind the first n events
-record Rest (capacity : Capacity) (end n a b : ℕ) (h : List Event) (q : Queue) (p : Producer) (c : Consumer) (puts takes : List OwnStep) (order : List RecordedOperation) : Type 0 where
-  put_events : own_events P n h ≡ numbered_in puts
-  take_events : own_events C n h ≡ numbered_in takes
-  are_puts : AreProducerCalls p puts
-  are_takes : AreConsumerCalls c takes
-  producer : recorded_of_side P order ≡ recorded_operations P end a puts
-  consumer : recorded_of_side C order ≡ recorded_operations C end b takes
+-- where a side is, since which event, and its calls that are to come
+record Own (y : Side) : Type 0 where
+  place : Where y
+  since : ℕ
+  calls : List OwnStep
+
+-- the same of both sides, with another of one side
+abbrev with_own : (y : Side) → Own y → ((x : Side) → Own x) → (x : Side) → Own x
+with_own P o own P = o
+with_own P o own C = own C
+with_own C o own P = own P
+with_own C o own C = o
+
+with_holds : (Q : (x : Side) → Own x → Type 0) (y : Side) (o : Own y) (own : (x : Side) → Own x) → Q y o → ((x : Side) → (y ≡ x → ⊥) → Q x (own x)) → (x : Side) → Q x (with_own y o own x)
+with_holds Q P o own mine others P = mine
+with_holds Q P o own mine others C = others C (λ e. cc)
+with_holds Q C o own mine others P = others P (λ e. cc)
+with_holds Q C o own mine others C = mine
+
+abbrev point_of : Queue → ((y : Side) → Own y) → Point
+point_of q own = point q (own P).place (own C).place
+
+-- a mark of one side, which may move that one alone
+moves_one :
+    (capacity : Capacity) (q q' : Queue) (m : Mark) (y : Side) (o : Own y) (own : (x : Side) → Own x) → QueueStep capacity q m q' → Steps y (own y).place m o.place →
+    ((x : Side) → (y ≡ x → ⊥) → Steps x (own x).place m (own x).place) → Leads capacity (point_of q own) m (point_of q' (with_own y o own))
+moves_one capacity q q' m y o own step mine others =
+    let both = with_holds (λ x w. Steps x (own x).place m w.place) y o own mine others in
+    record { queue = step; producer = both P; consumer = both C }
+
+-- what is to come of an order on a side, behind the first n events
+record ToCome (y : Side) (end n : ℕ) (h : List Event) (order : List RecordedOperation) (o : Own y) : Type 0 where
+  events : own_events y n h ≡ numbered_in o.calls
+  are : AreCalls y o.place o.calls
+  makes : recorded_of_side y order ≡ recorded_operations y end o.since o.calls
+
+-- and on both
+record Rest (capacity : Capacity) (end n : ℕ) (h : List Event) (q : Queue) (own : (y : Side) → Own y) (order : List RecordedOperation) : Type 0 where
+  sides : (y : Side) → ToCome y end n h order (own y)
   legal : IsLegal capacity q (recorded_does order)
   keeps_time : KeepsRecordedTime order
 
@@ -135,148 +101,101 @@ NoClash s (e ∷ h) calls = (d : Operation) (rest : List OwnStep) → calls ≡ 
 module _ (capacity : Capacity) (end : ℕ) where
   abbrev Passes : List Event → Type 0
   Passes h =
-      (n a b : ℕ) (q : Queue) (p : Producer) (c : Consumer) (puts takes : List OwnStep) (order : List RecordedOperation) → Rest capacity end n a b h q p c puts takes order →
-      NoClash P h puts → NoClash C h takes → (past : List Event) → CanLeadTo capacity past (point q p c) → IsLinearizable capacity (past ++ h)
+      (n : ℕ) (q : Queue) (own : (y : Side) → Own y) (order : List RecordedOperation) → Rest capacity end n h q own order → ((y : Side) → NoClash y h (own y).calls) →
+      (past : List Event) → CanLeadTo capacity past (point_of q own) → IsLinearizable capacity (past ++ h)
 
   abbrev Goes : List Event → List RecordedOperation → Type 0
   Goes h order =
-      (n a b : ℕ) (q : Queue) (p : Producer) (c : Consumer) (puts takes : List OwnStep) → Rest capacity end n a b h q p c puts takes order →
-      (past : List Event) → CanLeadTo capacity past (point q p c) → IsLinearizable capacity (past ++ h)
+      (n : ℕ) (q : Queue) (own : (y : Side) → Own y) → Rest capacity end n h q own order → (past : List Event) → CanLeadTo capacity past (point_of q own) → IsLinearizable capacity (past ++ h)
 
-  -- the next event is the producer's
-  pass_put :
-      (e : Event) (h : List Event) (order : List RecordedOperation) → side_of e ≡ P → Goes h order → (n a b : ℕ) (q : Queue) (p : Producer) (c : Consumer) (puts takes : List OwnStep) →
-      numbered n e ∷ own_events P (suc n) h ≡ numbered_in puts → own_events C (suc n) h ≡ numbered_in takes → AreProducerCalls p puts → AreConsumerCalls c takes →
-      recorded_of_side P order ≡ recorded_operations P end a puts → recorded_of_side C order ≡ recorded_operations C end b takes → IsLegal capacity q (recorded_does order) → KeepsRecordedTime order →
-      ((d : Operation) (rest : List OwnStep) → puts ≡ Makes d ∷ rest → ⊥) → (past : List Event) → CanLeadTo capacity past (point q p c) → IsLinearizable capacity (past ++ e ∷ h)
-  pass_put e h order s go n a b q p c [] takes pe te ap' at' op oc legal keeps never past r = absurd (cc)
-  pass_put e h order s go n a b q p c (Makes d ∷ puts) takes pe te ap' at' op oc legal keeps never past r = absurd (never d puts refl)
-  pass_put e h order s go n a b q p c (Comes x ∷ puts) takes pe te (after, step, ap') at' op oc legal keeps never past r =
-      let first : x ≡ numbered n e = cc in
-      let others : own_events P (suc n) h ≡ numbered_in puts = cc in
-      let is_step : ProducerStep p (Happens e) after = subst (λ (z : Numbered). ProducerStep p (Happens z.event) after) first step in
-      let there : CanLeadTo capacity (past ++ e ∷ []) (point q after c) =
-      happens capacity past (point q p c) (point q after c) e r (record { queue = refl; producer = is_step; consumer = consumer_idle e c s }) in
-      subst (IsLinearizable capacity) (append_assoc past (e ∷ []) h)
-      (go (suc n) x.number b q after c puts takes (record { put_events = others; take_events = te; are_puts = ap'; are_takes = at'; producer = op; consumer = oc; legal = legal; keeps_time = keeps }) (past ++ e ∷ []) there)
-
-  -- or the consumer's
-  pass_take :
-      (e : Event) (h : List Event) (order : List RecordedOperation) → side_of e ≡ C → Goes h order → (n a b : ℕ) (q : Queue) (p : Producer) (c : Consumer) (puts takes : List OwnStep) →
-      own_events P (suc n) h ≡ numbered_in puts → numbered n e ∷ own_events C (suc n) h ≡ numbered_in takes → AreProducerCalls p puts → AreConsumerCalls c takes →
-      recorded_of_side P order ≡ recorded_operations P end a puts → recorded_of_side C order ≡ recorded_operations C end b takes → IsLegal capacity q (recorded_does order) → KeepsRecordedTime order →
-      ((d : Operation) (rest : List OwnStep) → takes ≡ Makes d ∷ rest → ⊥) → (past : List Event) → CanLeadTo capacity past (point q p c) → IsLinearizable capacity (past ++ e ∷ h)
-  pass_take e h order s go n a b q p c puts [] pe te ap' at' op oc legal keeps never past r = absurd (cc)
-  pass_take e h order s go n a b q p c puts (Makes d ∷ takes) pe te ap' at' op oc legal keeps never past r = absurd (never d takes refl)
-  pass_take e h order s go n a b q p c puts (Comes x ∷ takes) pe te ap' (after, step, at') op oc legal keeps never past r =
-      let first : x ≡ numbered n e = cc in
-      let others : own_events C (suc n) h ≡ numbered_in takes = cc in
-      let is_step : ConsumerStep c (Happens e) after = subst (λ (z : Numbered). ConsumerStep c (Happens z.event) after) first step in
-      let there : CanLeadTo capacity (past ++ e ∷ []) (point q p after) =
-      happens capacity past (point q p c) (point q p after) e r (record { queue = refl; producer = producer_idle e p s; consumer = is_step }) in
-      subst (IsLinearizable capacity) (append_assoc past (e ∷ []) h)
-      (go (suc n) a x.number q p after puts takes (record { put_events = pe; take_events = others; are_puts = ap'; are_takes = at'; producer = op; consumer = oc; legal = legal; keeps_time = keeps }) (past ++ e ∷ []) there)
+  -- the next event comes
+  next_comes :
+      (e : Event) (h : List Event) (order : List RecordedOperation) → Goes h order → (n : ℕ) (q : Queue) (own : (y : Side) → Own y) → Rest capacity end n (e ∷ h) q own order →
+      (past : List Event) → CanLeadTo capacity past (point_of q own) → (calls : List OwnStep) → (own (side_of e)).calls ≡ calls → ((d : Operation) (rest : List OwnStep) → calls ≡ Makes d ∷ rest → ⊥) →
+      IsLinearizable capacity (past ++ e ∷ h)
+  next_comes e h order go n q own x past r [] is never =
+      let y = side_of e in
+      let mine : numbered n e ∷ own_events y (suc n) h ≡ [] = sym (pick_same y _ _) ∙ (x.sides y).events ∙ ap numbered_in is in absurd cc
+  next_comes e h order go n q own x past r (Makes d ∷ rest) is never = absurd (never d rest refl)
+  next_comes e h order go n q own x past r (Comes v ∷ rest) is never =
+      let y = side_of e in
+      let mine : numbered n e ∷ own_events y (suc n) h ≡ v ∷ numbered_in rest = sym (pick_same y _ _) ∙ (x.sides y).events ∙ ap numbered_in is in
+      let first : v ≡ numbered n e = cc in
+      let others : own_events y (suc n) h ≡ numbered_in rest = cc in
+      let (after, step, more) = calls_come y (own y).place v rest (subst (λ z. AreCalls y (own y).place z) is (x.sides y).are) in
+      let o : Own y = record { place = after; since = v.number; calls = rest } in
+      let own' : (z : Side) → Own z = with_own y o own in
+      let is_step : Steps y (own y).place (Happens e) after = subst (λ (z : Numbered). Steps y (own y).place (Happens z.event) after) first step in
+      let there : CanLeadTo capacity (past ++ e ∷ []) (point_of q own') =
+      happens capacity past (point_of q own) (point_of q own') e r
+      (moves_one capacity q q (Happens e) y o own refl is_step (λ z not. (others_mark z (Happens e) (own z).place (own z).place not).1 refl)) in
+      let sides : (z : Side) → ToCome z end (suc n) h order (own' z) =
+      with_holds (λ z w. ToCome z end (suc n) h order w) y o own (record { events = others; are = more; makes = (x.sides y).makes ∙ ap (recorded_operations y end (own y).since) is })
+      (λ z not. record { events = sym (pick_other z y _ _ not) ∙ (x.sides z).events; are = (x.sides z).are; makes = (x.sides z).makes }) in
+      subst (IsLinearizable capacity) (append_assoc past (e ∷ []) h) (go (suc n) q own' (record { sides = sides; legal = x.legal; keeps_time = x.keeps_time }) (past ++ e ∷ []) there)
 
   passing : (e : Event) (h : List Event) → ((order : List RecordedOperation) → Goes h order) → Passes (e ∷ h)
-  passing e h go n a b q p c puts takes order x no_p no_c past r = by_side (side_of e) refl x.put_events x.take_events
-    where
-      by_side :
-          (s : Side) → side_of e ≡ s → pick P s (numbered n e ∷ own_events P (suc n) h) (own_events P (suc n) h) ≡ numbered_in puts →
-          pick C s (numbered n e ∷ own_events C (suc n) h) (own_events C (suc n) h) ≡ numbered_in takes → IsLinearizable capacity (past ++ e ∷ h)
-      by_side P s pe te = pass_put e h order s (go order) n a b q p c puts takes pe te x.are_puts x.are_takes x.producer x.consumer x.legal x.keeps_time (λ d rest i. no_p d rest i s) past r
-      by_side C s pe te = pass_take e h order s (go order) n a b q p c puts takes pe te x.are_puts x.are_takes x.producer x.consumer x.legal x.keeps_time (λ d rest i. no_c d rest i s) past r
+  passing e h go n q own order x never past r = next_comes e h order (go order) n q own x past r (own (side_of e)).calls refl (λ d rest i. never (side_of e) d rest i refl)
 
-  -- the next operation is the producer's
-  put_next :
-      (h : List Event) (o : RecordedOperation) (order : List RecordedOperation) → Passes h → Goes h order → (n a b : ℕ) (q : Queue) (p : Producer) (c : Consumer) (puts takes : List OwnStep) →
-      Rest capacity end n a b h q p c puts takes (o ∷ order) → o ∷ recorded_of_side P order ≡ recorded_operations P end a puts → recorded_of_side C order ≡ recorded_operations C end b takes →
-      (past : List Event) → CanLeadTo capacity past (point q p c) → IsLinearizable capacity (past ++ h)
-  put_next h o order pass go n a b q p c [] takes x op oc past r = absurd (cc)
-  put_next h o order pass go n a b q p c (Makes d ∷ puts) takes x op oc past r =
-      let first : o ≡ recorded_operation P d a (next_event end puts) = cc in
-      let others : recorded_of_side P order ≡ recorded_operations P end a puts = cc in
-      let (after, mine, step, more) = x.are_puts in
+  -- the next operation takes effect, or an event comes before it
+  next_goes :
+      (h : List Event) (o : RecordedOperation) (order : List RecordedOperation) → Passes h → Goes h order → (n : ℕ) (q : Queue) (own : (y : Side) → Own y) → Rest capacity end n h q own (o ∷ order) →
+      (past : List Event) → CanLeadTo capacity past (point_of q own) → (calls : List OwnStep) → (own o.side).calls ≡ calls →
+      o ∷ recorded_of_side o.side order ≡ recorded_operations o.side end (own o.side).since calls → IsLinearizable capacity (past ++ h)
+  next_goes h o order pass go n q own x past r [] is mine = absurd cc
+  next_goes h o order pass go n q own x past r (Makes d ∷ rest) is mine =
+      let y = o.side in
+      let first : o ≡ recorded_operation y d (own y).since (next_event end rest) = cc in
+      let others : recorded_of_side y order ≡ recorded_operations y end (own y).since rest = cc in
+      let (after, does_it, step, more) = calls_make y (own y).place d rest (subst (λ z. AreCalls y (own y).place z) is (x.sides y).are) in
       let (q', does, legal) = x.legal in
       let is_step : Step capacity q d q' = subst (λ (z : RecordedOperation). Step capacity q z.does q') first does in
-      go n a b q' after c puts takes
-      (record { put_events = x.put_events; take_events = x.take_events; are_puts = more; are_takes = x.are_takes; producer = others; consumer = oc; legal = legal; keeps_time = x.keeps_time.1 })
-      past (goes capacity past (point q p c) (point q' after c) d r (record { queue = is_step; producer = step; consumer = consumer_rests d c mine }))
-  put_next h o order pass go n a b q p c (Comes y ∷ puts) takes x op oc past r =
-      pass n a b q p c (Comes y ∷ puts) takes (o ∷ order) x (none h) (clashes h takes x.put_events x.take_events oc) past r
+      let w : Own y = record { place = after; since = (own y).since; calls = rest } in
+      let sides : (z : Side) → ToCome z end n h order (with_own y w own z) =
+      with_holds (λ z v. ToCome z end n h order v) y w own (record { events = (x.sides y).events ∙ ap numbered_in is; are = more; makes = others })
+      (λ z not. record { events = (x.sides z).events; are = (x.sides z).are; makes = sym (pick_other z y _ _ not) ∙ (x.sides z).makes }) in
+      go n q' (with_own y w own) (record { sides = sides; legal = legal; keeps_time = x.keeps_time.1 }) past
+      (goes capacity past (point_of q own) (point_of q' (with_own y w own)) d r
+      (moves_one capacity q q' (Effect d) y w own is_step step (λ z not. (others_mark z (Effect d) (own z).place (own z).place (λ e. not (sym does_it ∙ e))).1 refl)))
+  next_goes h o order pass go n q own x past r (Comes v ∷ rest) is mine = pass n q own (o ∷ order) x (λ z. never h (λ y. (x.sides y).events) z) past r
     where
-      none : (g : List Event) → NoClash P g (Comes y ∷ puts)
-      none [] = tt
-      none (e ∷ g) = λ d rest i s. cc
-
-      clashes : (g : List Event) (takes : List OwnStep) → own_events P n g ≡ numbered_in (Comes y ∷ puts) → own_events C n g ≡ numbered_in takes → recorded_of_side C order ≡ recorded_operations C end b takes → NoClash C g takes
-      clashes [] takes pe te oc = tt
-      clashes (e ∷ g) takes pe te oc = λ d rest i s.
-          let pe' : own_events P (suc n) g ≡ y ∷ numbered_in puts = subst (λ z. pick P z (numbered n e ∷ own_events P (suc n) g) (own_events P (suc n) g) ≡ y ∷ numbered_in puts) s pe in
-          let te' : numbered n e ∷ own_events C (suc n) g ≡ numbered_in rest = subst (λ z. pick C z (numbered n e ∷ own_events C (suc n) g) (own_events C (suc n) g) ≡ numbered_in rest) s (te ∙ ap numbered_in i) in
-          let mine : recorded_of_side C order ≡ recorded_operation C d b (next_event end rest) ∷ recorded_operations C end b rest = oc ∙ ap (recorded_operations C end b) i in
-          let above : From (suc n) (y ∷ numbered_in puts) = subst (From (suc n)) pe' (own_from P (suc n) (suc n) g (omega arith)) in
-          clash C P end n b y.number e g o order (recorded_of_side P order) rest (Comes y ∷ puts) d s te' pe' above.0 op mine x.keeps_time.0
-
-  -- or the consumer's
-  take_next :
-      (h : List Event) (o : RecordedOperation) (order : List RecordedOperation) → Passes h → Goes h order → (n a b : ℕ) (q : Queue) (p : Producer) (c : Consumer) (puts takes : List OwnStep) →
-      Rest capacity end n a b h q p c puts takes (o ∷ order) → recorded_of_side P order ≡ recorded_operations P end a puts → o ∷ recorded_of_side C order ≡ recorded_operations C end b takes →
-      (past : List Event) → CanLeadTo capacity past (point q p c) → IsLinearizable capacity (past ++ h)
-  take_next h o order pass go n a b q p c puts [] x op oc past r = absurd (cc)
-  take_next h o order pass go n a b q p c puts (Makes d ∷ takes) x op oc past r =
-      let first : o ≡ recorded_operation C d b (next_event end takes) = cc in
-      let others : recorded_of_side C order ≡ recorded_operations C end b takes = cc in
-      let (after, mine, step, more) = x.are_takes in
-      let (q', does, legal) = x.legal in
-      let is_step : Step capacity q d q' = subst (λ (z : RecordedOperation). Step capacity q z.does q') first does in
-      go n a b q' p after puts takes
-      (record { put_events = x.put_events; take_events = x.take_events; are_puts = x.are_puts; are_takes = more; producer = op; consumer = others; legal = legal; keeps_time = x.keeps_time.1 })
-      past (goes capacity past (point q p c) (point q' p after) d r (record { queue = is_step; producer = producer_rests d p mine; consumer = step }))
-  take_next h o order pass go n a b q p c puts (Comes y ∷ takes) x op oc past r =
-      pass n a b q p c puts (Comes y ∷ takes) (o ∷ order) x (clashes h puts x.put_events x.take_events op) (none h) past r
-    where
-      none : (g : List Event) → NoClash C g (Comes y ∷ takes)
-      none [] = tt
-      none (e ∷ g) = λ d rest i s. cc
-
-      clashes : (g : List Event) (puts : List OwnStep) → own_events P n g ≡ numbered_in puts → own_events C n g ≡ numbered_in (Comes y ∷ takes) → recorded_of_side P order ≡ recorded_operations P end a puts → NoClash P g puts
-      clashes [] puts pe te op = tt
-      clashes (e ∷ g) puts pe te op = λ d rest i s.
-          let te' : own_events C (suc n) g ≡ y ∷ numbered_in takes = subst (λ z. pick C z (numbered n e ∷ own_events C (suc n) g) (own_events C (suc n) g) ≡ y ∷ numbered_in takes) s te in
-          let pe' : numbered n e ∷ own_events P (suc n) g ≡ numbered_in rest = subst (λ z. pick P z (numbered n e ∷ own_events P (suc n) g) (own_events P (suc n) g) ≡ numbered_in rest) s (pe ∙ ap numbered_in i) in
-          let mine : recorded_of_side P order ≡ recorded_operation P d a (next_event end rest) ∷ recorded_operations P end a rest = op ∙ ap (recorded_operations P end a) i in
-          let above : From (suc n) (y ∷ numbered_in takes) = subst (From (suc n)) te' (own_from C (suc n) (suc n) g (omega arith)) in
-          clash P C end n a y.number e g o order (recorded_of_side C order) rest (Comes y ∷ takes) d s pe' te' above.0 oc mine x.keeps_time.0
+      never : (g : List Event) → ((y : Side) → own_events y n g ≡ numbered_in (own y).calls) → (z : Side) → NoClash z g (own z).calls
+      never [] events z = tt
+      never (e ∷ g) events z = λ d later i s.
+          let y = o.side in
+          picked (λ (u : Side). ⊥) z y z y (λ same. let calls : (own z).calls ≡ Comes v ∷ rest = subst (λ u. (own u).calls ≡ Comes v ∷ rest) same is in cc)
+          (λ not.
+              let here : numbered n e ∷ own_events z (suc n) g ≡ numbered_in later =
+              sym (ap (λ u. pick z u (numbered n e ∷ own_events z (suc n) g) (own_events z (suc n) g)) s ∙ pick_same z _ _) ∙ events z ∙ ap numbered_in i in
+              let others : own_events y (suc n) g ≡ v ∷ numbered_in rest = sym (pick_other y (side_of e) _ _ (λ f. not (sym f ∙ s))) ∙ events y ∙ ap numbered_in is in
+              let makes : recorded_of_side z order ≡ recorded_operation z d (own z).since (next_event end later) ∷ recorded_operations z end (own z).since later =
+              sym (pick_other z y _ _ not) ∙ (x.sides z).makes ∙ ap (recorded_operations z end (own z).since) i in
+              let above : From (suc n) (v ∷ numbered_in rest) = subst (From (suc n)) others (own_from y (suc n) (suc n) g (omega arith)) in
+              clash z y end n (own z).since v.number e g o order (recorded_of_side y order) later (Comes v ∷ rest) d here others above.0 mine makes x.keeps_time.0)
 
   inner : (h : List Event) → Passes h → (order : List RecordedOperation) → Goes h order
-  inner h pass [] n a b q p c puts takes x past r = pass n a b q p c puts takes [] x (none P h puts a x.producer) (none C h takes b x.consumer) past r
+  inner h pass [] n q own x past r = pass n q own [] x (λ y. none y h (own y).calls (own y).since (x.sides y).makes) past r
     where
       none : (s : Side) (g : List Event) (calls : List OwnStep) (k : ℕ) → [] ≡ recorded_operations s end k calls → NoClash s g calls
       none s [] calls k e = tt
       none s (y ∷ g) calls k e = λ d rest i t. let f : [] ≡ recorded_operations s end k (Makes d ∷ rest) = e ∙ ap (recorded_operations s end k) i in cc
-  inner h pass (o ∷ order) n a b q p c puts takes x past r = by_side o.side x.producer x.consumer (inner h pass order)
-    where
-      by_side :
-          (s : Side) → pick P s (o ∷ recorded_of_side P order) (recorded_of_side P order) ≡ recorded_operations P end a puts → pick C s (o ∷ recorded_of_side C order) (recorded_of_side C order) ≡ recorded_operations C end b takes →
-          Goes h order → IsLinearizable capacity (past ++ h)
-      by_side P op oc go = put_next h o order pass go n a b q p c puts takes x op oc past r
-      by_side C op oc go = take_next h o order pass go n a b q p c puts takes x op oc past r
+  inner h pass (o ∷ order) n q own x past r =
+      next_goes h o order pass (inner h pass order) n q own x past r (own o.side).calls refl (sym (pick_same o.side _ _) ∙ (x.sides o.side).makes)
 
   passes : (h : List Event) → Passes h
-  passes [] = λ n a b q p c puts takes order x no_p no_c past r. (point q p c, subst (λ z. CanLeadTo capacity z (point q p c)) (sym (append-nil past)) r)
+  passes [] = λ n q own order x never past r. (point_of q own, subst (λ z. CanLeadTo capacity z (point_of q own)) (sym (append-nil past)) r)
   passes (e ∷ h) = passing e h (inner h (passes h))
+
+-- before the first event
+abbrev first_own : (puts takes : List OwnStep) → (y : Side) → Own y
+first_own puts takes P = record { place = Idle; since = 0; calls = puts }
+first_own puts takes C = record { place = Resting; since = 0; calls = takes }
 
 pub moments_of : (capacity : Capacity) (h : List Event) → Linearization capacity h → IsLinearizable capacity h
 moments_of capacity h l =
-    inner capacity (length h) h (passes capacity (length h) h) l.order 0 0 0 (queue [] false) Idle Resting l.puts l.takes
-    (record {
-      put_events = sym l.put_events;
-      take_events = sym l.take_events;
-      are_puts = l.are_puts;
-      are_takes = l.are_takes;
-      producer = l.producer;
-      consumer = l.consumer;
-      legal = l.legal;
-      keeps_time = l.keeps_time;
-    })
-    [] (start capacity)
+    inner capacity (length h) h (passes capacity (length h) h) l.order 0 (queue [] false) (first_own l.puts l.takes)
+    (record { sides = sides; legal = l.legal; keeps_time = l.keeps_time }) [] (start capacity)
+  where
+    sides : (y : Side) → ToCome y (length h) 0 h l.order (first_own l.puts l.takes y)
+    sides P = record { events = sym l.put_events; are = l.are_puts; makes = l.producer }
+    sides C = record { events = sym l.take_events; are = l.are_takes; makes = l.consumer }

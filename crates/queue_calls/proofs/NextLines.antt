@@ -1,7 +1,8 @@
 -- One more line that is told to a hearing.
-use Rattle.std.proofs.Common.{◌≡◌, ◌≢◌, ◌∙◌, ℕ, ◌+◌, Bool, false, Option, Some, None, List, [], ◌∷◌, ◌++◌, length, refl, sym, ap, subst, arith, append-nil}
+use Rattle.std.proofs.Common.{◌≡◌, ◌≢◌, ◌∙◌, ℕ, ◌+◌, ◌<◌, ◌^◌, Bool, false, Option, Some, None, List, [], ◌∷◌, ◌++◌, length, get_or, refl, sym, ap, subst, arith, append-nil}
 use Rattle.std.specs.Prelude.{is_some}
 use Rattle.std.proofs.lemmas.Bool.{false≢true}
+use Rattle.std.proofs.lemmas.List.Elements.{All-from_get_or}
 use Rattle.queue_calls.specs.Calls.{Event}
 use Rattle.queue_calls.specs.Queue.{Capacity}
 use Rattle.queue_calls.specs.Noting.{OutgrowsLists}
@@ -24,6 +25,10 @@ use Rattle.queue_calls.proofs.HeardLines.{count_is, events_more, further_heard, 
 pub no_fault_is : (fault : Option CallsFinding) → is_some fault ≡ false → fault ≡ None
 no_fault_is None is = refl
 no_fault_is (Some finding) is = absurd (false≢true (sym is))
+
+-- numbers of 64 bits, one by one
+pub are_small : (numbers : List ℕ) → ((i : ℕ) → get_or numbers i 0 < 2 ^ 64) → AreSmall numbers
+are_small numbers small = All-from_get_or (λ n. n < 2 ^ 64) numbers 0 (λ i l. small i)
 
 module _ {S O T N B : Type 0} (offered : O → List Offered) (last : T → List Taken) where
   -- what becomes of the first fault with one event more
@@ -75,18 +80,18 @@ module _ {S O T N B : Type 0} (offered : O → List Offered) (last : T → List 
           (further_line before is_cut (line_text word numbers) follows.1.0 follows.1.1 (begun_behind begun.Nothing follows.1.1) word numbers event follows.1.2 follows.0
           (record { text = refl; allowed = allowed; small = small }) told_so).0
 
-      pub number_is : (number : ℕ) → length before + 1 ≡ number → length events_are + 2 ≡ number
+      number_is : (number : ℕ) → length before + 1 ≡ number → length events_are + 2 ≡ number
       number_is number is = count_is before is_cut follows.1.0 follows.1.1 begun.Nothing (length before) number follows.1.2 follows.0 refl (sym is)
 
       -- it is heard
       pub line_heard :
-          (new : Hearing S O T N B) → new.begun ≡ begun_after old.begun word numbers → new.fault ≡ None → HasHeardAll offered last new capacity_is (events_are ++ event ∷ []) →
-          FollowsLines offered last new is_cut (before ++ line word numbers ∷ [])
-      line_heard new begun_is none heard = (
+          (new : Hearing S O T N B) (number : ℕ) → length before + 1 ≡ number → new.begun ≡ begun_after old.begun word numbers → new.fault ≡ None →
+          HearsNext offered last old number event None new → FollowsLines offered last new is_cut (before ++ line word numbers ∷ [])
+      line_heard new number is begun_is none hears = (
         all_are,
         further_heard offered last new before is_cut follows.1.0 follows.1.1 word numbers event follows.1.2 told_so
             (begun_is ∙ ap (λ b. begun_after b word numbers) follows.1.3)
-            (subst (λ f. IsFaultSoFar offered last f new.witness new.tally capacity_is (events_are ++ event ∷ [])) (sym none) heard),
+            (subst (λ f. IsFaultSoFar offered last f new.witness new.tally capacity_is (events_are ++ event ∷ [])) (sym none) (hears capacity_is events_are has_heard (number_is number is))),
         none,
       )
 
@@ -103,10 +108,11 @@ module _ {S O T N B : Type 0} (offered : O → List Offered) (last : T → List 
 
       -- it is at fault, and all is as it was
       pub line_at_fault :
-          (new : Hearing S O T N B) (finding : CallsFinding) → new.begun ≡ old.begun → new.fault ≡ None → new.witness.limit ≡ old.witness.limit → HasHeardAll offered last new capacity_is events_are →
-          IsFaultSoFar offered last (Some finding) new.witness new.tally capacity_is (events_are ++ event ∷ []) →
+          (new : Hearing S O T N B) (finding : CallsFinding) (number : ℕ) → length before + 1 ≡ number → new.begun ≡ old.begun → new.fault ≡ None → new.witness.limit ≡ old.witness.limit →
+          HearsNext offered last old number event (Some finding) new →
           FollowsLines offered last new is_cut before × IsNotLawful finding × IsFindingWithin old.witness.limit (lines_text (before ++ line word numbers ∷ [])) finding
-      line_at_fault new finding begun_is none limit heard fault =
+      line_at_fault new finding number is begun_is none limit hears =
+          let (heard, fault) = hears capacity_is events_are has_heard (number_is number is) in
           let (against, found) = found_so finding new.witness new.tally capacity_is (events_are ++ event ∷ []) fault in (
             (
               follows.0,

@@ -1,20 +1,22 @@
 -- What is counted of a history agrees with its past, and stands for it.
-use Rattle.std.proofs.Common.{◌≡◌, false, List, [], ◌∷◌, ◌++◌, reverse, refl, sym, subst, append_assoc, append-nil}
+use Rattle.std.proofs.Common.{◌≡◌, inl, inr, ℕ, true, false, Some, List, [], ◌∷◌, ◌++◌, reverse, refl, sym, subst, append_assoc, append-nil}
+use Rattle.std.specs.Prelude.{unwrap_or}
 use Rattle.queue_calls.specs.Queue.{Capacity}
 use Rattle.queue_calls.specs.Calls.{Event, IsLinearizable}
 use Rattle.queue_calls.specs.Counting.{Kept, kept, Counts, CountTo}
-use Rattle.queue_calls.specs.InTurn.{CallsAreInTurn, MovesSides, NoCall, Sides, sides}
-use Rattle.queue_calls.specs.Reasons.{items_of}
-use Rattle.queue_calls.specs.State.{IsProper, sides_of}
+use Rattle.queue_calls.specs.InTurn.{APut, CallsAreInTurn, MovesSides, NoCall, Sides, sides}
+use Rattle.queue_calls.specs.Reasons.{ended_line, has_ended, has_told, items_of}
+use Rattle.queue_calls.specs.State.{IsProper, call_of_put, sides_of}
 use Rattle.queue_calls.specs.Witnesses.{Remembers}
 use Rattle.call_causes.specs.declared.entries.Offered.{Offered}
 use Rattle.call_causes.specs.declared.entries.Taken.{Taken}
-use Rattle.queue_calls.specs.declared.turns.PutTurn.TheVariants.{Free}
+use Rattle.queue_calls.specs.declared.turns.PutTurn.TheVariants.{Free, Late, Offers}
 use Rattle.queue_calls.specs.declared.turns.TakeTurn.TheVariants.{Rests}
 use Rattle.queue_calls.specs.declared.witnesses.Witness.{Witness}
 use Rattle.queue_calls.proofs.Agrees.{Agrees}
 use Rattle.queue_calls.proofs.Agreeing.{at_first, step, turned_behind}
-use Rattle.queue_calls.proofs.CauseFound.{standing}
+use Rattle.queue_calls.proofs.CauseFound.{put_of, standing}
+use Rattle.queue_calls.proofs.CauseTold.{is_line, late_ends, no_line}
 use Rattle.queue_calls.proofs.CountedHistories.{Stands, counts_keeps}
 use Rattle.queue_calls.proofs.Ends.TakeBegins.{keeps_nothing}
 use Rattle.queue_calls.proofs.TurnLemmas.{last_turn, same_turns}
@@ -61,10 +63,25 @@ module _ (capacity : Capacity) (events : List Event) (k : Kept) (proper : IsProp
 abbrev pub kept_of : {S O T N B : Type 0} → (offered : O → List Offered) → Witness S O T N B → Kept
 kept_of offered w = kept (items_of (offered w.auditor.inside.list)) w.auditor.put w.auditor.take w.auditor.shut
 
-pub agrees_of :
-    {S O T N B : Type 0} (offered : O → List Offered) (last : T → List Taken) (w : Witness S O T N B) (capacity : Capacity) (events : List Event) →
-    Remembers offered last w capacity events → Agrees (reverse events) (kept_of offered w)
-agrees_of offered last w capacity events r = agrees capacity events (kept_of offered w) r.proper r.counted
+module _ {S O T N B : Type 0} {offered : O → List Offered} {last : T → List Taken} {w : Witness S O T N B} {capacity : Capacity} {events : List Event} (r : Remembers offered last w capacity events) where
+  pub agrees_of : Agrees (reverse events) (kept_of offered w)
+  agrees_of = agrees capacity events (kept_of offered w) r.proper r.counted
+
+  -- the line that ended the first close
+  pub ended_is : has_ended (reverse events) ≡ true → unwrap_or w.ended_at 0 ≡ ended_line (reverse events)
+  ended_is on = is_line _ _ w.ended_at r.ended on
+
+  -- a put under way that does not offer its items began behind a close
+  pub was_late : {n : ℕ} → call_of_put w.auditor.put ≡ APut n → ((m inside : ℕ) → w.auditor.put ≡ Offers m inside → ⊥) →
+      (w.auditor.put ≡ Late n) × (unwrap_or w.ended_at 0 ≡ ended_line (reverse events))
+  was_late {n} turn not = elim (put_of w.auditor.put n turn) [
+    | inl o ↦ absurd (not n o.0 o.1)
+    | inr is ↦ (is, ended_is (late_ends capacity agrees_of is))
+  ]
+
+  -- no take was told that the queue is closed
+  pub not_told : ((line : ℕ) → w.told_at ≡ Some line → ⊥) → has_told (reverse events) ≡ false
+  not_told none = no_line _ _ w.told_at r.told none
 
 pub linear_of :
     {S O T N B : Type 0} (offered : O → List Offered) (last : T → List Taken) (w : Witness S O T N B) (capacity : Capacity) (events : List Event) →

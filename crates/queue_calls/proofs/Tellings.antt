@@ -89,13 +89,10 @@ began_behind b PutNothing s t began turn = subst (λ (x : Sides). BeganLast b x.
 began_behind b PutClosed s t began turn = subst (λ (x : Sides). BeganLast b x.producer) (sym turn.2) tt
 began_behind b CloseBegin s t began turn = subst (λ (x : Sides). BeganLast begun.Close x.producer) (sym turn.1) refl
 began_behind b CloseEnd s t began turn = subst (λ (x : Sides). BeganLast b x.producer) (sym turn.1) tt
-began_behind b (TakeBegin wanted) s t began turn = subst (λ (x : Sides). BeganLast b x.producer) (sym turn.2) began
 began_behind b (TakeItems items true) s t began turn = subst (λ (x : Sides). BeganLast b x.producer) (sym turn.4) began
 began_behind b (TakeItems items false) s t began turn = subst (λ (x : Sides). BeganLast b x.producer) (sym turn.4) began
-began_behind b TakeEmpty s t began turn = subst (λ (x : Sides). BeganLast b x.producer) (sym turn.2) began
 began_behind b TakeShort s t began turn = subst (λ (x : Sides). BeganLast b x.producer) (sym turn.3) began
-began_behind b TakeNothing s t began turn = subst (λ (x : Sides). BeganLast b x.producer) (sym turn.2) began
-began_behind b TakeClosed s t began turn = subst (λ (x : Sides). BeganLast b x.producer) (sym turn.2) began
+began_behind b event s t began turn = subst (λ (x : Sides). BeganLast b x.producer) (sym turn.2) began
 
 -- ---- a history
 

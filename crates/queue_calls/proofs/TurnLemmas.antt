@@ -13,20 +13,13 @@ last_turn [] e s u (n, f, r) = (s, refl, subst (λ z. MovesSides s e z) (sym r) 
 last_turn (x ∷ h) e s u (n, f, r) = let (t, a, b) = last_turn h e n u r in (t, (n, f, a), b)
 
 same_turn : (e : Event) (s t u : Sides) → MovesSides s e t → MovesSides s e u → t ≡ u
-same_turn (PutBegin items) s t u a b = a.2 ∙ sym b.2
 same_turn (PutStored count why) s t u a b = a.4 ∙ sym b.4
-same_turn PutFull s t u a b = a.2 ∙ sym b.2
 same_turn PutShort s t u a b = a.3 ∙ sym b.3
-same_turn PutNothing s t u a b = a.2 ∙ sym b.2
-same_turn PutClosed s t u a b = a.2 ∙ sym b.2
 same_turn CloseBegin s t u a b = a.1 ∙ sym b.1
 same_turn CloseEnd s t u a b = a.1 ∙ sym b.1
-same_turn (TakeBegin wanted) s t u a b = a.2 ∙ sym b.2
 same_turn (TakeItems items why) s t u a b = a.4 ∙ sym b.4
-same_turn TakeEmpty s t u a b = a.2 ∙ sym b.2
 same_turn TakeShort s t u a b = a.3 ∙ sym b.3
-same_turn TakeNothing s t u a b = a.2 ∙ sym b.2
-same_turn TakeClosed s t u a b = a.2 ∙ sym b.2
+same_turn e s t u a b = a.2 ∙ sym b.2
 
 pub same_turns : (h : List Event) (s t u : Sides) → Turns s h t → Turns s h u → t ≡ u
 same_turns [] s t u a b = a ∙ sym b

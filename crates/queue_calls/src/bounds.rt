@@ -57,28 +57,13 @@ impl<Q: Inside> CallAuditor<Q> {
     pub(crate) fn is_putting(&self) -> bool
         ensures { result ≡ has_put self.now.put }
     {
-        match self.put {
-            PutTurn::Free => false,
-            PutTurn::Offers {
-                offered: _,
-                before: _,
-            }
-            | PutTurn::Late { offered: _ }
-            | PutTurn::Closes { again: _ } => true,
-        }
+        !matches!(self.put, PutTurn::Free)
     }
 
     pub(crate) fn is_taking(&self) -> bool
         ensures { result ≡ has_take self.now.take }
     {
-        match self.take {
-            TakeTurn::Rests => false,
-            TakeTurn::Waits {
-                wanted: _,
-                before: _,
-                ended: _,
-            } => true,
-        }
+        !matches!(self.take, TakeTurn::Rests)
     }
 
     // How many items are inside whatever the calls under way have done; and at most.

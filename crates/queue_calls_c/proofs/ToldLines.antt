@@ -75,7 +75,7 @@ module _ (m o t : ℕ) where
   }
 
   -- one is at hand of which something is said
-  pub stops_at :
+  stops_at :
       (F : List Line → Type 0) (heard : List Line) (lines : List WordLine) (count : ℕ) (d : WordLine) (rest : List ℕ) (said : Result (Option CallsFinding) RecordingFault) → count < length lines → said ≢ Ok None →
       SaysOf m o t F heard (get_or lines count d) rest said → StopsWith m o t F heard (drop count lines) rest said
   stops_at F heard [] count d rest said l other s = absurd (omega (arith, l))
@@ -83,12 +83,27 @@ module _ (m o t : ℕ) where
   stops_at F heard (next ∷ more) (suc count) d rest said l other s = stops_at F heard more count d rest said (omega (arith, l)) other s
 
   -- there is none
-  pub stops_none :
+  stops_none :
       (F : List Line → Type 0) (heard : List Line) (lines : List WordLine) (count : ℕ) (rest : List ℕ) → length lines ≤ count → F heard → StopsWith m o t F heard (drop count lines) rest (Ok None)
   stops_none F heard [] zero rest l f = (refl, f)
   stops_none F heard [] (suc count) rest l f = (refl, f)
   stops_none F heard (next ∷ more) zero rest l f = absurd (omega (arith, l))
   stops_none F heard (next ∷ more) (suc count) rest l f = stops_none F heard more count rest (omega (arith, l)) f
+
+  -- so many were heard, and this is said of the next one
+  pub hears_at :
+      (F : List Line → Type 0) (before heard : List Line) (lines : List WordLine) (numbers : List ℕ) (count : ℕ) (d : WordLine) (rest : List ℕ) (said : Result (Option CallsFinding) RecordingFault) →
+      count < length lines → TellLines (take count lines) numbers heard rest → said ≢ Ok None → SaysOf m o t F (before ++ heard) (get_or lines count d) rest said →
+      HearsSome m o t F before lines numbers count said
+  hears_at F before heard lines numbers count d rest said within told other says =
+      record { heard = heard; rest = rest; few = omega (arith, within); told = told; stops = stops_at F (before ++ heard) lines count d rest said within other says }
+
+  -- and where all were
+  pub hears_all :
+      (F : List Line → Type 0) (before heard : List Line) (lines : List WordLine) (numbers : List ℕ) (count : ℕ) (rest : List ℕ) → length lines ≤ count → count ≤ length lines →
+      TellLines (take count lines) numbers heard rest → F (before ++ heard) → HearsSome m o t F before lines numbers count (Ok None)
+  hears_all F before heard lines numbers count rest all few told f =
+      record { heard = heard; rest = rest; few = few; told = told; stops = stops_none F (before ++ heard) lines count rest all f }
 
 -- the lines before this one, and this one
 pub with_next : (lines : List WordLine) (count : ℕ) (d : WordLine) → count < length lines → take count lines ++ get_or lines count d ∷ [] ≡ take (suc count) lines

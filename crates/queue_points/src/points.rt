@@ -125,15 +125,8 @@ impl<'a> LinearizationPoints<'a> {
         let Some(take) = take_event(self.row, self.head, self.take, event) else {
             return false;
         };
-        *self = LinearizationPoints {
-            capacity: self.capacity,
-            row: self.row,
-            head: self.head,
-            tail: self.tail,
-            closed: self.closed,
-            put,
-            take,
-        };
+        self.put = put;
+        self.take = take;
         true
     }
 
@@ -150,15 +143,8 @@ impl<'a> LinearizationPoints<'a> {
         let Some(put) = put_effect(self.put, Operation::Enqueue(item)) else {
             return false;
         };
-        *self = LinearizationPoints {
-            capacity: self.capacity,
-            row: self.row,
-            head: self.head,
-            tail: self.tail + 1,
-            closed: false,
-            put,
-            take: self.take,
-        };
+        self.tail += 1;
+        self.put = put;
         true
     }
 
@@ -172,15 +158,8 @@ impl<'a> LinearizationPoints<'a> {
         let Some(take) = take_one(self.row, self.head, self.take) else {
             return false;
         };
-        *self = LinearizationPoints {
-            capacity: self.capacity,
-            row: self.row,
-            head: self.head + 1,
-            tail: self.tail,
-            closed: self.closed,
-            put: self.put,
-            take,
-        };
+        self.head += 1;
+        self.take = take;
         true
     }
 
@@ -198,15 +177,9 @@ impl<'a> LinearizationPoints<'a> {
         let Some(take) = take_effect(self.row, self.head, self.take, does) else {
             return false;
         };
-        *self = LinearizationPoints {
-            capacity: self.capacity,
-            row: self.row,
-            head: self.head,
-            tail: self.tail,
-            closed,
-            put,
-            take,
-        };
+        self.closed = closed;
+        self.put = put;
+        self.take = take;
         true
     }
 

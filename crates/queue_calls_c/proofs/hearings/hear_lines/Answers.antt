@@ -1,10 +1,11 @@
-use Rattle.std.proofs.Common.{◌≡◌, ◌∙◌, ◌+◌, ◌≢◌, suc, List, [], ◌∷◌, ◌++◌, Ok, None, false, length, take, get_or, refl, sym, ap, subst, arith, append-nil, length-append, append_assoc}
+use Rattle.std.proofs.Common.{◌≡◌, ◌∙◌, ◌+◌, ◌≢◌, suc, List, [], ◌∷◌, ◌++◌, Ok, Err, None, false, length, take, get_or, refl, sym, ap, subst, arith, append-nil, length-append, append_assoc}
 use Rattle.std.proofs.lemmas.Bool.{false≢true}
 use Rattle.queue_calls.specs.Hearings.{FollowsLines}
 use Rattle.queue_calls.specs.Recordings as recordings
+use Rattle.queue_calls.specs.declared.recordings.RecordingFault.TheVariants.{TooLong}
 use Rattle.lists.specs.Rings.{ring_items}
 use Rattle.queue_calls_c.specs.Heard.{TellLines, SaysOf, offered_room, taken_room}
-use Rattle.queue_calls_c.proofs.ToldLines.{says_map, stops_at, stops_none, told_more, with_next}
+use Rattle.queue_calls_c.proofs.ToldLines.{hears_all, hears_at, says_map, told_more, with_next}
 use Rattle.queue_calls_c.proofs.hearings.hear_lines.Goals as goal
 
 pub loop-heard-init : goal.loop-heard-init
@@ -23,30 +24,15 @@ loop-heard-init c = (
 
 pub returns-in_default-clause-hears : goal.returns-in_default-clause-hears
 returns-in_default-clause-hears c earlier follows is =
-    let (few, o, t, m, inv) = c.loop-heard.invariant in
-    let (heard, told, still, number) = inv earlier follows is in
-    let F : List recordings.Line → Type 0 = λ ls. FollowsLines ring_items ring_items c.loop-heard.hearing false ls × (c.loop-heard.number ≡ length ls) in
-    record {
-      heard = heard;
-      rest = c.loop-heard.rest.now;
-      few = few;
-      told = told;
-      stops = stops_at c.args.hearing.now.witness.limit (offered_room c.args.hearing.now) (taken_room c.args.hearing.now) F (earlier ++ heard) c.args.lines.now c.loop-heard.heard (record { word = 0; count = 0 }) c.loop-heard.rest.now _ c.loop-heard-test.true (λ e. absurd cc)
-          ((still, number), omega (arith, number, c.in_default.ensures));
-    }
+    let (heard, told, still, number) = c.loop-heard.invariant.4 earlier follows is in
+    hears_at c.args.hearing.now.witness.limit (offered_room c.args.hearing.now) (taken_room c.args.hearing.now) (λ ls. FollowsLines ring_items ring_items c.loop-heard.hearing false ls × (c.loop-heard.number ≡ length ls)) earlier heard c.args.lines.now
+    c.args.numbers.now c.loop-heard.heard (record { word = 0; count = 0 }) c.loop-heard.rest.now (Err TooLong) c.loop-heard-test.true told (λ e. cc) ((still, number), omega (arith, number, c.in_default.ensures))
 
 pub returns-clause-hears : goal.returns-clause-hears
 returns-clause-hears c earlier follows is =
-    let (few, o, t, m, inv) = c.loop-heard.invariant in
-    let (heard, told, still, number) = inv earlier follows is in
-    let F : List recordings.Line → Type 0 = λ ls. FollowsLines ring_items ring_items c.loop-heard.hearing false ls × (c.loop-heard.number ≡ length ls) in
-    record {
-      heard = heard;
-      rest = c.loop-heard.rest.now;
-      few = few;
-      told = told;
-      stops = stops_none c.args.hearing.now.witness.limit (offered_room c.args.hearing.now) (taken_room c.args.hearing.now) F (earlier ++ heard) c.args.lines.now c.loop-heard.heard c.loop-heard.rest.now (omega (arith, c.loop-heard-test.false)) (still, number);
-    }
+    let (heard, told, still, number) = c.loop-heard.invariant.4 earlier follows is in
+    hears_all c.args.hearing.now.witness.limit (offered_room c.args.hearing.now) (taken_room c.args.hearing.now) (λ ls. FollowsLines ring_items ring_items c.loop-heard.hearing false ls × (c.loop-heard.number ≡ length ls)) earlier heard c.args.lines.now
+    c.args.numbers.now c.loop-heard.heard c.loop-heard.rest.now (omega (arith, c.loop-heard-test.false)) c.loop-heard.invariant.0 told (still, number)
 
 pub returns-then-not-is_heard-clause-hears : goal.returns-then-not-is_heard-clause-hears
 returns-then-not-is_heard-clause-hears c earlier follows is =
@@ -64,14 +50,8 @@ returns-then-not-is_heard-clause-hears c earlier follows is =
     let here = subst (λ l. SaysOf l O T G (earlier ++ heard) next c.loop-heard.rest.now c.hear_one-said.result) m
     (subst (λ b. SaysOf c.loop-heard.hearing.witness.limit O b G (earlier ++ heard) next c.loop-heard.rest.now c.hear_one-said.result) t
     (subst (λ a. SaysOf c.loop-heard.hearing.witness.limit a (taken_room c.loop-heard.hearing) G (earlier ++ heard) next c.loop-heard.rest.now c.hear_one-said.result) o says)) in
-    record {
-      heard = heard;
-      rest = c.loop-heard.rest.now;
-      few = few;
-      told = told;
-      stops = stops_at M O T F (earlier ++ heard) c.args.lines.now c.loop-heard.heard (record { word = 0; count = 0 }) c.loop-heard.rest.now _ c.loop-heard-test.true other
-          (says_map M O T G F (earlier ++ heard) next c.loop-heard.rest.now c.hear_one-said.result other (λ f. (f, number)) here);
-    }
+    hears_at M O T F earlier heard c.args.lines.now c.args.numbers.now c.loop-heard.heard (record { word = 0; count = 0 }) c.loop-heard.rest.now c.hear_one-said.result c.loop-heard-test.true told other
+    (says_map M O T G F (earlier ++ heard) next c.loop-heard.rest.now c.hear_one-said.result other (λ f. (f, number)) here)
 
 pub loop-heard-preserved : goal.loop-heard-preserved
 loop-heard-preserved c =

@@ -1,13 +1,9 @@
-use Rattle.std.proofs.Common.{◌∙◌, Result, Ok, Err, OnOk, IfErr, sym}
+use Rattle.std.proofs.Common.{◌∙◌, sym}
 use Rattle.queue_calls.specs.Told.{told}
 use Rattle.queue_calls.proofs.HearingLemmas.{fault_stays, no_fault}
+use Rattle.queue_calls.proofs.Results.{then_err, then_ok}
 use Rattle.queue_calls.proofs.NextLines.{fault_next, no_fault_is}
 use Rattle.queue_calls.proofs.hearings.Hearing.hear.Goals as goal
-
--- what holds on success follows from what else holds on success
-then_ok : {T E P Q : Type 0} (r : Result T E) → OnOk r P → (P → Q) → OnOk r Q
-then_ok (Ok x) p q = q p
-then_ok (Err e) p q = tt
 
 pub returns-then-is_some-clause-heard : goal.returns-then-is_some-clause-heard
 returns-then-is_some-clause-heard g c capacity events heard number =
@@ -23,11 +19,6 @@ returns-clause-heard g c =
     let none = sym c.is_some.ensures ∙ c.if-is_some.false in
     then_ok c.next.result c.next.ensures.heard (λ hears capacity events heard number.
     fault_next O T s n c.args.line (told c.args.event) capacity events n.fault (hears (no_fault_is s.fault none)) (no_fault O T capacity events s.fault s.witness s.tally none heard) number)
-
--- what holds of an error follows from what else holds of it
-then_err : {T E : Type 0} {P Q : E → Type 0} (r : Result T E) → IfErr r P → ((e : E) → P e → Q e) → IfErr r Q
-then_err (Ok x) p q = tt
-then_err (Err e) p q = q e p
 
 pub returns-clause-full : goal.returns-clause-full
 returns-clause-full g c =

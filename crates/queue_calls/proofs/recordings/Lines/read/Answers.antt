@@ -1,32 +1,33 @@
-use Rattle.std.proofs.Common.{◌≡◌, ◌≢◌, true, false, ap, ◌∙◌, ℕ, ◌+◌, List, [], ◌∷◌, ◌++◌, length, Option, Some, Result, Ok, Err, OnOk, IfErr, IfSome, inl, length-append, ap₂, sym, subst, arith}
+use Rattle.std.proofs.Common.{◌≡◌, ◌≢◌, true, false, ap, ◌∙◌, ℕ, ◌+◌, List, [], ◌∷◌, ◌++◌, length, Option, Some, IfSome, inl, length-append, ap₂, sym, subst, arith}
 use Rattle.std.proofs.lemmas.List.{nil_from_length}
 use Rattle.call_lines.specs.Lines.{IsLine}
 use Rattle.queue_calls.specs.Noting.{OutgrowsLists}
-use Rattle.queue_calls.specs.Recordings.{Line, line, first_word, begun_after, begun_behind, capacity_told, event_told, events_told}
-use Rattle.queue_calls.specs.RecordingStates.{HasHeard}
+use Rattle.queue_calls.specs.Recordings.{AreLines, Line, line, first_word, begun_after, begun_behind, capacity_told, event_told, events_told}
+use Rattle.queue_calls.specs.RecordingStates.{HasHeard, HasLines, HeardLines}
 use Rattle.queue_calls.specs.Told.{told}
 use Rattle.call_causes.specs.declared.entries.TheConstants.{TAKEN_LIMIT}
+use Rattle.call_causes.specs.declared.entries.Offered.{Offered}
+use Rattle.call_causes.specs.declared.entries.Taken.{Taken}
 use Rattle.call_lines.specs.declared.lines.Word.{Word}
 use Rattle.queue_calls.specs.declared.hearings.Begun.TheVariants as begun
+use Rattle.queue_calls.specs.declared.recordings.Lines.{Lines}
 use Rattle.queue_calls.proofs.HeardLines.{IsFirst, first_line, is_line, first_heard, further_line, count_is, further_heard, not_the_first, not_further}
+use Rattle.queue_calls.proofs.Results.{then_err, then_ok}
 use Rattle.queue_calls.proofs.NotingLemmas.{line_long}
 use Rattle.queue_calls.proofs.recordings.Lines.read.Goals as goal
 use Rattle.queue_calls.proofs.recordings.Lines.read.Goals.{else-ne-via-then-ne+else-ne-2, else-ne-via-else-ne}
-
--- what holds on success follows from what else holds on success
-then_ok : {T E P Q : Type 0} (r : Result T E) → OnOk r P → (P → Q) → OnOk r Q
-then_ok (Ok x) p q = q p
-then_ok (Err e) p q = tt
 
 -- the line that was read
 read_is : (bytes numbers : List ℕ) (r : Option Word) (w : Word) → r ≡ Some w → IfSome r (λ v. IsLine bytes v numbers) → IsLine bytes w numbers
 read_is bytes numbers r w is h = let P : Option Word → Type 0 = λ o. IfSome o (λ v. IsLine bytes v numbers) in subst P is h
 
-counted : (before : List Line) (l : Line) (old count : ℕ) → old ≡ length before → count ≡ old + 1 → count ≡ length (before ++ l ∷ [])
-counted before l old count is next = let all : length (before ++ l ∷ []) ≡ length before + 1 = length-append before (l ∷ []) in omega (arith, is, next, all)
-
-some_lines : (before : List Line) (l : Line) → before ++ l ∷ [] ≢ []
-some_lines before l none = omega (arith, ap length none, length-append before (l ∷ []))
+-- one line more has ended, that was heard
+has_more :
+    {S O T N B : Type 0} (offered : O → List Offered) (last : T → List Taken) (lines : Lines S O T N B) (before : List Line) (l : Line) (count : ℕ) → count ≡ length before → lines.count ≡ count + 1 →
+    lines.hearing.witness.limit ≡ TAKEN_LIMIT → AreLines (before ++ l ∷ []) → HeardLines offered last lines.hearing lines.lacks_calls (before ++ l ∷ []) → HasLines offered last lines (before ++ l ∷ [])
+has_more offered last lines before l count is next limit are heard =
+    let all : length (before ++ l ∷ []) ≡ length before + 1 = length-append before (l ∷ []) in
+    record { are = are; count = omega (arith, is, next, all); limit = limit; unheard = λ none. absurd (omega (arith, ap length none, all)); heard = λ _. heard }
 
 pub returns-clause-read : goal.returns-clause-read
 returns-clause-read g c = then_ok c.hear.result c.hear.ensures.heard (λ heard before has.
@@ -41,16 +42,11 @@ returns-clause-read g c = then_ok c.hear.result c.hear.ensures.heard (λ heard b
     let on = further_line before c.args.self.now.lacks_calls c.args.line.now lines.0 lines.1 (begun_behind begun.Nothing lines.1) c.in-Some-2.word numbers (told c.in-Some-event_told.event) lines.2 has.are is tells in (
       line c.in-Some-2.word numbers,
       on,
-      record {
-        are = on.0;
-        count = counted before _ c.args.self.now.count c.in-Some.count has.count c.in-Some.ensures.1;
-        limit = c.hear.ensures.limit ∙ has.limit;
-        unheard = λ none. absurd (some_lines before _ none);
-        heard = λ _. further_heard g.S.Offered.Fifo.items g.S.Taken.Fifo.items c.hear.new.self before c.args.self.now.lacks_calls lines.0 lines.1 c.in-Some-2.word numbers (told c.in-Some-event_told.event) lines.2 tells
-            (c.hear.ensures.begun ∙ c.begun_after-self.ensures ∙ ap₂ (λ b ns. begun_after b c.in-Some-2.word ns) begun_is same)
+      has_more g.S.Offered.Fifo.items g.S.Taken.Fifo.items _ before _ c.args.self.now.count has.count c.in-Some.ensures.1 (c.hear.ensures.limit ∙ has.limit) on.0
+          (further_heard g.S.Offered.Fifo.items g.S.Taken.Fifo.items c.hear.new.self before c.args.self.now.lacks_calls lines.0 lines.1 c.in-Some-2.word numbers (told c.in-Some-event_told.event) lines.2 tells
+          (c.hear.ensures.begun ∙ c.begun_after-self.ensures ∙ ap₂ (λ b ns. begun_after b c.in-Some-2.word ns) begun_is same)
             (heard (capacity_told lines.0) (events_told begun.Nothing lines.1) lines.4
-            (count_is before c.args.self.now.lacks_calls lines.0 lines.1 begun.Nothing c.args.self.now.count c.in-Some.count lines.2 has.are has.count c.in-Some.ensures.1));
-      },
+            (count_is before c.args.self.now.lacks_calls lines.0 lines.1 begun.Nothing c.args.self.now.count c.in-Some.count lines.2 has.are has.count c.in-Some.ensures.1))),
     ))
 
 pub returns-then-count-eq1-clause-read : goal.returns-then-count-eq1-clause-read
@@ -66,14 +62,9 @@ returns-then-count-eq1-clause-read g c before has =
     let on = first_line before c.args.line.now numbers is_cut none is in (
       line (first_word is_cut) numbers,
       on,
-      record {
-        are = on.0;
-        count = counted before _ c.args.self.now.count c.in-Some.count has.count c.in-Some.ensures.1;
-        limit = c.begins.ensures.limit ∙ has.limit;
-        unheard = λ none. absurd (some_lines before _ none);
-        heard = λ _. first_heard g.S.Offered.Fifo.items g.S.Taken.Fifo.items c.begins.new.self before is_cut numbers none c.begins.ensures.begun
-            (subst (λ ns. HasHeard g.S.Offered.Fifo.items g.S.Taken.Fifo.items c.begins.new.self (capacity_told ns) []) c.as_slice-numbers.ensures c.begins.ensures.heard);
-      },
+      has_more g.S.Offered.Fifo.items g.S.Taken.Fifo.items _ before _ c.args.self.now.count has.count c.in-Some.ensures.1 (c.begins.ensures.limit ∙ has.limit) on.0
+          (first_heard g.S.Offered.Fifo.items g.S.Taken.Fifo.items c.begins.new.self before is_cut numbers none c.begins.ensures.begun
+            (subst (λ ns. HasHeard g.S.Offered.Fifo.items g.S.Taken.Fifo.items c.begins.new.self (capacity_told ns) []) c.as_slice-numbers.ensures c.begins.ensures.heard)),
     )
 
 pub returns-in_default-2-clause-refused : goal.returns-in_default-2-clause-refused
@@ -95,11 +86,6 @@ returns-in_default-event_told-clause-refused g c before has =
     let some : before ≢ [] = λ none. c.if-count-eq1.false (omega (arith, has.count, c.in-Some.ensures.1, ap length none)) in
     let is = read_is _ _ _ _ c.in-Some-2.is c.in_ok-word.ensures.line in
     (omega (arith, has.count, c.in-Some.ensures.1), λ l. not_further before c.args.line.now _ _ c.args.self.now.hearing.begun c.in-Some-2.word l some (sym c.in_default-event_told.ensures) is)
-
--- what holds of an error follows from what else holds of it
-then_err : {T E : Type 0} {P Q : E → Type 0} (r : Result T E) → IfErr r P → ((e : E) → P e → Q e) → IfErr r Q
-then_err (Ok x) p q = tt
-then_err (Err e) p q = q e p
 
 pub returns-clause-full : goal.returns-clause-full
 returns-clause-full g c = then_err c.hear.result c.hear.ensures.full (λ e needs short before has.

@@ -1,10 +1,10 @@
-use Rattle.std.proofs.Common.{◌≡◌, ◌≢◌, inr, Result, Ok, Err, length-append, arith, ◌∙◌, ◌++◌, ◌∷◌, [], List, ℕ, refl, ap, sym, subst, append_assoc, rules}
+use Rattle.std.proofs.Common.{◌≡◌, ◌≢◌, inr, length-append, arith, ◌∙◌, ◌++◌, ◌∷◌, [], List, ℕ, refl, ap, sym, subst, append_assoc, rules}
 use Rattle.std.proofs.lemmas.List.{append-nil}
 use Rattle.std.proofs.lemmas.List.Elements.{All-append}
-use Rattle.std.specs.Prelude.{IfErr}
 use Rattle.queue_calls.specs.Rooms.{AreTooShort, rooms_in}
 use Rattle.queue_calls.specs.declared.recordings.RecordingFault.{RecordingFault}
 use Rattle.queue_calls.specs.declared.recordings.RecordingFault.TheVariants.{OutOfMemory}
+use Rattle.queue_calls.proofs.Results.{if_err, of_err}
 use Rattle.queue_calls.proofs.NotingLemmas.{rooms_same, too_short_on}
 use Rattle.queue_calls.specs.Recordings.{RefusesText, lines_text}
 use Rattle.queue_calls.specs.RecordingStates.{HasNoFeed, HasRead}
@@ -56,14 +56,6 @@ returns-clause-read g c bytes has =
       no_feed = subst HasNoFeed (sym cut) (All-append (λ b. b ≢ 10) (g.S.Bytes.Store.items c.loop-end.self.cut) c.loop-end.rest.now so_far.no_feed c.in_default.ensures);
       lines = so_far.lines;
     }
-
--- what holds of the error that is answered
-of_err : {T E : Type 0} (Q : E → Type 0) (r : Result T E) (e : E) → r ≡ Err e → Q e → IfErr r Q
-of_err Q r e is q = subst (λ z. IfErr z Q) (sym is) q
-
-if_err : {T E : Type 0} {Q : E → Type 0} (r : Result T E) → ((e : E) → Q e) → IfErr r Q
-if_err (Ok x) q = tt
-if_err (Err e) q = q e
 
 pub returns-in_err-read_end-clause-full : goal.returns-in_err-read_end-clause-full
 returns-in_err-read_end-clause-full g c =

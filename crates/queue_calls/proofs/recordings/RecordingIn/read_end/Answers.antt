@@ -1,4 +1,4 @@
-use Rattle.std.proofs.Common.{◌≡◌, ◌≢◌, inr, length-append, arith, ◌∙◌, ◌++◌, ◌∷◌, [], List, ℕ, Result, Ok, Err, OnOk, IfErr, ap, sym, subst, rules}
+use Rattle.std.proofs.Common.{◌≡◌, ◌≢◌, inr, length-append, arith, ◌∙◌, ◌++◌, ◌∷◌, [], List, ℕ, ap, sym, subst, rules}
 use Rattle.std.proofs.lemmas.Bool.{eqb-true}
 use Rattle.std.proofs.lemmas.List.{nil_from_length}
 use Rattle.std.proofs.lemmas.List.Elements.{All-append}
@@ -7,27 +7,10 @@ use Rattle.queue_calls.specs.Rooms.{AreTooShort, rooms_in}
 use Rattle.queue_calls.specs.declared.recordings.RecordingFault.{RecordingFault}
 use Rattle.queue_calls.specs.declared.recordings.RecordingFault.TheVariants.{OutOfMemory}
 use Rattle.queue_calls.specs.RecordingStates.{HasRead, RefusesLine}
+use Rattle.queue_calls.proofs.Results.{if_err, of_err}
 use Rattle.queue_calls.proofs.RecordingLemmas.{end_refused, ended_text, line_ended}
 use Rattle.queue_calls.proofs.NotingLemmas.{line_short}
 use Rattle.queue_calls.proofs.recordings.RecordingIn.read_end.Goals as goal
-
--- what holds of an error follows from what else holds of it
-then_err : {T E : Type 0} {P Q : E → Type 0} (r : Result T E) → IfErr r P → ((e : E) → P e → Q e) → IfErr r Q
-then_err (Ok x) p q = tt
-then_err (Err e) p q = q e p
-
--- what holds on success follows from what else holds on success
-then_ok : {T E P Q : Type 0} (r : Result T E) → OnOk r P → (P → Q) → OnOk r Q
-then_ok (Ok x) p q = q p
-then_ok (Err e) p q = tt
-
--- what holds of the error that is answered
-of_err : {T E : Type 0} (Q : E → Type 0) (r : Result T E) (e : E) → r ≡ Err e → Q e → IfErr r Q
-of_err Q r e is q = subst (λ z. IfErr z Q) (sym is) q
-
-if_err : {T E : Type 0} {Q : E → Type 0} (r : Result T E) → ((e : E) → Q e) → IfErr r Q
-if_err (Ok x) q = tt
-if_err (Err e) q = q e
 
 pub returns-in-Ok-clause-read : goal.returns-in-Ok-clause-read
 returns-in-Ok-clause-read g c bytes has =

@@ -1,36 +1,17 @@
-use Rattle.std.proofs.Common.{◌<◌, ◌≤◌, length, ◌∙◌, ap, reverse, arith, inl, inr}
+use Rattle.std.proofs.Common.{◌∙◌, ap, arith}
 use Rattle.call_causes.specs.declared.causes.Cause.TheVariants.{FullAfterClose, FullWithRoom, NotStoredButTaken}
-use Rattle.queue_calls.proofs.CauseFound.{put_of}
-use Rattle.queue_calls.proofs.CauseTold.{full_gone, full_room, is_line, late_ends, late_full}
-use Rattle.queue_calls.proofs.Remembering.{agrees_of, kept_of}
+use Rattle.queue_calls.proofs.CauseTold.{full_gone, full_room, late_full}
+use Rattle.queue_calls.proofs.Remembering.{agrees_of, was_late}
 use Rattle.queue_calls.proofs.witnesses.Witness.full_cause.Goals as goal
 
 pub returns-in_default : goal.returns-in_default
 returns-in_default g c capacity events cause r n turn e =
-    let s = c.args.self.now in
-    let k = kept_of g.S.Offered.Fifo.items s in
-    let a = agrees_of g.S.Offered.Fifo.items g.S.Taken.Fifo.items s capacity events r in
-    elim (put_of s.auditor.put n turn) [
-      | inl o ↦ absurd (c.in_default.not-Offers n o.0 o.1)
-      | inr is ↦
-          ap FullAfterClose (c.ended_line.ensures ∙ is_line _ _ s.ended_at r.ended (late_ends capacity (reverse events) k a cause n is)) ∙
-          late_full capacity (reverse events) k a cause n is e
-    ]
+    let (is, line) = was_late r turn c.in_default.not-Offers in ap FullAfterClose (c.ended_line.ensures ∙ line) ∙ late_full capacity (agrees_of r) is e
 
 pub returns-then-len-offered : goal.returns-then-len-offered
 returns-then-len-offered g c capacity events cause r n turn e =
-    let s = c.args.self.now in
-    let k = kept_of g.S.Offered.Fifo.items s in
-    let a = agrees_of g.S.Offered.Fifo.items g.S.Taken.Fifo.items s capacity events r in
-    let less : length k.inside < c.in-Offers.offered = omega (arith, c.if-len-offered.true, c.len.ensures.items) in
-    ap NotStoredButTaken r.taken_last ∙
-    full_gone capacity (reverse events) k a cause c.in-Offers.offered c.in-Offers.before c.in-Offers.is less e
+    ap NotStoredButTaken r.taken_last ∙ full_gone capacity (agrees_of r) c.in-Offers.is (omega (arith, c.if-len-offered.true, c.len.ensures.items)) e
 
 pub returns : goal.returns
 returns g c capacity events cause r n turn e =
-    let s = c.args.self.now in
-    let k = kept_of g.S.Offered.Fifo.items s in
-    let a = agrees_of g.S.Offered.Fifo.items g.S.Taken.Fifo.items s capacity events r in
-    let enough : c.in-Offers.offered ≤ length k.inside = omega (arith, c.if-len-offered.false, c.len.ensures.items) in
-    ap (λ z. FullWithRoom c.in-Offers.before z) r.put_at ∙
-    full_room capacity (reverse events) k a cause c.in-Offers.offered c.in-Offers.before c.in-Offers.is enough e
+    ap (λ z. FullWithRoom c.in-Offers.before z) r.put_at ∙ full_room capacity (agrees_of r) c.in-Offers.is (omega (arith, c.if-len-offered.false, c.len.ensures.items)) e

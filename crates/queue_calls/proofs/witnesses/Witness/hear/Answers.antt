@@ -1,16 +1,17 @@
-use Rattle.std.proofs.Common.{rules, ◌≡◌, ◌⊎◌, inl, inr, ℕ, ◌<◌, Bool, true, false, Bor, if◌then◌else◌, Some, List, [], ◌∷◌, ◌++◌, map, length, refl, ap, ap₂, sym, subst, ◌∙◌, reverse, arith, Result, Ok, Err, OnOk, IfErr}
+use Rattle.std.proofs.Common.{rules, ◌≡◌, ◌⊎◌, inl, inr, ℕ, ◌<◌, Bool, true, false, Bor, List, [], ◌∷◌, ◌++◌, map, length, refl, ap, ap₂, sym, subst, ◌∙◌, reverse, arith, Err}
 use Rattle.queue_calls.specs.Queue.{Capacity}
-use Rattle.queue_calls.specs.Calls.{Event, PutBegin, PutStored, PutFull, PutShort, PutNothing, PutClosed, CloseBegin, CloseEnd, TakeBegin, TakeItems, TakeEmpty, TakeShort, TakeNothing, TakeClosed}
+use Rattle.queue_calls.specs.Calls.{Event, PutStored, PutFull, PutShort, PutNothing, PutClosed, CloseBegin, TakeBegin, TakeItems, TakeEmpty, TakeShort, TakeNothing}
 use Rattle.queue_calls.specs.Counting.{Counts, kept}
 use Rattle.queue_calls.specs.Insides.{Moves}
 use Rattle.queue_calls.specs.Noting.{OutgrowsLists, all_got}
-use Rattle.queue_calls.specs.Reasons.{ended_line, has_ended, has_told, items_of, last_in, last_of, offered_at, taken, taken_at, told_closed_line}
+use Rattle.queue_calls.specs.Reasons.{items_of, last_in, last_of, offered_at, taken, taken_at}
 use Rattle.queue_calls.specs.Told.{meant, told}
 use Rattle.queue_calls.specs.Witnesses.{RefusesNext, Remembers}
 use Rattle.queue_calls.specs.declared.events.CallEvent.{CallEvent}
 use Rattle.queue_calls.specs.declared.events.CallEvent.TheVariants as said
 use Rattle.queue_calls.specs.declared.witnesses.Witness.{Witness}
-use Rattle.queue_calls.proofs.Hears.{IsQuiet, audits, counted_so, first_line, inside_after, kept_same, line_is, mark_items, next_remembers, quiet_remembers, refuses, still_remembers, stored_after, taken_all, taken_kept, told_so}
+use Rattle.queue_calls.proofs.Hears.{IsQuiet, audits, counted_so, first_line, heard, kept_same, line_is, mark_items, next_remembers, quiet_heard, refuses, still_remembers, stored_after, taken_all, taken_kept, told_so}
+use Rattle.queue_calls.proofs.Results.{then_err, then_ok}
 use Rattle.queue_calls.proofs.Remembering.{kept_of}
 use Rattle.queue_calls.proofs.Decided.{decides_reads}
 use Rattle.queue_calls.proofs.witnesses.Witness.hear.Goals as goal
@@ -18,56 +19,20 @@ use Rattle.queue_calls.proofs.witnesses.Witness.hear.Goals.{in-PutStored, in-Put
 
 pub returns-in-PutBegins-clause-kept : goal.returns-in-PutBegins-clause-kept
 returns-in-PutBegins-clause-kept g c capacity events r number =
-    let s = c.args.self.now in
-    let n = c.feed_at.new.self in
-    let past = reverse events in
-    let O = g.S.Offered.Fifo.items in
-    let T = g.S.Taken.Fifo.items in
-    let left = O n.inside.list in
-    let after = kept (items_of left) n.put n.take n.shut in
     let e = c.in_ok-feed_at.ensures in
-    let is : told c.args.event ≡ PutBegin c.in-PutBegins.field-0.now = ap told c.in-PutBegins.is in
-    let counts : Counts (meant s.auditor.capacity) (kept_of O s) (PutBegin c.in-PutBegins.field-0.now) after = subst (λ z. Counts (meant s.auditor.capacity) (kept_of O s) z after) is e.decides.1 in
-    let moves : Moves (offered_at c.args.line) s.auditor.shut (PutBegin c.in-PutBegins.field-0.now) (O s.auditor.inside.list) left = subst (λ z. Moves (offered_at c.args.line) s.auditor.shut z (O s.auditor.inside.list) left) is e.entries in
-    told_so O T _ capacity events _ (told c.args.event) is
-    (next_remembers O T s _ capacity events (PutBegin c.in-PutBegins.field-0.now) r e.decides.0 (counted_so O T s capacity events r (PutBegin c.in-PutBegins.field-0.now) after counts)
-    (inside_after O T s capacity events r (PutBegin c.in-PutBegins.field-0.now) c.args.line after left number refl counts moves (λ count why f. absurd cc)) r.taken r.taken_last r.ended r.told (line_is O T s capacity events r c.args.line number) r.stored_at)
+    heard r (ap told c.in-PutBegins.is) number (λ count why f. absurd cc) e.decides.0 e.decides.1 e.entries r.taken r.taken_last r.ended r.told (line_is r number) r.stored_at
 
 pub returns-in-CloseEnds-clause-kept : goal.returns-in-CloseEnds-clause-kept
 returns-in-CloseEnds-clause-kept g c capacity events r number =
-    let s = c.args.self.now in
-    let n = c.feed_at.new.self in
-    let past = reverse events in
-    let O = g.S.Offered.Fifo.items in
-    let T = g.S.Taken.Fifo.items in
-    let left = O n.inside.list in
-    let after = kept (items_of left) n.put n.take n.shut in
     let e = c.in_ok-feed_at.ensures in
-    let is : told c.args.event ≡ CloseEnd = ap told c.in-CloseEnds.is in
-    let counts : Counts (meant s.auditor.capacity) (kept_of O s) (CloseEnd) after = subst (λ z. Counts (meant s.auditor.capacity) (kept_of O s) z after) is e.decides.1 in
-    let moves : Moves (offered_at c.args.line) s.auditor.shut (CloseEnd) (O s.auditor.inside.list) left = subst (λ z. Moves (offered_at c.args.line) s.auditor.shut z (O s.auditor.inside.list) left) is e.entries in
-    let first = c.or-self.ensures ∙ first_line (has_ended past) (ended_line past) c.args.line s.ended_at r.ended in
-    told_so O T _ capacity events _ (told c.args.event) is
-    (next_remembers O T s _ capacity events (CloseEnd) r e.decides.0 (counted_so O T s capacity events r (CloseEnd) after counts)
-    (inside_after O T s capacity events r (CloseEnd) c.args.line after left number refl counts moves (λ count why f. absurd cc)) r.taken r.taken_last (first ∙ ap (λ z. Some (if has_ended past then ended_line past else z)) (line_is O T s capacity events r c.args.line number)) r.told r.put_at r.stored_at)
+    heard r (ap told c.in-CloseEnds.is) number (λ count why f. absurd cc) e.decides.0 e.decides.1 e.entries r.taken r.taken_last
+    (c.or-self.ensures ∙ first_line _ _ _ _ _ r.ended (line_is r number)) r.told r.put_at r.stored_at
 
 pub returns-in-TakeClosed-clause-kept : goal.returns-in-TakeClosed-clause-kept
 returns-in-TakeClosed-clause-kept g c capacity events r number =
-    let s = c.args.self.now in
-    let n = c.feed_at.new.self in
-    let past = reverse events in
-    let O = g.S.Offered.Fifo.items in
-    let T = g.S.Taken.Fifo.items in
-    let left = O n.inside.list in
-    let after = kept (items_of left) n.put n.take n.shut in
     let e = c.in_ok-feed_at.ensures in
-    let is : told c.args.event ≡ TakeClosed = ap told c.in-TakeClosed.is in
-    let counts : Counts (meant s.auditor.capacity) (kept_of O s) (TakeClosed) after = subst (λ z. Counts (meant s.auditor.capacity) (kept_of O s) z after) is e.decides.1 in
-    let moves : Moves (offered_at c.args.line) s.auditor.shut (TakeClosed) (O s.auditor.inside.list) left = subst (λ z. Moves (offered_at c.args.line) s.auditor.shut z (O s.auditor.inside.list) left) is e.entries in
-    let first = c.or-self-in-TakeClosed.ensures ∙ first_line (has_told past) (told_closed_line past) c.args.line s.told_at r.told in
-    told_so O T _ capacity events _ (told c.args.event) is
-    (next_remembers O T s _ capacity events (TakeClosed) r e.decides.0 (counted_so O T s capacity events r (TakeClosed) after counts)
-    (inside_after O T s capacity events r (TakeClosed) c.args.line after left number refl counts moves (λ count why f. absurd cc)) r.taken r.taken_last r.ended (first ∙ ap (λ z. Some (if has_told past then told_closed_line past else z)) (line_is O T s capacity events r c.args.line number)) r.put_at r.stored_at)
+    heard r (ap told c.in-TakeClosed.is) number (λ count why f. absurd cc) e.decides.0 e.decides.1 e.entries r.taken r.taken_last r.ended
+    (c.or-self-in-TakeClosed.ensures ∙ first_line _ _ _ _ _ r.told (line_is r number)) r.put_at r.stored_at
 
 -- an end of a put or of a take, which says why or not
 stored_so : (event : CallEvent (Bor (List ℕ)) (Bor (List ℕ))) (count other : ℕ) → count ≡ other → (event ≡ said.PutStored other) ⊎ (event ≡ said.PutSome other) → (why : Bool) × (told event ≡ PutStored count why)
@@ -101,64 +66,42 @@ returns-in-PutStored-clause-kept g c capacity events r number =
     (ap items_of x.inside ∙ mark_items c.args.line count left) x.auditor.1 x.auditor.2 x.auditor.3 in
     told_so O T _ capacity events _ (told c.args.event) is
     (next_remembers O T s _ capacity events (PutStored count why) r (x.auditor.0 ∙ e.decides.0)
-    (subst (λ z. Counts capacity (kept_of O s) (PutStored count why) z) same (counted_so O T s capacity events r (PutStored count why) after counts))
-    (x.inside ∙ stored_after O T s capacity events r count why c.args.line after left number refl counts moves) (taken_kept T s m (taken past) x.taken r.taken) (x.taken.2 ∙ r.taken_last) (x.lines.1 ∙ r.ended) (x.lines.2 ∙ r.told) (x.lines.3 ∙ r.put_at)
-    (x.lines.0 ∙ line_is O T s capacity events r c.args.line number))
+    (subst (λ z. Counts capacity (kept_of O s) (PutStored count why) z) same (counted_so r (PutStored count why) after counts))
+    (x.inside ∙ stored_after r count why c.args.line after left number refl counts moves) (taken_kept T s m (taken past) x.taken r.taken) (x.taken.2 ∙ r.taken_last) (x.lines.1 ∙ r.ended) (x.lines.2 ∙ r.told) (x.lines.3 ∙ r.put_at)
+    (x.lines.0 ∙ line_is r number))
 
--- what holds on success follows from what else holds on success, and of an error from what else holds of it
-then_ok : {A E : Type 0} {P Q : Type 0} (r : Result A E) → OnOk r P → (P → Q) → OnOk r Q
-then_ok (Ok x) p q = q p
-then_ok (Err e) p q = tt
-
-then_err : {A E : Type 0} {P Q : E → Type 0} (r : Result A E) → IfErr r P → ((e : E) → P e → Q e) → IfErr r Q
-then_err (Ok x) p q = tt
-then_err (Err e) p q = q e p
-
-pub returns-in-TakeItems-clause-kept : goal.returns-in-TakeItems-clause-kept
-returns-in-TakeItems-clause-kept g c = then_ok c.takes.result c.takes.ensures.taken (λ took capacity events r number.
+pub returns-in-TakeItems : goal.returns-in-TakeItems
+returns-in-TakeItems g c =
     let s = c.args.self.now in
-    let n = c.feed_at.new.self in
-    let past = reverse events in
+    let m = c.takes.new.self in
     let O = g.S.Offered.Fifo.items in
     let T = g.S.Taken.Fifo.items in
-    let left = O n.inside.list in
-    let after = kept (items_of left) n.put n.take n.shut in
     let e = c.in_ok-feed_at.ensures in
-    let items = c.in-TakeItems-1.items.now in
-    let (why, is) = elim c.in-TakeItems-1.branch as (λ _. (why : Bool) × (told c.args.event ≡ TakeItems c.in-TakeItems-1.items.now why)) [
-      | in-TakeItems w ↦ took_so c.args.event c.in-TakeItems-1.items w.in-TakeItems.items w.items-is w.in-TakeItems.is
-      | in-TakeItems-2 w ↦ took_so c.args.event c.in-TakeItems-1.items w.in-TakeItems.items w.items-is w.in-TakeItems.is
-    ] in
-    let counts : Counts (meant s.auditor.capacity) (kept_of O s) (TakeItems items why) after = subst (λ z. Counts (meant s.auditor.capacity) (kept_of O s) z after) is e.decides.1 in
-    let moves : Moves (offered_at c.args.line) s.auditor.shut (TakeItems items why) (O s.auditor.inside.list) left = subst (λ z. Moves (offered_at c.args.line) s.auditor.shut z (O s.auditor.inside.list) left) is e.entries in
     let x = c.takes.ensures.others in
-    let m = c.takes.new.self in
-    told_so O T _ capacity events _ (told c.args.event) is
-    (next_remembers O T s _ capacity events (TakeItems items why) r (ap (λ z. z.capacity) x.0 ∙ e.decides.0)
-    (subst (λ z. Counts capacity (kept_of O s) (TakeItems items why) (kept (items_of (O z.inside.list)) z.put z.take z.shut)) (sym x.0) (counted_so O T s capacity events r (TakeItems items why) after counts))
-    (ap (λ z. O z.inside.list) x.0 ∙ inside_after O T s capacity events r (TakeItems items why) c.args.line after left number refl counts moves (λ count why f. absurd cc))
-    (took (taken past) r.taken ∙ ap₂ (λ n z. last_of n (taken past ++ map (taken_at z) items)) (sym x.1) (line_is O T s capacity events r c.args.line number))
-    (c.takes.ensures.last (taken past) r.taken_last ∙ ap (λ z. last_in (taken past ++ map (taken_at z) items)) (line_is O T s capacity events r c.args.line number)) (x.2 ∙ r.ended) (x.3 ∙ r.told) (x.4 ∙ r.put_at)
-    (x.5 ∙ r.stored_at)))
-
-pub returns-in-TakeItems-clause-refused : goal.returns-in-TakeItems-clause-refused
-returns-in-TakeItems-clause-refused g c = then_err c.takes.result c.takes.ensures.full (λ fault full capacity events r.
-    let s = c.args.self.now in
-    let past = reverse events in
-    let O = g.S.Offered.Fifo.items in
-    let T = g.S.Taken.Fifo.items in
     let items = c.in-TakeItems-1.items.now in
     let (why, is) = elim c.in-TakeItems-1.branch as (λ _. (why : Bool) × (told c.args.event ≡ TakeItems c.in-TakeItems-1.items.now why)) [
       | in-TakeItems w ↦ took_so c.args.event c.in-TakeItems-1.items w.in-TakeItems.items w.items-is w.in-TakeItems.is
       | in-TakeItems-2 w ↦ took_so c.args.event c.in-TakeItems-1.items w.in-TakeItems.items w.items-is w.in-TakeItems.is
     ] in
-    let (short, many) = full.1 (taken past) r.taken in
-    let got : g.S.Taken.Fifo.room s.taken < length (all_got (events ++ TakeItems items why ∷ [])) = omega (arith, many, taken_all events (TakeItems items why)) in
-    let m = c.takes.new.self in
-    let less : g.S.Taken.Fifo.room s.taken < m.limit = omega (arith, short, c.takes.ensures.others.1) in
-    let needs : OutgrowsLists m.limit (g.S.Offered.Fifo.room s.auditor.inside.list) (g.S.Taken.Fifo.room s.taken) capacity (events ++ told c.args.event ∷ []) =
-    subst (λ z. OutgrowsLists m.limit (g.S.Offered.Fifo.room s.auditor.inside.list) (g.S.Taken.Fifo.room s.taken) capacity (events ++ z ∷ [])) (sym is) (inr (less, got)) in
-    subst (λ z. RefusesNext O T (g.S.Offered.Fifo.room s.auditor.inside.list) (g.S.Taken.Fifo.room s.taken) m capacity events (told c.args.event) z) (sym full.0) needs)
+    record {
+      kept = then_ok c.takes.result c.takes.ensures.taken (λ took capacity events r number.
+          let past = reverse events in
+          let now = line_is r number in
+          heard r is number (λ count why f. absurd cc) (ap (λ z. z.capacity) x.0 ∙ e.decides.0)
+          (subst (λ z. Counts (meant s.auditor.capacity) (kept_of O s) (told c.args.event) (kept (items_of (O z.inside.list)) z.put z.take z.shut)) (sym x.0) e.decides.1)
+          (subst (λ z. Moves (offered_at c.args.line) s.auditor.shut (told c.args.event) (O s.auditor.inside.list) (O z.inside.list)) (sym x.0) e.entries)
+          (took (taken past) r.taken ∙ ap₂ (λ n z. last_of n (taken past ++ map (taken_at z) items)) (sym x.1) now)
+          (c.takes.ensures.last (taken past) r.taken_last ∙ ap (λ z. last_in (taken past ++ map (taken_at z) items)) now) (x.2 ∙ r.ended) (x.3 ∙ r.told) (x.4 ∙ r.put_at) (x.5 ∙ r.stored_at));
+      refused = then_err c.takes.result c.takes.ensures.full (λ fault full capacity events r.
+          let (short, many) = full.1 (taken (reverse events)) r.taken in
+          let got : g.S.Taken.Fifo.room s.taken < length (all_got (events ++ TakeItems items why ∷ [])) = omega (arith, many, taken_all events (TakeItems items why)) in
+          let less : g.S.Taken.Fifo.room s.taken < m.limit = omega (arith, short, x.1) in
+          let needs : OutgrowsLists m.limit (g.S.Offered.Fifo.room s.auditor.inside.list) (g.S.Taken.Fifo.room s.taken) capacity (events ++ told c.args.event ∷ []) =
+          subst (λ z. OutgrowsLists m.limit (g.S.Offered.Fifo.room s.auditor.inside.list) (g.S.Taken.Fifo.room s.taken) capacity (events ++ z ∷ [])) (sym is) (inr (less, got)) in
+          subst (λ z. RefusesNext O T (g.S.Offered.Fifo.room s.auditor.inside.list) (g.S.Taken.Fifo.room s.taken) m capacity events (told c.args.event) z) (sym full.0) needs);
+      limit = search rules;
+      rooms = search rules;
+    }
 
 -- an event that is one of those
 quiet : (told' event : Event) → told' ≡ event → IsQuiet event → IsQuiet told'
@@ -166,13 +109,6 @@ quiet told' event e q = subst (λ z. IsQuiet z) (sym e) q
 
 pub returns-in-PutFull-clause-kept : goal.returns-in-PutFull-clause-kept
 returns-in-PutFull-clause-kept g c capacity events r number =
-    let s = c.args.self.now in
-    let n = c.feed_at.new.self in
-    let past = reverse events in
-    let O = g.S.Offered.Fifo.items in
-    let T = g.S.Taken.Fifo.items in
-    let left = O n.inside.list in
-    let after = kept (items_of left) n.put n.take n.shut in
     let e = c.in_ok-feed_at.ensures in
     let silent : IsQuiet (told c.args.event) = elim c.in-PutFull.is [
       | inl b ↦ quiet (told c.args.event) PutFull (ap told b) tt
@@ -196,9 +132,7 @@ returns-in-PutFull-clause-kept g c capacity events r number =
         ]
       ]
     ] in
-    let not_stored : (count : ℕ) (why : Bool) → told c.args.event ≡ PutStored count why → ⊥ = λ count why f. subst (λ z. IsQuiet z) f silent in
-    quiet_remembers O T s _ capacity events (told c.args.event) silent r e.decides.0 (counted_so O T s capacity events r (told c.args.event) after e.decides.1)
-    (inside_after O T s capacity events r (told c.args.event) c.args.line after left number refl e.decides.1 e.entries not_stored) (refl, refl, refl) refl refl refl refl
+    quiet_heard r (told c.args.event) silent number e.decides.0 e.decides.1 e.entries (refl, refl, refl) refl refl refl refl
 
 pub returns-in_err-feed_at-clause-refused : goal.returns-in_err-feed_at-clause-refused
 returns-in_err-feed_at-clause-refused g c =
@@ -214,8 +148,8 @@ returns-in_err-feed_at-clause-refused g c =
     let refused : (capacity : Capacity) (events : List Event) → Remembers O g.S.Taken.Fifo.items s capacity events →
     RefusesNext O g.S.Taken.Fifo.items o t next capacity events (told c.args.event) c.in_err-feed_at.field-0.0 =
     λ capacity events r.
-    refuses O g.S.Taken.Fifo.items s capacity events r next o t (told c.args.event) c.in_err-feed_at.field-0.0
-    (still_remembers O g.S.Taken.Fifo.items s capacity events r next e.decides.0 e.decides.1.0 e.entries (refl, refl, refl) refl refl refl refl)
+    refuses r next o t (told c.args.event) c.in_err-feed_at.field-0.0
+    (still_remembers r O g.S.Taken.Fifo.items next e.decides.0 e.decides.1.0 e.entries refl refl refl refl refl refl refl)
     ((decides_reads (λ q. items_of (O q.list)) (λ q. g.S.Offered.Fifo.room q.list) s.auditor (told c.args.event) n (Err c.in_err-feed_at.field-0.0) e.decides).1 events
-    (audits O g.S.Taken.Fifo.items s capacity events r)).1 in
+    (audits r)).1 in
     search (rules, refused)

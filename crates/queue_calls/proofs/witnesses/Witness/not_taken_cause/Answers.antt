@@ -1,4 +1,4 @@
-use Rattle.std.proofs.Common.{◌≡◌, ◌-◌, length, ◌∙◌, ap, reverse, arith}
+use Rattle.std.proofs.Common.{◌≡◌, ◌-◌, length, ◌∙◌, ap, arith}
 use Rattle.queue_calls.specs.State.{offered_by}
 use Rattle.call_causes.specs.declared.causes.Cause.TheVariants.{NotTaken}
 use Rattle.queue_calls.proofs.CauseTold.{too_few}
@@ -9,8 +9,7 @@ pub returns : goal.returns
 returns g c capacity events cause r e =
     let s = c.args.self.now in
     let k = kept_of g.S.Offered.Fifo.items s in
-    let a = agrees_of g.S.Offered.Fifo.items g.S.Taken.Fifo.items s capacity events r in
     let least : c.saturating_sub-2.result ≡ (length k.inside - c.args.count) - offered_by k.put =
     omega (arith, c.saturating_sub-2.ensures, c.saturating_sub.ensures, c.len.ensures.items, c.offered.ensures) in
     ap (λ z. NotTaken z s.stored_at) least ∙ ap (λ z. NotTaken ((length k.inside - c.args.count) - offered_by k.put) z) r.stored_at ∙
-    too_few capacity (reverse events) k a cause c.args.count e
+    too_few capacity (agrees_of r) c.args.count e

@@ -19,7 +19,8 @@ returns c =
         queue = (
           c.if-not-has_room.ensures.0 refl,
           c.if-self.false,
-          ap (λ n. queue (stretch row m.head n) false) (sym next) ∙ ap (λ items. queue items false) (longer row m.head m.tail m.out more ∙ ap (λ i. stretch row m.head m.tail ++ i ∷ []) is),
+          ap (λ closed. queue (stretch row m.head (m.tail + 1)) closed) c.if-self.false ∙ ap (λ n. queue (stretch row m.head n) false) (sym next) ∙
+              ap (λ items. queue items false) (longer row m.head m.tail m.out more ∙ ap (λ i. stretch row m.head m.tail ++ i ∷ []) is),
         );
         producer = c.in-Some.ensures.step;
         consumer = refl;

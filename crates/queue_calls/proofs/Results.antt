@@ -1,0 +1,21 @@
+-- What holds of a result by what else holds of it.
+use Rattle.std.proofs.Common.{◌≡◌, Result, Ok, Err, OnOk, IfErr, sym, subst}
+
+module _ {T E : Type 0} where
+  -- on success
+  pub then_ok : {P Q : Type 0} (r : Result T E) → OnOk r P → (P → Q) → OnOk r Q
+  then_ok (Ok x) p q = q p
+  then_ok (Err e) p q = tt
+
+  -- of an error
+  pub then_err : {P Q : E → Type 0} (r : Result T E) → IfErr r P → ((e : E) → P e → Q e) → IfErr r Q
+  then_err (Ok x) p q = tt
+  then_err (Err e) p q = q e p
+
+  pub if_err : {Q : E → Type 0} (r : Result T E) → ((e : E) → Q e) → IfErr r Q
+  if_err (Ok x) q = tt
+  if_err (Err e) q = q e
+
+  -- of the error that is answered
+  pub of_err : (Q : E → Type 0) (r : Result T E) (e : E) → r ≡ Err e → Q e → IfErr r Q
+  of_err Q r e is q = subst (λ z. IfErr z Q) (sym is) q
