@@ -19,9 +19,9 @@ use Rattle.queue_calls.proofs.Agreeing.{both, long, offered_is, asked_is, coming
 use Rattle.queue_calls.proofs.CauseTests.{can_hold_tells, can_lack_tells, and_off, and_of, and_told, if_on, none_off, off, none_on, some_else, some_both, some_or}
 use Rattle.queue_calls.proofs.CountedHistories.{Stands, counts_keeps}
 use Rattle.queue_calls.proofs.CountsFollow.{counts_are_exact}
-use Rattle.queue_calls.proofs.Keeping.{some as has_points}
 use Rattle.queue_calls.proofs.Ends.TakeBegins.{keeps_nothing}
 use Rattle.queue_calls.proofs.TurnLemmas.{last_turn, same_turns}
+pub use Rattle.queue_calls.proofs.CountedHistories.{stands_linear as standing}
 
 -- a queue lacks room for as many, told by the sum
 pub lacks_as : (capacity : Capacity) (a b c d : ℕ) → a + b ≡ c + d → LacksRoom capacity a b → LacksRoom capacity c d
@@ -508,10 +508,6 @@ arrived capacity h proper linear =
     let F : List Event → Type 0 = λ z. Arrived capacity h z in
     subst F (append-nil (reverse h))
     (arrive capacity h [] [] (kept [] Free Rests false) at_first (keeps_nothing capacity proper) ((counts_are_exact capacity h proper).1 linear))
-
--- what stands is linearizable
-pub standing : (capacity : Capacity) (h : List Event) (k : Kept) → Stands capacity h k → IsLinearizable capacity h
-standing capacity h k j = let (t, d, told) = has_points capacity k.inside k.put k.take k.shut j.few in (t, j.sound t d (told j.late))
 
 -- the last of counted events
 abbrev Reached : Capacity → List Event → Event → Type 0

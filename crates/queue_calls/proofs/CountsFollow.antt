@@ -75,7 +75,7 @@ module _ (capacity : Capacity) (inside : List ℕ) (take' : TakeTurn) (shut : Bo
   closing_tells (Late offered) done closed f = absurd f
   closing_tells (Closes again) done closed f = (again, refl)
 
-resting_tells : (take : TakeTurn) (q : Queue) → FitsTake take Resting q → take ≡ Rests
+pub resting_tells : (take : TakeTurn) (q : Queue) → FitsTake take Resting q → take ≡ Rests
 resting_tells Rests q f = refl
 resting_tells (Waits wanted before ended) q f = absurd f
 

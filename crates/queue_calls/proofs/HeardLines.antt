@@ -67,7 +67,7 @@ and_then-append : (o : Option Event) (xs ys : List Event) → and_then o xs ++ y
 and_then-append None xs ys = refl
 and_then-append (Some event) xs ys = refl
 
-begun_more : (b : Begun) (lines : List Line) (l : Line) → begun_behind b (lines ++ l ∷ []) ≡ begun_after (begun_behind b lines) l.word l.numbers
+pub begun_more : (b : Begun) (lines : List Line) (l : Line) → begun_behind b (lines ++ l ∷ []) ≡ begun_after (begun_behind b lines) l.word l.numbers
 begun_more b [] l = refl
 begun_more b (x ∷ lines) l = begun_more (begun_after b x.word x.numbers) lines l
 

@@ -165,13 +165,13 @@ module _ (capacity : Capacity) (end : ℕ) where
           let y = o.side in
           picked (λ (u : Side). ⊥) z y z y (λ same. let calls : (own z).calls ≡ Comes v ∷ rest = subst (λ u. (own u).calls ≡ Comes v ∷ rest) same is in cc)
           (λ not.
-              let here : numbered n e ∷ own_events z (suc n) g ≡ numbered_in later =
-              sym (ap (λ u. pick z u (numbered n e ∷ own_events z (suc n) g) (own_events z (suc n) g)) s ∙ pick_same z _ _) ∙ events z ∙ ap numbered_in i in
-              let others : own_events y (suc n) g ≡ v ∷ numbered_in rest = sym (pick_other y (side_of e) _ _ (λ f. not (sym f ∙ s))) ∙ events y ∙ ap numbered_in is in
-              let makes : recorded_of_side z order ≡ recorded_operation z d (own z).since (next_event end later) ∷ recorded_operations z end (own z).since later =
-              sym (pick_other z y _ _ not) ∙ (x.sides z).makes ∙ ap (recorded_operations z end (own z).since) i in
-              let above : From (suc n) (v ∷ numbered_in rest) = subst (From (suc n)) others (own_from y (suc n) (suc n) g (omega arith)) in
-              clash z y end n (own z).since v.number e g o order (recorded_of_side y order) later (Comes v ∷ rest) d here others above.0 mine makes x.keeps_time.0)
+          let here : numbered n e ∷ own_events z (suc n) g ≡ numbered_in later =
+          sym (ap (λ u. pick z u (numbered n e ∷ own_events z (suc n) g) (own_events z (suc n) g)) s ∙ pick_same z _ _) ∙ events z ∙ ap numbered_in i in
+          let others : own_events y (suc n) g ≡ v ∷ numbered_in rest = sym (pick_other y (side_of e) _ _ (λ f. not (sym f ∙ s))) ∙ events y ∙ ap numbered_in is in
+          let makes : recorded_of_side z order ≡ recorded_operation z d (own z).since (next_event end later) ∷ recorded_operations z end (own z).since later =
+          sym (pick_other z y _ _ not) ∙ (x.sides z).makes ∙ ap (recorded_operations z end (own z).since) i in
+          let above : From (suc n) (v ∷ numbered_in rest) = subst (From (suc n)) others (own_from y (suc n) (suc n) g (omega arith)) in
+          clash z y end n (own z).since v.number e g o order (recorded_of_side y order) later (Comes v ∷ rest) d here others above.0 mine makes x.keeps_time.0)
 
   inner : (h : List Event) → Passes h → (order : List RecordedOperation) → Goes h order
   inner h pass [] n q own x past r = pass n q own [] x (λ y. none y h (own y).calls (own y).since (x.sides y).makes) past r

@@ -8,7 +8,6 @@ use Rattle.bits_core.specs.declared.events.Bit.TheVariants.{Cell}
 use Rattle.bits_core.specs.declared.events.Event.{Event}
 use Rattle.bits_core.specs.Bits.{other}
 use Rattle.bits_core.specs.Intervals.{IsRead}
-use Rattle.bits_core.proofs.Statements.{MadeIsAccess, SubhistoryHasPlace, SubhistoryHasOnePlace, ClockCountsPlaces}
 use Rattle.bits_core.specs.Made.{Made, Read, events_of, subhistory, place_of, IsPrefix}
 use Rattle.register_core.specs.Row.{row_bit}
 use Rattle.register_core.specs.Word.{digit, digit_reads}

@@ -4,7 +4,7 @@ use Rattle.std.specs.List.{cons_option}
 use Rattle.std.proofs.lemmas.Option.{none-some}
 use Rattle.std.proofs.lemmas.List.Elements.{filter_map-append}
 use Rattle.bits_core.specs.declared.events.Side.{Side}
-use Rattle.bits_core.specs.declared.events.Side.TheVariants.{P, C}
+use Rattle.bits_core.specs.declared.events.Side.TheVariants.{P}
 use Rattle.bits_core.specs.declared.events.Bit.{Bit}
 use Rattle.bits_core.specs.declared.events.Bit.TheVariants.{Cell}
 use Rattle.bits_core.specs.declared.events.Access.TheVariants as access
@@ -12,7 +12,7 @@ use Rattle.bits_core.specs.declared.events.Event.{Event}
 use Rattle.bits_core.specs.declared.shapes.Shape.{Shape}
 use Rattle.bits_core.specs.Bits.{writer, is_by, same_side, begun_by, write_of}
 use Rattle.bits_core.specs.Lawful.{IsLawful}
-use Rattle.bits_core.specs.Made.{Made, Read, Write, begin_event, end_event, events_of, subhistory, IsPrefix}
+use Rattle.bits_core.specs.Made.{Made, Write, begin_event, end_event, events_of, subhistory, IsPrefix}
 use Rattle.register_core.specs.Row.{RowWrite, row_bit, writes_in}
 use Rattle.register_core.specs.Word.{word_writes}
 use Rattle.register_core.specs.WordLaw.{cell_write}

@@ -13,7 +13,6 @@ use Rattle.bits_core.specs.Bits.{writer, first_value, begun_by, write_of}
 use Rattle.bits_core.specs.History.{writes_begun, last_value, held}
 use Rattle.bits_core.specs.Intervals.{end_of, IsRead, IsWrite, IsHeld, HasOverlap}
 use Rattle.bits_core.specs.Lawful.{IsLawful}
-use Rattle.bits_core.specs.Laws.{HeldIsByInterval}
 use Rattle.register_core.specs.BitLaw.{logical_writes, WritesLogically, IsOverlapping, IsFirstOverlapping, IsRegularAnswer, BitIsRegular}
 use Rattle.register_core.proofs.Numbers.{IsNumbered, begun, ended, begun_at, begun_rises, begun_least, numbered, ended_le, ended_more, take-ended, all_ended, slice_get-begin}
 use Rattle.register_core.proofs.Writes.{write_of-from, write_of-to, by_writer, begins_before}

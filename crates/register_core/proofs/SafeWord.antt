@@ -13,7 +13,6 @@ use Rattle.bits_core.specs.Bits.{begun_by}
 use Rattle.bits_core.specs.History.{before_last}
 use Rattle.bits_core.specs.Intervals.{end_of, HasOverlap, Overlap}
 use Rattle.bits_core.specs.Lawful.{IsLawful}
-use Rattle.bits_core.specs.Laws.{HeldIsByInterval}
 use Rattle.register_core.specs.Row.{bits_after}
 use Rattle.register_core.specs.Word.{digit, word_writes}
 use Rattle.register_core.specs.WordLaw.{cell_write, cell_writes, WritesWords, IsDigitWrite, IsWordWrite, DigitsAreSafe, IsLastWord, IsReadEnd, NoWordEnded, ReadsDigits, WordIsSafe}

@@ -11,7 +11,6 @@ use Rattle.bits_core.specs.declared.shapes.Shape.{Shape}
 use Rattle.bits_core.specs.Bits.{other}
 use Rattle.bits_core.specs.Intervals.{IsAccess, IsRead, IsHeld, HasOverlap}
 use Rattle.bits_core.specs.Lawful.{IsLawful}
-use Rattle.bits_core.specs.Laws.{HeldIsByInterval}
 use Rattle.register_core.specs.Row.{RowWrite, row_bit, first_bits, bits_after}
 use Rattle.register_core.specs.Unary.{writes_of}
 use Rattle.register_core.proofs.WriterMoments.{Windows, Answered, SafelyAnswered, ScannedTo}

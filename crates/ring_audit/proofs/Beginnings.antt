@@ -87,5 +87,3 @@ next_ends s (m ∷ made) (y ∷ whole) b e (rest, p) =
       begins = on.begins;
       ends = on.ends;
     }
-
--- ---- lists of events

@@ -16,7 +16,7 @@ use Rattle.register_core.specs.Word.{digit, digit_writes, word_write, word_read}
 use Rattle.register_core.specs.WordState.{ReaderStands, BeginsRead, IsNextRead, due_read}
 use Rattle.register_core.specs.UnaryState.{due_writes}
 use Rattle.register_core.specs.ScanState.{zero_reads, scan_phrase, row_read_by, due_scan}
-use Rattle.ring_core.specs.Counts.{LeavesRoom, distance, number_past, Count, IsCount, first_count, batch_phrase}
+use Rattle.ring_core.specs.Counts.{number_past, Count, IsCount, first_count, batch_phrase}
 use Rattle.ring_core.specs.Puts.{Put, Puts, Stored, Full, stored_after, stored_count, words_phrase, put_phrase, put_phrases, close_phrase, accesses_before_count, IsPut, ArePuts}
 use Rattle.ring_core.specs.Items.{events_in, items_put, all_put}
 use Rattle.ring_core.specs.PutParts.{count_behind}

@@ -16,7 +16,7 @@ use Rattle.register_core.specs.ScanState.{scan_phrase, row_read_by}
 use Rattle.ring_core.specs.Counts.{distance, first_count}
 use Rattle.ring_core.specs.Puts.{Put, Puts, Stored, Full, stored_in, close_phrase, put_program}
 use Rattle.ring_core.specs.Takes.{accesses_before_word, Take, Item, ItemAfterClose, Empty, Takes, taken_in, take_program}
-use Rattle.ring_core.specs.Items.{events_in, items_put, items_taken}
+use Rattle.ring_core.specs.Items.{events_in}
 use Rattle.ring_core.proofs.OverSpans.Spans.{Span, items_of, counts, whole, counts_begun, counts_ended, IsSpanAt, sizes, tally}
 use Rattle.ring_core.specs.Items as taken
 use Rattle.ring_core.proofs.OverSpans.LookSpans.{put_looks, take_looks, put_spans, take_spans}

@@ -10,7 +10,6 @@ use Rattle.bits_core.specs.declared.events.Event.{Event}
 use Rattle.bits_core.specs.declared.shapes.Shape.{Shape}
 use Rattle.bits_core.specs.Shape.{capacity_of, width_of}
 use Rattle.bits_core.specs.Intervals.{IsRead, IsWrite, IsHeld, HasOverlap, end_of}
-use Rattle.bits_core.proofs.Statements.{SubhistoryHasPlace, SubhistoryHasOnePlace, ClockCountsPlaces, MadeIsAccess, AccessIsMade}
 use Rattle.bits_core.specs.Lawful.{IsLawful}
 use Rattle.bits_core.specs.Made.{Made, Read, Write, access_of, events_of, subhistory, clock, place_of, IsPlaceOf, IsPrefix}
 use Rattle.register_core.specs.Row.{RowWrite, row_bit, writes_in}

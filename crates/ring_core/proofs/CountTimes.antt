@@ -7,15 +7,14 @@ use Rattle.std.proofs.lemmas.List.Elements.{filter_map-append}
 use Rattle.std.proofs.Math.Nat.{zero-mod}
 use Rattle.bits_core.specs.declared.events.Side.{Side}
 use Rattle.bits_core.specs.declared.events.Side.TheVariants.{P, C}
-use Rattle.bits_core.specs.declared.events.Act.TheVariants.{ReadBegin, ReadEnd, WriteEnd}
 use Rattle.bits_core.specs.declared.events.Bit.{Bit}
 use Rattle.bits_core.specs.declared.events.Bit.TheVariants.{X, Cell}
 use Rattle.bits_core.specs.declared.events.Event.{Event}
 use Rattle.bits_core.specs.declared.shapes.Shape.{Shape}
 use Rattle.bits_core.specs.Shape.{capacity_of, modulus_of, width_of}
 use Rattle.bits_core.specs.Made.{Made, Read, Write, begin_event, end_event, events_of}
-use Rattle.register_core.specs.Row.{RowWrite, row_bit, row_write, writes_in}
-use Rattle.register_core.specs.Unary.{unary_phrase, UnaryWrite, unary_writes, row_writes, writes_of, has_write, having_writes, numbered_of, numbered_value}
+use Rattle.register_core.specs.Row.{RowWrite, row_bit, writes_in}
+use Rattle.register_core.specs.Unary.{UnaryWrite, unary_writes, row_writes, writes_of, has_write, having_writes, numbered_of, numbered_value}
 use Rattle.register_core.specs.Unary as unary
 use Rattle.register_core.specs.UnaryLaw.{number_in_count, count_write, count_begun}
 use Rattle.register_core.specs.Word.{digit, digit_writes, digit_reads}

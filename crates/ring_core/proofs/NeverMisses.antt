@@ -11,12 +11,11 @@ use Rattle.bits_core.specs.Shape.{modulus_of}
 use Rattle.bits_core.specs.Bits.{other}
 use Rattle.bits_core.specs.Intervals.{IsRead}
 use Rattle.bits_core.specs.Lawful.{IsLawful}
-use Rattle.bits_core.proofs.Statements.{SubhistoryHasOnePlace, MadeIsAccess}
 use Rattle.bits_core.specs.Made.{Made, Read, events_of, subhistory, IsPrefix}
 use Rattle.register_core.specs.Row.{row_bit}
 use Rattle.register_core.specs.ScanState.{zero_reads, row_read_by}
-use Rattle.register_core.specs.UnaryLaw.{NumberedStayWithin, ReadsZeros, UnaryHasOne}
-use Rattle.register_core.specs.MadeReads.{begin_place, end_place, ZerosAreMade}
+use Rattle.register_core.specs.UnaryLaw.{ReadsZeros}
+use Rattle.register_core.specs.MadeReads.{begin_place, end_place}
 use Rattle.ring_core.specs.Counts.{number_past, first_count}
 use Rattle.ring_core.proofs.OverSpans.Spans.{Outcome, Passes, Stops, Asks}
 use Rattle.ring_core.specs.Puts.{close_phrase}

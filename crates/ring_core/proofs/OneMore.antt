@@ -4,7 +4,6 @@ use Rattle.bits_core.specs.declared.events.Side.{Side}
 use Rattle.bits_core.specs.declared.events.Side.TheVariants.{P, C}
 use Rattle.bits_core.specs.declared.events.Event.{Event}
 use Rattle.bits_core.specs.Bits.{same_side}
-use Rattle.bits_core.specs.Laws.{LawfulByOneMore, SubhistoryChanges}
 use Rattle.bits_core.specs.Made.{events_of, subhistory, IsPrefix}
 use Rattle.ring_core.specs.Puts.{put_program}
 use Rattle.ring_core.specs.Takes.{take_program}

@@ -1,5 +1,5 @@
 -- The own events of a side before a place of a history, and the writes of its count among them.
-use Rattle.std.proofs.Common.{◌≡◌, inl, inr, ℕ, zero, suc, ◌-◌, ◌≤◌, Bool, true, false, Some, None, List, [], ◌∷◌, ◌++◌, length, take, drop, slice_get, if◌then◌else◌, refl, sym, ap, ◌∙◌, take-append-drop, length-append, arith}
+use Rattle.std.proofs.Common.{◌≡◌, inl, inr, ℕ, zero, suc, ◌-◌, ◌≤◌, Bool, true, false, Some, None, List, [], ◌∷◌, ◌++◌, length, take, drop, slice_get, if◌then◌else◌, refl, sym, ap, ◌∙◌, take-append-drop, arith}
 use Rattle.std.specs.List.{cons_option}
 use Rattle.std.proofs.Math.Seq.{take-append_seam, take-length}
 use Rattle.std.proofs.lemmas.List.Elements.{filter-append}
@@ -14,14 +14,11 @@ use Rattle.bits_core.specs.declared.shapes.Shape.{Shape}
 use Rattle.bits_core.specs.Bits.{same_side, is_by, doer}
 use Rattle.bits_core.specs.History.{has_event, before_last}
 use Rattle.bits_core.specs.Lawful.{IsLawful}
-use Rattle.bits_core.proofs.Statements.{SubhistoryHasPlace}
 use Rattle.bits_core.specs.Made.{subhistory, clock, place_of}
 use Rattle.register_core.specs.Row.{row_write}
 use Rattle.register_core.specs.UnaryLaw.{number_in_count, count_write, count_begun, count_ended}
 use Rattle.ring_core.proofs.OverSpans.Clocks.{IsPlace}
 use Rattle.ring_core.proofs.Readings.Cuts.{at_most_or_above}
-use Rattle.ring_core.proofs.OverSpans.Gates.{clock_up, clock_p, clock_c}
-use Rattle.ring_core.proofs.HistoryClocks.{clocks_of}
 use Rattle.bits_core.proofs.OwnEvents.{own-no, own-yes}
 pub use Rattle.bits_core.proofs.OwnEvents.{by_case, clock_rises, clock_within}
 use Rattle.register_core.proofs.Numbers.{before_last-more as before_last-yes, before_last-none as before_last-no}

@@ -11,11 +11,7 @@ use Rattle.bits_core.specs.declared.shapes.Shape.{Shape}
 use Rattle.bits_core.specs.Shape.{batch_of, capacity_of, modulus_of, take_batch_of, width_of}
 use Rattle.bits_core.specs.Intervals as intervals
 use Rattle.bits_core.specs.Made.{Made, Read, events_of, subhistory, clock, place_of, IsPlaceOf, IsPrefix}
-use Rattle.register_core.specs.MadeReads.{ScansAreMade, WordReadsAreMade}
-use Rattle.register_core.specs.MadeWrites.{CellWritesAreMade}
 use Rattle.register_core.specs.ScanState.{scan_phrase, row_read_by}
-use Rattle.register_core.specs.UnaryLaw.{UnaryIsRegular}
-use Rattle.register_core.specs.WordLaw.{WordIsSafe}
 use Rattle.ring_core.specs.Counts.{Count, first_count}
 use Rattle.ring_core.specs.Puts.{Put, Puts, Stored, Full, stored_after, put_phrases, close_phrase}
 use Rattle.ring_core.specs.Takes.{Takes, Open, Closed, End, take_program}
@@ -37,7 +33,7 @@ use Rattle.ring_core.proofs.Cells.CellPlaces.{doubled, multiple_up}
 use Rattle.ring_core.proofs.OverSpans.RegularScans.{put_events, take_events, puts_regular, takes_regular}
 use Rattle.ring_core.proofs.CloseReads.{read_of_close}
 use Rattle.ring_core.proofs.Cells.SafeWords.{close_to_cell, words_are_safe}
-use Rattle.bits_core.proofs.LawLemmas.{made_is_access, subhistory_has_one_place, subhistory_has_place}
+use Rattle.bits_core.proofs.LawLemmas.{made_is_access, subhistory_has_one_place}
 
 -- ---- reads of the close bit
 

@@ -14,7 +14,6 @@ use Rattle.bits_core.specs.Bits.{reader, writer}
 use Rattle.bits_core.specs.History.{open_access}
 use Rattle.bits_core.specs.Intervals.{IsRead, HasOverlap}
 use Rattle.bits_core.specs.Lawful.{IsLawful}
-use Rattle.bits_core.specs.Laws.{EmptyIsLawful, LawfulByOneMore}
 use Rattle.bits_core.specs.Shape.{belongs}
 use Rattle.bits_core.specs.Steps.{IsAnswer, MayFollow}
 use Rattle.ring_core.specs.Items.{items_put_in, items_taken_in, ToldIn}

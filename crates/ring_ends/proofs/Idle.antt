@@ -4,7 +4,7 @@ use Rattle.bits_core.specs.declared.events.Event.{Event}
 use Rattle.bits_core.specs.History.{open_access}
 use Rattle.ring_core.specs.declared.replies.TakeReply.{TakeReply}
 use Rattle.ring_core.specs.Takes as takes
-use Rattle.ring_core.specs.Takes.{Take, Takes, AreTakes}
+use Rattle.ring_core.specs.Takes.{Take, AreTakes}
 use Rattle.ring_core.specs.Puts.{ArePuts}
 use Rattle.ring_core.specs.ProducerState.{ProducerState, call_of}
 use Rattle.ring_core.specs.ProducerCalls.{closes_with}

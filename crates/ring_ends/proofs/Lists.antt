@@ -4,20 +4,19 @@ use Rattle.std.specs.Prelude.{if◌then◌else◌}
 use Rattle.std.proofs.lemmas.List.{length-append}
 use Rattle.bits_core.specs.declared.events.Side.{Side}
 use Rattle.bits_core.specs.declared.events.Side.TheVariants.{P, C}
-use Rattle.bits_core.specs.declared.events.Bit.{Bit}
 use Rattle.bits_core.specs.declared.events.Access.{Access}
 use Rattle.bits_core.specs.declared.events.Access.TheVariants as access
 use Rattle.bits_core.specs.declared.events.Event.{Event}
 use Rattle.bits_core.specs.declared.shapes.Shape.{Shape}
 use Rattle.bits_core.specs.Shape.{modulus_of}
-use Rattle.bits_core.specs.Bits.{other, same_side, is_by, begun_by}
+use Rattle.bits_core.specs.Bits.{other, begun_by}
 use Rattle.bits_core.specs.History.{open_access}
 use Rattle.bits_core.specs.Lawful.{IsLawful}
-use Rattle.bits_core.specs.Made.{Made, Read, Write, answered, begin_event, end_event, events_of, subhistory, IsPrefix}
+use Rattle.bits_core.specs.Made.{Made, Read, Write, answered, begin_event, events_of, subhistory, IsPrefix}
 use Rattle.register_core.specs.ScanState.{zero_reads, row_read_by}
 use Rattle.ring_core.specs.Calls.{EndsInZeros}
-use Rattle.ring_seats.specs.Programs.{Follows, IsRing, begin_of, ending_event}
-use Rattle.bits_core.proofs.LawLemmas.{open_changes, subhistory_changes}
+use Rattle.ring_seats.specs.Programs.{Follows, begin_of, ending_event}
+use Rattle.bits_core.proofs.LawLemmas.{open_changes}
 use Rattle.ring_core.proofs.LawLemmas.{last_bit_is_one_puts, last_bit_is_one_takes}
 use Rattle.ring_seats.proofs.Blocks.{by_begin}
 pub use Rattle.register_core.proofs.ScanMachine.{length-zeros}

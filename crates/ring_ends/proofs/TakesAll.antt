@@ -10,9 +10,9 @@ use Rattle.ring_core.specs.declared.replies.TakeBatchReply as batch_replies
 use Rattle.ring_core.specs.declared.replies.TakeBatchReply.TheVariants as batch_reply
 use Rattle.ring_core.specs.Items.{taken_of}
 use Rattle.ring_core.specs.Takes as takes
-use Rattle.ring_core.specs.Takes.{AreTakes, End, Open, Take, Takes, take_program}
+use Rattle.ring_core.specs.Takes.{AreTakes, End, Open, Take, Takes}
 use Rattle.ring_core.specs.ConsumerState.{ConsumerState, is_taking}
-use Rattle.ring_core.specs.ConsumerCalls.{AreItemsOfTake, ConsumerStands, HasTakeMore, IsOpenForTake, IsReplyToTake, IsTakeOf, ends_closed, items_at_end, last_items, last_take_reply, reply_at_end, take_batch_reply, take_reply_to}
+use Rattle.ring_core.specs.ConsumerCalls.{AreItemsOfTake, ConsumerStands, HasTakeMore, IsOpenForTake, IsReplyToTake, ends_closed, items_at_end, last_items, last_take_reply, reply_at_end, take_batch_reply, take_reply_to}
 use Rattle.ring_ends.specs.CounterEnds.{TakeAllKept, TakeMade}
 use Rattle.ring_seats.specs.Ring.{Ring, RingEnd}
 use Rattle.ring_seats.specs.Steppers.{Grows}

@@ -7,7 +7,6 @@ use Rattle.bits_core.specs.declared.events.Access.{Access}
 use Rattle.bits_core.specs.declared.events.Access.TheVariants as access
 use Rattle.bits_core.specs.declared.events.Event.{Event}
 use Rattle.bits_core.specs.Bits.{is_by, other, same_side}
-use Rattle.bits_core.specs.Laws.{SubhistoryChanges}
 use Rattle.bits_core.specs.Made.{IsPrefix, Made, answered, begin_event, end_event, events_of, subhistory, opening_event}
 use Rattle.bits_core.specs.Open.{IsOpenRight}
 use Rattle.bits_core.specs.declared.shapes.Shape.{Shape}

@@ -1,6 +1,5 @@
 -- What the producer's actor does with its machine.
 use Rattle.std.proofs.Common.{◌≡◌, ℕ, zero, suc, ◌+◌, ◌*◌, ◌%◌, ◌<◌, ◌≤◌, Bool, true, false, cond, Option, Some, None, List, [], ◌∷◌, ◌++◌, length, take, drop, refl, sym, ap, subst, ◌∙◌, append-nil, length-append, arith}
-use Rattle.std.specs.Prelude.{is_some}
 use Rattle.bits_core.specs.declared.events.Side.TheVariants.{P}
 use Rattle.bits_core.specs.declared.events.Access.{Access}
 use Rattle.bits_core.specs.declared.shapes.Shape.{Shape}
@@ -14,7 +13,6 @@ use Rattle.ring_core.specs.ProducerState.{batch_reply, Call, call_of, Close, due
 use Rattle.ring_core.specs.Puts as puts
 use Rattle.ring_core.specs.Puts.{ArePuts, Full, IsBatch, number_after, Puts, put_program, Stored, stored_after, stored_count, stored_in}
 use Rattle.ring_core.specs.Over.{fulls}
-use Rattle.ring_core.specs.Readings.{PutsAreFirst}
 use Rattle.ring_player.specs.Actors.{IsAsked, PutActorStands, PutTally, after_reply, full_in_reply, so_far, stored_in_reply}
 use Rattle.ring_player.specs.Plays.{AreAttempts, ArePutsOf, IsDoneAfter, IsProgram, offered}
 use Rattle.ring_script.specs.Content.{Content}

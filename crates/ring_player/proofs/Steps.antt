@@ -1,7 +1,6 @@
 -- What one step of a side does.
 use Rattle.std.proofs.Common.{◌≡◌, ℕ, suc, ◌<◌, ◌≤◌, Bool, true, false, Option, Some, None, List, [], ◌∷◌, ◌++◌, length, refl, sym, ap, subst, ◌∙◌, append_assoc, append-nil, length-append, arith}
-use Rattle.std.specs.Prelude.{if◌then◌else◌, not, ◌^◌}
-use Rattle.std.proofs.lemmas.List.Filters.{length-filter_both}
+use Rattle.std.specs.Prelude.{if◌then◌else◌, ◌^◌}
 use Rattle.bits_core.specs.declared.events.Side.{Side}
 use Rattle.bits_core.specs.declared.events.Side.TheVariants.{P, C}
 use Rattle.bits_core.specs.declared.events.Bit.{Bit}
@@ -9,7 +8,7 @@ use Rattle.bits_core.specs.declared.events.Access.{Access}
 use Rattle.bits_core.specs.declared.events.Access.TheVariants as access
 use Rattle.bits_core.specs.declared.events.Act.TheVariants.{ReadEnd}
 use Rattle.bits_core.specs.declared.events.Event.{Event}
-use Rattle.bits_core.specs.Bits.{begun_by, is_by, other}
+use Rattle.bits_core.specs.Bits.{begun_by, other}
 use Rattle.bits_core.specs.History.{open_access}
 use Rattle.bits_core.specs.Laws.{OpenChanges, SubhistoryChanges}
 use Rattle.bits_core.specs.Lawful.{IsLawful}
@@ -20,7 +19,7 @@ use Rattle.bits_core.specs.Shape.{modulus_of}
 use Rattle.register_core.specs.Row.{row_bit}
 use Rattle.register_core.specs.ScanState.{row_read_by, zero_reads}
 use Rattle.ring_core.specs.Calls.{EndsInZeros, LastBitIsDue}
-use Rattle.ring_core.specs.RunLaws.{NeverMisses, PutsAreSeen, TakesAreSeen}
+use Rattle.ring_core.specs.RunLaws.{NeverMisses}
 use Rattle.ring_player.specs.Actors.{so_far, IsMove, IsPlaying}
 use Rattle.ring_player.specs.Plays.{IsProgram}
 use Rattle.ring_script.specs.Content.{Content}

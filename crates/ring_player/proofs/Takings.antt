@@ -8,7 +8,6 @@ use Rattle.ring_core.specs.Calls.{LastBitIsDue}
 use Rattle.ring_core.specs.ConsumerCalls.{and_end, and_take, count_taken, ConsumerStands, ConsumerHasMoved, HasTakeMore, IsTakeOf, new_consumer, no_takes}
 use Rattle.ring_core.specs.ConsumerState.{ConsumerState, is_taking}
 use Rattle.ring_core.specs.Items.{Tells}
-use Rattle.ring_core.specs.Readings.{TakesAreFirst}
 use Rattle.ring_core.specs.Takes.{AreTakes, Closed, End, Open, Take, take_program, taken_after, taken_in, Takes}
 use Rattle.ring_player.specs.Actors.{TakeActorStands, so_far}
 use Rattle.ring_player.specs.Plays.{AreWantedBy, IsDoneAfter, IsProgram}

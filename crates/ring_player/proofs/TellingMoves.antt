@@ -3,7 +3,6 @@ use Rattle.std.proofs.Common.{◌≡◌, ℕ, suc, ◌+◌, ◌<◌, Bool, true,
 use Rattle.std.specs.Prelude.{◌↔◌, replicate}
 use Rattle.std.proofs.lemmas.List.{map-append, replicate-append-replicate}
 use Rattle.bits_core.specs.Bits.{is_by, other}
-use Rattle.bits_core.specs.Laws.{SubhistoryChanges}
 use Rattle.bits_core.specs.Made.{Made, IsPrefix, events_of, subhistory}
 use Rattle.bits_core.specs.declared.events.Event.{Event}
 use Rattle.bits_core.specs.declared.events.Side.{Side}

@@ -13,7 +13,7 @@ use Rattle.ring_core.specs.Counts.{Count, first_count}
 use Rattle.ring_core.specs.GoingOn.{AreWanted}
 use Rattle.ring_core.specs.Items.{events_in, Tells}
 use Rattle.ring_core.specs.Puts.{IsPutOf, Put, Puts, number_after, stored_in}
-use Rattle.ring_core.specs.Recorded.{AreOffered, by_side, calls_told, put_told, recorded, RecordedIsLinearizable, take_answer, take_told, told_or_behind}
+use Rattle.ring_core.specs.Recorded.{AreOffered, by_side, calls_told, put_told, recorded, take_answer, take_told, told_or_behind}
 use Rattle.ring_core.specs.Takes.{Closed, count_after, End, end_phrase, Open, Take, take_phrase, Takes, taken_after, taken_in}
 use Rattle.ring_player.specs.Headline.{IsPlayOf}
 use Rattle.ring_player.specs.Plays.{AreAttempts, AreWantedBy, offered, Plays}

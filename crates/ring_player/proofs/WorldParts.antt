@@ -8,7 +8,7 @@ use Rattle.bits_core.specs.declared.events.Event.{Event}
 use Rattle.bits_core.specs.Bits.{begun_by, other}
 use Rattle.bits_core.specs.History.{open_access}
 use Rattle.bits_core.specs.Lawful.{IsLawful}
-use Rattle.bits_core.specs.Laws.{FlickerIsByInterval, OpenChanges, SubhistoryChanges}
+use Rattle.bits_core.specs.Laws.{OpenChanges, SubhistoryChanges}
 use Rattle.bits_core.specs.Made.{clock, IsPrefix, subhistory}
 use Rattle.bits_core.specs.Memory.{MemoryState}
 use Rattle.bits_core.specs.Oracle.{turn}
@@ -21,8 +21,8 @@ use Rattle.ring_script.specs.declared.schedules.LetterRun.{LetterRun}
 use Rattle.ring_script.specs.Schedule.{spelled}
 use Rattle.ring_script.specs.Content.{Content}
 use Rattle.ring_core.specs.Counts.{first_count}
-use Rattle.ring_core.specs.Items.{all_taken, items_put, items_taken, items_taken_in, TakenAreRead, ToldIn}
-use Rattle.ring_core.specs.Over.{TakesOverAreRead, takes_over_in}
+use Rattle.ring_core.specs.Items.{all_taken, items_put, items_taken, items_taken_in, ToldIn}
+use Rattle.ring_core.specs.Over.{takes_over_in}
 use Rattle.ring_core.specs.Takes.{FollowsTakes, Takes}
 use Rattle.ring_player.specs.Headline.{EveryPlayFills, EveryPlayHolds, HoldsHeadline, IsPlayOf}
 use Rattle.ring_player.specs.SoFar.{PutSoFar, TakenSoFar}

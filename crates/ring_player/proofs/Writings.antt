@@ -11,7 +11,6 @@ use Rattle.bits_core.specs.Shape.{batch_of, modulus_of, width_of}
 use Rattle.bits_core.specs.Made.{Made, Read, Write, answered, events_of, IsPrefix, opening_event}
 use Rattle.register_core.specs.ScanState.{row_read_by, zero_reads}
 use Rattle.ring_core.specs.Counts.{batch_phrase, Count, first_count}
-use Rattle.ring_core.specs.CountWrites.{CountsAreWritten, CountsShowNumbers}
 use Rattle.ring_core.specs.Items.{all_put, events_in, items_put}
 use Rattle.ring_core.specs.Over.{fulls, puts_over}
 use Rattle.ring_core.specs.ProducerCalls.{HasCallMore, room_in}

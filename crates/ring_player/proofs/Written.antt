@@ -13,9 +13,8 @@ use Rattle.register_core.specs.Row.{RowWrite, row_bit, writes_in}
 use Rattle.register_core.specs.ScanState.{scan_phrase, row_read_by, zero_reads}
 use Rattle.register_core.specs.Word.{digit_writes, word_write}
 use Rattle.ring_core.specs.Counts.{Count, batch_phrase, count_bits, IsCount}
-use Rattle.ring_core.specs.CountWrites.{CountsAreWritten, CountsShowNumbers}
 use Rattle.ring_core.specs.Items.{events_in, items_put}
-use Rattle.ring_core.specs.Puts.{accesses_before_count, ArePuts, Full, Put, Stored, close_phrase, put_phrase, put_phrases, stored_after, words_phrase}
+use Rattle.ring_core.specs.Puts.{ArePuts, Full, Put, Stored, close_phrase, put_phrases, stored_after, words_phrase}
 use Rattle.ring_player.specs.Actors.{digits_in, items_begun}
 use Rattle.ring_core.proofs.CountRow.{past_is}
 use Rattle.ring_core.proofs.Cells.WordPlaces.{writes-append as map-append}

@@ -10,7 +10,7 @@ use Rattle.bits_core.specs.declared.events.Bit.{Bit}
 use Rattle.bits_core.specs.declared.events.Bit.TheVariants.{S, R, X, Cell}
 use Rattle.bits_core.specs.declared.events.Event.{Event}
 use Rattle.bits_core.specs.declared.shapes.Shape.{Shape}
-use Rattle.bits_core.specs.Bits.{other, writer, same_side, same_bit, is_by, begun_by, write_of, value_written, first_value}
+use Rattle.bits_core.specs.Bits.{other, writer, same_side, same_bit, is_by, write_of, value_written, first_value}
 use Rattle.bits_core.specs.History.{open_access, open_write, held, writes_begun, last_value}
 use Rattle.bits_core.specs.Lawful.{IsLawful}
 use Rattle.bits_core.specs.Steps.{MayFollow}

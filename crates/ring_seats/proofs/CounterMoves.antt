@@ -31,7 +31,6 @@ use Rattle.ring_seats.proofs.Rights.{AllRight, scan_right, unary_right, word_wri
 use Rattle.ring_seats.proofs.Moves.{set-same, ring_empty, first_seat, first_each, each_stays, no_load}
 use Rattle.ring_seats.proofs.Blocks.{wrote, Answers, Blocked, block}
 use Rattle.ring_seats.proofs.LastWrites.{Spares, spares_writes, spared, spared_bits, IsLast, stays_last, is_last_now, Lowest, count_shows, item_shows, held_left}
-use Rattle.ring_core.proofs.LawLemmas.{counts_are_written_numbers}
 use Rattle.register_core.proofs.Counts.{row_writer}
 
 -- ---- the seats

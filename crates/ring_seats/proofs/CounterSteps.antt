@@ -16,7 +16,6 @@ use Rattle.ring_seats.specs.Rule.{Stands}
 use Rattle.ring_seats.specs.Counters.{GrowsBy}
 use Rattle.ring_seats.proofs.Blocks.{follows_shorter, events_of-append}
 use Rattle.ring_seats.proofs.CounterPuts.{words_more, words_begin}
-use Rattle.ring_core.specs.declared.replies.TakeReply.TheVariants as reply
 use Rattle.ring_core.specs.Takes.{words_read}
 use Rattle.ring_core.proofs.LawLemmas.{words_by_one_more_fit, words_by_one_more_go_on, words_by_one_more_words}
 

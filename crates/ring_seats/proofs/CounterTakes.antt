@@ -16,8 +16,7 @@ use Rattle.register_core.specs.Word.{digit, digit_reads, word_read}
 use Rattle.register_core.specs.ScanState.{scan_phrase, row_read_by}
 use Rattle.ring_core.specs.Counts.{distance, ShowsItem, number_past, Count, first_count, count_bits, batch_phrase}
 use Rattle.ring_core.specs.Takes.{Take, Item, ItemAfterClose, Empty, End, Open, Closed, Takes, taken_after, count_after, taken_count, words_read, items_phrase, take_phrase, take_phrases, end_phrase, take_program, SeesItems, SeesNone, IsTakeBatch, IsTake}
-use Rattle.ring_core.specs.Items.{taken_of}
-use Rattle.ring_core.specs.ConsumerCalls.{count_taken, and_take, and_end, items_reply, take_reply_to, IsTakeOf, Finding, Once, Twice, finding_phrase, Finds}
+use Rattle.ring_core.specs.ConsumerCalls.{count_taken, and_take, and_end, IsTakeOf, Finding, Once, Twice, finding_phrase, Finds}
 use Rattle.ring_core.specs.OneCallMore.{HasOneTakeMore, HasEndMore}
 use Rattle.ring_core.proofs.Machines.TakeCalls.{take_of, take_of-is, take_of-phrase}
 use Rattle.ring_seats.specs.Programs.{Follows}

@@ -8,9 +8,7 @@ use Rattle.bits_core.specs.declared.events.Event.{Event}
 use Rattle.bits_core.specs.Shape.{capacity_of, modulus_of, width_of}
 use Rattle.bits_core.specs.Made.{subhistory}
 use Rattle.register_core.specs.Row.{row_bit}
-use Rattle.register_core.specs.Word.{DigitsTellItems}
 use Rattle.ring_core.specs.Counts.{Count, IsCount, first_count}
-use Rattle.ring_core.specs.CountWrites.{CountsShowNumbers}
 use Rattle.ring_core.specs.Items.{all_put, all_taken}
 use Rattle.ring_core.specs.ConsumerCalls as takes
 use Rattle.ring_core.specs.ProducerCalls.{count_of}

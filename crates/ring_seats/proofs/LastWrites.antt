@@ -5,7 +5,6 @@ use Rattle.std.specs.List.{cons_option}
 use Rattle.std.proofs.lemmas.Bool.Decides.{nat_tests}
 use Rattle.std.proofs.lemmas.List.{map-append}
 use Rattle.std.proofs.lemmas.List.Elements.{filter_map-append}
-use Rattle.std.proofs.lemmas.Nat.Bits.{bit_at-zero}
 use Rattle.std.proofs.Math.Nat.{mod-eq_of_lt}
 use Rattle.bits_core.specs.declared.shapes.Shape.{Shape}
 use Rattle.bits_core.specs.declared.events.Side.{Side}
@@ -22,7 +21,6 @@ use Rattle.register_core.specs.Row.{RowWrite, row_bit, writes_in, bits_with, bit
 use Rattle.register_core.specs.Unary.{unary_phrase}
 use Rattle.register_core.specs.Word.{digit, digit_writes, word_write}
 use Rattle.ring_core.specs.Counts.{Count}
-use Rattle.ring_core.specs.CountWrites.{CountsShowNumbers}
 use Rattle.ring_seats.specs.Counters.{value_left, unary_over, NoWriteOf, AreLast, IsLastCount, IsLastItem}
 use Rattle.ring_seats.proofs.Blocks.{wrote, after, after-append, last_append, left_by-made}
 use Rattle.bits_core.proofs.LawLemmas.{beginning_is_lawful, held_changes, open_write_changes, subhistory_changes}

@@ -16,12 +16,12 @@ use Rattle.bits_core.specs.declared.events.Access.{Access}
 use Rattle.bits_core.specs.declared.events.Access.TheVariants.{Read, Write}
 use Rattle.bits_core.specs.declared.events.Event.{Event}
 use Rattle.bits_core.specs.Shape.{belongs}
-use Rattle.bits_core.specs.Bits.{other, writer, reader, same_side, same_bit, is_by}
+use Rattle.bits_core.specs.Bits.{other, writer, reader, same_bit}
 use Rattle.bits_core.specs.History.{open_access}
 use Rattle.bits_core.specs.Lawful.{IsLawful}
 use Rattle.bits_core.specs.Steps.{MayFollow}
 use Rattle.bits_core.specs.Made.{subhistory, IsPrefix}
-use Rattle.ring_core.specs.Takes.{Takes, FollowsTakes}
+use Rattle.ring_core.specs.Takes.{Takes}
 use Rattle.ring_seats.specs.declared.views.View.{View}
 use Rattle.ring_seats.specs.declared.layout.TheConstants.{FIRST_S}
 use Rattle.ring_seats.specs.Words.{value_word, shown, answer_of, first_r, word_place, word_count, first_words, Shows}

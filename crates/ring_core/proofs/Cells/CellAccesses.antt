@@ -14,7 +14,6 @@ use Rattle.bits_core.specs.declared.shapes.Shape.{Shape}
 use Rattle.bits_core.specs.Shape.{capacity_of, width_of}
 use Rattle.bits_core.specs.Bits.{is_by}
 use Rattle.bits_core.specs.Intervals.{IsAccess, Overlap, first_place}
-use Rattle.bits_core.proofs.Statements.{SubhistoryHasPlace}
 use Rattle.bits_core.specs.Made.{Made, Read, Write, access_of, subhistory, place_of, IsPlaceOf, IsMadeAt}
 use Rattle.register_core.specs.Row.{RowWrite, row_bit, writes_in}
 use Rattle.register_core.specs.Word.{digit, digit_reads, digit_writes, word_read, word_write}

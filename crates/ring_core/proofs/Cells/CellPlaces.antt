@@ -19,9 +19,9 @@ use Rattle.ring_core.specs.Puts.{words_phrase}
 use Rattle.ring_core.proofs.OverSpans.Spans.{Outcome, Passes, Stops, Asks, Span, counts, items_of, whole, IsSpanAt}
 use Rattle.ring_core.proofs.OverSpans.LookSpans.{Look, words_read, word_part, count_part, after_look, look_accesses, span_of, spans}
 use Rattle.ring_core.proofs.Readings.Phrases.{length-digit_writes, at_or_below}
-use Rattle.ring_core.proofs.Machines.Lengths.{length-word_write, length-word_read, length-words}
+use Rattle.ring_core.proofs.Machines.Lengths.{length-word_write, length-word_read}
 use Rattle.ring_core.proofs.Cells.CellTimes.{to_cell, to_cell-append, to_cell-there, where_in, none_there, none_to_cell, no_cells-scan, no_cells-count, own_cell, look_to_cell, word_to_cell, length-word_writes, stored_to, items_here, cell_items}
-use Rattle.ring_core.proofs.OverSpans.Looks.{after_counts, length-words_read, word_length as length-part}
+use Rattle.ring_core.proofs.OverSpans.Looks.{after_counts, word_length as length-part}
 use Rattle.ring_core.proofs.Readings.Cuts.{at_most_or_above}
 use Rattle.ring_core.proofs.Readings.Parts.{never as none_in_nil}
 

@@ -11,16 +11,15 @@ use Rattle.bits_core.specs.declared.events.Event.{Event}
 use Rattle.bits_core.specs.declared.shapes.Shape.{Shape}
 use Rattle.bits_core.specs.Shape.{capacity_of, width_of}
 use Rattle.bits_core.specs.Intervals as intervals
-use Rattle.bits_core.specs.Intervals.{IsWrite, end_of}
+use Rattle.bits_core.specs.Intervals.{end_of}
 use Rattle.bits_core.specs.Lawful.{IsLawful}
 use Rattle.bits_core.specs.Made.{Made, Write, events_of, subhistory, clock, place_of, IsPrefix}
 use Rattle.register_core.specs.Word.{digit}
-use Rattle.register_core.specs.WordLaw.{cell_writes, IsDigitWrite, IsWordWrite, IsWordRead, IsLastWord, NoWordEnded, WordIsSafe, WritesWords}
-use Rattle.register_core.specs.MadeReads.{begin_place, end_place, WordReadsAreMade}
-use Rattle.register_core.specs.MadeWrites.{CellWritesAreMade}
+use Rattle.register_core.specs.WordLaw.{cell_writes, IsDigitWrite, IsWordWrite, IsWordRead, IsLastWord, NoWordEnded, WritesWords}
+use Rattle.register_core.specs.MadeReads.{begin_place, end_place}
 use Rattle.ring_core.specs.Counts.{first_count}
 use Rattle.ring_core.specs.Puts.{close_phrase}
-use Rattle.ring_core.proofs.OverSpans.Spans.{Outcome, Passes, Stops, Asks, Span, counts, items_of, before_count, IsSpanAt}
+use Rattle.ring_core.proofs.OverSpans.Spans.{Span, counts, items_of, before_count, IsSpanAt}
 use Rattle.ring_core.proofs.OverSpans.Clocks.{IsPlace, CellOverlap, IsLastWrite, word_end, AreSafe}
 use Rattle.ring_core.proofs.OverSpans.LookSpans.{Look, look_accesses, spans}
 use Rattle.ring_core.proofs.Readings.Cuts.{at_most_or_above}
@@ -32,7 +31,7 @@ use Rattle.ring_core.proofs.Cells.CellPlaces.{doubled, words_order, multiple_up,
 use Rattle.ring_core.proofs.Machines.Batches.{fits_at}
 use Rattle.ring_core.proofs.Cells.CellWrites.{writes_before, write_is_counted, write_is_counted_at_end}
 use Rattle.ring_core.proofs.OverSpans.SpanItems.{within_items as counted_within}
-use Rattle.bits_core.proofs.LawLemmas.{access_is_made, made_is_access, subhistory_has_place}
+use Rattle.bits_core.proofs.LawLemmas.{access_is_made, made_is_access}
 use Rattle.register_core.proofs.LawLemmas.{reads_are_made_words, word_is_safe, writes_are_made_cells}
 
 -- a close writes to no cell

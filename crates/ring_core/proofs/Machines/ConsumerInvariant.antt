@@ -87,7 +87,7 @@ pub next_keeps :
     IsConsumer (record p { word = w; items = items })
 next_keeps p w items is e more w_is =
     loads_so p w items is e more (ap (λ (x : ReaderState). x.width) w_is) (ap (λ (x : ReaderState). x.cell) w_is)
-        (omega (arith, ap (λ (x : ReaderState). x.read) w_is, ap (λ (x : ReaderState). x.width) w_is, p.shape.has_digits))
+    (omega (arith, ap (λ (x : ReaderState). x.read) w_is, ap (λ (x : ReaderState). x.width) w_is, p.shape.has_digits))
 
 -- the last of the items is kept
 pub kept_size :

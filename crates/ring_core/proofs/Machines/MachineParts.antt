@@ -2,7 +2,6 @@
 use Rattle.std.proofs.Common.{◌≡◌, inl, inr, ℕ, zero, suc, ◌+◌, ◌%◌, ◌<◌, ◌≤◌, Bool, true, false, cond, not, is_some, Option, Some, None, List, [], ◌∷◌, ◌++◌, length, if◌then◌else◌, refl, sym, ap, subst, ◌∙◌, arith, append_assoc}
 use Rattle.std.proofs.Math.Nat.{mod-eq_of_lt}
 use Rattle.bits_core.specs.declared.events.Side.{Side}
-use Rattle.bits_core.specs.declared.events.Bit.{Bit}
 use Rattle.bits_core.specs.declared.events.Access.{Access}
 use Rattle.bits_core.specs.declared.events.Access.TheVariants.{Read}
 use Rattle.bits_core.specs.declared.shapes.Shape.{Shape}
@@ -12,7 +11,7 @@ use Rattle.register_core.specs.Row.{RowWrite, row_bit}
 use Rattle.register_core.specs.ScanState.{ScanState, ScanStands, IsScanOf, IsValueRead, scan_read, due_scan, row_read_by}
 use Rattle.register_core.specs.Machine.{IsNext}
 use Rattle.register_core.specs.Unary.{setting, clearing, unary_phrase, count_writes}
-use Rattle.register_core.specs.UnaryState.{UnaryState, bit_in, due_writes, due_unary, first_access, UnaryStands}
+use Rattle.register_core.specs.UnaryState.{UnaryState, bit_in, due_writes, due_unary, UnaryStands}
 use Rattle.ring_core.specs.Calls.{LastBitIsDue, IsScanning, IsCounted, IsBeingCounted, IsBeingCountedOn}
 use Rattle.ring_core.specs.Counts.{number_past, Count, IsCount}
 use Rattle.ring_core.proofs.CountRow.{next_modulo, past_is, bits_long}

@@ -68,8 +68,8 @@ pub word_stays :
 word_stays p w is e fed more =
     let (counted, putting, keeping, less) = at_stage p Storing is e in
     stores_so p w p.index is e
-        (same_putting p Storing p.scan w p.row p.most putting (ap (λ (x : WriterState). x.width) fed) (ap (λ (x : WriterState). x.cell) fed) (ap (λ (x : WriterState). x.item) fed))
-        keeping.0 more
+    (same_putting p Storing p.scan w p.row p.most putting (ap (λ (x : WriterState). x.width) fed) (ap (λ (x : WriterState). x.cell) fed) (ap (λ (x : WriterState). x.item) fed))
+    keeping.0 more
 
 -- the next word
 pub next_keeps :

@@ -21,7 +21,7 @@ use Rattle.register_core.specs.UnaryState.{UnaryStands, due_unary, due_writes}
 use Rattle.ring_core.specs.declared.producers.Stage.TheVariants.{Scanning, Storing, Counting}
 use Rattle.ring_core.specs.Counts.{LeavesRoom, LeavesRoomFor, distance, number_past, Count, first_count, batch_phrase, IsCount}
 use Rattle.ring_core.specs.Calls.{IsScanning}
-use Rattle.ring_core.specs.Puts.{Puts, Stored, Full, words_phrase, put_phrase, put_phrases, close_phrase, put_program, IsBatch, IsPut, ArePuts}
+use Rattle.ring_core.specs.Puts.{Puts, Stored, Full, words_phrase, put_phrase, put_phrases, put_program, IsBatch, IsPut, ArePuts}
 use Rattle.ring_core.specs.Puts as puts
 use Rattle.ring_core.specs.ProducerState.{ProducerState, Call, Put, Close, call_at, call_of, IsWritingWord, IsKeeping}
 use Rattle.ring_core.specs.ProducerCalls.{count_of, values_of, room_in, ProducerStands, IsPutOf, and_put, BeginsCall, PutGoesOn, longest_of, longest}

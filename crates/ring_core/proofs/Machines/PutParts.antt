@@ -8,7 +8,7 @@ use Rattle.bits_core.specs.declared.shapes.Shape.{Shape}
 use Rattle.bits_core.specs.Shape.{AllFit, capacity_of, modulus_of, width_of, batch_of}
 use Rattle.bits_core.specs.Made.{Made, Read, Write}
 use Rattle.register_core.specs.Row.{RowWrite, row_bit, writes_in}
-use Rattle.register_core.specs.Word.{digit, digit_writes, word_write, DigitsTellItems}
+use Rattle.register_core.specs.Word.{digit, digit_writes, word_write}
 use Rattle.register_core.specs.ScanState.{zero_reads, scan_phrase, row_read_by}
 use Rattle.ring_core.specs.Counts.{LeavesRoom, LeavesRoomFor, number_past, Count, first_count, count_bits, batch_phrase, IsCount}
 use Rattle.ring_core.specs.Puts.{Put, Stored, Full, stored_after, stored_count, words_phrase, put_phrase, put_phrases, close_phrase, IsBatch, IsPut, ArePuts}
@@ -16,7 +16,7 @@ use Rattle.ring_core.specs.PutParts.{GoesBehind, count_behind, count_access, Sca
 use Rattle.ring_core.specs.GoingOn.{LastPutsReadOne}
 use Rattle.ring_core.proofs.Readings.Phrases.{scan-front, scan_begins, same_scan, same_word_write, same_writes, length-digit_writes, at_or_below}
 use Rattle.ring_core.proofs.Readings.PutsRead.{no_close, puts_stored, puts_full, no_room, NoCellFirst, count_first, words_first, digits_first, word_first}
-use Rattle.ring_core.proofs.CountRow.{batch_below, first_is_count, counted_is_count, bits_long}
+use Rattle.ring_core.proofs.CountRow.{batch_below, first_is_count, bits_long}
 use Rattle.ring_core.proofs.Readings.ItemsRead.{same_stored, same_full, stored_is_count}
 use Rattle.ring_core.proofs.LastBits.{AllOne, one-append, one_at, one-scan, one-writes}
 

@@ -12,7 +12,7 @@ use Rattle.bits_core.specs.Shape.{capacity_of, modulus_of, take_batch_of, width_
 use Rattle.bits_core.specs.Made.{Made, Read, Write, access_of, answered}
 use Rattle.register_core.specs.Phrases.{row_bit, bits_after, writes_in, unary_phrase}
 use Rattle.register_core.specs.Row.{RowWrite}
-use Rattle.register_core.specs.Word.{digit, digit_reads, word_read, DigitsTellItems}
+use Rattle.register_core.specs.Word.{digit, digit_reads, word_read}
 use Rattle.register_core.specs.ScanState.{scan_phrase, row_read_by}
 use Rattle.ring_core.specs.Counts.{distance, number_past, Count, first_count, count_bits, batch_phrase, IsCount}
 use Rattle.ring_core.specs.Takes.{Take, Takes, End, Item, ItemAfterClose, Empty, Open, Closed, count_after, taken_count, words_read, items_phrase, take_phrase, take_phrases, take_program, SeesItems, IsTakeBatch, IsTake, AreTakes}

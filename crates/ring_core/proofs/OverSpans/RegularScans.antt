@@ -9,10 +9,9 @@ use Rattle.bits_core.specs.declared.shapes.Shape.{Shape}
 use Rattle.bits_core.specs.Shape.{batch_of, modulus_of, take_batch_of}
 use Rattle.bits_core.specs.Bits.{other}
 use Rattle.bits_core.specs.Lawful.{IsLawful}
-use Rattle.bits_core.proofs.Statements.{SubhistoryHasPlace}
 use Rattle.bits_core.specs.Made.{Made, subhistory, clock, place_of, events_of, IsPrefix}
-use Rattle.register_core.specs.UnaryLaw.{count_write, count_begun, count_ended, WritesUnary, ended_before, begun_before, IsScan, IsRegularValue, UnaryIsRegular}
-use Rattle.register_core.specs.MadeReads.{begin_place, end_place, ScansAreMade}
+use Rattle.register_core.specs.UnaryLaw.{count_write, count_begun, count_ended, WritesUnary, ended_before, begun_before, IsScan, IsRegularValue}
+use Rattle.register_core.specs.MadeReads.{begin_place, end_place}
 use Rattle.register_core.specs.ScanState.{row_read_by}
 use Rattle.ring_core.specs.Counts.{first_count}
 use Rattle.ring_core.specs.Puts.{Puts, close_phrase, FollowsPuts}

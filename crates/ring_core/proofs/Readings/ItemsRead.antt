@@ -10,7 +10,6 @@ use Rattle.bits_core.specs.declared.events.Event.{Event}
 use Rattle.bits_core.specs.declared.shapes.Shape.{Shape}
 use Rattle.bits_core.specs.Shape.{modulus_of}
 use Rattle.bits_core.specs.Made.{Made, Read, Write, begin_event, subhistory, IsPrefix}
-use Rattle.register_core.specs.Word.{DigitsTellItems}
 use Rattle.register_core.specs.ScanState.{scan_phrase, row_read_by}
 use Rattle.ring_core.specs.Counts.{Count, first_count, batch_phrase, IsCount}
 use Rattle.ring_core.specs.Readings.{PutsAreFirst}

@@ -1,5 +1,5 @@
 -- Lists of accesses that begin with phrases: the phrase and what follows it are read off the list.
-use Rattle.std.proofs.Common.{◌≡◌, ℕ, zero, suc, ◌^◌, ◌<◌, Bool, true, false, List, [], ◌∷◌, ◌++◌, length, refl, sym, ap, ◌∙◌, arith, ◌⊎◌, inl, inr, length-append, append_assoc}
+use Rattle.std.proofs.Common.{◌≡◌, ℕ, zero, suc, ◌^◌, ◌<◌, Bool, true, false, List, [], ◌∷◌, ◌++◌, length, refl, sym, ap, ◌∙◌, arith, ◌⊎◌, inl, inr, append_assoc}
 use Rattle.bits_core.specs.declared.events.Side.{Side}
 use Rattle.bits_core.specs.declared.events.Act.TheVariants.{ReadBegin, ReadEnd, WriteBegin}
 use Rattle.bits_core.specs.declared.events.Bit.{Bit}
@@ -7,7 +7,7 @@ use Rattle.bits_core.specs.declared.events.Bit.TheVariants.{Cell}
 use Rattle.bits_core.specs.declared.events.Event.{Event}
 use Rattle.bits_core.specs.Made.{Made, Read, Write, begin_event, end_event, events_of}
 use Rattle.register_core.specs.Row.{RowWrite, writes_in}
-use Rattle.register_core.specs.Word.{digit, digit_writes, digit_reads, word_write, word_read, DigitsTellItems}
+use Rattle.register_core.specs.Word.{digit, digit_writes, digit_reads, word_write, word_read}
 use Rattle.register_core.specs.ScanState.{zero_reads, scan_phrase}
 pub use Rattle.register_core.proofs.Digits.{length-reads as length-digit_reads}
 pub use Rattle.register_core.proofs.Items.{length-digit_writes}

@@ -8,7 +8,7 @@ use Rattle.bits_core.specs.declared.shapes.Shape.{Shape}
 use Rattle.bits_core.specs.Shape.{AllFit, capacity_of, modulus_of, width_of}
 use Rattle.bits_core.specs.Made.{Made, Read, Write}
 use Rattle.register_core.specs.Row.{RowWrite, row_bit, writes_in}
-use Rattle.register_core.specs.Word.{digit, digit_writes, word_write, DigitsTellItems}
+use Rattle.register_core.specs.Word.{digit, digit_writes, word_write}
 use Rattle.register_core.specs.ScanState.{scan_phrase, row_read_by}
 use Rattle.ring_core.specs.Counts.{LeavesRoom, LeavesRoomFor, number_past, Count, first_count, count_bits, batch_phrase, IsCount}
 use Rattle.ring_core.specs.Puts.{Put, Puts, Stored, Full, stored_after, words_phrase, put_phrases, close_phrase, put_program, IsBatch, ArePuts}

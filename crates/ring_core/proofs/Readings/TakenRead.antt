@@ -6,7 +6,6 @@ use Rattle.bits_core.specs.declared.events.Side.TheVariants.{C}
 use Rattle.bits_core.specs.declared.events.Bit.TheVariants.{X}
 use Rattle.bits_core.specs.declared.shapes.Shape.{Shape}
 use Rattle.bits_core.specs.Made.{Made, Read, subhistory, IsPrefix}
-use Rattle.register_core.specs.Word.{DigitsTellItems}
 use Rattle.register_core.specs.ScanState.{row_read_by, zero_reads}
 use Rattle.ring_core.specs.Takes.{Take, Takes, End, Item, ItemAfterClose, Empty, Open, Closed, count_after, items_phrase, take_phrase, take_phrases, end_phrase, take_program, IsTake, AreTakes}
 use Rattle.ring_core.specs.Counts.{Count, first_count, IsCount}

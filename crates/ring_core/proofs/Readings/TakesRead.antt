@@ -7,7 +7,7 @@ use Rattle.bits_core.specs.declared.shapes.Shape.{Shape}
 use Rattle.bits_core.specs.Shape.{AllFit, capacity_of, modulus_of, width_of}
 use Rattle.bits_core.specs.Made.{Made, Read}
 use Rattle.register_core.specs.Row.{RowWrite, row_bit, writes_in}
-use Rattle.register_core.specs.Word.{digit, digit_reads, word_read, DigitsTellItems}
+use Rattle.register_core.specs.Word.{digit, digit_reads, word_read}
 use Rattle.register_core.specs.ScanState.{row_read_by}
 use Rattle.ring_core.specs.Counts.{ShowsItem, number_past, Count, first_count, IsCount, count_bits, batch_phrase}
 use Rattle.ring_core.specs.Takes.{Take, Takes, End, Item, ItemAfterClose, Empty, Open, Closed, count_after, words_read, items_phrase, take_program, SeesItems, SeesNone, IsTakeBatch, AreTakes}

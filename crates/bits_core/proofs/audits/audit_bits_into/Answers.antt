@@ -26,7 +26,7 @@ pub returns-in-Some-clause-why : goal.returns-in-Some-clause-why
 returns-in-Some-clause-why c =
     let past = take c.loop-place.place c.args.events.now in
     TellsWhy-at c.args.shape.now c.args.events.now c.loop-place.place _ c.in-Some.kind c.reason_by-why.result (omega arith) (c.in-Some.ensures.found past c.loop-place.invariant.marks)
-        c.reason_by-why.ensures.none c.reason_by-why.ensures.reason
+    c.reason_by-why.ensures.none c.reason_by-why.ensures.reason
 
 pub loop-place-preserved : goal.loop-place-preserved
 loop-place-preserved c =

@@ -1,7 +1,6 @@
 use Rattle.std.proofs.Common.{◌≡◌, ◌+◌, ◌%◌, length, ap, ◌∙◌}
 use Rattle.bits_core.specs.Shape.{capacity_of, modulus_of}
 use Rattle.ring_core.specs.ConsumerCalls.{items_reply}
-use Rattle.ring_seats.specs.Ring.{RingEnd}
 use Rattle.ring_seats.proofs.CounterSteps.{same_shape}
 use Rattle.ring_ends.proofs.CounterTakerCalls.{to_read, to_count, fetched, kept_take}
 use Rattle.ring_ends.proofs.counter_calls.fetch_all.Goals as goal

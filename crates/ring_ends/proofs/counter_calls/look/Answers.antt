@@ -1,7 +1,6 @@
-use Rattle.std.proofs.Common.{◌≡◌, true≢false, sym, subst, ap, ◌∙◌}
+use Rattle.std.proofs.Common.{◌≡◌, true≢false, sym, subst, ◌∙◌}
 use Rattle.bits_core.specs.declared.shapes.Shape.{Shape}
 use Rattle.ring_core.specs.Counts.{ShowsItem}
-use Rattle.ring_seats.specs.Ring.{RingEnd}
 use Rattle.ring_ends.proofs.CounterTakerCalls.{to_scan, found_once, to_ask, found_empty, to_rescan, found_twice, found_closed, ShownOf}
 use Rattle.ring_ends.proofs.counter_calls.look.Goals as goal
 

@@ -1,7 +1,6 @@
 use Rattle.std.proofs.Common.{◌≡◌, ℕ, ◌+◌, ◌%◌, take, arith, sym, subst, ap, ◌∙◌}
 use Rattle.bits_core.specs.declared.shapes.Shape.{Shape}
 use Rattle.bits_core.specs.Shape.{AllFit, capacity_of, modulus_of}
-use Rattle.ring_seats.specs.Ring.{RingEnd}
 use Rattle.ring_seats.proofs.CounterPuts.{first_fit}
 use Rattle.ring_ends.proofs.CounterPutterCalls.{Fitting, kept, kept_full, to_scan, full_put, to_store, to_count, stored_put}
 use Rattle.ring_seats.proofs.CounterSteps.{same_shape}

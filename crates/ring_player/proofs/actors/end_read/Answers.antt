@@ -16,7 +16,6 @@ use Rattle.ring_script.specs.Content.{Content}
 use Rattle.ring_player.proofs.Steps.{after_end, ends_there, answers_one, end_move, playing_on, reading}
 use Rattle.ring_player.proofs.Turns.{turn_read}
 use Rattle.bits_core.proofs.LawLemmas.{open_changes, subhistory_changes}
-use Rattle.ring_core.proofs.LawLemmas.{last_bit_is_one_puts, last_bit_is_one_takes}
 use Rattle.ring_player.proofs.actors.end_read.Goals as goal
 
 pub end-requires-clause-one : goal.end-requires-clause-one

@@ -16,7 +16,6 @@ use Rattle.ring_player.specs.declared.tellings.TakenItems.{TakenItems}
 use Rattle.ring_player.proofs.TellingMoves.{at_first, nothing_told}
 use Rattle.ring_player.proofs.TellingRecords.{play_records}
 use Rattle.ring_player.proofs.WorldParts.{spelled-more, spelled-none}
-use Rattle.ring_core.proofs.LawLemmas.{recorded_is_linearizable}
 use Rattle.ring_player.proofs.tellings.play_calls.Goals as goal
 
 pub loop-run-init : goal.loop-run-init

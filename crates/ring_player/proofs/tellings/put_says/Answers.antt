@@ -1,7 +1,6 @@
 use Rattle.std.proofs.Common.{inl, inr, subst, arith}
 use Rattle.ring_player.specs.Tellings.{IsPutStage}
 use Rattle.ring_player.proofs.TellingSteps.{close_begins, close_ends, put_begins, put_goes}
-use Rattle.ring_core.proofs.LawLemmas.{events_tell_by_one_puts}
 use Rattle.ring_player.proofs.tellings.put_says.Goals as goal
 
 pub returns-then-before-items : goal.returns-then-before-items

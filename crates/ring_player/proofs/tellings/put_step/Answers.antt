@@ -2,7 +2,6 @@ use Rattle.std.proofs.Common.{None, subst}
 use Rattle.bits_core.specs.declared.events.Side.TheVariants.{P}
 use Rattle.ring_player.specs.Actors.{IsMove}
 use Rattle.ring_player.proofs.TellingMoves.{not_stepped, put_stepped, Stepped}
-use Rattle.bits_core.proofs.LawLemmas.{subhistory_changes}
 use Rattle.ring_player.proofs.tellings.put_step.Goals as goal
 
 stays : (g : _) (c : goal.Then-not-moved g) → Stepped c.args.world.now.script c.step.new.self.script c.args.world.now.history c.step.new.self.history c.args.at.now.put c.args.at.now.take None

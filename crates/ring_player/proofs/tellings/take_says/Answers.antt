@@ -1,7 +1,6 @@
 use Rattle.std.proofs.Common.{inl, inr, sym, subst, ◌∙◌, arith, true, false, ◌≡◌}
 use Rattle.ring_player.specs.Tellings.{IsTakeStage}
 use Rattle.ring_player.proofs.TellingSteps.{take_begins, take_goes}
-use Rattle.ring_core.proofs.LawLemmas.{events_tell_by_one_takes}
 use Rattle.ring_player.proofs.tellings.take_says.Goals as goal
 
 pub returns-in-Between : goal.returns-in-Between

@@ -5,7 +5,6 @@ use Rattle.ring_player.specs.Actors.{IsMove}
 use Rattle.ring_player.specs.Tellings.{TakeTally}
 use Rattle.ring_player.specs.declared.tellings.TakeCount.{TakeCount}
 use Rattle.ring_player.proofs.TellingMoves.{not_stepped, take_stepped, Stepped}
-use Rattle.bits_core.proofs.LawLemmas.{subhistory_changes}
 use Rattle.ring_player.proofs.tellings.take_step.Goals as goal
 
 abbrev tally : TakeCount → TakeTally

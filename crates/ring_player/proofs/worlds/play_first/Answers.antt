@@ -13,7 +13,6 @@ use Rattle.ring_player.specs.Headline.{IsPlayOf}
 use Rattle.ring_player.specs.Plays.{HasFlickers}
 use Rattle.ring_player.proofs.Flickers.{has_flickers}
 use Rattle.ring_player.proofs.WorldParts.{is_play}
-use Rattle.bits_core.proofs.LawLemmas.{flicker_is_by_interval}
 use Rattle.ring_core.proofs.LawLemmas.{ring_is_linearizable}
 use Rattle.ring_player.proofs.LawLemmas.{every_play_fills, every_play_holds}
 use Rattle.ring_player.proofs.worlds.play_first.Goals as goal

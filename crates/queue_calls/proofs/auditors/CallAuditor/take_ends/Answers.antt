@@ -54,6 +54,6 @@ returns-then-not-are_next-clause-decides g c =
           refuses g.Q.Inside.items g.Q.Inside.room s c.then-not-are_next.self (told c.args.event) c.in-Waits.wanted c.in-Waits.before c.in-Waits.ended (c.in-Some.taken, c.in-Some.lacked) c.requires.0 c.in-Waits.is (sym c.in-Some.ensures) (ap (λ z. z.capacity) b.self-is ∙ e.capacity)
           (ap (λ z. kept_by g.Q.Inside.items z) b.self-is ∙ kept_as g.Q.Inside.items s b.ends_take.new.self e.inside e.put e.take e.shut)
           (λ found next fits.
-              let z : false ≡ true = e.ends.1 (subst (λ z. CanEndTake (meant s.capacity) (length (g.Q.Inside.items s.inside)) (offered_by s.put) (length z)) (sym c.requires.1) fits) in
-              absurd cc))
+          let z : false ≡ true = e.ends.1 (subst (λ z. CanEndTake (meant s.capacity) (length (g.Q.Inside.items s.inside)) (offered_by s.put) (length z)) (sym c.requires.1) fits) in
+          absurd cc))
     ]

@@ -45,8 +45,8 @@ returns-clause-read g c = then_ok c.hear.result c.hear.ensures.heard (λ heard b
       has_more g.S.Offered.Fifo.items g.S.Taken.Fifo.items _ before _ c.args.self.now.count has.count c.in-Some.ensures.1 (c.hear.ensures.limit ∙ has.limit) on.0
           (further_heard g.S.Offered.Fifo.items g.S.Taken.Fifo.items c.hear.new.self before c.args.self.now.lacks_calls lines.0 lines.1 c.in-Some-2.word numbers (told c.in-Some-event_told.event) lines.2 tells
           (c.hear.ensures.begun ∙ c.begun_after-self.ensures ∙ ap₂ (λ b ns. begun_after b c.in-Some-2.word ns) begun_is same)
-            (heard (capacity_told lines.0) (events_told begun.Nothing lines.1) lines.4
-            (count_is before c.args.self.now.lacks_calls lines.0 lines.1 begun.Nothing c.args.self.now.count c.in-Some.count lines.2 has.are has.count c.in-Some.ensures.1))),
+          (heard (capacity_told lines.0) (events_told begun.Nothing lines.1) lines.4
+          (count_is before c.args.self.now.lacks_calls lines.0 lines.1 begun.Nothing c.args.self.now.count c.in-Some.count lines.2 has.are has.count c.in-Some.ensures.1))),
     ))
 
 pub returns-then-count-eq1-clause-read : goal.returns-then-count-eq1-clause-read
@@ -64,7 +64,7 @@ returns-then-count-eq1-clause-read g c before has =
       on,
       has_more g.S.Offered.Fifo.items g.S.Taken.Fifo.items _ before _ c.args.self.now.count has.count c.in-Some.ensures.1 (c.begins.ensures.limit ∙ has.limit) on.0
           (first_heard g.S.Offered.Fifo.items g.S.Taken.Fifo.items c.begins.new.self before is_cut numbers none c.begins.ensures.begun
-            (subst (λ ns. HasHeard g.S.Offered.Fifo.items g.S.Taken.Fifo.items c.begins.new.self (capacity_told ns) []) c.as_slice-numbers.ensures c.begins.ensures.heard)),
+          (subst (λ ns. HasHeard g.S.Offered.Fifo.items g.S.Taken.Fifo.items c.begins.new.self (capacity_told ns) []) c.as_slice-numbers.ensures c.begins.ensures.heard)),
     )
 
 pub returns-in_default-2-clause-refused : goal.returns-in_default-2-clause-refused

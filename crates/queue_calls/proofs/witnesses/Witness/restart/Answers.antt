@@ -1,17 +1,18 @@
 use Rattle.std.proofs.Common.{◌≡◌, ℕ, Bool, false, List, [], ◌-◌, refl, sym, ap, ◌∙◌, arith}
 use Rattle.std.proofs.lemmas.List.{drop_all}
-use Rattle.queue_calls.specs.Queue.{Capacity, Queue, queue}
+use Rattle.queue_calls.specs.Queue.{Capacity, queue}
 use Rattle.queue_calls.specs.Calls.{Idle, Resting, point}
 use Rattle.queue_calls.specs.Counting.{kept}
 use Rattle.queue_calls.specs.Reasons.{items_of}
-use Rattle.queue_calls.specs.State.{FitsPut, FitsTake, Keeps}
+use Rattle.queue_calls.specs.State.{FitsPut, Keeps}
 use Rattle.queue_calls.specs.Told.{meant}
 use Rattle.queue_calls.specs.declared.turns.PutTurn.{PutTurn}
 use Rattle.queue_calls.specs.declared.turns.PutTurn.TheVariants.{Free, Offers, Late, Closes}
 use Rattle.queue_calls.specs.declared.turns.TakeTurn.{TakeTurn}
-use Rattle.queue_calls.specs.declared.turns.TakeTurn.TheVariants.{Rests, Waits}
+use Rattle.queue_calls.specs.declared.turns.TakeTurn.TheVariants.{Rests}
 use Rattle.queue_calls.proofs.Points.{start}
 use Rattle.queue_calls.proofs.witnesses.Witness.restart.Goals as goal
+use Rattle.queue_calls.proofs.CountsFollow.{resting_tells as rests}
 
 -- what is kept where there is no event yet
 free : (capacity : Capacity) (put : PutTurn) (shut : Bool) → FitsPut capacity put shut Idle false → (put ≡ Free) × (shut ≡ false)
@@ -19,10 +20,6 @@ free capacity Free shut f = (refl, sym f)
 free capacity (Offers offered before) shut f = absurd f
 free capacity (Late offered) shut f = absurd f
 free capacity (Closes again) shut f = absurd f
-
-rests : (take : TakeTurn) (q : Queue) → FitsTake take Resting q → take ≡ Rests
-rests Rests q f = refl
-rests (Waits wanted before ended) q f = absurd f
 
 at_start :
     (capacity : Capacity) (inside items : List ℕ) (put : PutTurn) (take : TakeTurn) (shut : Bool) → Keeps capacity [] inside put take shut → items ≡ [] →

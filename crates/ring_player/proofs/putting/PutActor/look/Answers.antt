@@ -2,7 +2,6 @@ use Rattle.std.proofs.Common.{◌∙◌}
 use Rattle.ring_player.proofs.Nexts.{put_next}
 use Rattle.ring_player.proofs.Writings.{put_so_far}
 use Rattle.ring_script.specs.Borrowed.{content_of}
-use Rattle.ring_core.proofs.LawLemmas.{counts_are_written_numbers, counts_are_written_written}
 use Rattle.ring_player.proofs.putting.PutActor.look.Goals as goal
 
 pub returns : goal.returns

@@ -7,7 +7,6 @@ use Rattle.ring_player.specs.Plays.{IsDoneAfter}
 use Rattle.ring_script.specs.Content.{Content}
 use Rattle.ring_player.proofs.Puttings.{resting, unfinished}
 use Rattle.ring_script.specs.Borrowed.{content_of}
-use Rattle.ring_core.proofs.LawLemmas.{calls_are_first_puts}
 use Rattle.ring_player.proofs.putting.PutActorActor.next.Goals as goal
 
 pub returns-clause-unfinished : goal.returns-clause-unfinished

@@ -7,7 +7,6 @@ use Rattle.ring_player.specs.Plays.{IsDoneAfter}
 use Rattle.ring_script.specs.Content.{Content}
 use Rattle.ring_player.proofs.Takings.{resting, unfinished}
 use Rattle.ring_script.specs.Borrowed.{content_of}
-use Rattle.ring_core.proofs.LawLemmas.{calls_are_first_takes}
 use Rattle.ring_player.proofs.taking.TakeActorActor.next.Goals as goal
 
 pub returns-clause-unfinished : goal.returns-clause-unfinished

@@ -10,7 +10,6 @@ use Rattle.ring_core.specs.Takes.{FollowsTakes}
 use Rattle.ring_player.proofs.WorldParts.{ended_of, first_of, front_of}
 use Rattle.ring_script.specs.Borrowed.{content_of}
 use Rattle.ring_script.specs.Content.{Content}
-use Rattle.ring_core.proofs.LawLemmas.{calls_over_are_read_takes}
 use Rattle.ring_player.proofs.worlds.World.ended_items.Goals as goal
 
 pub returns-clause-items : goal.returns-clause-items

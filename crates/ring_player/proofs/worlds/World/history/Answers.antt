@@ -7,7 +7,6 @@ use Rattle.ring_player.specs.Plays.{IsProgram, Plays, event_sides}
 use Rattle.ring_player.specs.Worlds.{Played}
 use Rattle.ring_player.proofs.WorldParts.{is_play, plays_of}
 use Rattle.ring_script.specs.Borrowed.{content_of}
-use Rattle.bits_core.proofs.LawLemmas.{flicker_is_by_interval}
 use Rattle.ring_core.proofs.LawLemmas.{ring_is_linearizable}
 use Rattle.ring_player.proofs.LawLemmas.{every_play_fills, every_play_holds}
 use Rattle.ring_player.proofs.worlds.World.history.Goals as goal

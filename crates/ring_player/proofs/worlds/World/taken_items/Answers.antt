@@ -8,7 +8,6 @@ use Rattle.ring_player.specs.Actors.{TakeActorStands}
 use Rattle.ring_player.specs.Worlds.{Played}
 use Rattle.ring_player.proofs.WorldParts.{taken_of}
 use Rattle.ring_script.specs.Borrowed.{content_of}
-use Rattle.ring_core.proofs.LawLemmas.{items_taken_are_read}
 use Rattle.ring_player.proofs.worlds.World.taken_items.Goals as goal
 
 pub returns : goal.returns

@@ -9,7 +9,6 @@ use Rattle.ring_player.specs.Worlds.{Played}
 use Rattle.ring_player.proofs.WorldParts.{ended_of}
 use Rattle.ring_script.specs.Borrowed.{content_of}
 use Rattle.ring_script.specs.Content.{Content}
-use Rattle.ring_core.proofs.LawLemmas.{calls_over_are_read_takes}
 use Rattle.ring_player.proofs.worlds.World.wanted.Goals as goal
 
 pub returns-clause-wanted : goal.returns-clause-wanted
