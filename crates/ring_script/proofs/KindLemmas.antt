@@ -1,5 +1,5 @@
 -- The kinds of the fields' values that are read, and those that the object has.
-use Rattle.std.proofs.Common.{◌≡◌, ◌∙◌, ℕ, Bool, List, [], ◌∷◌, Option, Some, None, Ok, Err, option_map, refl, sym, ap, ap₂, subst, arith, inl, inr}
+use Rattle.std.proofs.Common.{◌≡◌, ◌∙◌, ℕ, Bool, List, [], ◌∷◌, Option, Some, None, Ok, Err, option_map, refl, sym, ap, ap₂, subst, inl, inr}
 use Rattle.std.specs.Prelude.{option_and_then}
 use Rattle.serde_json.specs.Data.{unsigned, negative, float, Data, null, boolean, number, string, array, object, Items as ItemData, no_items, item, Members}
 use Rattle.serde_json.specs.Find.{as_array, as_bool, as_str}
