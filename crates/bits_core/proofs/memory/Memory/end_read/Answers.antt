@@ -52,6 +52,10 @@ due_where : (g : Over) (c : After-read_answer-answer g) (t : Bool) → is_read_o
 due_where g c t is =
     due g c ∙ ap (λ t. if t then None else Some (held_at_begin c.args.side c.in-Some-Read.bit (before g c))) (ap (λ x. is_overlapped c.args.side x (before g c)) (sym (its_bit g c)) ∙ is)
 
+answered : (g : Over) (c : After-read_answer-answer g) → c.read_answer-answer.result
+    ≡ (if is_overlapped c.args.side c.in-Some-Read.bit (before g c) then g.O.Oracle.answers c.args.oracle.now 0 else held_at_begin c.args.side c.in-Some-Read.bit (before g c))
+answered g c = c.read_answer-answer.ensures.value ∙ answer-is c.args.side c.in-Some-Read.bit (before g c) c.settled-settled.result (g.O.Oracle.answers c.args.oracle.now 0) (due g c)
+
 pub overflow_add-self : goal.overflow_add-self
 overflow_add-self g c =
     let h : List Event = g.S.Store.items c.self.inside.events in
@@ -72,10 +76,8 @@ invariant_of-self-in-Read-1 g c =
     let n : ℕ = c.self.inside.flickers in
     let asked = g.O.Oracle.answers c.args.oracle.now 0 in
     let e : Event = record { side = s; bit = b; act = ReadEnd v } in
-    let still = still g t in
-    let due = due g t in
-    let overlapped : c.is_none.result ≡ is_overlapped s b h = overlapped-is s b h c.settled-settled.result c.is_none.result due c.is_none.ensures in
-    let follows = MayFollow-answer shape h s b asked v c.self.invariant.0.lawful still (c.read_answer-answer.ensures.value ∙ answer-is s b h c.settled-settled.result asked due) in
+    let overlapped : c.is_none.result ≡ is_overlapped s b h = overlapped-is s b h c.settled-settled.result c.is_none.result (due g t) c.is_none.ensures in
+    let follows = MayFollow-answer shape h s b asked v c.self.invariant.0.lawful (still g t) (answered g t) in
     let counted : n + (if is_overlapped s b h then 1 else 0) ≡ n + c.from.result = ap (λ (k : ℕ). n + k) (ap (λ (t : Bool). if t then 1 else 0) (sym overlapped) ∙ sym (byte_is c.is_none.result) ∙ sym c.from.ensures) in
     let items : h ++ e ∷ [] ≡ g.S.Store.items c.add.new.self = sym (c.add.ensures.items ∙ ap (λ (t : List Event). t ++ e ∷ []) c.in_ok-reserve-in-Some-Read.ensures.items) in (
       subst (λ (k : ℕ). IsRecord shape (g.S.Store.items c.add.new.self) k) counted (subst (λ (t : List Event). IsRecord shape t (n + (if is_overlapped s b h then 1 else 0))) items (IsRecord-push shape h n e c.self.invariant.0 follows)),
@@ -93,13 +95,10 @@ returns-clause-overlap g c =
     let after : List Event = g.S.Store.items c.add.new.self in
     let asked = g.O.Oracle.answers c.args.oracle.now 0 in
     let e : Event = record { side = s; bit = b; act = ReadEnd v } in
-    let still = still g t in
-    let due = due g t in
     let items : h ++ e ∷ [] ≡ after = sym (c.add.ensures.items ∙ ap (λ (t : List Event). t ++ e ∷ []) c.in_ok-reserve-in-Some-Read.ensures.items) in
-    let told = ends_overlapped shape h s b asked v c.self.invariant.0.lawful still (c.read_answer-answer.ensures.value ∙ answer-is s b h c.settled-settled.result asked due) in
+    let told = ends_overlapped shape h s b asked v c.self.invariant.0.lawful (still g t) (answered g t) in
     let told_after = subst (λ (t : List Event). (is_overlapped s b h ≡ true) ↔ EndsOverlappedRead t (length h)) items told in
-    let its_bit = its_bit g t in
-    let told_of_bit = subst (λ x. (is_overlapped s x h ≡ true) ↔ EndsOverlappedRead after (length h)) (sym its_bit) told_after in
+    let told_of_bit = subst (λ x. (is_overlapped s x h ≡ true) ↔ EndsOverlappedRead after (length h)) (sym (its_bit g t)) told_after in
     subst (λ r. (is_read_overlapped s r.events ≡ true) ↔ EndsOverlappedRead after (length r.events)) c.self.view_is told_of_bit
 
 pub returns-clause-ok : goal.returns-clause-ok
@@ -108,11 +107,10 @@ returns-clause-ok g c =
     let s = c.args.side in
     let b = c.in-Some-Read.bit in
     let h : List Event = g.S.Store.items c.self.inside.events in
-    let due = due g t in
     let its_bit = its_bit g t in
     let v = c.read_answer-answer.result in
     let n : ℕ = c.self.inside.flickers in
-    let overlapped : c.is_none.result ≡ is_overlapped s b h = overlapped-is s b h c.settled-settled.result c.is_none.result due c.is_none.ensures in
+    let overlapped : c.is_none.result ≡ is_overlapped s b h = overlapped-is s b h c.settled-settled.result c.is_none.result (due g t) c.is_none.ensures in
     let counted : n + c.from.result ≡ n + (if is_read_overlapped s h then 1 else 0) = ap (λ (k : ℕ). n + k) (c.from.ensures ∙ byte_is c.is_none.result ∙ ap (λ (t : Bool). if t then 1 else 0) overlapped ∙ ap (λ x. if is_overlapped s x h then 1 else 0) (sym its_bit)) in
     let e : Bit → Event = λ x. record { side = s; bit = x; act = ReadEnd v } in
     let items : g.S.Store.items c.add.new.self ≡ h ++ e (open_bit s h) ∷ [] = c.add.ensures.items ∙ ap (λ (t : List Event). t ++ e b ∷ []) c.in_ok-reserve-in-Some-Read.ensures.items ∙ ap (λ x. h ++ e x ∷ []) (sym its_bit) in
@@ -122,15 +120,10 @@ returns-clause-ok g c =
 pub returns-clause-answer : goal.returns-clause-answer
 returns-clause-answer g c =
     let t = (goal.at.returns-clause-answer g c).After-read_answer-answer in
-    let s = c.args.side in
-    let b = c.in-Some-Read.bit in
     let h : List Event = g.S.Store.items c.self.inside.events in
-    let due = due g t in
-    let its_bit = its_bit g t in
     let asked = g.O.Oracle.answers c.args.oracle.now 0 in
-    c.read_answer-answer.ensures.value ∙ answer-is s b h c.settled-settled.result asked due
-    ∙ ap (λ x. if is_overlapped s x h then asked else held_at_begin s x h) (sym its_bit)
-    ∙ ap (λ m. if is_read_overlapped s m.events then asked else held_for_read s m.events) c.self.view_is
+    answered g t ∙ ap (λ x. if is_overlapped c.args.side x h then asked else held_at_begin c.args.side x h) (sym (its_bit g t))
+    ∙ ap (λ m. if is_read_overlapped c.args.side m.events then asked else held_for_read c.args.side m.events) c.self.view_is
 
 pub returns-clause-asked : goal.returns-clause-asked
 returns-clause-asked g c is =
