@@ -28,7 +28,8 @@ use Rattle.ring_core.specs.ConsumerCalls.{and_take, ends_closed, reply_at_end}
 use Rattle.ring_seats.specs.Rule.{Stands}
 use Rattle.ring_ends.specs.Ends.{HasPuts, HasTakes, HasTakenAll, HasTakenOf, TakeAdds, TakeAllAdds}
 use Rattle.ring_run.specs.Laws.{EmptyAfterMeeting, ItemEmptyAfterMeeting, ItemTakesAdd, TakesAdd}
-use Rattle.ring_run.proofs.Lists.{by_case, events_of-append, length-events_of, last-snoc}
+use Rattle.ring_ends.proofs.Lists.{events_of-append, length-events_of}
+use Rattle.ring_run.proofs.Lists.{by_case, last-snoc}
 
 -- ---- how many items calls store and take that have ended
 

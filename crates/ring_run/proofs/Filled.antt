@@ -22,7 +22,7 @@ use Rattle.ring_core.specs.ProducerCalls.{and_put}
 use Rattle.ring_seats.specs.Rule.{Stands}
 use Rattle.ring_ends.specs.Ends.{HasPuts, HasTakes, PutAdds, HasPutAll}
 use Rattle.ring_run.specs.Laws.{FullAfterMeeting, ItemFullAfterMeeting, PutsAdd}
-use Rattle.ring_run.proofs.Lists.{events_of-append, length-events_of}
+use Rattle.ring_ends.proofs.Lists.{events_of-append, length-events_of}
 use Rattle.ring_run.proofs.Emptied.{behind_known, by_true, known_first, later, past_is, within_le}
 
 -- ---- how many items are stored, and how many are taken by takes that have ended

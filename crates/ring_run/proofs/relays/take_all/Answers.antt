@@ -1,5 +1,5 @@
 use Rattle.std.specs.Prelude.{◌-◌, if◌then◌else◌, min, vec_capacity}
-use Rattle.std.proofs.lemmas.List.{length-append}
+use Rattle.std.proofs.lemmas.List.{length-append, length-take-le}
 use Rattle.std.proofs.Common.{rules, ◌≡◌, ◌+◌, ◌<◌, ◌≤◌, ℕ, Bool, false, List, ◌++◌, length, take, refl, ap, sym, subst, ◌∙◌, arith}
 use Rattle.ring_core.specs.declared.replies.TakeBatchReply as replies
 use Rattle.ring_core.specs.declared.replies.TakeBatchReply.TheVariants as reply
@@ -7,7 +7,7 @@ use Rattle.bits_core.specs.Shape.{take_batch_of}
 use Rattle.ring_seats.specs.Ring.{Ring}
 use Rattle.ring_ends.specs.Ends.{HasTakenAll}
 use Rattle.ring_run.specs.Relays.{HasTakenMore, TakesAre}
-use Rattle.ring_run.proofs.RelayLemmas.{length_first, same_trans, takes_there, if_err}
+use Rattle.ring_run.proofs.RelayLemmas.{same_trans, takes_there, if_err}
 use Rattle.ring_run.proofs.RelayTakes.{no_takes_are, took, was_empty, was_told}
 use Rattle.ring_run.proofs.relays.take_all.Given.{Over}
 use Rattle.ring_core.proofs.LawLemmas.{takes_are_read}
@@ -62,7 +62,7 @@ few : (g : Over) (c : After-take_into g) (n : ℕ) → n ≤ length (take c.next
 few g c n most =
     let wanted : ℕ = length (take c.next_take-wanted.result c.takes.room) in
     let left : wanted ≤ c.args.limit - (length c.takes.items.items + c.takes.empty) = omega (arith, asks g c) in
-    (length_first n c.take_into.new.into (omega (arith, most, c.take_into.ensures.long)), omega (arith, most, left, c.if-len-empty.true, c.len.ensures))
+    (length-take-le n c.take_into.new.into (omega (arith, most, c.take_into.ensures.long)), omega (arith, most, left, c.if-len-empty.true, c.len.ensures))
 
 pub takes-preserved-in-Taken : goal.takes-preserved-in-Taken
 takes-preserved-in-Taken g c =
