@@ -17,6 +17,8 @@ use Rattle.ring_core.specs.Over.{fulls}
 use Rattle.ring_core.specs.Readings.{PutsAreRead}
 use Rattle.ring_core.specs.ProducerCalls.{and_put, no_puts, IsPutOf}
 use Rattle.ring_core.specs.ProducerCalls as put_calls
+use Rattle.ring_seats.specs.Ring.{Ring, RingEnd}
+use Rattle.ring_seats.specs.Steppers.{IsSameEnd}
 use Rattle.ring_ends.specs.Ends.{HasPuts, HasPutAll, PutAdds}
 use Rattle.ring_run.specs.Relays.{AreGiven, PutsAre, TakesAre}
 
@@ -207,11 +209,15 @@ if_err (Err e) X x = x
 
 -- ---- an end after two calls
 
-pub same_trans : (a b c : Rattle.ring_seats.specs.Ring.RingEnd) → Rattle.ring_seats.specs.Steppers.IsSameEnd a b → Rattle.ring_seats.specs.Steppers.IsSameEnd b c → Rattle.ring_seats.specs.Steppers.IsSameEnd a c
+pub same_trans : (a b c : RingEnd) → IsSameEnd a b → IsSameEnd b c → IsSameEnd a c
 same_trans a b c s t = record { ring = t.ring ∙ s.ring; side = t.side ∙ s.side; known = t.known ∙ s.known }
 
-pub puts_there : (a b : Rattle.ring_seats.specs.Ring.RingEnd) (items : List ℕ) (put made full : ℕ) → Rattle.ring_seats.specs.Steppers.IsSameEnd a b → PutsAre a.ring.shape a.list items put made full false → PutsAre b.ring.shape a.list items put made full false
-puts_there a b items put made full s p = subst (λ (z : Shape). PutsAre z a.list items put made full false) (sym (ap (λ (r : Rattle.ring_seats.specs.Ring.Ring). r.shape) s.ring)) p
+-- what fits the ring of an end fits it later
+pub fit_there : (a b : RingEnd) (items : List ℕ) → IsSameEnd a b → AllFit a.ring.shape items → AllFit b.ring.shape items
+fit_there a b items s fit = subst (λ (z : Shape). AllFit z items) (sym (ap (λ (r : Ring). r.shape) s.ring)) fit
 
-pub takes_there : (a b : Rattle.ring_seats.specs.Ring.RingEnd) (limit : ℕ) (taken : List ℕ) (made empty : ℕ) → Rattle.ring_seats.specs.Steppers.IsSameEnd a b → TakesAre a.ring.shape a.list limit taken made empty false → TakesAre b.ring.shape a.list limit taken made empty false
-takes_there a b limit taken made empty s p = subst (λ (z : Shape). TakesAre z a.list limit taken made empty false) (sym (ap (λ (r : Rattle.ring_seats.specs.Ring.Ring). r.shape) s.ring)) p
+pub puts_there : (a b : RingEnd) (items : List ℕ) (put made full : ℕ) → IsSameEnd a b → PutsAre a.ring.shape a.list items put made full false → PutsAre b.ring.shape a.list items put made full false
+puts_there a b items put made full s p = subst (λ (z : Shape). PutsAre z a.list items put made full false) (sym (ap (λ (r : Ring). r.shape) s.ring)) p
+
+pub takes_there : (a b : RingEnd) (limit : ℕ) (taken : List ℕ) (made empty : ℕ) → IsSameEnd a b → TakesAre a.ring.shape a.list limit taken made empty false → TakesAre b.ring.shape a.list limit taken made empty false
+takes_there a b limit taken made empty s p = subst (λ (z : Shape). TakesAre z a.list limit taken made empty false) (sym (ap (λ (r : Ring). r.shape) s.ring)) p

@@ -105,13 +105,10 @@ takes-preserved-in-Empty g c =
     let t = (goal.at.takes-preserved-in-Empty g c).After-take_into in
     let i = c.takes.invariant in
     let s = c.in-Empty.ensures in
-    let open_yet : c.takes.closed ≡ false = c.takes-test.true in
-    let a = g.E.TakeEnd.end c.takes.taker in
-    let b = g.E.TakeEnd.end c.take_into.new.taker in
-    let now = was_empty takes_are_read b.ring.shape a.list b.list c.args.limit c.takes.items.items c.takes.made c.takes.empty (yet g t) (length (take c.next_take-wanted.result c.takes.room)) (asks g t) c.take_into.new.into s.phrase in (
+    let open_yet : c.takes.closed ≡ false = c.takes-test.true in (
       s.idle,
-      same_trans (g.E.TakeEnd.end c.args.taker.now) a b i.1 s.same,
-      subst (TakesAre b.ring.shape b.list c.args.limit c.takes.items.items (c.takes.made + 1) (c.takes.empty + 1)) (sym open_yet) now,
+      same_trans _ _ _ i.1 s.same,
+      subst (TakesAre _ _ c.args.limit c.takes.items.items (c.takes.made + 1) (c.takes.empty + 1)) (sym open_yet) (was_empty takes_are_read _ _ _ c.args.limit c.takes.items.items c.takes.made c.takes.empty (yet g t) _ (asks g t) c.take_into.new.into s.phrase),
       subst (λ (z : Bool). length c.takes.items.items + (c.takes.empty + 1) + (if z then 1 else 0) ≤ c.args.limit) (sym open_yet) (omega (arith, c.if-len-empty.true, c.len.ensures)),
       refl,
       i.5,
@@ -125,19 +122,15 @@ pub takes-preserved : goal.takes-preserved
 takes-preserved g c =
     let t = (goal.at.takes-preserved g c).After-take_into in
     let i = c.takes.invariant in
-    let s = c.in-Closed.ensures in
-    let open_yet : c.takes.closed ≡ false = c.takes-test.true in
-    let a = g.E.TakeEnd.end c.takes.taker in
-    let b = g.E.TakeEnd.end c.take_into.new.taker in
-    let now = was_told takes_are_read b.ring.shape a.list b.list c.args.limit c.takes.items.items c.takes.made c.takes.empty (yet g t) (length (take c.next_take-wanted.result c.takes.room)) (asks g t) c.take_into.new.into s.phrase in (
+    let s = c.in-Closed.ensures in (
       s.idle,
-      same_trans (g.E.TakeEnd.end c.args.taker.now) a b i.1 s.same,
-      now,
+      same_trans _ _ _ i.1 s.same,
+      was_told takes_are_read _ _ _ c.args.limit c.takes.items.items c.takes.made c.takes.empty (yet g t) _ (asks g t) c.take_into.new.into s.phrase,
       omega (arith, c.if-len-empty.true, c.len.ensures),
       refl,
       i.5,
       i.6,
-      omega (arith, subst (λ (z : Bool). c.takes.made ≤ length c.takes.items.items + c.takes.empty + (if z then 1 else 0)) open_yet i.7),
+      omega (arith, subst (λ (z : Bool). c.takes.made ≤ length c.takes.items.items + c.takes.empty + (if z then 1 else 0)) c.takes-test.true i.7),
       i.8 ∙ sym (ap (λ (r : Ring). r.shape) s.same.ring),
     )
 
