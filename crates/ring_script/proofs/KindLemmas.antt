@@ -1,7 +1,7 @@
 -- The kinds of the fields' values that are read, and those that the object has.
 use Rattle.std.proofs.Common.{◌≡◌, ◌∙◌, ℕ, Bool, List, [], ◌∷◌, Option, Some, None, Ok, Err, option_map, refl, sym, ap, ap₂, subst, inl, inr}
 use Rattle.std.specs.Prelude.{option_and_then}
-use Rattle.serde_json.specs.Data.{unsigned, negative, float, Data, null, boolean, number, string, array, object, Items as ItemData, no_items, item, Members}
+use Rattle.serde_json.specs.Data.{unsigned, Data, boolean, number, string, array, Items as ItemData, no_items, item, Members}
 use Rattle.serde_json.specs.Find.{as_array, as_bool, as_str}
 use Rattle.ring_script.proofs.FieldLemmas.{HasValues, IsOfFirst, Tells, and_then_ok, first_told, next_field, ok_is, ok_not_err}
 use Rattle.ring_script.specs.Faults.{IsFirst, IsOfWrongKind}
@@ -24,30 +24,16 @@ not_kind f (Some w) x e = cc
 not_kind f None x e = let same : WrongKind f ≡ x = cc in (sym same, refl)
 
 whole_is : (v : Data) (n : ℕ) → whole_of v ≡ Some n → v ≡ number (unsigned n)
-whole_is null n e = cc
-whole_is (boolean b) n e = cc
 whole_is (number (unsigned m)) n e = cc
-whole_is (number (negative z)) n e = cc
-whole_is (number (float x)) n e = cc
-whole_is (string s) n e = cc
-whole_is (array ds) n e = cc
-whole_is (object ms) n e = cc
+whole_is _ n e = cc
 
 bool_is : (v : Data) (b : Bool) → as_bool v ≡ Some b → v ≡ boolean b
-bool_is null n e = cc
 bool_is (boolean b) n e = cc
-bool_is (number m) n e = cc
-bool_is (string s) n e = cc
-bool_is (array ds) n e = cc
-bool_is (object ms) n e = cc
+bool_is _ n e = cc
 
 text_is : (v : Data) (t : List ℕ) → as_str v ≡ Some t → v ≡ string t
-text_is null n e = cc
-text_is (boolean b) n e = cc
-text_is (number m) n e = cc
 text_is (string s) n e = cc
-text_is (array ds) n e = cc
-text_is (object ms) n e = cc
+text_is _ n e = cc
 
 wholes_again : (ns : List ℕ) → wholes_of (wholes ns) ≡ Some ns
 unfolding wholes_of
@@ -68,12 +54,8 @@ wholes_are (item d ds) ns e =
     ap₂ (λ (v : Data) (vs : ItemData). item v vs) (whole_is d parts.0 parts.2) (wholes_are ds parts.1 parts.3) ∙ ap wholes (sym parts.4)
 
 items_is : (v : Data) (ns : List ℕ) → option_and_then wholes_of (as_array v) ≡ Some ns → v ≡ array (wholes ns)
-items_is null n e = cc
-items_is (boolean b) n e = cc
-items_is (number m) n e = cc
-items_is (string s) n e = cc
 items_is (array ds) n e = ap array (wholes_are ds n e)
-items_is (object ms) n e = cc
+items_is _ n e = cc
 
 -- a value is of the kind where something of the kind is read, and of another where nothing is
 some_not_none : {A : Type 0} (o : Option A) (a : A) → o ≡ Some a → o ≡ None → ⊥
