@@ -13,19 +13,15 @@ use Rattle.bits_core.specs.History.{has_event, before_last, writes_begun, last_v
 use Rattle.bits_core.specs.Intervals.{end_of, IsWrite, IsLastEnded, IsHeld}
 use Rattle.bits_core.proofs.Histories.{before_last-place, before_last-none}
 use Rattle.bits_core.proofs.Changes.{same_side-same}
-use Rattle.bits_core.proofs.IntervalLemmas.{none_between, between_none, last_exists, value_written-from, value_written-to, begins_write, write_found, has_event-found}
+use Rattle.bits_core.proofs.IntervalLemmas.{IsWriteAt, write_behind, none_between, between_none, last_exists, value_written-from, value_written-to, begins_write, write_found, has_event-found}
 use Rattle.bits_core.proofs.Places.{slice_get-take, slice_get-from_take, slice_get-drop}
 use Rattle.bits_core.proofs.OverlapLemmas.{IsByDoers}
 
 -- the last write that began, if one did
 pub record IsLastWrite (b : Bit) (k : List Event) : Type 0 where
-  pub place : ℕ
-  pub event : Event
-  pub value : Bool
-  pub at_place : slice_get k place ≡ Some event
-  pub writes : write_of b event ≡ Some value
-  pub value_is : (d : Bool) → last_value d (writes_begun b k) ≡ value
-  pub last : (p : ℕ) (e : Event) (v : Bool) → slice_get k p ≡ Some e → write_of b e ≡ Some v → p ≤ place
+  pub one : IsWriteAt b k
+  pub value_is : (d : Bool) → last_value d (writes_begun b k) ≡ one.value
+  pub last : (p : ℕ) (e : Event) (v : Bool) → slice_get k p ≡ Some e → write_of b e ≡ Some v → p ≤ one.place
 
 no_write_at : (b : Bit) (k : List Event) → writes_begun b k ≡ [] → (p : ℕ) (e : Event) (v : Bool) → slice_get k p ≡ Some e → write_of b e ≡ Some v → ⊥
 no_write_at b k none p e v at writes = false≢true (sym (ap (λ ws. not (is_empty ws)) none) ∙ write_found b k p e v at writes)
@@ -35,22 +31,14 @@ last_write b [] = inl refl
 last_write b (x ∷ k) =
     elim (last_write b k) [
       | inr r ↦ inr (record {
-        place = suc r.place;
-        event = r.event;
-        value = r.value;
-        at_place = r.at_place;
-        writes = r.writes;
-        value_is = λ d. elim (write_of b x) as (λ o. last_value d (cons_option o (writes_begun b k)) ≡ r.value) [ None ↦ r.value_is d | Some w ↦ r.value_is w ];
-        last = λ p e v at writes. last_behind b x k r.place r.last p e v at writes;
+        one = write_behind b x k r.one;
+        value_is = λ d. elim (write_of b x) as (λ o. last_value d (cons_option o (writes_begun b k)) ≡ r.one.value) [ None ↦ r.value_is d | Some w ↦ r.value_is w ];
+        last = λ p e v at writes. last_behind b x k r.one.place r.last p e v at writes;
       })
       | inl none ↦ elim (write_of b x) as (λ o. write_of b x ≡ o → (cons_option o (writes_begun b k) ≡ []) ⊎ IsLastWrite b (x ∷ k)) [
         | None ↦ λ e. inl none
         | Some w ↦ λ e. inr (record {
-          place = 0;
-          event = x;
-          value = w;
-          at_place = refl;
-          writes = e;
+          one = record { place = 0; event = x; value = w; at_place = refl; writes = e };
           value_is = λ d. ap (last_value d) (ap (λ o. cons_option o (writes_begun b k)) e ∙ ap (λ t. w ∷ t) none);
           last = λ p f v at writes. alone b x k none p f v at writes;
         })
@@ -123,19 +111,20 @@ IsHeld-held h b place sides within =
                   no_write_at b (take m h) none start write.event v (slice_get-take h m start write.event write.at_start under) (value_written-to b (begun_by write.event) v write.begins),
               is ∙ ap (last_value (first_value b)) none,
             )
-            | inr r ↦
+            | inr found_last ↦
+                let r = found_last.one in
                 let at : (slice_get h r.place ≡ Some r.event) × (r.place < m) = slice_get-from_take h m r.place r.event r.at_place in
                 let begins : begun_by r.event ≡ Some (Write b r.value) = value_written-from b (begun_by r.event) r.value r.writes in
                 let side : r.event.side ≡ writer b = sides.each r.place r.event (omega (arith, at.1)) at.0 ∙ begins_write b r.event.bit r.event.act r.value begins in
-                let found : IsLastEnded h b place r.value = record {
+                let ended : IsLastEnded h b place r.value = record {
                   start = r.place;
                   stop = end_of w h r.place;
                   write = record { event = r.event; at_start = at.0; by_side = side; begins = begins; ends = refl };
                   ended = below_ended h b place m within l.1 r.place at.1;
                   last = λ v start stop write ended.
-                      r.last start write.event v (slice_get-take h m start write.event write.at_start (ended_below h b place m within l.1 v start stop write ended)) (value_written-to b (begun_by write.event) v write.begins);
+                      found_last.last start write.event v (slice_get-take h m start write.event write.at_start (ended_below h b place m within l.1 v start stop write ended)) (value_written-to b (begun_by write.event) v write.begins);
                 } in
-                inl (subst (λ v. IsLastEnded h b place v) (sym (is ∙ r.value_is (first_value b))) found)
+                inl (subst (λ v. IsLastEnded h b place v) (sym (is ∙ found_last.value_is (first_value b))) ended)
           ]
     ] refl
 

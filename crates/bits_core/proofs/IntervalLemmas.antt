@@ -133,12 +133,15 @@ pub record IsWriteAt (b : Bit) (k : List Event) : Type 0 where
   pub at_place : slice_get k place ≡ Some event
   pub writes : write_of b event ≡ Some value
 
+abbrev pub write_behind : (b : Bit) (x : Event) (k : List Event) → IsWriteAt b k → IsWriteAt b (x ∷ k)
+write_behind b x k r = record { place = suc r.place; event = r.event; value = r.value; at_place = r.at_place; writes = r.writes }
+
 pub write_exists : (b : Bit) (k : List Event) → not (is_empty (writes_begun b k)) ≡ true → IsWriteAt b k
 write_exists b [] some = absurd (false≢true some)
 write_exists b (x ∷ k) some =
     elim (write_of b x) as (λ o. write_of b x ≡ o → not (is_empty (cons_option o (writes_begun b k))) ≡ true → IsWriteAt b (x ∷ k)) [
       | Some v ↦ λ e t. record { place = 0; event = x; value = v; at_place = refl; writes = e }
-      | None ↦ λ e t. let r = write_exists b k t in record { place = suc r.place; event = r.event; value = r.value; at_place = r.at_place; writes = r.writes }
+      | None ↦ λ e t. write_behind b x k (write_exists b k t)
     ] refl some
 
 pub write_found : (b : Bit) (k : List Event) (p : ℕ) (e : Event) (v : Bool) → slice_get k p ≡ Some e → write_of b e ≡ Some v → not (is_empty (writes_begun b k)) ≡ true

@@ -19,7 +19,7 @@ use Rattle.bits_core.specs.declared.events.Event.{Event}
 use Rattle.bits_core.specs.declared.shapes.Shape.{Shape}
 use Rattle.bits_core.specs.declared.marks.SideMark.{SideMark}
 use Rattle.bits_core.specs.declared.marks.Marks.{Marks}
-use Rattle.bits_core.specs.Bits.{other, writer, reader, doer, first_value, same_bit, same_side, is_by, begun_by, write_of, value_written}
+use Rattle.bits_core.specs.Bits.{other, writer, reader, doer, first_value, same_bit, same_side, is_by, begun_access, begun_by, write_of, value_written}
 use Rattle.bits_core.specs.Shape.{belongs}
 use Rattle.bits_core.specs.History.{open_access, open_write, held, held_at_begin, is_overlapped}
 use Rattle.bits_core.specs.Lawful.{IsLawful}
@@ -331,35 +331,32 @@ or_none true = refl
 or_none false = refl
 
 module _ (before : Marks) (s : Side) (b : Bit) (seats : length before.sides ≡ 2) where
+  -- only the side's own mark changes with an act that begins no write
+  alone : (a : Act) (values : List Bool) (mark : SideMark) → values ≡ with_value before.values b (value_ended a (side_mark s before).opened) → mark.opened ≡ begun_access b a
+      → ((c : Bit) → begun_access b a ≡ Some (Read c) → mark.overlapped ≡ is_some (value_written c (side_mark (writer c) before).opened)) → ((c : Bit) → value_written c (begun_access b a) ≡ None)
+      → HasRecorded before (record { side = s; bit = b; act = a }) (with_mark (record before { values = values }) s mark)
+  alone a values mark values_are opened overlapped none =
+      let middle : Marks = record before { values = values } in
+      let own = with_mark-own middle s mark seats in
+      let other_one = with_mark-other middle s mark in
+      record {
+        seats_are = length-set before.sides (seat_of s) mark ∙ seats;
+        values_are = values_are;
+        own_opened = ap (λ m. m.opened) own ∙ opened;
+        own_overlapped = λ c reads. ap (λ m. m.overlapped) own ∙ overlapped c reads;
+        other_opened = ap (λ m. m.opened) other_one;
+        other_overlapped = λ c reads.
+            ap (λ m. m.overlapped) other_one ∙ or_none (side_mark (other s) before).overlapped ∙ ap (λ o. (side_mark (other s) before).overlapped || is_some o) (sym (none c));
+      }
+
   pub reads : (overlapped : Bool) → overlapped ≡ is_some (value_written b (side_mark (writer b) before).opened)
       → HasRecorded before (record { side = s; bit = b; act = ReadBegin }) (with_mark before s (record { opened = Some (Read b); overlapped = overlapped }))
   reads overlapped is =
-      let mark : SideMark = record { opened = Some (Read b); overlapped = overlapped } in
-      let own = with_mark-own before s mark seats in
-      let other_one = with_mark-other before s mark in
-      record {
-        seats_are = length-set before.sides (seat_of s) mark ∙ seats;
-        values_are = refl;
-        own_opened = ap (λ m. m.opened) own;
-        own_overlapped = λ c reads.
-            let same : b ≡ c = cc in
-            ap (λ m. m.overlapped) own ∙ is ∙ ap (λ x. is_some (value_written x (side_mark (writer x) before).opened)) same;
-        other_opened = ap (λ m. m.opened) other_one;
-        other_overlapped = λ c reads. ap (λ m. m.overlapped) other_one ∙ or_none (side_mark (other s) before).overlapped;
-      }
+      alone ReadBegin before.values (record { opened = Some (Read b); overlapped = overlapped }) refl refl
+      (λ c reads. let same : b ≡ c = cc in is ∙ ap (λ x. is_some (value_written x (side_mark (writer x) before).opened)) same) (λ c. refl)
 
   pub answers : (v : Bool) → HasRecorded before (record { side = s; bit = b; act = ReadEnd v }) (with_mark before s idle)
-  answers v =
-      let own = with_mark-own before s idle seats in
-      let other_one = with_mark-other before s idle in
-      record {
-        seats_are = length-set before.sides (seat_of s) idle ∙ seats;
-        values_are = refl;
-        own_opened = ap (λ m. m.opened) own;
-        own_overlapped = λ c reads. absurd (none-some (Read c) reads);
-        other_opened = ap (λ m. m.opened) other_one;
-        other_overlapped = λ c reads. ap (λ m. m.overlapped) other_one ∙ or_none (side_mark (other s) before).overlapped;
-      }
+  answers v = alone (ReadEnd v) before.values idle refl refl (λ c reads. absurd (none-some (Read c) reads)) (λ c. refl)
 
   pub writes : (v : Bool) → HasRecorded before (record { side = s; bit = b; act = WriteBegin v })
       (with_mark (with_mark before (other s) (beside (side_mark (other s) before) b)) s (record { opened = Some (Write b v); overlapped = false }))
@@ -384,17 +381,7 @@ module _ (before : Marks) (s : Side) (b : Bit) (seats : length before.sides ≡ 
   pub wrote : HasRecorded before (record { side = s; bit = b; act = WriteEnd })
       (with_mark (record before { values = with_value before.values b (value_ended WriteEnd (side_mark s before).opened) }) s idle)
   wrote =
-      let middle : Marks = record before { values = with_value before.values b (value_ended WriteEnd (side_mark s before).opened) } in
-      let own = with_mark-own middle s idle seats in
-      let other_one = with_mark-other middle s idle in
-      record {
-        seats_are = length-set before.sides (seat_of s) idle ∙ seats;
-        values_are = refl;
-        own_opened = ap (λ m. m.opened) own;
-        own_overlapped = λ c reads. absurd (none-some (Read c) reads);
-        other_opened = ap (λ m. m.opened) other_one;
-        other_overlapped = λ c reads. ap (λ m. m.overlapped) other_one ∙ or_none (side_mark (other s) before).overlapped;
-      }
+      alone WriteEnd (with_value before.values b (value_ended WriteEnd (side_mark s before).opened)) idle refl refl (λ c reads. absurd (none-some (Read c) reads)) (λ c. refl)
 
 pub recorded : (shape : Shape) (h : List Event) (e : Event) (before marks made : Marks) (a : Act) → AreMarks shape h before → MayFollow shape h e
     → e.act ≡ a → marks ≡ made → HasRecorded before (record { side = e.side; bit = e.bit; act = a }) made → AreMarks shape (h ++ e ∷ []) marks

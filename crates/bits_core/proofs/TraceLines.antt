@@ -13,7 +13,7 @@ use Rattle.bits_core.specs.declared.reading.ActWord.{ActWord}
 use Rattle.bits_core.specs.declared.shapes.Shape.{Shape}
 use Rattle.bits_core.specs.declared.shapes.ShapeFault.{ShapeFault}
 use Rattle.bits_core.specs.Shape.{HasBatches, IsRefusedBatches, batch_of, belongs, capacity_of, modulus_of, width_of}
-use Rattle.bits_core.specs.Trace.{BeginsWithShape, HasBadShape}
+use Rattle.bits_core.specs.Trace.{BeginsWithShape, HasBadShape, HasShapeLine}
 use Rattle.bits_core.specs.TraceText.{side_text, act_text, bit_text, value_text, batch_text, batches_text, event_line, shape_line}
 use Rattle.bits_core.specs.TraceReading.{◌>>=◌, after, named, side_at, word_at, bit_at, act_at, number_at, take_batch_at, batches_at, event_at, shape_at}
 use Rattle.bits_core.proofs.Digits.{EndsDigits, number_at-text, number_at-decimal}
@@ -271,21 +271,17 @@ begins_numbers bytes rest n shape begins is =
     ∙ ap (λ (k : ℕ). shape_line (capacity_of shape) (modulus_of shape) (width_of shape) k n.take_batch ++ rest) (sym is.batch_is)
     ∙ ap (λ (k : ℕ). shape_line (capacity_of shape) (modulus_of shape) (width_of shape) (batch_of shape) k ++ rest) (sym is.take_batch_is)
 
+-- line 1 has these numbers, which are refused
+pub bad_line : {bytes : List ℕ} {c m w g h : ℕ} (fault : ShapeFault) → IsRefusedBatches c m w g h fault → HasShapeLine bytes c m w g h → HasBadShape bytes fault
+bad_line {bytes} {c} {m} {w} {g} {h} fault refused line = record { capacity = c; modulus = m; width = w; batch = g; take_batch = h; line = line; refused = refused }
+
 pub bad_numbers : (bytes rest : List ℕ) (n : Numbers) (fault : ShapeFault) → BeginsShape bytes (n, rest) → IsRefusedBatches n.capacity n.modulus n.width n.batch n.take_batch fault → HasBadShape bytes fault
-bad_numbers bytes rest n fault begins refused = record {
-  capacity = n.capacity;
-  modulus = n.modulus;
-  width = n.width;
-  batch = n.batch;
-  take_batch = n.take_batch;
-  line = record {
-    rest = rest;
-    text = begins.text;
-    short_capacity = begins.short_capacity;
-    short_modulus = begins.short_modulus;
-    short_width = begins.short_width;
-    short_batch = begins.short_batch;
-    short_take_batch = begins.short_take_batch;
-  };
-  refused = refused;
-}
+bad_numbers bytes rest n fault begins refused = bad_line fault refused (record {
+  rest = rest;
+  text = begins.text;
+  short_capacity = begins.short_capacity;
+  short_modulus = begins.short_modulus;
+  short_width = begins.short_width;
+  short_batch = begins.short_batch;
+  short_take_batch = begins.short_take_batch;
+})

@@ -16,7 +16,7 @@ use Rattle.bits_core.specs.declared.traces.TraceFault.TheVariants.{BadShape, Bad
 use Rattle.bits_core.specs.Shape.{IsRefusedBatches, batch_of, belongs, capacity_of, modulus_of, take_batch_of, width_of}
 use Rattle.bits_core.specs.TraceText.{event_line, shape_line, trace_text}
 use Rattle.bits_core.specs.TraceReading.{event_at, shape_at}
-use Rattle.bits_core.specs.Trace.{AreOfShape, BeginsWithMore, BeginsWithShape, IsTraceAndMore, HasMore, HasNoEvent, HasBadEventLine, HasBadLine, HasBadShape, HasShapeLine, IsTooLong, IsTrace, IsTraceFault, IsTraceText}
+use Rattle.bits_core.specs.Trace.{AreOfShape, BeginsWithMore, BeginsWithShape, IsTraceAndMore, HasMore, HasNoEvent, HasBadLine, HasBadShape, HasShapeLine, IsTooLong, IsTrace, IsTraceFault, IsTraceText}
 use Rattle.bits_core.specs.Laws.{RefusedIsNoText, TraceIsText}
 use Rattle.bits_core.proofs.TraceLines.{event_at-again, shape_at-again, small_indices}
 use Rattle.bits_core.proofs.TraceLemmas.{line_takes}
@@ -267,15 +267,16 @@ bad_line_not_long bytes n a b =
       | inr r ↦ omega (arith, length-of b.events a.events r.0 r.1, a.room, b.full)
     ]
 
-bad_line_no_trace : (bytes : List ℕ) (n : ℕ) (t : Shape) (fs : List Event) → HasBadLine bytes n → ¬ IsTrace bytes t fs
+-- bytes that go on behind the events of a text with something that is no event are no text
+no_event_no_text : (bytes : List ℕ) (s t : Shape) (es fs : List Event) (rest : List ℕ) → IsTraceAndMore bytes s es rest → HasNoEvent s rest → ¬ IsTraceText bytes t fs
 unfolding Compared
-bad_line_no_trace bytes n t fs a b =
-    let both = agree bytes a.shape t a.events fs a.rest [] (Read-from bytes a.shape a.events a.rest a.goes_on) (Read-whole bytes t fs b) in
+no_event_no_text bytes s t es fs rest goes_on no_event b =
+    let both = agree bytes s t es fs rest [] (Read-from bytes s es rest goes_on) (Read-text bytes t fs b) in
     elim both.events [
       | inl r ↦
-          let none : r.0 ≡ [] = no_more a.shape t r.0 a.rest [] both.shape a.no_event r.2 r.3 in
-          a.goes_on.more (r.2 ∙ ap (λ (es : List Event). lines es ++ []) none)
-      | inr r ↦ a.goes_on.more (nothing_left r.0 a.rest r.2).1
+          let none : r.0 ≡ [] = no_more s t r.0 rest [] both.shape no_event r.2 r.3 in
+          goes_on.more (r.2 ∙ ap (λ (es : List Event). lines es ++ []) none)
+      | inr r ↦ goes_on.more (nothing_left r.0 rest r.2).1
     ]
 
 too_long_no_trace : (bytes : List ℕ) (t : Shape) (fs : List Event) → IsTooLong bytes → ¬ IsTrace bytes t fs
@@ -311,7 +312,7 @@ bad_shape_stops bytes f s es rest a g = shape_not_bad bytes s (lines es ++ rest)
 pub faulty_is_no_trace : (bytes : List ℕ) (fault : TraceFault) (s : Shape) (es : List Event) → IsTraceFault bytes fault → ¬ IsTrace bytes s es
 faulty_is_no_trace bytes (BadShape f) s es fault trace = shape_not_bad bytes s (lines es) f trace.text fault
 faulty_is_no_trace bytes (BadLine n) s es (inl none) trace = none.1 (capacity_of s) (modulus_of s) (width_of s) (batch_of s) (take_batch_of s) (shape_has_line bytes s (lines es) trace.text)
-faulty_is_no_trace bytes (BadLine n) s es (inr bad) trace = bad_line_no_trace bytes n s es bad trace
+faulty_is_no_trace bytes (BadLine n) s es (inr bad) trace = no_event_no_text bytes bad.shape s bad.events es bad.rest bad.goes_on bad.no_event (record { text = trace.text; of_shape = trace.of_shape })
 faulty_is_no_trace bytes TooLong s es fault trace = too_long_no_trace bytes s es fault trace
 faulty_is_no_trace bytes OutOfMemory s es fault trace = fault
 
@@ -324,22 +325,11 @@ trace_is_text bytes shape events = (
   λ both. record { text = both.0.text; of_shape = both.0.of_shape; within = both.1 },
 )
 
-bad_line_no_text : (bytes : List ℕ) (n : ℕ) (t : Shape) (fs : List Event) → HasBadEventLine bytes n → ¬ IsTraceText bytes t fs
-unfolding Compared
-bad_line_no_text bytes n t fs a b =
-    let both = agree bytes a.shape t a.events fs a.rest [] (Read-from bytes a.shape a.events a.rest a.goes_on) (Read-text bytes t fs b) in
-    elim both.events [
-      | inl r ↦
-          let none : r.0 ≡ [] = no_more a.shape t r.0 a.rest [] both.shape a.no_event r.2 r.3 in
-          a.goes_on.more (r.2 ∙ ap (λ (es : List Event). lines es ++ []) none)
-      | inr r ↦ a.goes_on.more (nothing_left r.0 a.rest r.2).1
-    ]
-
 -- bytes that are refused are none
 pub refused_is_no_text : RefusedIsNoText
 refused_is_no_text bytes (BadShape f) s es counted fault trace = shape_not_bad bytes s (lines es) f trace.text fault
 refused_is_no_text bytes (BadLine n) s es counted (inl none) trace = none.1 (capacity_of s) (modulus_of s) (width_of s) (batch_of s) (take_batch_of s) (shape_has_line bytes s (lines es) trace.text)
-refused_is_no_text bytes (BadLine n) s es counted (inr bad) trace = bad_line_no_text bytes n s es bad trace
+refused_is_no_text bytes (BadLine n) s es counted (inr bad) trace = no_event_no_text bytes bad.shape s bad.events es bad.rest bad.goes_on bad.no_event trace
 refused_is_no_text bytes TooLong s es counted fault trace = counted refl
 refused_is_no_text bytes OutOfMemory s es counted fault trace = fault
 

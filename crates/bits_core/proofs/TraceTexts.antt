@@ -18,7 +18,7 @@ use Rattle.bits_core.specs.TraceLines.{IsFeedless, EndsAtFeed}
 use Rattle.bits_core.specs.TraceText.{event_line, shape_line}
 use Rattle.bits_core.proofs.LineEnds.{event_line_ends, shape_line_ends, feed_nowhere, feed_once, line_before_more, too_long_a_line, no_line_ended}
 use Rattle.bits_core.proofs.TraceLemmas.{AreOfShape-push, line_takes}
-use Rattle.bits_core.proofs.TraceLines.{small_indices}
+use Rattle.bits_core.proofs.TraceLines.{bad_line, small_indices}
 
 -- ---- how many bytes lines have
 
@@ -105,23 +105,15 @@ no_line_refused fault h bytes line behind text more refuses ends parts none =
     (λ nothing. absurd (omega (arith, ap length nothing, length-append bytes more, ap length parts, length-append line behind, ap length ends.text, length-append ends.front (10 ∷ []))))
 
 pub bad_shape_more : (fault : ShapeFault) (text bytes more : List ℕ) → text ≡ [] → HasBadShape bytes fault → HasBadShape (text ++ (bytes ++ more)) fault
-bad_shape_more fault text bytes more none bad = subst (λ (t : List ℕ). HasBadShape (t ++ (bytes ++ more)) fault) (sym none) (record {
-  capacity = bad.capacity;
-  modulus = bad.modulus;
-  width = bad.width;
-  batch = bad.batch;
-  take_batch = bad.take_batch;
-  line = record {
-    rest = bad.line.rest ++ more;
-    text = ap (λ (t : List ℕ). t ++ more) bad.line.text ∙ append_assoc (shape_line bad.capacity bad.modulus bad.width bad.batch bad.take_batch) bad.line.rest more;
-    short_capacity = bad.line.short_capacity;
-    short_modulus = bad.line.short_modulus;
-    short_width = bad.line.short_width;
-    short_batch = bad.line.short_batch;
-    short_take_batch = bad.line.short_take_batch;
-  };
-  refused = bad.refused;
-})
+bad_shape_more fault text bytes more none bad = subst (λ (t : List ℕ). HasBadShape (t ++ (bytes ++ more)) fault) (sym none) (bad_line fault bad.refused (record {
+  rest = bad.line.rest ++ more;
+  text = ap (λ (t : List ℕ). t ++ more) bad.line.text ∙ append_assoc (shape_line bad.capacity bad.modulus bad.width bad.batch bad.take_batch) bad.line.rest more;
+  short_capacity = bad.line.short_capacity;
+  short_modulus = bad.line.short_modulus;
+  short_width = bad.line.short_width;
+  short_batch = bad.line.short_batch;
+  short_take_batch = bad.line.short_take_batch;
+}))
 
 -- so many lines were heard that one more cannot be counted
 pub too_many : (h : Option TraceHearing) (heard : TraceHearing) (text rest : List ℕ) → h ≡ Some heard → heard.count ≡ 2 ^ 64 - 1 → HasEnded h text → RefusesTraceText (text ++ rest) TooLong

@@ -13,7 +13,7 @@ use Rattle.bits_core.specs.declared.traces.TraceFault.TheVariants.{BadShape, Bad
 use Rattle.bits_core.specs.Shape.{AreBatchSizes, HasBatches, IsModulusForBoth, IsRefusedBatches, belongs}
 use Rattle.bits_core.specs.TraceText.{event_line, shape_line, trace_text}
 use Rattle.bits_core.specs.TraceReading.{event_at, shape_at}
-use Rattle.bits_core.specs.Trace.{AreOfShape, IsTraceAndMore, IsTrace, IsTraceFault}
+use Rattle.bits_core.specs.Trace.{AreOfShape, HasNoEvent, IsTraceAndMore, IsTrace, IsTraceFault}
 use Rattle.bits_core.specs.Laws.{TraceOrFault}
 use Rattle.bits_core.proofs.TraceLines.{BeginsShape, bad_numbers, begins_numbers, event_at-text, shape_at-text}
 use Rattle.bits_core.proofs.TraceLemmas.{AreOfShape-push, length-push, line_takes, no_event_read, no_shape_read, other_event_read, text_more}
@@ -32,19 +32,18 @@ in_range low n high = elim (cases_lt low n) [
   | inr small ↦ inr (λ r. omega (arith, small, r.0))
 ]
 
-ShapeTold : ℕ → ℕ → ℕ → ℕ → ℕ → Type 0
+-- five numbers are those of a shape, or refused
+abbrev pub ShapeTold : ℕ → ℕ → ℕ → ℕ → ℕ → Type 0
 ShapeTold c m w g h = ((shape : Shape) × HasBatches c m w g h shape) ⊎ ((fault : ShapeFault) × IsRefusedBatches c m w g h fault)
 
 -- a modulus that is out of its range is told by the name that the take batch has for it
 bad_modulus : (c m w g h : ℕ) → AreBatchSizes c g h → ¬ IsModulusForBoth c g h m → ShapeTold c m w g h
-unfolding ShapeTold
 bad_modulus c m w g h sizes out = elim (cases_lt 1 h) [
   | inl over ↦ inr (ModulusOfBatches, (sizes, over, out))
   | inr single ↦ inr (Modulus, (sizes, (omega (arith, single, sizes.2.0)), out))
 ]
 
-shape_told : (c m w g h : ℕ) → ShapeTold c m w g h
-unfolding ShapeTold
+pub shape_told : (c m w g h : ℕ) → ShapeTold c m w g h
 shape_told c m w g h = elim (in_range 0 c 64) [
   | inr out ↦ inr (Capacity, out)
   | inl cells ↦ elim (in_range 0 g c) [
@@ -87,31 +86,25 @@ shape_told c m w g h = elim (in_range 0 c 64) [
 
 -- ---- the lines of events
 
+-- what stands behind events and is no event is told
+bad_line : (bytes : List ℕ) (shape : Shape) (events : List Event) (rest : List ℕ) → IsTraceAndMore bytes shape events rest → length events < EVENT_LIMIT → HasNoEvent shape rest → Told bytes
+bad_line bytes shape events rest goes_on room no_event =
+    inr (BadLine (length events + 2), inr (record { shape = shape; events = events; rest = rest; goes_on = goes_on; room = room; no_event = no_event; number = refl }))
+
 -- what stands behind events is told, where what stands behind one event more is
 next_line :
     (bytes : List ℕ) (shape : Shape) (events : List Event) (rest : List ℕ) → IsTraceAndMore bytes shape events rest → length events < EVENT_LIMIT →
     ((e : Event) (others : List ℕ) → length others < length rest → bytes ≡ trace_text shape (events ++ e ∷ []) ++ others → AreOfShape shape (events ++ e ∷ []) → Told bytes) →
     (r : Option (Event × List ℕ)) → event_at rest ≡ r → Told bytes
 next_line bytes shape events rest goes_on room further None none =
-    inr (BadLine (length events + 2), inr (record { shape = shape; events = events; rest = rest; goes_on = goes_on; room = room; no_event = no_event_read shape rest none; number = refl }))
+    bad_line bytes shape events rest goes_on room (no_event_read shape rest none)
 next_line bytes shape events rest goes_on room further (Some (e, others)) read =
     let text : rest ≡ event_line e ++ others = event_at-text rest (e, others) read in
     elim (belongs shape e.bit) as (λ t. belongs shape e.bit ≡ t → Told bytes) [
       | true ↦ λ inside.
           further e others (omega (arith, ap length text, line_takes e others)) (text_more shape events e bytes rest others goes_on.text text)
           (AreOfShape-push shape events e goes_on.of_shape inside)
-      | false ↦ λ outside. inr (
-        BadLine (length events + 2),
-        inr (record {
-          shape = shape;
-          events = events;
-          rest = rest;
-          goes_on = goes_on;
-          room = room;
-          no_event = other_event_read shape rest e others read outside;
-          number = refl;
-        }),
-      )
+      | false ↦ λ outside. bad_line bytes shape events rest goes_on room (other_event_read shape rest e others read outside)
     ] refl
 
 lines_told :
@@ -133,7 +126,6 @@ lines_told (suc n) bytes shape events (b ∷ rest) short text of_shape within =
 -- ---- the whole
 
 from_line : (bytes : List ℕ) (r : Option (Numbers × List ℕ)) → shape_at bytes ≡ r → Told bytes
-unfolding ShapeTold
 from_line bytes None none = inr (BadLine 1, inl (refl, no_shape_read bytes none))
 from_line bytes (Some (n, rest)) read =
     let line : BeginsShape bytes (n, rest) = shape_at-text bytes (n, rest) read in

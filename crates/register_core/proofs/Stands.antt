@@ -25,6 +25,13 @@ clearing-same f g (suc j) same =
     ap (λ b. cond b (record { bit = j; value = false } ∷ clearing f j) (clearing f j)) h ∙
     ap (λ ws. cond (g j) (record { bit = j; value = false } ∷ ws) ws) e
 
+-- What the first write is, and what follows it.
+first_is : (j : ℕ) (v : Bool) (x : RowWrite) (more rest : List RowWrite) → record { bit = j; value = v } ∷ more ≡ x ∷ rest → (j ≡ x.bit) × (x.value ≡ v) × (more ≡ rest)
+first_is j v x more rest e =
+    let first : ◌≡◌ {A = RowWrite} (record { bit = j; value = v }) x = cc in
+    let behind : more ≡ rest = cc in
+    (ap (λ (w : RowWrite). w.bit) first, sym (ap (λ (w : RowWrite). w.value) first), behind)
+
 -- What the first of the writes that clear below a place is, and what is left then.
 record ClearsFirst (bits : ℕ → Bool) (j : ℕ) (x : RowWrite) (rest : List RowWrite) : Type 0 where
   below : x.bit < j
@@ -37,17 +44,14 @@ clearing-first bits (suc j) x rest e = split (bits j) refl (clearing-first bits 
   where
     split : (b : Bool) → bits j ≡ b → (clearing bits j ≡ x ∷ rest → ClearsFirst bits j x rest) → ClearsFirst bits (suc j) x rest
     split true h ih =
-        let f : record { bit = j; value = false } ∷ clearing bits j ≡ x ∷ rest = sym (clearing-set bits j h) ∙ e in
-        let a : ◌≡◌ {A = RowWrite} (record { bit = j; value = false }) x = cc in
-        let b : clearing bits j ≡ rest = cc in
-        let place : j ≡ x.bit = ap (λ (w : RowWrite). w.bit) a in
-        let value : x.value ≡ false = sym (ap (λ (w : RowWrite). w.value) a) in
+        let f = first_is j false x (clearing bits j) rest (sym (clearing-set bits j h) ∙ e) in
+        let place = f.0 in
         record {
           below = omega (arith, place);
-          clears = value;
+          clears = f.1;
           left =
-              clearing-clear (bits_with bits x) j (same_bit bits j x.bit x.value place ∙ value) ∙
-              clearing-same (bits_with bits x) bits j (λ k l. other_bit bits k x.bit x.value (omega arith)) ∙ b;
+              clearing-clear (bits_with bits x) j (same_bit bits j x.bit x.value place ∙ f.1) ∙
+              clearing-same (bits_with bits x) bits j (λ k l. other_bit bits k x.bit x.value (omega (arith, l, place))) ∙ f.2;
         }
     split false h ih =
         let r = ih (sym (clearing-clear bits j h) ∙ e) in
@@ -73,16 +77,13 @@ phrase-first bits v x rest e = split (bits v) refl
           left = unary_phrase-set (bits_with bits x) v (other_bit bits v x.bit x.value (omega (arith, r.below)) ∙ h) ∙ r.left;
         }
     split false h =
-        let f : record { bit = v; value = true } ∷ clearing bits v ≡ x ∷ rest = sym (unary_phrase-clear bits v h) ∙ e in
-        let a : ◌≡◌ {A = RowWrite} (record { bit = v; value = true }) x = cc in
-        let b : clearing bits v ≡ rest = cc in
-        let place : v ≡ x.bit = ap (λ (w : RowWrite). w.bit) a in
-        let value : x.value ≡ true = sym (ap (λ (w : RowWrite). w.value) a) in
+        let f = first_is v true x (clearing bits v) rest (sym (unary_phrase-clear bits v h) ∙ e) in
+        let place = f.0 in
         record {
           fits = omega (arith, place);
           left =
-              unary_phrase-set (bits_with bits x) v (same_bit bits v x.bit x.value place ∙ value) ∙
-              clearing-same (bits_with bits x) bits v (λ k l. other_bit bits k x.bit x.value (omega arith)) ∙ b;
+              unary_phrase-set (bits_with bits x) v (same_bit bits v x.bit x.value place ∙ f.1) ∙
+              clearing-same (bits_with bits x) bits v (λ k l. other_bit bits k x.bit x.value (omega (arith, l, place))) ∙ f.2;
         }
 
 -- The bits of a list after a write in it.

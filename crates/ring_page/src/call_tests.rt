@@ -15,6 +15,17 @@ const NO_COUNTS: Counts = Counts {
     under_way: 0,
 };
 
+// What is told of a lawful recording of no calls.
+const NO_CALLS: CallsTold = CallsTold {
+    outcome: 0,
+    number: 0,
+    line: 0,
+    against: 0,
+    words: 0,
+    cut: 0,
+    counts: NO_COUNTS,
+};
+
 // What is told of a text with so many slots of each kind, and the slots for words, which held 7s.
 fn calls_with(text: &str, room: usize, word_room: usize) -> (CallsTold, [u8; CAUSE_WORDS]) {
     let blank = Offered {
@@ -65,12 +76,6 @@ fn a_lawful_recording_is_told_with_its_report(rt: HostRuntime) {
         "queue 2\nC take\nP put 7 8\nC item 7\nP stored\nP put 9 10\nP stored 1\nP put 11\nP full\nC take 3\n\
         C item 8 9\nC take 3\nC empty\nP close\nP closed\nC take\nC closed\n";
     let told = CallsTold {
-        outcome: 0,
-        number: 0,
-        line: 0,
-        against: 0,
-        words: 0,
-        cut: 0,
         counts: Counts {
             calls: 8,
             stored: 3,
@@ -84,6 +89,7 @@ fn a_lawful_recording_is_told_with_its_report(rt: HostRuntime) {
             overlapped: 2,
             under_way: 0,
         },
+        ..NO_CALLS
     };
     assert!(rt; calls(text, 8) == told);
     assert!(rt; calls(text, 3) == told);
@@ -150,8 +156,7 @@ fn a_fault_of_a_recording_is_told_with_its_cause(rt: HostRuntime) {
                 line: *line,
                 against: *against,
                 words: count as u64,
-                cut: 0,
-                counts: NO_COUNTS,
+                ..NO_CALLS
             };
             assert!(rt; told == wanted);
             assert!(rt; are_words(&slots, words, count));
@@ -165,10 +170,7 @@ fn no_cause_has_no_words(rt: HostRuntime) {
         outcome: 1,
         number: 1,
         line: 3,
-        against: 0,
-        words: 0,
-        cut: 0,
-        counts: NO_COUNTS,
+        ..NO_CALLS
     };
     let (told, slots) = calls_with("queue 8\nC take\nC take\n", 8, CAUSE_WORDS);
     assert!(rt; told == out_of_turn);
@@ -183,10 +185,7 @@ fn no_recording_and_no_room_are_told(rt: HostRuntime) {
         outcome: 2,
         number,
         line,
-        against: 0,
-        words: 0,
-        cut: 0,
-        counts: NO_COUNTS,
+        ..NO_CALLS
     };
     assert!(rt; calls("", 8) == refused(1, 1));
     assert!(rt; calls("queue 8\nP put 01\n", 8) == refused(1, 2));
@@ -199,12 +198,6 @@ fn no_recording_and_no_room_are_told(rt: HostRuntime) {
 fn calls_that_do_not_say_why_not_more_are_told(rt: HostRuntime) {
     let text = "queue 0 8\nP put 5 6 7\nP some 2\nC take 3\nC some 5\nC take 3\nC some 6\n";
     let told = CallsTold {
-        outcome: 0,
-        number: 0,
-        line: 0,
-        against: 0,
-        words: 0,
-        cut: 0,
         counts: Counts {
             calls: 3,
             stored: 2,
@@ -213,6 +206,7 @@ fn calls_that_do_not_say_why_not_more_are_told(rt: HostRuntime) {
             perhaps_inside: 3,
             ..NO_COUNTS
         },
+        ..NO_CALLS
     };
     assert!(rt; calls(text, 8) == told);
     let (told, slots) = calls_with(

@@ -1,16 +1,5 @@
+use crate::tests::NO_MARK;
 use crate::{Asked, Mark, NearPlayed, Telling, page_play_near};
-
-const NO_MARK: Mark = Mark {
-    side: 9,
-    row: 9,
-    index: 9,
-    digit: 9,
-    act: 9,
-    value: true,
-    held: true,
-    overlapped: true,
-    clashes: true,
-};
 
 const NOTHING_TOLD: Telling = Telling {
     word: 99,

@@ -5,7 +5,7 @@ use crate::{
 use std::alloc::AllocGlobal;
 use std::process::Abort;
 
-const NO_MARK: Mark = Mark {
+pub const NO_MARK: Mark = Mark {
     side: 9,
     row: 9,
     index: 9,

@@ -1,7 +1,8 @@
 -- What is found where recorded calls are read.
 use Rattle.std.proofs.Common.{arith, ◌≡◌, ◌≢◌, ◌≤◌, ◌+◌, ◌-◌, ◌^◌, ◌∙◌, Bool, true, false, ℕ, zero, suc, List, [], ◌++◌, Option, None, Some, IfSome, append_assoc, ap, length, length-append, refl, subst, sym, take}
 use Rattle.std.proofs.lemmas.List.{append-nil, length-take-le}
-use Rattle.std.specs.Io.KnownBytes.{Consumes}
+use Rattle.std.proofs.KnownBytes.{Consumes-trans, Consumes-whole}
+use Rattle.std.specs.Io.KnownBytes.{Consumes, IsAtEnd}
 use Rattle.queue_calls.specs.Recordings.{IsFaultOf, IsFindingOf}
 use Rattle.queue_calls.specs.declared.recordings.CallsFinding.{CallsFinding}
 use Rattle.queue_calls.specs.declared.recordings.CallsFinding.TheVariants.{Lawful, OutOfTurn, NotLinearizable}
@@ -66,9 +67,15 @@ of_front None after came P same holds = tt
 of_front (Some bytes) None came P same holds = absurd same
 of_front (Some bytes) (Some rest) came P same holds = subst P (sym same) (holds rest)
 
-pub none_more : (count : ℕ) (piece came : List ℕ) → count ≡ 0 → came ++ take count piece ≡ came
+none_more : (count : ℕ) (piece came : List ℕ) → count ≡ 0 → came ++ take count piece ≡ came
 none_more zero piece came same = append-nil came
 none_more (suc count) piece came same = cc
+
+-- what holds of the bytes that came holds of the input, where a read that gives none is at its end
+pub of_whole : (before mid after : Option (List ℕ)) (came piece : List ℕ) (count : ℕ) (P : List ℕ → Type 0) → Consumes before mid came → Consumes mid after (take count piece) → count ≡ 0
+    → IsAtEnd after → P came → IfSome before P
+of_whole before mid after came piece count P had more none over holds =
+    Consumes-whole before after came P (subst (Consumes before after) (none_more count piece came none) (Consumes-trans before mid after came (take count piece) had more)) over holds
 
 -- a piece that is not empty makes the bytes more
 pub one_more : (turns count : ℕ) (came piece : List ℕ) → turns ≤ length came → count ≢ 0 → count ≤ length piece → turns + 1 ≤ length (came ++ take count piece)

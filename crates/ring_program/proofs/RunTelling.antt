@@ -1,5 +1,5 @@
 -- What of a run was not told so far, and what is told with one event more.
-use Rattle.std.proofs.Common.{◌≡◌, ◌∙◌, ℕ, ◌+◌, ◌-◌, ◌≤◌, Bool, true, false, not, min, Bor, List, [], ◌∷◌, ◌++◌, length, take, drop, refl, ap, ap₂, sym, subst, append_assoc, arith}
+use Rattle.std.proofs.Common.{rules, ◌≡◌, ◌∙◌, ℕ, ◌+◌, ◌-◌, ◌≤◌, Bool, true, false, not, min, Bor, List, [], ◌∷◌, ◌++◌, length, take, drop, refl, ap, ap₂, sym, subst, append_assoc, arith}
 use Rattle.std.proofs.lemmas.List.{append-nil, drop-drop, take-append-drop, take_min}
 use Rattle.std.proofs.lemmas.List.Sums.{sum_by-cons, sum_by_push}
 use Rattle.std.proofs.lemmas.Slice.Eq.{bytes_eq-Decides}
@@ -31,35 +31,13 @@ front_items items taken left same is =
 
 -- a take ended with the next items
 pub took : (u : Untold) (items : List ℕ) (left : Bor (List ℕ)) → u.taken.now ≡ items ++ left.now → TakesOff u (TakeItems items true) (record u { taken = left })
-took u items left is = record {
-  items = refl;
-  tells = record {
-    put = omega arith;
-    calls = omega arith;
-    full = omega arith;
-    closes = omega arith;
-    takes = omega arith;
-    empty = omega arith;
-    told = omega arith;
-    taken = simp append-nil (sym is);
-  };
-}
+took u items left is =
+    let taken : items ++ [] ++ left.now ≡ u.taken.now = simp append-nil (sym is) in
+    record { items = refl; tells = search (rules, arith, taken) }
 
 -- a put began
 pub offered_next : (u : Untold) (offered : List ℕ) (calls : ℕ) → 1 ≤ u.calls → calls ≡ u.calls - 1 → TakesOff u (PutBegin offered) (record u { calls = calls })
-offered_next u offered calls some is = record {
-  items = refl;
-  tells = record {
-    put = omega arith;
-    calls = omega arith;
-    full = omega arith;
-    closes = omega arith;
-    takes = omega arith;
-    empty = omega arith;
-    told = omega arith;
-    taken = refl;
-  };
-}
+offered_next u offered calls some is = record { items = refl; tells = search (rules, arith) }
 
 -- ---- one event more
 

@@ -1,5 +1,5 @@
 -- The recording of a run, as far as it is written.
-use Rattle.std.proofs.Common.{◌≡◌, ◌∙◌, ℕ, Bool, false, ◌-◌, ◌<◌, ◌≤◌, List, [], ◌∷◌, ◌++◌, drop, refl, ap, ap₂, sym, subst, arith}
+use Rattle.std.proofs.Common.{rules, ◌≡◌, ◌∙◌, ℕ, Bool, false, ◌-◌, ◌<◌, ◌≤◌, List, [], ◌∷◌, ◌++◌, drop, refl, ap, ap₂, sym, subst, arith}
 use Rattle.std.proofs.lemmas.List.{append-nil, drop-drop}
 use Rattle.std.proofs.lemmas.List.Sums.{sum_by_push}
 use Rattle.std.proofs.lemmas.Grind.{flat_map-append}
@@ -30,16 +30,7 @@ use Rattle.ring_program.proofs.RunTelling.{are_more, tell_more}
 use Rattle.ring_program.proofs.TellingText.{told_is_recording}
 
 tells_nothing : (all : RunCounts) → TellAllBut all all []
-tells_nothing all = record {
-  put = omega arith;
-  calls = omega arith;
-  full = omega arith;
-  closes = omega arith;
-  takes = omega arith;
-  empty = omega arith;
-  told = omega arith;
-  taken = refl;
-}
+tells_nothing all = search (rules, arith)
 
 -- ---- one event more
 

@@ -44,12 +44,12 @@ telling_goes_on capacity h event rest b text next after pushed next_is small (wh
       λ others. smalls (small, others),
     )
 
-pub telling_is_told : (capacity : ℕ) (h : List Event) (b : Begun) (text : List ℕ) → IsToldSoFar capacity h [] b text
+pub telling_is_told : (capacity : ℕ) (h rest : List Event) (b : Begun) (text : List ℕ) → rest ≡ [] → IsToldSoFar capacity h rest b text
     → text ≡ lines_text (line Queue (capacity ∷ []) ∷ lines_of begun.Nothing h)
-telling_is_told capacity h b text (whole, smalls) = sym (whole ∙ append-nil text)
+telling_is_told capacity h rest b text none (whole, smalls) = sym (whole ∙ ap (λ (r : List Event). text ++ lines_text (lines_of b r)) none ∙ append-nil text)
 
-pub telling_is_small : (capacity : ℕ) (h : List Event) (b : Begun) (text : List ℕ) → IsToldSoFar capacity h [] b text → TellsSmall h
-telling_is_small capacity h b text (whole, smalls) = smalls tt
+pub telling_is_small : (capacity : ℕ) (h rest : List Event) (b : Begun) (text : List ℕ) → rest ≡ [] → IsToldSoFar capacity h rest b text → TellsSmall h
+telling_is_small capacity h rest b text none (whole, smalls) = smalls (subst TellsSmall (sym none) tt)
 
 pub told_is_recording : (is_cut : Bool) (capacity n : ℕ) (h : List Event) (text : List ℕ) → n ≡ capacity → 0 < n → n ≤ 64 → HistoryHasARecording → CallsAreInTurn h → TellsSmall h
     → text ≡ lines_text (line (first_word is_cut) (capacity ∷ []) ∷ lines_of begun.Nothing h) → (is : IsRecording text (exactly capacity) h) × (is.is_cut ≡ is_cut)

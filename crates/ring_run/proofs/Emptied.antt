@@ -28,7 +28,8 @@ use Rattle.ring_core.specs.ConsumerCalls.{and_take, ends_closed, reply_at_end}
 use Rattle.ring_seats.specs.Rule.{Stands}
 use Rattle.ring_ends.specs.Ends.{HasPuts, HasTakes, HasTakenAll, HasTakenOf, TakeAdds, TakeAllAdds}
 use Rattle.ring_run.specs.Laws.{EmptyAfterMeeting, ItemEmptyAfterMeeting, ItemTakesAdd, TakesAdd}
-use Rattle.ring_run.proofs.Lists.{by_case, events_of-append, length-events_of, last-snoc}
+use Rattle.ring_ends.proofs.Lists.{events_of-append, length-events_of}
+use Rattle.ring_run.proofs.Lists.{by_case, last-snoc}
 
 -- ---- how many items calls store and take that have ended
 
@@ -126,9 +127,12 @@ later_than s known more h start place is number_past long = go (dec_lt place (le
 -- ---- a call whose events stand behind a history that its side knows
 
 module _ {shape : Shape} {known : List Event} (x : Side) {after : List Event} (st : Stands shape x after known) where
-  -- it began behind what is known
-  pub later : {before : List Event} (start place : ℕ) → IsPrefix (subhistory x known) before → length before ≡ start → IsPlaceOf x st.history start place → length known ≤ place
-  later {before} start place begins long at = later_than x known st.begins.0 st.history start place st.begins.1 at.past (omega (arith, long, ap length begins.1, length-append (subhistory x known) begins.0))
+  -- it began behind what is known, where all its side's events before were those of open calls
+  pub later : {before : List Event} (phrases ends : List Made) (place : ℕ) → IsPrefix (subhistory x known) before → before ≡ events_of x (phrases ++ ends) → ends ≡ []
+      → IsPlaceOf x st.history (events_in phrases) place → length known ≤ place
+  later {before} phrases ends place begins is none at =
+      later_than x known st.begins.0 st.history (events_in phrases) place st.begins.1 at.past
+      (omega (arith, ap length is, length-events_of x (phrases ++ ends), length-append phrases ends, ap length none, ap length begins.1, length-append (subhistory x known) begins.0))
 
   -- and what is known of a side's calls begins them
   pub own_known : (y : Side) → IsPrefix (subhistory y known) (subhistory y st.history)
@@ -185,14 +189,9 @@ module _ (law : InEveryRun EmptyIsFresh) (first : PutsAreFirst) (made : MadeIsAc
   abbrev place : ℕ
   place = fresh.0
 
-  before_long : length before ≡ start
-  unfolding start
-  before_long =
-      ap length was.list_is ∙ length-events_of C (take_program shape calls) ∙
-      ap (λ (l : List Made). 2 * length l) (ap (λ (e : End). take_phrases shape first_count calls.takes ++ end_phrase e) is_open ∙ append-nil (take_phrases shape first_count calls.takes))
-
   known_before : length known ≤ place
-  known_before = later C st start place begins before_long fresh.1
+  unfolding start
+  known_before = later C st (take_phrases shape first_count calls.takes) (end_phrase calls.end) place begins was.list_is (ap end_phrase is_open) fresh.1
 
   are_first : ((more : List Put) × (st.ring.puts.puts ≡ puts.puts ++ more)) × (puts.closes ≡ true → puts ≡ st.ring.puts)
   are_first = let follows = st.ring.run.puts_follow in first shape puts st.ring.puts whole.are follows.are (known_first C st P whole.list_is follows.events)

@@ -22,7 +22,7 @@ use Rattle.ring_core.specs.ProducerCalls.{and_put}
 use Rattle.ring_seats.specs.Rule.{Stands}
 use Rattle.ring_ends.specs.Ends.{HasPuts, HasTakes, PutAdds, HasPutAll}
 use Rattle.ring_run.specs.Laws.{FullAfterMeeting, ItemFullAfterMeeting, PutsAdd}
-use Rattle.ring_run.proofs.Lists.{events_of-append, length-events_of}
+use Rattle.ring_ends.proofs.Lists.{events_of-append, length-events_of}
 use Rattle.ring_run.proofs.Emptied.{behind_known, by_true, known_first, later, past_is, within_le}
 
 -- ---- how many items are stored, and how many are taken by takes that have ended
@@ -93,14 +93,9 @@ module _ (law : InEveryRun FullIsFresh) (first : TakesAreFirst)
   abbrev place : ℕ
   place = fresh.0
 
-  before_long : length before ≡ start
-  unfolding start
-  before_long =
-      ap length was.list_is ∙ length-events_of P (put_program shape calls) ∙
-      ap (λ (l : List Made). 2 * length l) (ap (λ (b : Bool). put_phrases shape first_count calls.puts ++ close_phrase b) is_open ∙ append-nil (put_phrases shape first_count calls.puts))
-
   known_before : length known ≤ place
-  known_before = later P st start place begins before_long fresh.1
+  unfolding start
+  known_before = later P st (put_phrases shape first_count calls.puts) (close_phrase calls.closes) place begins was.list_is (ap close_phrase is_open) fresh.1
 
   are_first : (others : List Take) × (st.ring.takes.takes ≡ takes.takes ++ others)
   are_first = let follows = st.ring.run.takes_follow in (first shape takes st.ring.takes whole.are follows.are (known_first P st C whole.list_is follows.events)).0

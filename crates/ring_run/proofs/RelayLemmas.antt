@@ -1,7 +1,7 @@
 -- One put or take more of a relay.
 use Rattle.std.proofs.Common.{◌≡◌, ◌⊎◌, ⊎_elim, ℕ, zero, suc, ◌+◌, ◌-◌, ◌<◌, ◌≤◌, Bool, false, List, [], ◌∷◌, ◌++◌, length, take, ◌%◌, append_assoc, refl, ap, sym, subst, ◌∙◌, arith, append-nil, Result, Ok, Err}
 use Rattle.std.specs.Prelude.{IfErr}
-use Rattle.std.proofs.lemmas.List.{length-append}
+use Rattle.std.proofs.lemmas.List.{length-append, length-drop, length-take-le}
 use Rattle.std.proofs.Math.Seq.{take-add, take-length, drop-nil}
 use Rattle.std.proofs.Math.ListN.{drop}
 use Rattle.bits_core.specs.declared.shapes.Shape.{Shape}
@@ -17,6 +17,8 @@ use Rattle.ring_core.specs.Over.{fulls}
 use Rattle.ring_core.specs.Readings.{PutsAreRead}
 use Rattle.ring_core.specs.ProducerCalls.{and_put, no_puts, IsPutOf}
 use Rattle.ring_core.specs.ProducerCalls as put_calls
+use Rattle.ring_seats.specs.Ring.{Ring, RingEnd}
+use Rattle.ring_seats.specs.Steppers.{IsSameEnd}
 use Rattle.ring_ends.specs.Ends.{HasPuts, HasPutAll, PutAdds}
 use Rattle.ring_run.specs.Relays.{AreGiven, PutsAre, TakesAre}
 
@@ -32,12 +34,6 @@ first_of (suc a) zero [] = (refl, omega arith)
 first_of (suc a) zero (x ∷ xs) = (refl, omega arith)
 first_of (suc a) (suc b) [] = (refl, omega arith)
 first_of (suc a) (suc b) (x ∷ xs) = let r = first_of a b xs in (ap (λ (l : List ℕ). x ∷ l) r.0, omega (arith, r.1))
-
-length_left : (n : ℕ) (xs : List ℕ) → n ≤ length xs → n + length (drop n xs) ≡ length xs
-length_left zero [] le = omega arith
-length_left zero (x ∷ xs) le = omega arith
-length_left (suc n) [] le = absurd (omega (arith, le))
-length_left (suc n) (x ∷ xs) le = omega (arith, length_left n xs (omega (arith, le)))
 
 stored_snoc : (xs : List Put) (seen : ℕ) (items : List ℕ) → all_put (xs ++ puts.Stored seen items ∷ []) ≡ all_put xs ++ items
 stored_snoc [] seen items = append-nil items
@@ -63,24 +59,19 @@ one_longer : (xs : List Put) (x : Put) → length (xs ++ x ∷ []) ≡ suc (leng
 one_longer xs x = omega (arith, length-append xs (x ∷ []))
 
 -- what one put is given
-fit_first : (shape : Shape) (n : ℕ) (xs : List ℕ) → AllFit shape xs → AllFit shape (take n xs)
+pub fit_first : (shape : Shape) (n : ℕ) (xs : List ℕ) → AllFit shape xs → AllFit shape (take n xs)
 fit_first shape zero xs fit = tt
 fit_first shape (suc n) [] fit = tt
 fit_first shape (suc n) (x ∷ xs) fit = (fit.0, fit_first shape n xs fit.1)
 
-fit_left : (shape : Shape) (n : ℕ) (xs : List ℕ) → AllFit shape xs → AllFit shape (drop n xs)
+pub fit_left : (shape : Shape) (n : ℕ) (xs : List ℕ) → AllFit shape xs → AllFit shape (drop n xs)
 fit_left shape zero xs fit = fit
 fit_left shape (suc n) [] fit = tt
 fit_left shape (suc n) (x ∷ xs) fit = fit_left shape n xs fit.1
 
-pub length_first : (n : ℕ) (xs : List ℕ) → n ≤ length xs → length (take n xs) ≡ n
-length_first zero xs le = refl
-length_first (suc n) [] le = absurd (omega (arith, le))
-length_first (suc n) (x ∷ xs) le = ap suc (length_first n xs (omega (arith, le)))
-
 pub offers : (shape : Shape) (items : List ℕ) (put n : ℕ) → AllFit shape items → put < length items → 0 < n → n ≤ batch_of shape → put + n ≤ length items → IsBatch shape (take n (drop put items))
 offers shape items put n all more some few left =
-    let long : length (take n (drop put items)) ≡ n = length_first n (drop put items) (omega (arith, left, length_left put items (omega (arith, more)))) in
+    let long : length (take n (drop put items)) ≡ n = length-take-le n (drop put items) (omega (arith, left, more, length-drop put items)) in
     record {
       some = omega (arith, long, some);
       few = omega (arith, long, few);
@@ -104,7 +95,7 @@ pub given_there : (shape : Shape) (items : List ℕ) (put n : ℕ) → put ≤ l
     take (put + n - put) (drop put items) ≡ take (batch_of shape) (drop put items)
 given_there shape items put n within most =
     let same : put + n - put ≡ n = omega arith in
-    let left : length items - put ≡ length (drop put items) = omega (arith, length_left put items within) in
+    let left : length items - put ≡ length (drop put items) = omega (arith, within, length-drop put items) in
     ap (λ k. take k (drop put items)) same ∙ given_is shape n (drop put items)
     (subst (λ k. (n ≡ batch_of shape) ⊎ ((n ≡ k) × (k ≤ batch_of shape))) left most)
 
@@ -156,7 +147,7 @@ module _ (read : PutsAreRead) (shape : Shape) (list list' : List Event) (items :
   -- the calls with one put more
   more_given : (given : List ℕ) → given ≡ take (batch_of shape) (drop put items) → (x : Put) → IsPutOf shape (put_calls.count_of shape p.calls).number given x → AreGiven shape 0 items (p.calls.puts ++ x ∷ [])
   more_given given is x of =
-      let long : put ≡ length (all_put p.calls.puts) = sym (ap length p.in_order ∙ length_first put items p.within) in
+      let long : put ≡ length (all_put p.calls.puts) = sym (ap length p.in_order ∙ length-take-le put items p.within) in
       given_more shape 0 items p.calls.puts x p.given
       (subst (λ (z : ℕ × List ℕ). IsPutOf shape z.0 z.1 x) (λ i. (counted_is shape first_count p.calls.puts i, (is ∙ ap (λ k. take (batch_of shape) (drop k items)) long) i)) of)
 
@@ -172,7 +163,7 @@ module _ (read : PutsAreRead) (shape : Shape) (list list' : List Event) (items :
           let long : m ≡ length few = cc in
           let first = first_of room n (drop put items) in
           let these : few ≡ take m (drop put items) = few_is ∙ first.0 ∙ ap (λ (k : ℕ). take k (drop put items)) (sym (long ∙ ap length few_is)) in
-          let fits : put + m ≤ length items = omega (arith, long, ap length few_is, first.1, length_left put items p.within) in (
+          let fits : put + m ≤ length items = omega (arith, long, ap length few_is, first.1, p.within, length-drop put items) in (
             fits,
             record {
               calls = and_put p.calls (puts.Stored seen few);
@@ -218,11 +209,15 @@ if_err (Err e) X x = x
 
 -- ---- an end after two calls
 
-pub same_trans : (a b c : Rattle.ring_seats.specs.Ring.RingEnd) → Rattle.ring_seats.specs.Steppers.IsSameEnd a b → Rattle.ring_seats.specs.Steppers.IsSameEnd b c → Rattle.ring_seats.specs.Steppers.IsSameEnd a c
+pub same_trans : (a b c : RingEnd) → IsSameEnd a b → IsSameEnd b c → IsSameEnd a c
 same_trans a b c s t = record { ring = t.ring ∙ s.ring; side = t.side ∙ s.side; known = t.known ∙ s.known }
 
-pub puts_there : (a b : Rattle.ring_seats.specs.Ring.RingEnd) (items : List ℕ) (put made full : ℕ) → Rattle.ring_seats.specs.Steppers.IsSameEnd a b → PutsAre a.ring.shape a.list items put made full false → PutsAre b.ring.shape a.list items put made full false
-puts_there a b items put made full s p = subst (λ (z : Shape). PutsAre z a.list items put made full false) (sym (ap (λ (r : Rattle.ring_seats.specs.Ring.Ring). r.shape) s.ring)) p
+-- what fits the ring of an end fits it later
+pub fit_there : (a b : RingEnd) (items : List ℕ) → IsSameEnd a b → AllFit a.ring.shape items → AllFit b.ring.shape items
+fit_there a b items s fit = subst (λ (z : Shape). AllFit z items) (sym (ap (λ (r : Ring). r.shape) s.ring)) fit
 
-pub takes_there : (a b : Rattle.ring_seats.specs.Ring.RingEnd) (limit : ℕ) (taken : List ℕ) (made empty : ℕ) → Rattle.ring_seats.specs.Steppers.IsSameEnd a b → TakesAre a.ring.shape a.list limit taken made empty false → TakesAre b.ring.shape a.list limit taken made empty false
-takes_there a b limit taken made empty s p = subst (λ (z : Shape). TakesAre z a.list limit taken made empty false) (sym (ap (λ (r : Rattle.ring_seats.specs.Ring.Ring). r.shape) s.ring)) p
+pub puts_there : (a b : RingEnd) (items : List ℕ) (put made full : ℕ) → IsSameEnd a b → PutsAre a.ring.shape a.list items put made full false → PutsAre b.ring.shape a.list items put made full false
+puts_there a b items put made full s p = subst (λ (z : Shape). PutsAre z a.list items put made full false) (sym (ap (λ (r : Ring). r.shape) s.ring)) p
+
+pub takes_there : (a b : RingEnd) (limit : ℕ) (taken : List ℕ) (made empty : ℕ) → IsSameEnd a b → TakesAre a.ring.shape a.list limit taken made empty false → TakesAre b.ring.shape a.list limit taken made empty false
+takes_there a b limit taken made empty s p = subst (λ (z : Shape). TakesAre z a.list limit taken made empty false) (sym (ap (λ (r : Ring). r.shape) s.ring)) p

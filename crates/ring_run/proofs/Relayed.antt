@@ -1,6 +1,6 @@
 -- What the law of the ring says of a relay.
 use Rattle.std.proofs.Common.{Bool, false, List, [], ap, append-nil, arith, eqb-true, length, subst, sym, take, true, true≢false, ℕ, ◌+◌, ◌==◌, ◌∙◌, ◌≡◌, ◌≤◌}
-use Rattle.std.proofs.lemmas.List.{length-append}
+use Rattle.std.proofs.lemmas.List.{length-append, length-take-le}
 use Rattle.std.proofs.Math.Seq.{take-length}
 use Rattle.bits_core.specs.declared.shapes.Shape.{Shape}
 use Rattle.bits_core.specs.declared.events.Side.{Side}
@@ -21,8 +21,7 @@ use Rattle.ring_ends.specs.Meetings.{Meets}
 use Rattle.ring_seats.specs.Programs.{IsRing}
 use Rattle.ring_core.specs.Linear.{EachReadingIsLinearizable}
 use Rattle.ring_run.specs.Relays.{HasMadePuts, HasRelayedPuts, HasRelayedTakes, HasTakenMore, IsRelayed, PutsAre, TakesAre}
-use Rattle.ring_run.proofs.Lists.{length-events_of}
-use Rattle.ring_run.proofs.RelayLemmas.{length_first}
+use Rattle.ring_ends.proofs.Lists.{length-events_of}
 
 clock_at_end : (s : Side) (h : List Event) → clock s h (length h) ≡ length (subhistory s h)
 clock_at_end s h = ap (λ (l : List Event). length (subhistory s l)) (take-length h)
@@ -54,7 +53,7 @@ module _ (shape : Shape) (items : List ℕ) (put made full : ℕ) (closes : Bool
   few_of : InEveryRun TakenArePrefix → WholePutsCount → WholeTakesCount → length taken ≤ length items
   few_of prefix puts_count takes_count =
       let p = prefix_of prefix puts_count takes_count in
-      omega (arith, ap length p.1, length-append taken p.0, length_first put items ps.within, ps.within)
+      omega (arith, ap length p.1, length-append taken p.0, length-take-le put items ps.within, ps.within)
 
 module _ (within : InEveryRun IsWithin) (prefix : InEveryRun TakenArePrefix) (closed_law : InEveryRun ClosedIsTrue) (puts_count : WholePutsCount) (takes_count : WholeTakesCount)
     (shape : Shape) (items : List ℕ) (most_puts most_takes put made full : ℕ) (taken : List ℕ) (made_takes empty : ℕ) (closed : Bool) (r : IsRelayed shape items most_puts most_takes put made full taken made_takes empty closed) where
@@ -95,7 +94,7 @@ module _ (within : InEveryRun IsWithin) (prefix : InEveryRun TakenArePrefix) (cl
       let w = within shape h puts takes run (length h) in
       let p = (puts_count shape h puts r.puts.puts.list_is.are r.puts.puts.list_is.list_is).1 in
       let t = (takes_count shape h takes r.takes.takes.list_is.are r.takes.takes.list_is.list_is).1 in
-      omega (arith, w.1, ap (puts_begun shape puts) (clock_at_end P h), ap (takes_begun shape takes) (clock_at_end C h), p, t, ap length r.puts.puts.in_order, length_first put items r.puts.puts.within, ap length r.takes.takes.taken_is)
+      omega (arith, w.1, ap (puts_begun shape puts) (clock_at_end P h), ap (takes_begun shape takes) (clock_at_end C h), p, t, ap length r.puts.puts.in_order, length-take-le put items r.puts.puts.within, ap length r.takes.takes.taken_is)
 
 -- what a relay's ends and their meeting say, of one history
 pub relayed :

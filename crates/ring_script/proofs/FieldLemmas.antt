@@ -1,8 +1,9 @@
 -- The names, values and kinds that are read, and what the object has.
-use Rattle.std.proofs.Common.{◌≡◌, ◌⊎◌, ◌∙◌, ◌≤◌, ◌<◌, ℕ, zero, suc, Bool, true, false, List, Option, Some, None, Result, Ok, Err, refl, sym, ap, subst, arith, true≢false, inl, inr}
+use Rattle.std.proofs.Common.{◌≡◌, ◌⊎◌, ◌∙◌, ◌<◌, ℕ, zero, suc, Bool, true, false, List, Option, Some, None, Result, Ok, Err, refl, sym, ap, subst, arith, true≢false, inl, inr}
 use Rattle.std.specs.Prelude.{◌&&◌, ◌||◌}
 use Rattle.std.specs.Str.{bytes_eq}
 use Rattle.serde_json.specs.Data.{Data, object, Members, no_members, member}
+use Rattle.std.proofs.lemmas.Bool.{cases_lt}
 use Rattle.std.proofs.lemmas.Slice.Eq.{bytes_eq-Decides}
 use Rattle.ring_script.specs.Faults.{IsFirst, IsMissing, field_place, is_needed}
 use Rattle.ring_script.specs.Results.{result_and_then}
@@ -128,13 +129,7 @@ Before P zero = Unit {0}
 Before P (suc n) = Before P n × P (field_at n)
 
 order : (m n : ℕ) → m < suc n → (m < n) ⊎ (m ≡ n)
-order m n l = elim (cases_le m n) [ inl a ↦ inl a | inr b ↦ inr (omega arith) ]
-  where
-    cases_le : (a b : ℕ) → (a < b) ⊎ (b ≤ a)
-    cases_le zero zero = inr (omega arith)
-    cases_le zero (suc b) = inl (omega arith)
-    cases_le (suc a) zero = inr (omega arith)
-    cases_le (suc a) (suc b) = elim (cases_le a b) [ inl x ↦ inl (omega (arith, x)) | inr y ↦ inr (omega (arith, y)) ]
+order m n l = elim (cases_lt m n) [ inl a ↦ inl a | inr b ↦ inr (omega arith) ]
 
 before_all : (P : Field → Type 0) (n : ℕ) → Before P n → (f : Field) → field_place f < n → P f
 before_all P zero h f less = absurd (omega arith)
@@ -143,8 +138,38 @@ before_all P (suc n) h f less = elim (order (field_place f) n less) [
   | inr same ↦ subst P (ap field_at (sym same) ∙ at_place f) h.1
 ]
 
-pub first_of : (P : Field → Type 0) (f : Field) → Before (λ g. ¬ P g) (field_place f) → P f → IsFirst P f
+first_of : (P : Field → Type 0) (f : Field) → Before (λ g. ¬ P g) (field_place f) → P f → IsFirst P f
 first_of P f before so = record { so = so; least = before_all (λ g. ¬ P g) (field_place f) before }
+
+one_first : (P : Field → Type 0) (f g : Field) → IsFirst P f → IsFirst P g → f ≡ g
+one_first P f g a b = elim (cases_lt (field_place f) (field_place g)) [
+  | inl before ↦ absurd (b.least f before a.so)
+  | inr upto ↦ elim (cases_lt (field_place g) (field_place f)) [
+    | inl after ↦ absurd (a.least g after b.so)
+    | inr since ↦ sym (at_place f) ∙ ap field_at (omega (arith, upto, since)) ∙ at_place g
+  ]
+]
+
+-- the fault is that of the first field that is so
+abbrev pub IsOfFirst : (Field → Type 0) → (Field → ScriptFault) → ScriptFault → Type 0
+IsOfFirst P fault x = (f : Field) × (x ≡ fault f) × IsFirst P f
+
+pub first_told : (P : Field → Type 0) (fault : Field → ScriptFault) (x : ScriptFault) (f : Field) → IsOfFirst P fault x → IsFirst P f → x ≡ fault f
+first_told P fault x f told first = told.1 ∙ ap fault (one_first P told.0 f told.2 first)
+
+-- what is read of the field fails if the field is so
+pub record Tells {A : Type 0} (P : Field → Type 0) (fault : Field → ScriptFault) (f : Field) (r : Result A ScriptFault) : Type 0 where
+  pub so : (x : ScriptFault) → r ≡ Err x → (x ≡ fault f) × P f
+  pub not_so : (a : A) → r ≡ Ok a → ¬ P f
+
+-- where fields are read one after the other and none before this one is so, it is the first, or another behind it
+pub next_field : {A B : Type 0} (P : Field → Type 0) (fault : Field → ScriptFault) (f : Field) (r : Result A ScriptFault) (others : A → Result B ScriptFault) (x : ScriptFault)
+    → Tells P fault f r → Before (λ g. ¬ P g) (field_place f) → result_and_then r others ≡ Err x
+    → ((a : A) → Before (λ g. ¬ P g) (field_place f) × ¬ P f → others a ≡ Err x → IsOfFirst P fault x) → IsOfFirst P fault x
+next_field P fault f r others x tells before e later = elim (and_then_err r others x e) [
+  | inl n ↦ let is = tells.so x n in (f, is.0, first_of P f before is.1)
+  | inr ok ↦ later ok.0 (before, tells.not_so ok.0 ok.1) ok.2
+]
 
 -- ---- values
 
@@ -198,152 +223,48 @@ pub values_to : (ms : Members) (vs : FieldValues) → HasValues ms vs → field_
 unfolding field_values
 values_to ms vs h = rw (h.capacity, h.modulus, h.width, h.items, h.takes, h.close, h.schedule, h.oracle, h.batch, h.take_batch)
 
-stood : (ms : Members) (f : Field) (v : Data) → found f (held_as f ms) ≡ Ok v → ¬ IsMissing ms f
-stood ms f v e m = let s : held_as f ms ≡ Some v = found_is f (held_as f ms) v e in cc
+has_none : (ms : Members) (f : Field) (v : Data) → held_as f ms ≡ Some v → ¬ IsMissing ms f
+has_none ms f v s m = let n : held_as f ms ≡ None = m.1 in cc
 
-abbrev pub IsMissingFirst : Members → ScriptFault → Type 0
-IsMissingFirst ms x = (f : Field) × (x ≡ MissingField f) × IsFirst (IsMissing ms) f
+-- a needed field is found or missing
+finds : (ms : Members) (f : Field) → is_needed f ≡ true → Tells (IsMissing ms) MissingField f (found f (held_as f ms))
+finds ms f needed = record {
+  so = λ x e. let n = not_found f (held_as f ms) x e in (n.0, (needed, n.1));
+  not_so = λ v e. has_none ms f v (found_is f (held_as f ms) v e);
+}
 
-missing : (ms : Members) (f : Field) (x : ScriptFault) → is_needed f ≡ true → Before (λ g. ¬ IsMissing ms g) (field_place f) → found f (held_as f ms) ≡ Err x → IsMissingFirst ms x
-missing ms f x needed before e =
-    let n = not_found f (held_as f ms) x e in
-    (f, n.0, first_of (IsMissing ms) f before (needed, n.1))
-
-pub values_missing : (ms : Members) (x : ScriptFault) → field_values (object ms) ≡ Err x → IsMissingFirst ms x
+pub values_missing : (ms : Members) (x : ScriptFault) → field_values (object ms) ≡ Err x → IsOfFirst (IsMissing ms) MissingField x
 unfolding field_values
 values_missing ms x e =
-    elim (and_then_err (field_of field.Capacity (object ms)) _ x e) [
-      | inl n ↦ missing ms field.Capacity x refl tt n
-      | inr r1 ↦
-          let s1 = stood ms field.Capacity _ r1.1 in
-          elim (and_then_err (field_of field.Modulus (object ms)) _ x r1.2) [
-            | inl n ↦ missing ms field.Modulus x refl (tt, s1) n
-            | inr r2 ↦
-                let s2 = stood ms field.Modulus _ r2.1 in
-                elim (and_then_err (field_of field.Width (object ms)) _ x r2.2) [
-                  | inl n ↦ missing ms field.Width x refl ((tt, s1), s2) n
-                  | inr r3 ↦
-                      let s3 = stood ms field.Width _ r3.1 in
-                      elim (and_then_err (field_of field.Items (object ms)) _ x r3.2) [
-                        | inl n ↦ missing ms field.Items x refl (((tt, s1), s2), s3) n
-                        | inr r4 ↦
-                            let s4 = stood ms field.Items _ r4.1 in
-                            elim (and_then_err (field_of field.Takes (object ms)) _ x r4.2) [
-                              | inl n ↦ missing ms field.Takes x refl ((((tt, s1), s2), s3), s4) n
-                              | inr r5 ↦
-                                  let s5 = stood ms field.Takes _ r5.1 in
-                                  elim (and_then_err (field_of field.Close (object ms)) _ x r5.2) [
-                                    | inl n ↦ missing ms field.Close x refl (((((tt, s1), s2), s3), s4), s5) n
-                                    | inr r6 ↦
-                                        let s6 = stood ms field.Close _ r6.1 in
-                                        elim (and_then_err (field_of field.Schedule (object ms)) _ x r6.2) [
-                                          | inl n ↦ missing ms field.Schedule x refl ((((((tt, s1), s2), s3), s4), s5), s6) n
-                                          | inr r7 ↦
-                                              let s7 = stood ms field.Schedule _ r7.1 in
-                                              elim (and_then_err (field_of field.Oracle (object ms)) _ x r7.2) [
-                                                | inl n ↦ missing ms field.Oracle x refl (((((((tt, s1), s2), s3), s4), s5), s6), s7) n
-                                                | inr r8 ↦
-                                                    let s8 = stood ms field.Oracle _ r8.1 in
-                                                    absurd (ok_not_err _ x r8.2)
-                                              ]
-                                        ]
-                                  ]
-                            ]
-                      ]
-                ]
-          ]
-    ]
-
--- a needed field that is not missing has a value
-there : (ms : Members) (f : Field) (o : Option Data) → held_as f ms ≡ o → is_needed f ≡ true → ¬ IsMissing ms f → (v : Data) × (found f o ≡ Ok v)
-there ms f (Some v) is needed m = (v, refl)
-there ms f None is needed m = absurd (m (needed, is))
-
-value_there : (ms : Members) (f : Field) → is_needed f ≡ true → ¬ IsMissing ms f → (v : Data) × (found f (held_as f ms) ≡ Ok v)
-value_there ms f needed m = there ms f (held_as f ms) refl needed m
-
-pub missing_told : (ms : Members) (f : Field) → IsFirst (IsMissing ms) f → field_values (object ms) ≡ Err (MissingField f)
-unfolding field_values
-missing_told ms field.Capacity h =
-    and_then_fails _ _ _ (ap (found field.Capacity) h.so.1)
-missing_told ms field.Modulus h =
-    let p1 = value_there ms field.Capacity refl (h.least field.Capacity (omega arith)) in
-    and_then_at _ p1.0 _ _ p1.1 (and_then_fails _ _ _ (ap (found field.Modulus) h.so.1))
-missing_told ms field.Width h =
-    let p1 = value_there ms field.Capacity refl (h.least field.Capacity (omega arith)) in
-    let p2 = value_there ms field.Modulus refl (h.least field.Modulus (omega arith)) in
-    and_then_at _ p1.0 _ _ p1.1 (and_then_at _ p2.0 _ _ p2.1 (and_then_fails _ _ _ (ap (found field.Width) h.so.1)))
-missing_told ms field.Items h =
-    let p1 = value_there ms field.Capacity refl (h.least field.Capacity (omega arith)) in
-    let p2 = value_there ms field.Modulus refl (h.least field.Modulus (omega arith)) in
-    let p3 = value_there ms field.Width refl (h.least field.Width (omega arith)) in
-    and_then_at _ p1.0 _ _ p1.1 (and_then_at _ p2.0 _ _ p2.1 (and_then_at _ p3.0 _ _ p3.1 (and_then_fails _ _ _ (ap (found field.Items) h.so.1))))
-missing_told ms field.Takes h =
-    let p1 = value_there ms field.Capacity refl (h.least field.Capacity (omega arith)) in
-    let p2 = value_there ms field.Modulus refl (h.least field.Modulus (omega arith)) in
-    let p3 = value_there ms field.Width refl (h.least field.Width (omega arith)) in
-    let p4 = value_there ms field.Items refl (h.least field.Items (omega arith)) in
-    and_then_at _ p1.0 _ _ p1.1 (and_then_at _ p2.0 _ _ p2.1 (and_then_at _ p3.0 _ _ p3.1 (and_then_at _ p4.0 _ _ p4.1 (and_then_fails _ _ _ (ap (found field.Takes) h.so.1)))))
-missing_told ms field.Close h =
-    let p1 = value_there ms field.Capacity refl (h.least field.Capacity (omega arith)) in
-    let p2 = value_there ms field.Modulus refl (h.least field.Modulus (omega arith)) in
-    let p3 = value_there ms field.Width refl (h.least field.Width (omega arith)) in
-    let p4 = value_there ms field.Items refl (h.least field.Items (omega arith)) in
-    let p5 = value_there ms field.Takes refl (h.least field.Takes (omega arith)) in
-    and_then_at _ p1.0 _ _ p1.1 (and_then_at _ p2.0 _ _ p2.1 (and_then_at _ p3.0 _ _ p3.1 (and_then_at _ p4.0 _ _ p4.1 (and_then_at _ p5.0 _ _ p5.1 (and_then_fails _ _ _ (ap (found field.Close) h.so.1))))))
-missing_told ms field.Schedule h =
-    let p1 = value_there ms field.Capacity refl (h.least field.Capacity (omega arith)) in
-    let p2 = value_there ms field.Modulus refl (h.least field.Modulus (omega arith)) in
-    let p3 = value_there ms field.Width refl (h.least field.Width (omega arith)) in
-    let p4 = value_there ms field.Items refl (h.least field.Items (omega arith)) in
-    let p5 = value_there ms field.Takes refl (h.least field.Takes (omega arith)) in
-    let p6 = value_there ms field.Close refl (h.least field.Close (omega arith)) in
-    and_then_at _ p1.0 _ _ p1.1 (and_then_at _ p2.0 _ _ p2.1 (and_then_at _ p3.0 _ _ p3.1 (and_then_at _ p4.0 _ _ p4.1 (and_then_at _ p5.0 _ _ p5.1 (and_then_at _ p6.0 _ _ p6.1 (and_then_fails _ _ _ (ap (found field.Schedule) h.so.1)))))))
-missing_told ms field.Oracle h =
-    let p1 = value_there ms field.Capacity refl (h.least field.Capacity (omega arith)) in
-    let p2 = value_there ms field.Modulus refl (h.least field.Modulus (omega arith)) in
-    let p3 = value_there ms field.Width refl (h.least field.Width (omega arith)) in
-    let p4 = value_there ms field.Items refl (h.least field.Items (omega arith)) in
-    let p5 = value_there ms field.Takes refl (h.least field.Takes (omega arith)) in
-    let p6 = value_there ms field.Close refl (h.least field.Close (omega arith)) in
-    let p7 = value_there ms field.Schedule refl (h.least field.Schedule (omega arith)) in
-    and_then_at _ p1.0 _ _ p1.1 (and_then_at _ p2.0 _ _ p2.1 (and_then_at _ p3.0 _ _ p3.1 (and_then_at _ p4.0 _ _ p4.1 (and_then_at _ p5.0 _ _ p5.1 (and_then_at _ p6.0 _ _ p6.1 (and_then_at _ p7.0 _ _ p7.1 (and_then_fails _ _ _ (ap (found field.Oracle) h.so.1))))))))
-missing_told ms field.Batch h = absurd (true≢false (sym h.so.0))
-missing_told ms field.TakeBatch h = absurd (true≢false (sym h.so.0))
-
-pub values_there : (ms : Members) → ((f : Field) → ¬ IsMissing ms f) → (vs : FieldValues) × HasValues ms vs
-values_there ms h =
-    let p1 = value_there ms field.Capacity refl (h field.Capacity) in
-    let p2 = value_there ms field.Modulus refl (h field.Modulus) in
-    let p3 = value_there ms field.Width refl (h field.Width) in
-    let p4 = value_there ms field.Items refl (h field.Items) in
-    let p5 = value_there ms field.Takes refl (h field.Takes) in
-    let p6 = value_there ms field.Close refl (h field.Close) in
-    let p7 = value_there ms field.Schedule refl (h field.Schedule) in
-    let p8 = value_there ms field.Oracle refl (h field.Oracle) in (
-      record { capacity = p1.0; modulus = p2.0; width = p3.0; items = p4.0; takes = p5.0; close = p6.0; schedule = p7.0; oracle = p8.0; batch = held_as field.Batch ms; take_batch = held_as field.TakeBatch ms },
-      record {
-        capacity = found_is _ _ _ p1.1;
-        modulus = found_is _ _ _ p2.1;
-        width = found_is _ _ _ p3.1;
-        items = found_is _ _ _ p4.1;
-        takes = found_is _ _ _ p5.1;
-        close = found_is _ _ _ p6.1;
-        schedule = found_is _ _ _ p7.1;
-        oracle = found_is _ _ _ p8.1;
-        batch = refl;
-        take_batch = refl;
-      },
-    )
+    next_field _ _ field.Capacity _ _ x (finds ms field.Capacity refl) tt e (λ _ b1 e1.
+    next_field _ _ field.Modulus _ _ x (finds ms field.Modulus refl) b1 e1 (λ _ b2 e2.
+    next_field _ _ field.Width _ _ x (finds ms field.Width refl) b2 e2 (λ _ b3 e3.
+    next_field _ _ field.Items _ _ x (finds ms field.Items refl) b3 e3 (λ _ b4 e4.
+    next_field _ _ field.Takes _ _ x (finds ms field.Takes refl) b4 e4 (λ _ b5 e5.
+    next_field _ _ field.Close _ _ x (finds ms field.Close refl) b5 e5 (λ _ b6 e6.
+    next_field _ _ field.Schedule _ _ x (finds ms field.Schedule refl) b6 e6 (λ _ b7 e7.
+    next_field _ _ field.Oracle _ _ x (finds ms field.Oracle refl) b7 e7 (λ _ b8 e8. absurd (ok_not_err _ x e8)))))))))
 
 pub all_there : (ms : Members) (vs : FieldValues) → HasValues ms vs → (f : Field) → ¬ IsMissing ms f
-all_there ms vs h field.Capacity m = let s : held_as field.Capacity ms ≡ Some vs.capacity = h.capacity in let n : held_as field.Capacity ms ≡ None = m.1 in cc
-all_there ms vs h field.Modulus m = let s : held_as field.Modulus ms ≡ Some vs.modulus = h.modulus in let n : held_as field.Modulus ms ≡ None = m.1 in cc
-all_there ms vs h field.Width m = let s : held_as field.Width ms ≡ Some vs.width = h.width in let n : held_as field.Width ms ≡ None = m.1 in cc
-all_there ms vs h field.Items m = let s : held_as field.Items ms ≡ Some vs.items = h.items in let n : held_as field.Items ms ≡ None = m.1 in cc
-all_there ms vs h field.Takes m = let s : held_as field.Takes ms ≡ Some vs.takes = h.takes in let n : held_as field.Takes ms ≡ None = m.1 in cc
-all_there ms vs h field.Close m = let s : held_as field.Close ms ≡ Some vs.close = h.close in let n : held_as field.Close ms ≡ None = m.1 in cc
-all_there ms vs h field.Schedule m = let s : held_as field.Schedule ms ≡ Some vs.schedule = h.schedule in let n : held_as field.Schedule ms ≡ None = m.1 in cc
-all_there ms vs h field.Oracle m = let s : held_as field.Oracle ms ≡ Some vs.oracle = h.oracle in let n : held_as field.Oracle ms ≡ None = m.1 in cc
-all_there ms vs h field.Batch m = true≢false (sym m.0)
-all_there ms vs h field.TakeBatch m = true≢false (sym m.0)
+all_there ms vs h field.Capacity = has_none ms field.Capacity vs.capacity h.capacity
+all_there ms vs h field.Modulus = has_none ms field.Modulus vs.modulus h.modulus
+all_there ms vs h field.Width = has_none ms field.Width vs.width h.width
+all_there ms vs h field.Items = has_none ms field.Items vs.items h.items
+all_there ms vs h field.Takes = has_none ms field.Takes vs.takes h.takes
+all_there ms vs h field.Close = has_none ms field.Close vs.close h.close
+all_there ms vs h field.Schedule = has_none ms field.Schedule vs.schedule h.schedule
+all_there ms vs h field.Oracle = has_none ms field.Oracle vs.oracle h.oracle
+all_there ms vs h field.Batch = λ m. true≢false (sym m.0)
+all_there ms vs h field.TakeBatch = λ m. true≢false (sym m.0)
+
+pub missing_told : (ms : Members) (f : Field) → IsFirst (IsMissing ms) f → field_values (object ms) ≡ Err (MissingField f)
+missing_told ms f first = elim (field_values (object ms)) as (λ r. field_values (object ms) ≡ r → r ≡ Err (MissingField f)) [
+  | Ok vs ↦ λ e. absurd (all_there ms vs (values_from ms vs e) f first.so)
+  | Err x ↦ λ e. ap Err (first_told (IsMissing ms) MissingField x f (values_missing ms x e) first)
+] refl
+
+pub values_there : (ms : Members) → ((f : Field) → ¬ IsMissing ms f) → (vs : FieldValues) × HasValues ms vs
+values_there ms h = elim (field_values (object ms)) as (λ r. field_values (object ms) ≡ r → (vs : FieldValues) × HasValues ms vs) [
+  | Ok vs ↦ λ e. (vs, values_from ms vs e)
+  | Err x ↦ λ e. let w = values_missing ms x e in absurd (h w.0 w.2.so)
+] refl

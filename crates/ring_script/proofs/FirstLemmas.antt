@@ -1,5 +1,5 @@
 -- The first of a list that fails a test, and the forms whose elements all pass it.
-use Rattle.std.proofs.Common.{◌≡◌, ◌∙◌, ◌<◌, ◌+◌, ◌^◌, ◌==◌, ℕ, zero, suc, Bool, true, false, cond, List, [], ◌∷◌, map, length, take, Option, Some, None, refl, sym, ap, ap₂, subst, arith, true≢false}
+use Rattle.std.proofs.Common.{◌≡◌, ◌∙◌, ◌<◌, ◌+◌, ◌^◌, ◌==◌, ℕ, zero, suc, Bool, true, false, cond, List, [], ◌∷◌, map, take, Option, Some, None, refl, sym, ap, ap₂, subst, arith, true≢false}
 use Rattle.std.specs.Prelude.{position}
 use Rattle.std.specs.List.{position_from}
 use Rattle.std.proofs.lemmas.List.Elements.{All-nil, All-cons}
@@ -26,31 +26,36 @@ none_to : (t : ℕ → Bool) (i : ℕ) (xs : List ℕ) → NoneOf t xs → posit
 none_to t i [] s = refl
 none_to t i (x ∷ xs) s = rw s.0 (none_to t (i + 1) xs s.1)
 
-record Stops (t : ℕ → Bool) (xs : List ℕ) (k : ℕ) : Type 0 where
-  pub within : k < length xs
-  pub good : NoneOf t (take k xs)
-  pub bad : ¬ NoneOf t (take (suc k) xs)
+-- with an element in front that may stand there, the first that strays is one further on
+pub one_further : (Good Behind : List ℕ → Type 0) (x i j p : ℕ) (xs : List ℕ) → j ≡ suc i → ((ys : List ℕ) → Behind ys → Good (x ∷ ys)) → ((ys : List ℕ) → Good (x ∷ ys) → Behind ys)
+    → (k : ℕ) × (p ≡ j + k) × IsFirstStray Behind xs k → (k : ℕ) × (p ≡ i + k) × IsFirstStray Good (x ∷ xs) k
+one_further Good Behind x i j p xs next to from found = (
+  suc found.0,
+  omega (arith, found.1, next),
+  record { within = omega (arith, found.2.within); before = to (take found.0 xs) found.2.before; no_more = λ s. found.2.no_more (from (take (suc found.0) xs) s) },
+)
 
-same_place : (i j : ℕ) → Some i ≡ Some j → j ≡ i + 0
-same_place i j e = let same : i ≡ j = cc in omega (arith, same)
+-- and one that may not stand there is the first
+pub at_once : (Good : List ℕ → Type 0) (x i p : ℕ) (xs : List ℕ) → Some i ≡ Some p → Good [] → ¬ Good (x ∷ []) → (k : ℕ) × (p ≡ i + k) × IsFirstStray Good (x ∷ xs) k
+at_once Good x i p xs e none bad =
+    let same : i ≡ p = cc in
+    (0, omega (arith, same), record { within = omega arith; before = none; no_more = bad })
+
+-- it is the first of any form that the same lists have
+pub of_form : (Good Form : List ℕ → Type 0) (p : ℕ) (xs : List ℕ) → ((ys : List ℕ) → Good ys → Form ys) → ((ys : List ℕ) → Form ys → Good ys)
+    → (k : ℕ) × (p ≡ 0 + k) × IsFirstStray Good xs k → IsFirstStray Form xs p
+of_form Good Form p xs to from found =
+    let same : found.0 ≡ p = omega (arith, found.1) in
+    let stray = subst (IsFirstStray Good xs) same found.2 in
+    record { within = stray.within; before = to (take p xs) stray.before; no_more = λ f. stray.no_more (from (take (suc p) xs) f) }
 
 stop_at : (test : Bool) (t : ℕ → Bool) (i x p : ℕ) (xs : List ℕ) → t x ≡ test → cond test (Some i) (position_from t (i + 1) xs) ≡ Some p
-    → (position_from t (i + 1) xs ≡ Some p → (k : ℕ) × (p ≡ (i + 1) + k) × Stops t xs k)
-    → (k : ℕ) × (p ≡ i + k) × Stops t (x ∷ xs) k
-stop_at false t i x p xs is e later =
-    let found = later e in (
-      suc found.0,
-      omega (arith, found.1),
-      record {
-        within = omega (arith, found.2.within);
-        good = (is, found.2.good);
-        bad = λ s. found.2.bad s.1;
-      },
-    )
-stop_at true t i x p xs is e later =
-    (0, same_place i p e, record { within = omega arith; good = tt; bad = λ s. true≢false (sym is ∙ s.0) })
+    → (position_from t (i + 1) xs ≡ Some p → (k : ℕ) × (p ≡ (i + 1) + k) × IsFirstStray (NoneOf t) xs k)
+    → (k : ℕ) × (p ≡ i + k) × IsFirstStray (NoneOf t) (x ∷ xs) k
+stop_at false t i x p xs is e later = one_further (NoneOf t) (NoneOf t) x i (i + 1) p xs (omega arith) (λ ys good. (is, good)) (λ ys s. s.1) (later e)
+stop_at true t i x p xs is e later = at_once (NoneOf t) x i p xs e tt (λ s. true≢false (sym is ∙ s.0))
 
-stop_from : (t : ℕ → Bool) (i p : ℕ) (xs : List ℕ) → position_from t i xs ≡ Some p → (k : ℕ) × (p ≡ i + k) × Stops t xs k
+stop_from : (t : ℕ → Bool) (i p : ℕ) (xs : List ℕ) → position_from t i xs ≡ Some p → (k : ℕ) × (p ≡ i + k) × IsFirstStray (NoneOf t) xs k
 stop_from t i p [] e = cc
 stop_from t i p (x ∷ xs) e = stop_at (t x) t i x p xs refl e (stop_from t (i + 1) p xs)
 
@@ -77,11 +82,7 @@ pub record IsTested (Form : List ℕ → Type 0) (t : ℕ → Bool) : Type 0 whe
   pub to : (xs : List ℕ) → Form xs → NoneOf t xs
 
 pub position_first : (Form : List ℕ → Type 0) (t : ℕ → Bool) → IsTested Form t → (xs : List ℕ) (p : ℕ) → position t xs ≡ Some p → IsFirstStray Form xs p
-position_first Form t own xs p e =
-    let found = stop_from t 0 p xs (sym (position_from-zero t xs) ∙ e) in
-    let same : found.0 ≡ p = omega (arith, found.1) in
-    let stops = subst (λ (k : ℕ). Stops t xs k) same found.2 in
-    record { within = stops.within; before = own.from (take p xs) stops.good; no_more = λ f. stops.bad (own.to (take (suc p) xs) f) }
+position_first Form t own xs p e = of_form (NoneOf t) Form p xs own.from own.to (stop_from t 0 p xs (sym (position_from-zero t xs) ∙ e))
 
 pub first_position : (Form : List ℕ → Type 0) (t : ℕ → Bool) → IsTested Form t → (xs : List ℕ) (p : ℕ) → IsFirstStray Form xs p → position t xs ≡ Some p
 first_position Form t own xs p s =

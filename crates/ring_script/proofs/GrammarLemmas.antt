@@ -11,6 +11,7 @@ use Rattle.std.proofs.lemmas.Str.Parse.{digit_from_value}
 use Rattle.std.proofs.lemmas.List.{append-nil}
 use Rattle.bits_core.specs.declared.events.Side.{Side}
 use Rattle.bits_core.specs.declared.events.Side.TheVariants.{P, C}
+use Rattle.ring_script.proofs.FirstLemmas.{at_once, of_form, one_further}
 use Rattle.ring_script.specs.Faults.{IsFirstStray}
 use Rattle.ring_script.specs.Schedule.{IsLetterCount, IsSchedule, IsScheduleText, Part, letters_counted, letter_of, part_letters, part_text}
 use Rattle.ring_script.specs.ScheduleReading.{is_digit, is_letter, letters_after, letters_of, may_stand, letter_side, stray_from, stray_in, times}
@@ -37,32 +38,13 @@ unfolding stray_from
 stands_to place before [] s = refl
 stands_to place before (b ∷ rest) s = rw s.0 (stands_to (suc place) b rest s.1)
 
--- so many bytes may stand, and one more may not
-record Stops (before : ℕ) (text : List ℕ) (k : ℕ) : Type 0 where
-  within : k < length text
-  good : Stands before (take k text)
-  bad : ¬ Stands before (take (suc k) text)
-
 stop_at : (t : Bool) (place before b p : ℕ) (rest : List ℕ) → may_stand before b ≡ t → (if t then stray_from (suc place) b rest else Some place) ≡ Some p
-    → (stray_from (suc place) b rest ≡ Some p → (k : ℕ) × (p ≡ suc place + k) × Stops b rest k)
-    → (k : ℕ) × (p ≡ place + k) × Stops before (b ∷ rest) k
-stop_at true place before b p rest is e later =
-    let found = later e in (
-      suc found.0,
-      omega (arith, found.1),
-      record {
-        within = omega (arith, found.2.within);
-        good = (is, found.2.good);
-        bad = λ s. found.2.bad s.1;
-      },
-    )
-stop_at false place before b p rest is e later =
-    (0, same_place place p e, record { within = omega arith; good = tt; bad = λ s. true≢false (sym s.0 ∙ is) })
-  where
-    same_place : (i j : ℕ) → Some i ≡ Some j → j ≡ i + 0
-    same_place i j e = let same : i ≡ j = cc in omega (arith, same)
+    → (stray_from (suc place) b rest ≡ Some p → (k : ℕ) × (p ≡ suc place + k) × IsFirstStray (Stands b) rest k)
+    → (k : ℕ) × (p ≡ place + k) × IsFirstStray (Stands before) (b ∷ rest) k
+stop_at true place before b p rest is e later = one_further (Stands before) (Stands b) b place (suc place) p rest refl (λ ys stands. (is, stands)) (λ ys s. s.1) (later e)
+stop_at false place before b p rest is e later = at_once (Stands before) b place p rest e tt (λ s. true≢false (sym s.0 ∙ is))
 
-stop_from : (place before p : ℕ) (text : List ℕ) → stray_from place before text ≡ Some p → (k : ℕ) × (p ≡ place + k) × Stops before text k
+stop_from : (place before p : ℕ) (text : List ℕ) → stray_from place before text ≡ Some p → (k : ℕ) × (p ≡ place + k) × IsFirstStray (Stands before) text k
 unfolding stray_from
 stop_from place before p [] e = cc
 stop_from place before p (b ∷ rest) e = stop_at (may_stand before b) place before b p rest refl e (stop_from (suc place) b p rest)
@@ -247,14 +229,7 @@ clean_schedule text e = stands_schedule text (stands_from 0 0 text e)
 -- the first stray byte is the one at which the grammar ends
 pub stray_is : (text : List ℕ) (place : ℕ) → stray_in text ≡ Some place → IsFirstStray IsScheduleText text place
 stray_is text place e =
-    let found = stop_from 0 0 place text e in
-    let same : found.0 ≡ place = omega (arith, found.1) in
-    let stops = subst (λ (k : ℕ). Stops 0 text k) same found.2 in
-    record {
-      within = stops.within;
-      before = (letters_of (take place text), stands_schedule (take place text) stops.good);
-      no_more = λ s. stops.bad (schedule_stands (take (suc place) text) s.0 s.1);
-    }
+    of_form (Stands 0) IsScheduleText place text (λ t stands. (letters_of t, stands_schedule t stands)) (λ t is. schedule_stands t is.0 is.1) (stop_from 0 0 place text e)
 
 pub stray_found : (text : List ℕ) (place : ℕ) → IsFirstStray IsScheduleText text place → stray_in text ≡ Some place
 stray_found text place s =

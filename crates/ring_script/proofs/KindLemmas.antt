@@ -1,10 +1,10 @@
 -- The kinds of the fields' values that are read, and those that the object has.
-use Rattle.std.proofs.Common.{◌≡◌, ◌∙◌, ℕ, Bool, List, [], ◌∷◌, Option, Some, None, Ok, Err, option_map, refl, sym, ap, ap₂, subst, arith, inl, inr}
+use Rattle.std.proofs.Common.{◌≡◌, ◌∙◌, ℕ, Bool, List, [], ◌∷◌, Option, Some, None, Ok, Err, option_map, refl, sym, ap, ap₂, subst, inl, inr}
 use Rattle.std.specs.Prelude.{option_and_then}
-use Rattle.serde_json.specs.Data.{unsigned, negative, float, Data, null, boolean, number, string, array, object, Items as ItemData, no_items, item, Members}
+use Rattle.serde_json.specs.Data.{unsigned, Data, boolean, number, string, array, Items as ItemData, no_items, item, Members}
 use Rattle.serde_json.specs.Find.{as_array, as_bool, as_str}
-use Rattle.ring_script.proofs.FieldLemmas.{Before, HasValues, and_then_at, and_then_err, and_then_fails, and_then_ok, first_of, ok_is, ok_not_err}
-use Rattle.ring_script.specs.Faults.{IsFirst, IsOfWrongKind, field_place}
+use Rattle.ring_script.proofs.FieldLemmas.{HasValues, IsOfFirst, Tells, and_then_ok, first_told, next_field, ok_is, ok_not_err}
+use Rattle.ring_script.specs.Faults.{IsFirst, IsOfWrongKind}
 use Rattle.ring_script.specs.FieldReading.{FieldValues, batch_in, of_kind, typed_of, whole_of, wholes_of}
 use Rattle.ring_script.specs.Script.{HeldFields}
 use Rattle.ring_script.specs.Fields.{HasBatchField, IsOfKind, IsText, IsWhole, held_as, wholes}
@@ -24,30 +24,16 @@ not_kind f (Some w) x e = cc
 not_kind f None x e = let same : WrongKind f ≡ x = cc in (sym same, refl)
 
 whole_is : (v : Data) (n : ℕ) → whole_of v ≡ Some n → v ≡ number (unsigned n)
-whole_is null n e = cc
-whole_is (boolean b) n e = cc
 whole_is (number (unsigned m)) n e = cc
-whole_is (number (negative z)) n e = cc
-whole_is (number (float x)) n e = cc
-whole_is (string s) n e = cc
-whole_is (array ds) n e = cc
-whole_is (object ms) n e = cc
+whole_is _ n e = cc
 
 bool_is : (v : Data) (b : Bool) → as_bool v ≡ Some b → v ≡ boolean b
-bool_is null n e = cc
 bool_is (boolean b) n e = cc
-bool_is (number m) n e = cc
-bool_is (string s) n e = cc
-bool_is (array ds) n e = cc
-bool_is (object ms) n e = cc
+bool_is _ n e = cc
 
 text_is : (v : Data) (t : List ℕ) → as_str v ≡ Some t → v ≡ string t
-text_is null n e = cc
-text_is (boolean b) n e = cc
-text_is (number m) n e = cc
 text_is (string s) n e = cc
-text_is (array ds) n e = cc
-text_is (object ms) n e = cc
+text_is _ n e = cc
 
 wholes_again : (ns : List ℕ) → wholes_of (wholes ns) ≡ Some ns
 unfolding wholes_of
@@ -68,25 +54,33 @@ wholes_are (item d ds) ns e =
     ap₂ (λ (v : Data) (vs : ItemData). item v vs) (whole_is d parts.0 parts.2) (wholes_are ds parts.1 parts.3) ∙ ap wholes (sym parts.4)
 
 items_is : (v : Data) (ns : List ℕ) → option_and_then wholes_of (as_array v) ≡ Some ns → v ≡ array (wholes ns)
-items_is null n e = cc
-items_is (boolean b) n e = cc
-items_is (number m) n e = cc
-items_is (string s) n e = cc
 items_is (array ds) n e = ap array (wholes_are ds n e)
-items_is (object ms) n e = cc
+items_is _ n e = cc
 
--- a value is of another kind where nothing of the kind is read
+-- a value is of the kind where something of the kind is read, and of another where nothing is
 some_not_none : {A : Type 0} (o : Option A) (a : A) → o ≡ Some a → o ≡ None → ⊥
 some_not_none o a s n = cc
+
+whole_kind : (v : Data) (n : ℕ) → whole_of v ≡ Some n → IsWhole v
+whole_kind v n e = (n, whole_is v n e)
 
 no_whole : (v : Data) → whole_of v ≡ None → ¬ IsWhole v
 no_whole v e k = some_not_none (whole_of v) k.0 (ap whole_of k.1) e
 
+bool_kind : (v : Data) (b : Bool) → as_bool v ≡ Some b → IsOfKind field.Close v
+bool_kind v b e = (b, bool_is v b e)
+
 no_bool : (v : Data) → as_bool v ≡ None → ¬ IsOfKind field.Close v
 no_bool v e k = some_not_none (as_bool v) k.0 (ap as_bool k.1) e
 
+text_kind : (v : Data) (t : List ℕ) → as_str v ≡ Some t → IsText v
+text_kind v t e = (t, text_is v t e)
+
 no_text : (v : Data) → as_str v ≡ None → ¬ IsText v
 no_text v e k = some_not_none (as_str v) k.0 (ap as_str k.1) e
+
+list_kind : (v : Data) (ns : List ℕ) → option_and_then wholes_of (as_array v) ≡ Some ns → IsOfKind field.Items v
+list_kind v ns e = (ns, items_is v ns e)
 
 no_list : (v : Data) → option_and_then wholes_of (as_array v) ≡ None → ¬ IsOfKind field.Items v
 no_list v e k = some_not_none (option_and_then wholes_of (as_array v)) k.0 (ap (λ (w : Data). option_and_then wholes_of (as_array w)) k.1 ∙ wholes_again k.0) e
@@ -102,9 +96,6 @@ batch_read f ms o n is (inl left) = ap (batch_in f) (sym is ∙ left.0) ∙ ap O
 batch_read f ms o n is (inr given) = ap (batch_in f) (sym is ∙ given)
 
 -- ---- the fields
-
-abbrev pub IsWrongFirst : Members → ScriptFault → Type 0
-IsWrongFirst ms x = (f : Field) × (x ≡ WrongKind f) × IsFirst (IsOfWrongKind ms) f
 
 -- what the members have is this
 pub record HasKinds (ms : Members) (ts : HeldFields) : Type 0 where
@@ -165,161 +156,53 @@ kinds_to ms vs ts h k =
 right_kind : (ms : Members) (f : Field) (v : Data) → held_as f ms ≡ Some v → IsOfKind f v → ¬ IsOfWrongKind ms f
 right_kind ms f v held kind w = w.2 (subst (IsOfKind f) (same_some _ _ _ held w.1) kind)
 
-wrong : {A : Type 0} (ms : Members) (f : Field) (v : Data) (o : Option A) (x : ScriptFault) → held_as f ms ≡ Some v → (o ≡ None → ¬ IsOfKind f v)
-    → Before (λ g. ¬ IsOfWrongKind ms g) (field_place f) → of_kind f o ≡ Err x → IsWrongFirst ms x
-wrong ms f v o x held never before e =
-    let n = not_kind f o x e in
-    (f, n.0, first_of (IsOfWrongKind ms) f before (v, held, never n.1))
+right_batch : (ms : Members) (f : Field) (n : ℕ) → ((n : ℕ) → IsOfKind f (number (unsigned n))) → HasBatchField f ms n → ¬ IsOfWrongKind ms f
+right_batch ms f n kind (inl left) w = some_not_none _ w.0 w.1 left.0
+right_batch ms f n kind (inr given) w = right_kind ms f (number (unsigned n)) given (kind n) w
 
-wrong_batch : (f : Field) (ms : Members) (o : Option Data) (x : ScriptFault) → ((v : Data) → whole_of v ≡ None → ¬ IsOfKind f v) → held_as f ms ≡ o
-    → Before (λ g. ¬ IsOfWrongKind ms g) (field_place f) → batch_in f o ≡ Err x → IsWrongFirst ms x
-wrong_batch f ms None x never is before e = absurd (ok_not_err _ x e)
-wrong_batch f ms (Some v) x never is before e = wrong ms f v (whole_of v) x is (never v) before e
+-- where something is read of each value of the field's kind alone, what is read tells whether the field is of the wrong kind
+reads : {A : Type 0} (ms : Members) (f : Field) (v : Data) (o : Option A) → held_as f ms ≡ Some v → (o ≡ None → ¬ IsOfKind f v) → ((a : A) → o ≡ Some a → IsOfKind f v)
+    → Tells (IsOfWrongKind ms) WrongKind f (of_kind f o)
+reads ms f v o held never kind = record {
+  so = λ x e. let n = not_kind f o x e in (n.0, (v, held, never n.1));
+  not_so = λ a e. right_kind ms f v held (kind a (kind_is f o a e));
+}
 
--- a batch that is read is of its kind
-right_batch : (f : Field) (ms : Members) (o : Option Data) (n : ℕ) → ((v : Data) (n : ℕ) → v ≡ number (unsigned n) → IsOfKind f v) → held_as f ms ≡ o → batch_in f o ≡ Ok n → ¬ IsOfWrongKind ms f
-right_batch f ms None n kind is e w = some_not_none _ w.0 w.1 is
-right_batch f ms (Some v) n kind is e w = right_kind ms f v is (kind v n (whole_is v n (kind_is f (whole_of v) n e))) w
+-- and so it is of a batch, which may be left out
+reads_batch : (ms : Members) (f : Field) (o : Option Data) → held_as f ms ≡ o → ((v : Data) → whole_of v ≡ None → ¬ IsOfKind f v) → ((n : ℕ) → IsOfKind f (number (unsigned n)))
+    → Tells (IsOfWrongKind ms) WrongKind f (batch_in f o)
+reads_batch ms f None held never kind = record { so = λ x e. absurd (ok_not_err _ x e); not_so = λ n e. right_batch ms f n kind (batch_at f ms None n held e) }
+reads_batch ms f (Some v) held never kind = reads ms f v (whole_of v) held (never v) (λ n e. subst (IsOfKind f) (sym (whole_is v n e)) (kind n))
 
-pub kinds_wrong : (ms : Members) (vs : FieldValues) (x : ScriptFault) → HasValues ms vs → typed_of vs ≡ Err x → IsWrongFirst ms x
+pub kinds_wrong : (ms : Members) (vs : FieldValues) (x : ScriptFault) → HasValues ms vs → typed_of vs ≡ Err x → IsOfFirst (IsOfWrongKind ms) WrongKind x
 unfolding typed_of
 kinds_wrong ms vs x h e =
-    elim (and_then_err (of_kind field.Capacity (whole_of vs.capacity)) _ x e) [
-      | inl n ↦ wrong ms field.Capacity vs.capacity _ x h.capacity (no_whole vs.capacity) tt n
-      | inr r1 ↦
-          let s1 = right_kind ms field.Capacity vs.capacity h.capacity (_, whole_is _ _ (kind_is _ _ _ r1.1)) in
-          elim (and_then_err (of_kind field.Modulus (whole_of vs.modulus)) _ x r1.2) [
-            | inl n ↦ wrong ms field.Modulus vs.modulus _ x h.modulus (no_whole vs.modulus) (tt, s1) n
-            | inr r2 ↦
-                let s2 = right_kind ms field.Modulus vs.modulus h.modulus (_, whole_is _ _ (kind_is _ _ _ r2.1)) in
-                elim (and_then_err (of_kind field.Width (whole_of vs.width)) _ x r2.2) [
-                  | inl n ↦ wrong ms field.Width vs.width _ x h.width (no_whole vs.width) ((tt, s1), s2) n
-                  | inr r3 ↦
-                      let s3 = right_kind ms field.Width vs.width h.width (_, whole_is _ _ (kind_is _ _ _ r3.1)) in
-                      elim (and_then_err (of_kind field.Items (option_and_then wholes_of (as_array vs.items))) _ x r3.2) [
-                        | inl n ↦ wrong ms field.Items vs.items _ x h.items (no_list vs.items) (((tt, s1), s2), s3) n
-                        | inr r4 ↦
-                            let s4 = right_kind ms field.Items vs.items h.items (_, items_is _ _ (kind_is _ _ _ r4.1)) in
-                            elim (and_then_err (of_kind field.Takes (whole_of vs.takes)) _ x r4.2) [
-                              | inl n ↦ wrong ms field.Takes vs.takes _ x h.takes (no_whole vs.takes) ((((tt, s1), s2), s3), s4) n
-                              | inr r5 ↦
-                                  let s5 = right_kind ms field.Takes vs.takes h.takes (_, whole_is _ _ (kind_is _ _ _ r5.1)) in
-                                  elim (and_then_err (of_kind field.Close (as_bool vs.close)) _ x r5.2) [
-                                    | inl n ↦ wrong ms field.Close vs.close _ x h.close (no_bool vs.close) (((((tt, s1), s2), s3), s4), s5) n
-                                    | inr r6 ↦
-                                        let s6 = right_kind ms field.Close vs.close h.close (_, bool_is _ _ (kind_is _ _ _ r6.1)) in
-                                        elim (and_then_err (of_kind field.Schedule (as_str vs.schedule)) _ x r6.2) [
-                                          | inl n ↦ wrong ms field.Schedule vs.schedule _ x h.schedule (no_text vs.schedule) ((((((tt, s1), s2), s3), s4), s5), s6) n
-                                          | inr r7 ↦
-                                              let s7 = right_kind ms field.Schedule vs.schedule h.schedule (_, text_is _ _ (kind_is _ _ _ r7.1)) in
-                                              elim (and_then_err (of_kind field.Oracle (as_str vs.oracle)) _ x r7.2) [
-                                                | inl n ↦ wrong ms field.Oracle vs.oracle _ x h.oracle (no_text vs.oracle) (((((((tt, s1), s2), s3), s4), s5), s6), s7) n
-                                                | inr r8 ↦
-                                                    let s8 = right_kind ms field.Oracle vs.oracle h.oracle (_, text_is _ _ (kind_is _ _ _ r8.1)) in
-                                                    elim (and_then_err (batch_in field.Batch vs.batch) _ x r8.2) [
-                                                      | inl n ↦ wrong_batch field.Batch ms vs.batch x no_whole h.batch ((((((((tt, s1), s2), s3), s4), s5), s6), s7), s8) n
-                                                      | inr r9 ↦
-                                                          let s9 = right_batch field.Batch ms vs.batch r9.0 (λ _ n is. (n, is)) h.batch r9.1 in
-                                                          elim (and_then_err (batch_in field.TakeBatch vs.take_batch) _ x r9.2) [
-                                                            | inl n ↦ wrong_batch field.TakeBatch ms vs.take_batch x no_whole h.take_batch (((((((((tt, s1), s2), s3), s4), s5), s6), s7), s8), s9) n
-                                                            | inr r10 ↦ absurd (ok_not_err _ x r10.2)
-                                                          ]
-                                                    ]
-                                              ]
-                                        ]
-                                  ]
-                            ]
-                      ]
-                ]
-          ]
-    ]
+    next_field _ _ field.Capacity _ _ x (reads ms field.Capacity vs.capacity _ h.capacity (no_whole _) (whole_kind _)) tt e (λ _ b1 e1.
+    next_field _ _ field.Modulus _ _ x (reads ms field.Modulus vs.modulus _ h.modulus (no_whole _) (whole_kind _)) b1 e1 (λ _ b2 e2.
+    next_field _ _ field.Width _ _ x (reads ms field.Width vs.width _ h.width (no_whole _) (whole_kind _)) b2 e2 (λ _ b3 e3.
+    next_field _ _ field.Items _ _ x (reads ms field.Items vs.items _ h.items (no_list _) (list_kind _)) b3 e3 (λ _ b4 e4.
+    next_field _ _ field.Takes _ _ x (reads ms field.Takes vs.takes _ h.takes (no_whole _) (whole_kind _)) b4 e4 (λ _ b5 e5.
+    next_field _ _ field.Close _ _ x (reads ms field.Close vs.close _ h.close (no_bool _) (bool_kind _)) b5 e5 (λ _ b6 e6.
+    next_field _ _ field.Schedule _ _ x (reads ms field.Schedule vs.schedule _ h.schedule (no_text _) (text_kind _)) b6 e6 (λ _ b7 e7.
+    next_field _ _ field.Oracle _ _ x (reads ms field.Oracle vs.oracle _ h.oracle (no_text _) (text_kind _)) b7 e7 (λ _ b8 e8.
+    next_field _ _ field.Batch _ _ x (reads_batch ms field.Batch vs.batch h.batch no_whole (λ n. (n, refl))) b8 e8 (λ _ b9 e9.
+    next_field _ _ field.TakeBatch _ _ x (reads_batch ms field.TakeBatch vs.take_batch h.take_batch no_whole (λ n. (n, refl))) b9 e9 (λ _ b10 e10.
+    absurd (ok_not_err _ x e10)))))))))))
 
--- a value of the kind is read
-is_kind : {A : Type 0} (f : Field) (o : Option A) → ¬ (o ≡ None) → (a : A) × (of_kind f o ≡ Ok a)
-is_kind f (Some a) some = (a, refl)
-is_kind f None some = absurd (some refl)
-
-none_of : {A : Type 0} (f : Field) (o : Option A) → ¬ ((a : A) × (o ≡ Some a)) → of_kind f o ≡ Err (WrongKind f)
-none_of f (Some a) never = absurd (never (a, refl))
-none_of f None never = refl
-
--- and so is a batch, which may be left out
-is_batch : (f : Field) (o : Option Data) → ((v : Data) → o ≡ Some v → ¬ (whole_of v ≡ None)) → (n : ℕ) × (batch_in f o ≡ Ok n)
-is_batch f None some = (1, refl)
-is_batch f (Some v) some = is_kind f (whole_of v) (some v refl)
+all_right : (ms : Members) (ts : HeldFields) → HasKinds ms ts → (f : Field) → ¬ IsOfWrongKind ms f
+all_right ms ts k field.Capacity = right_kind ms field.Capacity _ k.capacity (ts.capacity, refl)
+all_right ms ts k field.Modulus = right_kind ms field.Modulus _ k.modulus (ts.modulus, refl)
+all_right ms ts k field.Width = right_kind ms field.Width _ k.width (ts.width, refl)
+all_right ms ts k field.Items = right_kind ms field.Items _ k.items (ts.items, refl)
+all_right ms ts k field.Takes = right_kind ms field.Takes _ k.takes (ts.takes, refl)
+all_right ms ts k field.Close = right_kind ms field.Close _ k.close (ts.close, refl)
+all_right ms ts k field.Schedule = right_kind ms field.Schedule _ k.schedule (ts.schedule, refl)
+all_right ms ts k field.Oracle = right_kind ms field.Oracle _ k.oracle (ts.oracle, refl)
+all_right ms ts k field.Batch = right_batch ms field.Batch ts.batch (λ n. (n, refl)) k.batch
+all_right ms ts k field.TakeBatch = right_batch ms field.TakeBatch ts.take_batch (λ n. (n, refl)) k.take_batch
 
 pub wrong_told : (ms : Members) (vs : FieldValues) (f : Field) → HasValues ms vs → IsFirst (IsOfWrongKind ms) f → typed_of vs ≡ Err (WrongKind f)
-unfolding typed_of
-wrong_told ms vs field.Capacity h first =
-    let same : vs.capacity ≡ first.so.0 = same_some _ _ _ h.capacity first.so.1 in
-    and_then_fails _ _ _ (none_of field.Capacity (whole_of vs.capacity) (λ a. first.so.2 (a.0, sym same ∙ whole_is _ _ a.1)))
-wrong_told ms vs field.Modulus h first =
-    let p1 = is_kind field.Capacity (whole_of vs.capacity) (λ n. first.least field.Capacity (omega arith) (vs.capacity, h.capacity, no_whole vs.capacity n)) in
-    let same : vs.modulus ≡ first.so.0 = same_some _ _ _ h.modulus first.so.1 in
-    and_then_at _ p1.0 _ _ p1.1 (and_then_fails _ _ _ (none_of field.Modulus (whole_of vs.modulus) (λ a. first.so.2 (a.0, sym same ∙ whole_is _ _ a.1))))
-wrong_told ms vs field.Width h first =
-    let p1 = is_kind field.Capacity (whole_of vs.capacity) (λ n. first.least field.Capacity (omega arith) (vs.capacity, h.capacity, no_whole vs.capacity n)) in
-    let p2 = is_kind field.Modulus (whole_of vs.modulus) (λ n. first.least field.Modulus (omega arith) (vs.modulus, h.modulus, no_whole vs.modulus n)) in
-    let same : vs.width ≡ first.so.0 = same_some _ _ _ h.width first.so.1 in
-    and_then_at _ p1.0 _ _ p1.1 (and_then_at _ p2.0 _ _ p2.1 (and_then_fails _ _ _ (none_of field.Width (whole_of vs.width) (λ a. first.so.2 (a.0, sym same ∙ whole_is _ _ a.1)))))
-wrong_told ms vs field.Items h first =
-    let p1 = is_kind field.Capacity (whole_of vs.capacity) (λ n. first.least field.Capacity (omega arith) (vs.capacity, h.capacity, no_whole vs.capacity n)) in
-    let p2 = is_kind field.Modulus (whole_of vs.modulus) (λ n. first.least field.Modulus (omega arith) (vs.modulus, h.modulus, no_whole vs.modulus n)) in
-    let p3 = is_kind field.Width (whole_of vs.width) (λ n. first.least field.Width (omega arith) (vs.width, h.width, no_whole vs.width n)) in
-    let same : vs.items ≡ first.so.0 = same_some _ _ _ h.items first.so.1 in
-    and_then_at _ p1.0 _ _ p1.1 (and_then_at _ p2.0 _ _ p2.1 (and_then_at _ p3.0 _ _ p3.1 (and_then_fails _ _ _ (none_of field.Items (option_and_then wholes_of (as_array vs.items)) (λ a. first.so.2 (a.0, sym same ∙ items_is _ _ a.1))))))
-wrong_told ms vs field.Takes h first =
-    let p1 = is_kind field.Capacity (whole_of vs.capacity) (λ n. first.least field.Capacity (omega arith) (vs.capacity, h.capacity, no_whole vs.capacity n)) in
-    let p2 = is_kind field.Modulus (whole_of vs.modulus) (λ n. first.least field.Modulus (omega arith) (vs.modulus, h.modulus, no_whole vs.modulus n)) in
-    let p3 = is_kind field.Width (whole_of vs.width) (λ n. first.least field.Width (omega arith) (vs.width, h.width, no_whole vs.width n)) in
-    let p4 = is_kind field.Items (option_and_then wholes_of (as_array vs.items)) (λ n. first.least field.Items (omega arith) (vs.items, h.items, no_list vs.items n)) in
-    let same : vs.takes ≡ first.so.0 = same_some _ _ _ h.takes first.so.1 in
-    and_then_at _ p1.0 _ _ p1.1 (and_then_at _ p2.0 _ _ p2.1 (and_then_at _ p3.0 _ _ p3.1 (and_then_at _ p4.0 _ _ p4.1 (and_then_fails _ _ _ (none_of field.Takes (whole_of vs.takes) (λ a. first.so.2 (a.0, sym same ∙ whole_is _ _ a.1)))))))
-wrong_told ms vs field.Close h first =
-    let p1 = is_kind field.Capacity (whole_of vs.capacity) (λ n. first.least field.Capacity (omega arith) (vs.capacity, h.capacity, no_whole vs.capacity n)) in
-    let p2 = is_kind field.Modulus (whole_of vs.modulus) (λ n. first.least field.Modulus (omega arith) (vs.modulus, h.modulus, no_whole vs.modulus n)) in
-    let p3 = is_kind field.Width (whole_of vs.width) (λ n. first.least field.Width (omega arith) (vs.width, h.width, no_whole vs.width n)) in
-    let p4 = is_kind field.Items (option_and_then wholes_of (as_array vs.items)) (λ n. first.least field.Items (omega arith) (vs.items, h.items, no_list vs.items n)) in
-    let p5 = is_kind field.Takes (whole_of vs.takes) (λ n. first.least field.Takes (omega arith) (vs.takes, h.takes, no_whole vs.takes n)) in
-    let same : vs.close ≡ first.so.0 = same_some _ _ _ h.close first.so.1 in
-    and_then_at _ p1.0 _ _ p1.1 (and_then_at _ p2.0 _ _ p2.1 (and_then_at _ p3.0 _ _ p3.1 (and_then_at _ p4.0 _ _ p4.1 (and_then_at _ p5.0 _ _ p5.1 (and_then_fails _ _ _ (none_of field.Close (as_bool vs.close) (λ a. first.so.2 (a.0, sym same ∙ bool_is _ _ a.1))))))))
-wrong_told ms vs field.Schedule h first =
-    let p1 = is_kind field.Capacity (whole_of vs.capacity) (λ n. first.least field.Capacity (omega arith) (vs.capacity, h.capacity, no_whole vs.capacity n)) in
-    let p2 = is_kind field.Modulus (whole_of vs.modulus) (λ n. first.least field.Modulus (omega arith) (vs.modulus, h.modulus, no_whole vs.modulus n)) in
-    let p3 = is_kind field.Width (whole_of vs.width) (λ n. first.least field.Width (omega arith) (vs.width, h.width, no_whole vs.width n)) in
-    let p4 = is_kind field.Items (option_and_then wholes_of (as_array vs.items)) (λ n. first.least field.Items (omega arith) (vs.items, h.items, no_list vs.items n)) in
-    let p5 = is_kind field.Takes (whole_of vs.takes) (λ n. first.least field.Takes (omega arith) (vs.takes, h.takes, no_whole vs.takes n)) in
-    let p6 = is_kind field.Close (as_bool vs.close) (λ n. first.least field.Close (omega arith) (vs.close, h.close, no_bool vs.close n)) in
-    let same : vs.schedule ≡ first.so.0 = same_some _ _ _ h.schedule first.so.1 in
-    and_then_at _ p1.0 _ _ p1.1 (and_then_at _ p2.0 _ _ p2.1 (and_then_at _ p3.0 _ _ p3.1 (and_then_at _ p4.0 _ _ p4.1 (and_then_at _ p5.0 _ _ p5.1 (and_then_at _ p6.0 _ _ p6.1 (and_then_fails _ _ _ (none_of field.Schedule (as_str vs.schedule) (λ a. first.so.2 (a.0, sym same ∙ text_is _ _ a.1)))))))))
-wrong_told ms vs field.Oracle h first =
-    let p1 = is_kind field.Capacity (whole_of vs.capacity) (λ n. first.least field.Capacity (omega arith) (vs.capacity, h.capacity, no_whole vs.capacity n)) in
-    let p2 = is_kind field.Modulus (whole_of vs.modulus) (λ n. first.least field.Modulus (omega arith) (vs.modulus, h.modulus, no_whole vs.modulus n)) in
-    let p3 = is_kind field.Width (whole_of vs.width) (λ n. first.least field.Width (omega arith) (vs.width, h.width, no_whole vs.width n)) in
-    let p4 = is_kind field.Items (option_and_then wholes_of (as_array vs.items)) (λ n. first.least field.Items (omega arith) (vs.items, h.items, no_list vs.items n)) in
-    let p5 = is_kind field.Takes (whole_of vs.takes) (λ n. first.least field.Takes (omega arith) (vs.takes, h.takes, no_whole vs.takes n)) in
-    let p6 = is_kind field.Close (as_bool vs.close) (λ n. first.least field.Close (omega arith) (vs.close, h.close, no_bool vs.close n)) in
-    let p7 = is_kind field.Schedule (as_str vs.schedule) (λ n. first.least field.Schedule (omega arith) (vs.schedule, h.schedule, no_text vs.schedule n)) in
-    let same : vs.oracle ≡ first.so.0 = same_some _ _ _ h.oracle first.so.1 in
-    and_then_at _ p1.0 _ _ p1.1 (and_then_at _ p2.0 _ _ p2.1 (and_then_at _ p3.0 _ _ p3.1 (and_then_at _ p4.0 _ _ p4.1 (and_then_at _ p5.0 _ _ p5.1 (and_then_at _ p6.0 _ _ p6.1 (and_then_at _ p7.0 _ _ p7.1 (and_then_fails _ _ _ (none_of field.Oracle (as_str vs.oracle) (λ a. first.so.2 (a.0, sym same ∙ text_is _ _ a.1))))))))))
-wrong_told ms vs field.Batch h first =
-    let p1 = is_kind field.Capacity (whole_of vs.capacity) (λ n. first.least field.Capacity (omega arith) (vs.capacity, h.capacity, no_whole vs.capacity n)) in
-    let p2 = is_kind field.Modulus (whole_of vs.modulus) (λ n. first.least field.Modulus (omega arith) (vs.modulus, h.modulus, no_whole vs.modulus n)) in
-    let p3 = is_kind field.Width (whole_of vs.width) (λ n. first.least field.Width (omega arith) (vs.width, h.width, no_whole vs.width n)) in
-    let p4 = is_kind field.Items (option_and_then wholes_of (as_array vs.items)) (λ n. first.least field.Items (omega arith) (vs.items, h.items, no_list vs.items n)) in
-    let p5 = is_kind field.Takes (whole_of vs.takes) (λ n. first.least field.Takes (omega arith) (vs.takes, h.takes, no_whole vs.takes n)) in
-    let p6 = is_kind field.Close (as_bool vs.close) (λ n. first.least field.Close (omega arith) (vs.close, h.close, no_bool vs.close n)) in
-    let p7 = is_kind field.Schedule (as_str vs.schedule) (λ n. first.least field.Schedule (omega arith) (vs.schedule, h.schedule, no_text vs.schedule n)) in
-    let p8 = is_kind field.Oracle (as_str vs.oracle) (λ n. first.least field.Oracle (omega arith) (vs.oracle, h.oracle, no_text vs.oracle n)) in
-    and_then_at _ p1.0 _ _ p1.1 (and_then_at _ p2.0 _ _ p2.1 (and_then_at _ p3.0 _ _ p3.1 (and_then_at _ p4.0 _ _ p4.1 (and_then_at _ p5.0 _ _ p5.1 (and_then_at _ p6.0 _ _ p6.1 (and_then_at _ p7.0 _ _ p7.1 (and_then_at _ p8.0 _ _ p8.1 (and_then_fails _ _ _ (ap (batch_in field.Batch) (sym h.batch ∙ first.so.1) ∙ none_of field.Batch (whole_of first.so.0) (λ a. first.so.2 (a.0, whole_is _ _ a.1)))))))))))
-wrong_told ms vs field.TakeBatch h first =
-    let p1 = is_kind field.Capacity (whole_of vs.capacity) (λ n. first.least field.Capacity (omega arith) (vs.capacity, h.capacity, no_whole vs.capacity n)) in
-    let p2 = is_kind field.Modulus (whole_of vs.modulus) (λ n. first.least field.Modulus (omega arith) (vs.modulus, h.modulus, no_whole vs.modulus n)) in
-    let p3 = is_kind field.Width (whole_of vs.width) (λ n. first.least field.Width (omega arith) (vs.width, h.width, no_whole vs.width n)) in
-    let p4 = is_kind field.Items (option_and_then wholes_of (as_array vs.items)) (λ n. first.least field.Items (omega arith) (vs.items, h.items, no_list vs.items n)) in
-    let p5 = is_kind field.Takes (whole_of vs.takes) (λ n. first.least field.Takes (omega arith) (vs.takes, h.takes, no_whole vs.takes n)) in
-    let p6 = is_kind field.Close (as_bool vs.close) (λ n. first.least field.Close (omega arith) (vs.close, h.close, no_bool vs.close n)) in
-    let p7 = is_kind field.Schedule (as_str vs.schedule) (λ n. first.least field.Schedule (omega arith) (vs.schedule, h.schedule, no_text vs.schedule n)) in
-    let p8 = is_kind field.Oracle (as_str vs.oracle) (λ n. first.least field.Oracle (omega arith) (vs.oracle, h.oracle, no_text vs.oracle n)) in
-    let p9 = is_batch field.Batch vs.batch (λ v is n. first.least field.Batch (omega arith) (v, h.batch ∙ is, no_whole v n)) in
-    and_then_at _ p1.0 _ _ p1.1 (and_then_at _ p2.0 _ _ p2.1 (and_then_at _ p3.0 _ _ p3.1 (and_then_at _ p4.0 _ _ p4.1 (and_then_at _ p5.0 _ _ p5.1 (and_then_at _ p6.0 _ _ p6.1 (and_then_at _ p7.0 _ _ p7.1 (and_then_at _ p8.0 _ _ p8.1 (and_then_at _ p9.0 _ _ p9.1 (and_then_fails _ _ _ (ap (batch_in field.TakeBatch) (sym h.take_batch ∙ first.so.1) ∙ none_of field.TakeBatch (whole_of first.so.0) (λ a. first.so.2 (a.0, whole_is _ _ a.1))))))))))))
+wrong_told ms vs f h first = elim (typed_of vs) as (λ r. typed_of vs ≡ r → r ≡ Err (WrongKind f)) [
+  | Ok ts ↦ λ e. absurd (all_right ms ts (kinds_from ms vs ts h e) f first.so)
+  | Err x ↦ λ e. ap Err (first_told (IsOfWrongKind ms) WrongKind x f (kinds_wrong ms vs x h e) first)
+] refl

@@ -107,27 +107,17 @@ fn field<'v>(value: &'v Value, field: Field) -> Result<&'v Value, ScriptFault>
 pub fn find_values<'v>(value: &'v Value) -> Result<Values<'v>, ScriptFault>
     ensures { result_map values_view result ≡ field_values (view value.now) }
 {
-    let capacity = field(value, Field::Capacity)?;
-    let modulus = field(value, Field::Modulus)?;
-    let width = field(value, Field::Width)?;
-    let items = field(value, Field::Items)?;
-    let takes = field(value, Field::Takes)?;
-    let close = field(value, Field::Close)?;
-    let schedule = field(value, Field::Schedule)?;
-    let oracle = field(value, Field::Oracle)?;
-    let batch = value.get(Field::Batch.name());
-    let take_batch = value.get(Field::TakeBatch.name());
     Ok(Values {
-        capacity,
-        modulus,
-        width,
-        items,
-        takes,
-        close,
-        schedule,
-        oracle,
-        batch,
-        take_batch,
+        capacity: field(value, Field::Capacity)?,
+        modulus: field(value, Field::Modulus)?,
+        width: field(value, Field::Width)?,
+        items: field(value, Field::Items)?,
+        takes: field(value, Field::Takes)?,
+        close: field(value, Field::Close)?,
+        schedule: field(value, Field::Schedule)?,
+        oracle: field(value, Field::Oracle)?,
+        batch: value.get(Field::Batch.name()),
+        take_batch: value.get(Field::TakeBatch.name()),
     })
 }
 
@@ -209,26 +199,16 @@ pub fn check_kinds<'v, A: Allocator + Copy>(
     ensures read { IfOk result (λ typed. typed_of (values_view values.now) ≡ Ok (typed_view typed)) }
     ensures refused { IfErr result (λ e. (e ≡ ScriptFault.OutOfMemory) ⊎ (typed_of (values_view values.now) ≡ Err e)) }
 {
-    let capacity = whole(values.capacity, Field::Capacity)?;
-    let modulus = whole(values.modulus, Field::Modulus)?;
-    let width = whole(values.width, Field::Width)?;
-    let items = items(alloc, values.items)?;
-    let takes = whole(values.takes, Field::Takes)?;
-    let close = truth(values.close, Field::Close)?;
-    let schedule = text(values.schedule, Field::Schedule)?;
-    let oracle = text(values.oracle, Field::Oracle)?;
-    let producer = batch(values.batch, Field::Batch)?;
-    let consumer = batch(values.take_batch, Field::TakeBatch)?;
     Ok(Typed {
-        capacity,
-        modulus,
-        width,
-        items,
-        takes,
-        close,
-        schedule,
-        oracle,
-        batch: producer,
-        take_batch: consumer,
+        capacity: whole(values.capacity, Field::Capacity)?,
+        modulus: whole(values.modulus, Field::Modulus)?,
+        width: whole(values.width, Field::Width)?,
+        items: items(alloc, values.items)?,
+        takes: whole(values.takes, Field::Takes)?,
+        close: truth(values.close, Field::Close)?,
+        schedule: text(values.schedule, Field::Schedule)?,
+        oracle: text(values.oracle, Field::Oracle)?,
+        batch: batch(values.batch, Field::Batch)?,
+        take_batch: batch(values.take_batch, Field::TakeBatch)?,
     })
 }

@@ -1,5 +1,5 @@
 -- A producer that is driven by hand: one event more.
-use Rattle.std.proofs.Common.{◌≡◌, ◌≢◌, ◌⊎◌, ⊎_elim, inl, inr, ℕ, zero, suc, ◌*◌, ◌↔◌, Bool, true, false, IsTrue, if◌then◌else◌, Some, None, List, [], ◌∷◌, ◌++◌, length, refl, ap, sym, subst, ◌∙◌, arith, append-nil, append_assoc}
+use Rattle.std.proofs.Common.{◌≡◌, ◌≢◌, ◌⊎◌, ⊎_elim, inl, inr, ℕ, zero, suc, ◌↔◌, Bool, true, false, IsTrue, if◌then◌else◌, Some, None, List, [], ◌∷◌, ◌++◌, length, refl, ap, sym, subst, ◌∙◌, arith, append-nil, append_assoc}
 use Rattle.std.proofs.lemmas.List.{length-append}
 use Rattle.bits_core.specs.declared.shapes.Shape.{Shape}
 use Rattle.bits_core.specs.declared.events.Side.{Side}
@@ -8,7 +8,7 @@ use Rattle.bits_core.specs.declared.events.Access.{Access}
 use Rattle.bits_core.specs.declared.events.Access.TheVariants as access
 use Rattle.bits_core.specs.declared.events.Bit.{Bit}
 use Rattle.bits_core.specs.declared.events.Event.{Event}
-use Rattle.bits_core.specs.Bits.{begun_by, is_by}
+use Rattle.bits_core.specs.Bits.{begun_by, is_by, same_side}
 use Rattle.bits_core.specs.Lawful.{IsLawful}
 use Rattle.bits_core.specs.History.{open_access}
 use Rattle.bits_core.specs.Laws.{MadeLeaveNoneOpen, OpenChanges, OpenFromOwn, SubhistoryChanges}
@@ -23,25 +23,18 @@ use Rattle.ring_core.specs.ProducerState.{ProducerState, due_put}
 use Rattle.ring_core.specs.ProducerCalls.{ProducerStands, ProducerHasMoved, no_puts}
 use Rattle.ring_core.specs.ConsumerCalls.{no_takes}
 use Rattle.ring_core.specs.RunLaws.{TakesAreSeen}
+use Rattle.ring_core.proofs.Machines.Following.{events_of-append, length-events}
 use Rattle.uses.specs.ByHand.{IsDriven}
 
 -- ---- the events of an access
 
-by_opening : (a : Access) → is_by P (opening_event P a) ≡ true
-by_opening (access.Read b) = refl
-by_opening (access.Write b v) = refl
+opened_by : (s : Side) (a : Access) → is_by s (opening_event P a) ≡ same_side s P
+opened_by s (access.Read b) = refl
+opened_by s (access.Write b v) = refl
 
-by_ending : (a : Access) (v : Bool) → is_by P (end_event P (answered a v)) ≡ true
-by_ending (access.Read b) v = refl
-by_ending (access.Write b w) v = refl
-
-not_opening : (a : Access) → is_by C (opening_event P a) ≡ false
-not_opening (access.Read b) = refl
-not_opening (access.Write b v) = refl
-
-not_ending : (a : Access) (v : Bool) → is_by C (end_event P (answered a v)) ≡ false
-not_ending (access.Read b) v = refl
-not_ending (access.Write b w) v = refl
+ended_by : (s : Side) (a : Access) (v : Bool) → is_by s (end_event P (answered a v)) ≡ same_side s P
+ended_by s (access.Read b) v = refl
+ended_by s (access.Write b w) v = refl
 
 begun_opening : (a : Access) → begun_by (opening_event P a) ≡ Some a
 begun_opening (access.Read b) = refl
@@ -50,14 +43,6 @@ begun_opening (access.Write b v) = refl
 begin_is : (a : Access) (v : Bool) → begin_event P (answered a v) ≡ opening_event P a
 begin_is (access.Read b) v = refl
 begin_is (access.Write b w) v = refl
-
-length_events : (s : Side) (made : List Made) → length (events_of s made) ≡ 2 * length made
-length_events s [] = refl
-length_events s (x ∷ made) = omega (arith, length_events s made)
-
-events_append : (s : Side) (xs ys : List Made) → events_of s (xs ++ ys) ≡ events_of s xs ++ events_of s ys
-events_append s [] ys = refl
-events_append s (x ∷ xs) ys = ap (λ (l : List Event). begin_event s x ∷ end_event s x ∷ l) (events_append s xs ys)
 
 -- ---- the last bit of a count
 
@@ -77,7 +62,7 @@ no_zero seen shape h takes lawful follows made i size zeros is =
     ap (λ n. before ++ zero_reads (row_read_by P) n) zeros.2 in
     let now : subhistory P h ≡ events_of P (before ++ reads) = is ∙ ap (events_of P) whole in
     let lt = (seen shape h takes lawful follows).1 (before ++ reads) before [] ([], append-nil (subhistory P h) ∙ now) (ap (λ (l : List Made). before ++ l) (sym (append-nil reads))) in
-    absurd (omega (arith, lt, ap length now, length_events P (before ++ reads), length-append before reads, length_zeros (row_read_by P) (modulus_of shape)))
+    absurd (omega (arith, lt, ap length now, length-events P (before ++ reads), length-append before reads, length_zeros (row_read_by P) (modulus_of shape)))
 
 -- ---- one event more
 
@@ -111,7 +96,7 @@ module _ (subhistory_changes : SubhistoryChanges) where
             there.1,
             there.2,
             from_own P m.events ∙ ap (open_access P) there.2 ∙ opens P (events_of P d.made) (opening_event P there.0) ∙
-                ap (λ (b : Bool). if b then begun_by (opening_event P there.0) else open_access P (events_of P d.made)) (by_opening there.0) ∙ begun_opening there.0,
+                ap (λ (b : Bool). if b then begun_by (opening_event P there.0) else open_access P (events_of P d.made)) (opened_by P there.0) ∙ begun_opening there.0,
           ),
         ))
         d.own_is
@@ -140,9 +125,9 @@ module _ (subhistory_changes : SubhistoryChanges) where
         calls = d.calls;
         made = d.made;
         stands = d.stands;
-        own_is = inr (a, due, ap (subhistory P) is ∙ own_more P m.events (opening_event P a) (by_opening a) ∙ ap (λ (l : List Event). l ++ opening_event P a ∷ []) (at_rest none));
+        own_is = inr (a, due, ap (subhistory P) is ∙ own_more P m.events (opening_event P a) (opened_by P a) ∙ ap (λ (l : List Event). l ++ opening_event P a ∷ []) (at_rest none));
         takes = d.takes;
-        others = others_on (opening_event P a) is (not_opening a);
+        others = others_on (opening_event P a) is (opened_by C a);
       }
 
       module _ (a : Access) (v : Bool) (is_open : open_access P m.events ≡ Some a) (is : m'.events ≡ m.events ++ end_event P (answered a v) ∷ []) where
@@ -151,18 +136,18 @@ module _ (subhistory_changes : SubhistoryChanges) where
 
         own_now : subhistory P m'.events ≡ events_of P (d.made ++ answered a v ∷ [])
         own_now =
-            ap (subhistory P) is ∙ own_more P m.events (end_event P (answered a v)) (by_ending a v) ∙
+            ap (subhistory P) is ∙ own_more P m.events (end_event P (answered a v)) (ended_by P a v) ∙
             ap (λ (l : List Event). l ++ end_event P (answered a v) ∷ []) (at_open a is_open).1 ∙
             append_assoc (events_of P d.made) (opening_event P a ∷ []) (end_event P (answered a v) ∷ []) ∙
             ap (λ (e : Event). events_of P d.made ++ (e ∷ end_event P (answered a v) ∷ [])) (sym (begin_is a v)) ∙
-            sym (events_append P d.made (answered a v ∷ []))
+            sym (events_of-append P d.made (answered a v ∷ []))
 
         -- something was due
         pub was_due : due_put p ≢ None
         was_due none = absurd (let e : Some a ≡ None = sym (at_open a is_open).0 ∙ none in cc)
 
         others_now : FollowsTakes m'.shape m'.events d.takes
-        others_now = others_on (end_event P (answered a v)) is (not_ending a v)
+        others_now = others_on (end_event P (answered a v)) is (ended_by C a v)
 
         -- a last bit that was due was read as 1
         pub reads_one : TakesAreSeen → IsLawful m'.shape m'.events → (expects : Bool) → (IsTrue expects ↔ LastBitIsDue p.shape P (due_put p)) →

@@ -1,14 +1,14 @@
 -- What whole calls of a ring's ends store and take, and what came through where both ends are done.
 use Rattle.std.proofs.Common.{◌≡◌, ⊎_elim, ℕ, zero, suc, ◌+◌, ◌≤◌, Bool, true, false, Some, None, Option, List, [], ◌∷◌, ◌++◌, length, slice_index, take, refl, ap, sym, subst, ◌∙◌, arith, append-nil, append_assoc, true≢false, ◌%◌, ◌<◌, ◌^◌, ◌-◌, drop, Result, Ok, Err}
 use Rattle.std.specs.Prelude.{IfOk}
-use Rattle.std.proofs.lemmas.List.{take-append-drop}
+use Rattle.std.proofs.lemmas.List.{length-drop, length-take-le, take-append-drop}
 use Rattle.std.proofs.Math.Seq.{take-add, take-length}
 use Rattle.bits_core.specs.declared.shapes.Shape.{Shape}
 use Rattle.bits_core.specs.declared.events.Side.{Side}
 use Rattle.bits_core.specs.declared.events.Side.TheVariants.{P, C}
 use Rattle.bits_core.specs.declared.events.Event.{Event}
 use Rattle.bits_core.specs.Shape.{AllFit, batch_of, modulus_of, width_of}
-use Rattle.bits_core.specs.Made.{Made, subhistory, clock, events_of, IsPrefix}
+use Rattle.bits_core.specs.Made.{subhistory, clock, IsPrefix}
 use Rattle.ring_core.specs.declared.replies.BatchReply.TheVariants as several
 use Rattle.ring_core.specs.declared.replies.PutReply.{PutReply}
 use Rattle.ring_core.specs.declared.replies.PutReply.TheVariants as single
@@ -17,7 +17,6 @@ use Rattle.ring_core.specs.declared.replies.TakeReply.TheVariants as replies
 use Rattle.ring_core.specs.Counts.{first_count}
 use Rattle.ring_core.specs.Puts as puts
 use Rattle.ring_core.specs.Puts.{Put, Puts, IsBatch, IsPut, ArePuts, room_in}
-use Rattle.ring_core.specs.Takes as takes
 use Rattle.ring_core.specs.Takes.{Take, Takes, AreTakes, End, Open, Closed, take_program}
 use Rattle.ring_core.specs.Items.{all_put, all_taken, taken_of, items_put, items_taken, events_in, Tells, IsTold}
 use Rattle.ring_core.specs.Readings.{PutsAreRead, TakesAreRead}
@@ -25,13 +24,14 @@ use Rattle.ring_core.specs.ProducerCalls.{no_puts, and_put, count_of}
 use Rattle.ring_core.specs.ConsumerCalls.{no_takes, and_take, ends_closed, reply_at_end, reply_items, last_take_reply, take_reply_to}
 use Rattle.ring_core.specs.OneCallMore.{TakesOfOne}
 use Rattle.ring_core.specs.RingLaw.{IsRun, InEveryRun, TakenArePrefix, ClosedIsTrue}
+use Rattle.ring_core.proofs.Machines.Following.{length-events}
 use Rattle.ring_core.specs.Whole.{WholePutsCount, WholeTakesCount}
 use Rattle.ring_run.specs.Ring.{Ring, RingEnd}
-use Rattle.ring_run.specs.Steppers.{IsSameEnd}
 use Rattle.ring_run.specs.Meetings.{Meets, TellsAre}
 use Rattle.ring_run.specs.Ends.{HasPuts, HasPut, HasPutAll, PutAdds, HasTakes, HasTaken, TakeAdds}
 use Rattle.ring_run.specs.Counters.{ShowsWords}
 use Rattle.ring_run.specs.Laws.{PutsAreShown, TakesAreShown}
+use Rattle.ring_run.proofs.RelayLemmas.{fit_first, fit_left}
 use Rattle.uses.specs.Passed.{HasStored, HasTook}
 
 -- ---- lists
@@ -43,30 +43,10 @@ first (suc n) [] = (refl, omega arith)
 first (suc n) (x ∷ xs) = let r = first n xs in (ap (λ (l : List ℕ). x ∷ l) r.0, omega (arith, r.1))
 
 -- a chunk of the items is a batch
-pub length_first : (n : ℕ) (xs : List ℕ) → n ≤ length xs → length (take n xs) ≡ n
-length_first zero xs le = refl
-length_first (suc n) [] le = absurd (omega (arith, le))
-length_first (suc n) (x ∷ xs) le = ap suc (length_first n xs (omega (arith, le)))
-
-length_left : (k : ℕ) (xs : List ℕ) → k ≤ length xs → k + length (drop k xs) ≡ length xs
-length_left zero xs le = omega arith
-length_left (suc k) [] le = absurd (omega (arith, le))
-length_left (suc k) (x ∷ xs) le = omega (arith, length_left k xs (omega (arith, le)))
-
-fit_first : (shape : Shape) (n : ℕ) (xs : List ℕ) → AllFit shape xs → AllFit shape (take n xs)
-fit_first shape zero xs fit = tt
-fit_first shape (suc n) [] fit = tt
-fit_first shape (suc n) (x ∷ xs) fit = (fit.0, fit_first shape n xs fit.1)
-
-fit_left : (shape : Shape) (n : ℕ) (xs : List ℕ) → AllFit shape xs → AllFit shape (drop n xs)
-fit_left shape zero xs fit = fit
-fit_left shape (suc n) [] fit = tt
-fit_left shape (suc n) (x ∷ xs) fit = fit_left shape n xs fit.1
-
 pub chunk : (shape : Shape) (items : List ℕ) (k next : ℕ) → AllFit shape items → k < next → next ≤ length items → next ≤ k + batch_of shape → IsBatch shape (take (next - k) (drop k items))
 chunk shape items k next fit some within few =
-    let left : k + length (drop k items) ≡ length items = length_left k items (omega (arith, some, within)) in
-    let long : length (take (next - k) (drop k items)) ≡ next - k = length_first (next - k) (drop k items) (omega (arith, some, within, left)) in
+    let left : k + length (drop k items) ≡ length items = omega (arith, some, within, length-drop k items) in
+    let long : length (take (next - k) (drop k items)) ≡ next - k = length-take-le (next - k) (drop k items) (omega (arith, some, within, left)) in
     record {
       some = omega (arith, long, some);
       few = omega (arith, long, some, few);
@@ -85,8 +65,8 @@ chunk_first items k next r le = ap (λ (l : List ℕ). take k items ++ l) (first
 
 pub chunk_within : (items : List ℕ) (k next r : ℕ) → k ≤ next → next ≤ length items → r ≤ length (take (next - k) (drop k items)) → k + r ≤ length items
 chunk_within items k next r some within le =
-    let left : k + length (drop k items) ≡ length items = length_left k items (omega (arith, some, within)) in
-    let long : length (take (next - k) (drop k items)) ≡ next - k = length_first (next - k) (drop k items) (omega (arith, some, within, left)) in
+    let left : k + length (drop k items) ≡ length items = omega (arith, some, within, length-drop k items) in
+    let long : length (take (next - k) (drop k items)) ≡ next - k = length-take-le (next - k) (drop k items) (omega (arith, some, within, left)) in
     omega (arith, long, some, within, le)
 
 -- an item more that fits
@@ -103,9 +83,6 @@ of_first n taken items (rest, e) = (rest ++ drop n items, sym (append_assoc take
 pub of_ok : {A E : Type 0} (r : Result A E) (a : A) (X : Type 0) → r ≡ Ok a → IfOk r (λ _. X) → X
 of_ok (Ok b) a X is x = x
 of_ok (Err e) a X is x = absurd (cc)
-
-pub same_trans : (a b c : RingEnd) → IsSameEnd a b → IsSameEnd b c → IsSameEnd a c
-same_trans a b c s t = record { ring = t.ring ∙ s.ring; side = t.side ∙ s.side; known = t.known ∙ s.known }
 
 -- ---- puts
 
@@ -225,22 +202,24 @@ last_reply first (y ∷ xs) x = last_reply (Some (take_reply_to y)) xs x
 pub none_took : (e : RingEnd) → e.list ≡ [] → HasTook e []
 none_took e is = record { calls = no_takes; list_is = record { are = tt; list_is = is }; items_are = refl }
 
-module _ (read : TakesAreRead) (single : TakesOfOne) (a b : RingEnd) (same : b.ring ≡ a.ring) (items : List ℕ) (before : HasTook a items) where
+module _ (read : TakesAreRead) (a b : RingEnd) (same : b.ring ≡ a.ring) (items : List ℕ) (before : HasTook a items) where
   take_there : HasTakes b.ring.shape a.list before.calls
   take_there = subst (λ (r : Ring). HasTakes r.shape a.list before.calls) (sym same) before.list_is
 
-  take_items_of : (calls : Takes) → HasTakes b.ring.shape a.list calls → all_taken calls.takes ≡ items
+  -- whichever calls the list is read as, these are its items
+  pub take_items_of : (calls : Takes) → HasTakes b.ring.shape a.list calls → all_taken calls.takes ≡ items
   take_items_of calls has =
       let one : calls ≡ before.calls = read b.ring.shape calls before.calls has.are take_there.are (sym has.list_is ∙ take_there.list_is) in
       ap (λ (c : Takes). all_taken c.takes) one ∙ before.items_are
 
+module _ (read : TakesAreRead) (single : TakesOfOne) (a b : RingEnd) (same : b.ring ≡ a.ring) (items : List ℕ) (before : HasTook a items) where
   took_by_one : (calls : Takes) → HasTakes b.ring.shape a.list calls → (over : Bool) (reply : TakeReply) → TakeAdds over b.ring.shape 1 calls reply a.list b.list → ends_closed calls.end ≡ over → HasTook b (items ++ reply_items reply)
   took_by_one calls has true reply adds was =
       let none : items ++ reply_items reply ≡ items = ap (λ (r : TakeReply). items ++ reply_items r) adds.0 ∙ append-nil items in
       subst (HasTook b) (sym none) (record {
         calls = calls;
         list_is = subst (λ (l : List Event). HasTakes b.ring.shape l calls) (sym adds.1) has;
-        items_are = take_items_of calls has;
+        items_are = take_items_of read a b same items before calls has;
       })
   took_by_one calls has false reply (more, is_more, replied, after) was = ⊎_elim
       (λ one.
@@ -250,14 +229,14 @@ module _ (read : TakesAreRead) (single : TakesOfOne) (a b : RingEnd) (same : b.r
       record {
         calls = more;
         list_is = after;
-        items_are = ap (λ (t : Takes). all_taken t.takes) one.2 ∙ all_taken_snoc calls.takes one.0 ∙ (λ i. take_items_of calls has i ++ takes_one i);
+        items_are = ap (λ (t : Takes). all_taken t.takes) one.2 ∙ all_taken_snoc calls.takes one.0 ∙ (λ i. take_items_of read a b same items before calls has i ++ takes_one i);
       })
       (λ told.
       let is : reply ≡ replies.Closed = let q : Some reply ≡ Some replies.Closed = replied ∙ ap (λ (t : Takes). reply_at_end t.end t.takes) told.2 in cc in
       record {
         calls = more;
         list_is = after;
-        items_are = ap (λ (t : Takes). all_taken t.takes) told.2 ∙ take_items_of calls has ∙ sym (append-nil items) ∙ ap (λ (r : TakeReply). items ++ reply_items r) (sym is);
+        items_are = ap (λ (t : Takes). all_taken t.takes) told.2 ∙ take_items_of read a b same items before calls has ∙ sym (append-nil items) ∙ ap (λ (r : TakeReply). items ++ reply_items r) (sym is);
       })
       is_more.is_one_more
 
@@ -276,10 +255,6 @@ clock_at_end s h = ap (λ (l : List Event). length (subhistory s l)) (take-lengt
 tells_true : (end : End) → ends_closed end ≡ true → Tells end
 tells_true Open e = absurd (true≢false (sym e))
 tells_true (Closed seen again) e = tt
-
-length_events : (made : List Made) → length (events_of C made) ≡ events_in made
-length_events [] = refl
-length_events (x ∷ made) = omega (arith, length_events made)
 
 module _ (p c : RingEnd) (same : p.ring ≡ c.ring) (h : List Event) (meets : Meets p c h) (put taken : List ℕ) (ps : HasStored p put) (ts : HasTook c taken) where
   abbrev shape : Shape
@@ -313,7 +288,7 @@ module _ (p c : RingEnd) (same : p.ring ≡ c.ring) (h : List Event) (meets : Me
         let over : ends_closed ts.calls.end ≡ true = ap (λ (t : Takes). ends_closed t.end) one ∙ sym tells.told_is in
         let told : IsTold shape ts.calls (clock C h (length h)) = (
           tells_true ts.calls.end over,
-          subst (λ (n : ℕ). events_in (take_program shape ts.calls) ≤ n) (sym (clock_at_end C h ∙ ap length (meets.taken ∙ takes_here.list_is) ∙ length_events (take_program shape ts.calls))) (omega arith),
+          subst (λ (n : ℕ). events_in (take_program shape ts.calls) ≤ n) (sym (clock_at_end C h ∙ ap length (meets.taken ∙ takes_here.list_is) ∙ length-events C (take_program shape ts.calls))) (omega arith),
         ) in
         let all = closed shape h ps.calls ts.calls run (length h) (length h) told (omega arith) in
         sym taken_is ∙ all.1 ∙ sym all.0 ∙ put_is

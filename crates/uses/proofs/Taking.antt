@@ -6,8 +6,9 @@ use Rattle.ring_core.specs.Takes.{Take, Takes}
 use Rattle.ring_core.specs.Items.{all_taken, taken_of}
 use Rattle.ring_core.specs.Readings.{TakesAreRead}
 use Rattle.ring_core.specs.ConsumerCalls.{ends_closed, items_at_end, last_items}
-use Rattle.ring_run.specs.Ring.{Ring, RingEnd}
+use Rattle.ring_run.specs.Ring.{RingEnd}
 use Rattle.ring_run.specs.Ends.{HasTakes, HasTakenAll, TakeAllAdds, number_brought}
+use Rattle.uses.proofs.Passing.{take_items_of}
 use Rattle.uses.specs.Passed.{HasTook}
 
 taken_snoc : (xs : List Take) (x : Take) → all_taken (xs ++ x ∷ []) ≡ all_taken xs ++ taken_of x
@@ -19,20 +20,11 @@ items_snoc first [] x = refl
 items_snoc first (y ∷ xs) x = items_snoc (taken_of y) xs x
 
 module _ (read : TakesAreRead) (a b : RingEnd) (same : b.ring ≡ a.ring) (items : List ℕ) (before : HasTook a items) (wanted : ℕ) (reply : TakeBatchReply) (into : List ℕ) where
-  take_there : HasTakes b.ring.shape a.list before.calls
-  take_there = subst (λ (r : Ring). HasTakes r.shape a.list before.calls) (sym same) before.list_is
-
-  -- whichever calls the list is read as, these are its items
-  items_of : (calls : Takes) → HasTakes b.ring.shape a.list calls → all_taken calls.takes ≡ items
-  items_of calls has =
-      let one : calls ≡ before.calls = read b.ring.shape calls before.calls has.are take_there.are (sym has.list_is ∙ take_there.list_is) in
-      ap (λ (c : Takes). all_taken c.takes) one ∙ before.items_are
-
   by_one : (calls : Takes) → HasTakes b.ring.shape a.list calls → (told : Bool) → TakeAllAdds told b.ring.shape wanted calls reply into a.list b.list → HasTook b (items ++ take (number_brought reply) into)
   by_one calls has true adds = record {
     calls = calls;
     list_is = subst (λ (l : List Event). HasTakes b.ring.shape l calls) (sym adds.1) has;
-    items_are = items_of calls has ∙ sym (append-nil items) ∙ ap (λ (r : TakeBatchReply). items ++ take (number_brought r) into) (sym adds.0);
+    items_are = take_items_of read a b same items before calls has ∙ sym (append-nil items) ∙ ap (λ (r : TakeBatchReply). items ++ take (number_brought r) into) (sym adds.0);
   }
   by_one calls has false (more, is_more, (replied, places), after) = ⊎_elim
       (λ one.
@@ -40,14 +32,14 @@ module _ (read : TakesAreRead) (a b : RingEnd) (same : b.ring ≡ a.ring) (items
       record {
         calls = more;
         list_is = after;
-        items_are = ap (λ (t : Takes). all_taken t.takes) one.2 ∙ taken_snoc calls.takes one.0 ∙ (λ i. items_of calls has i ++ sym last i);
+        items_are = ap (λ (t : Takes). all_taken t.takes) one.2 ∙ taken_snoc calls.takes one.0 ∙ (λ i. take_items_of read a b same items before calls has i ++ sym last i);
       })
       (λ told.
       let none : take (number_brought reply) into ≡ [] = places ∙ ap (λ (t : Takes). items_at_end t.end t.takes) told.2 in
       record {
         calls = more;
         list_is = after;
-        items_are = ap (λ (t : Takes). all_taken t.takes) told.2 ∙ items_of calls has ∙ sym (append-nil items) ∙ ap (λ (l : List ℕ). items ++ l) (sym none);
+        items_are = ap (λ (t : Takes). all_taken t.takes) told.2 ∙ take_items_of read a b same items before calls has ∙ sym (append-nil items) ∙ ap (λ (l : List ℕ). items ++ l) (sym none);
       })
       is_more.is_one_more
 

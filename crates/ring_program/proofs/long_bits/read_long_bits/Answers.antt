@@ -1,14 +1,13 @@
 use Rattle.std.proofs.Common.{rules, ◌≡◌, ℕ, List, [], Result, Ok, Err, IfErr, inr, subst, sym, refl, append_assoc}
 use Rattle.std.specs.Result.{IsErrAnd}
-use Rattle.std.proofs.KnownBytes.{Consumes-nil, Consumes-trans, Consumes-whole}
-use Rattle.std.specs.Io.KnownBytes.{Consumes}
+use Rattle.std.proofs.KnownBytes.{Consumes-nil, Consumes-trans}
 use Rattle.bits_core.specs.Trace.{RefusesTraceText}
 use Rattle.bits_core.specs.declared.audits.Verdict.{Verdict}
 use Rattle.bits_core.specs.declared.traces.TraceFault.{TraceFault}
 use Rattle.ring_program.specs.Answers.{IsLongBitsCause}
 use Rattle.ring_program.specs.declared.faults.Refusal.{Refusal}
 use Rattle.ring_program.specs.declared.faults.Refusal.TheVariants as refusal
-use Rattle.ring_program.proofs.ReadingLemmas.{all_turns, none_more, of_front, one_more}
+use Rattle.ring_program.proofs.ReadingLemmas.{all_turns, of_front, of_whole, one_more}
 use Rattle.ring_program.proofs.long_bits.read_long_bits.Goals as goal
 
 -- a fault of the text, of these bytes
@@ -31,14 +30,12 @@ loop-preserved g c = (
 pub returns-then-count-eq0-clause-told : goal.returns-then-count-eq0-clause-told
 returns-then-count-eq0-clause-told g c =
     let came = c.loop.invariant.0 in
-    let all = subst (Consumes _ _) (none_more c.in-Ok.count _ came c.if-count-eq0.true) (Consumes-trans _ _ _ _ _ c.loop.invariant.1 c.in-Ok.ensures.bytes.0) in
-    Consumes-whole _ _ came _ all (c.in-Ok.ensures.bytes.1 c.if-count-eq0.true (search rules)) (c.in_ok-verdict.ensures.told came c.loop.invariant.2)
+    of_whole _ _ _ came _ c.in-Ok.count _ c.loop.invariant.1 c.in-Ok.ensures.bytes.0 c.if-count-eq0.true (c.in-Ok.ensures.bytes.1 c.if-count-eq0.true (search rules)) (c.in_ok-verdict.ensures.told came c.loop.invariant.2)
 
 pub returns-in_err-verdict-clause-refused : goal.returns-in_err-verdict-clause-refused
 returns-in_err-verdict-clause-refused g c =
     let came = c.loop.invariant.0 in
-    let all = subst (Consumes _ _) (none_more c.in-Ok.count _ came c.if-count-eq0.true) (Consumes-trans _ _ _ _ _ c.loop.invariant.1 c.in-Ok.ensures.bytes.0) in
-    Consumes-whole _ _ came _ all (c.in-Ok.ensures.bytes.1 c.if-count-eq0.true (search rules))
+    of_whole _ _ _ came _ c.in-Ok.count _ c.loop.invariant.1 c.in-Ok.ensures.bytes.0 c.if-count-eq0.true (c.in-Ok.ensures.bytes.1 c.if-count-eq0.true (search rules))
     (told c.from_residual.result c.in_err-verdict.field-0.0 came c.from_residual.ensures.1 (c.in_err-verdict.ensures.refused came c.loop.invariant.2))
 
 pub returns-in_err-read-clause-refused : goal.returns-in_err-read-clause-refused

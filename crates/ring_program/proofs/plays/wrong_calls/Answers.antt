@@ -5,9 +5,9 @@ use Rattle.ring_program.proofs.plays.wrong_calls.Goals as goal
 
 pub returns-clause-told : goal.returns-clause-told
 returns-clause-told g c = (
-  c.in_ok-play.play.history.items,
-  c.in_ok-play.play.told.items,
-  c.in_ok-play.play.taken.items,
+  _,
+  _,
+  _,
   c.in_ok-play.ensures.plays,
   c.in_ok-near_text.ensures.text ∙ ap₂ (λ (taken : List ℕ) (told : List (CallEvent ℕ ℕ)). told_text_of c.args.script.now (near_calls c.args.script.now taken told)) c.as_slice-2.ensures.value c.as_slice.ensures.value,
 )

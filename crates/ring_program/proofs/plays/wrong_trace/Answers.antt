@@ -2,9 +2,9 @@ use Rattle.ring_program.proofs.plays.wrong_trace.Goals as goal
 
 pub returns-clause-told : goal.returns-clause-told
 returns-clause-told g c = (
-  c.in_ok-play.play.history.items,
-  c.in_ok-play.play.told.items,
-  c.in_ok-play.play.taken.items,
+  _,
+  _,
+  _,
   c.in_ok-play.ensures.plays,
   record {
     text = rw (c.shape.ensures, c.as_slice.ensures.value) at c.in_ok-write_trace.ensures.text;

@@ -2,8 +2,7 @@ use Rattle.std.proofs.Common.{rules, false, ◌≡◌, ◌≢◌, ℕ, List, [],
 use Rattle.std.specs.Result.{IsErrAnd}
 use Rattle.std.specs.Prelude.{MatchOption}
 use Rattle.std.proofs.lemmas.Option.{none-some, same_Some}
-use Rattle.std.proofs.KnownBytes.{Consumes-nil, Consumes-trans, Consumes-whole}
-use Rattle.std.specs.Io.KnownBytes.{Consumes}
+use Rattle.std.proofs.KnownBytes.{Consumes-nil, Consumes-trans}
 use Rattle.queue_calls.specs.Recordings.{RefusesText}
 use Rattle.queue_calls.specs.declared.recordings.RecordingFault.{RecordingFault}
 use Rattle.ring_program.specs.Answers.{IsCallsCause}
@@ -12,7 +11,7 @@ use Rattle.ring_program.specs.declared.faults.Refusal.{Refusal}
 use Rattle.ring_program.specs.declared.faults.Refusal.TheVariants as refusal
 use Rattle.ring_program.specs.declared.recordings.CallsFound.{CallsFound}
 use Rattle.ring_program.proofs.FirstFaults.{nothing_is_faultless}
-use Rattle.ring_program.proofs.ReadingLemmas.{all_turns, at_end, at_fault, none_more, of_front, one_more}
+use Rattle.ring_program.proofs.ReadingLemmas.{all_turns, at_end, at_fault, of_front, of_whole, one_more}
 use Rattle.ring_program.proofs.recordings.read_calls.Goals as goal
 
 -- a fault of the text, of these bytes
@@ -49,14 +48,12 @@ loop-preserved g c = (
 pub returns-then-count-eq0-clause-found : goal.returns-then-count-eq0-clause-found
 returns-then-count-eq0-clause-found g c =
     let came = c.loop.invariant.0 in
-    let all = subst (Consumes _ _) (none_more c.in-Ok.count _ came c.if-count-eq0.true) (Consumes-trans _ _ _ _ _ c.loop.invariant.1 c.in-Ok.ensures.bytes.0) in
-    Consumes-whole _ _ came _ all (c.in-Ok.ensures.bytes.1 c.if-count-eq0.true (search rules)) (at_end c.args.stop came _ _ c.loop.invariant.4 (c.in_ok-found_at_end.ensures.found came c.loop.invariant.2))
+    of_whole _ _ _ came _ c.in-Ok.count _ c.loop.invariant.1 c.in-Ok.ensures.bytes.0 c.if-count-eq0.true (c.in-Ok.ensures.bytes.1 c.if-count-eq0.true (search rules)) (at_end c.args.stop came _ _ c.loop.invariant.4 (c.in_ok-found_at_end.ensures.found came c.loop.invariant.2))
 
 pub returns-in_err-found_at_end-clause-refused : goal.returns-in_err-found_at_end-clause-refused
 returns-in_err-found_at_end-clause-refused g c =
     let came = c.loop.invariant.0 in
-    let all = subst (Consumes _ _) (none_more c.in-Ok.count _ came c.if-count-eq0.true) (Consumes-trans _ _ _ _ _ c.loop.invariant.1 c.in-Ok.ensures.bytes.0) in
-    Consumes-whole _ _ came _ all (c.in-Ok.ensures.bytes.1 c.if-count-eq0.true (search rules))
+    of_whole _ _ _ came _ c.in-Ok.count _ c.loop.invariant.1 c.in-Ok.ensures.bytes.0 c.if-count-eq0.true (c.in-Ok.ensures.bytes.1 c.if-count-eq0.true (search rules))
     (told c.from_residual.result c.in_err-found_at_end.field-0.0 came c.from_residual.ensures.1 (c.in_err-found_at_end.ensures.refused came c.loop.invariant.2))
 
 pub returns-in_err-finding-clause-refused : goal.returns-in_err-finding-clause-refused

@@ -1,4 +1,4 @@
-use Rattle.std.proofs.Common.{◌≡◌, ◌∙◌, ◌∷◌, ◌+◌, ap, drop, subst, sym, string_bytes}
+use Rattle.std.proofs.Common.{◌≡◌, ◌∙◌, ◌∷◌, ◌+◌, ap, drop, subst, string_bytes}
 use Rattle.std.proofs.lemmas.List.{drop_all}
 use Rattle.bits_core.specs.Shape.{capacity_of}
 use Rattle.queue_calls.specs.Told.{told as event_told}
@@ -25,7 +25,5 @@ loop-each-preserved g c =
 pub returns-clause-text : goal.returns-clause-text
 returns-clause-text g c =
     let script = c.args.script.now in
-    let told = c.args.told.now in
-    telling_is_told (capacity_of script.shape) (near_calls script c.args.taken.now told) c.loop-each.begun (string_bytes c.loop-each.text)
-    (subst (λ rest. IsToldSoFar (capacity_of script.shape) (near_calls script c.args.taken.now told) (near_calls script c.loop-each.left.now rest) c.loop-each.begun (string_bytes c.loop-each.text))
-    (drop_all c.loop-each.each-index told c.loop-each-test.false) c.loop-each.invariant)
+    telling_is_told (capacity_of script.shape) (near_calls script c.args.taken.now c.args.told.now) _ c.loop-each.begun _
+    (ap (near_calls script c.loop-each.left.now) (drop_all c.loop-each.each-index c.args.told.now c.loop-each-test.false)) c.loop-each.invariant

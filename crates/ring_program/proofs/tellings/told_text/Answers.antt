@@ -1,4 +1,4 @@
-use Rattle.std.proofs.Common.{◌≡◌, ◌∙◌, ◌∷◌, ◌+◌, ap, drop, subst, sym, string_bytes}
+use Rattle.std.proofs.Common.{◌≡◌, ◌∙◌, ◌∷◌, ◌+◌, ap, drop, subst, string_bytes}
 use Rattle.std.proofs.lemmas.List.{drop_all}
 use Rattle.bits_core.specs.Shape.{capacity_of}
 use Rattle.queue_calls.specs.Told.{told as event_told}
@@ -24,16 +24,10 @@ loop-each-preserved g c =
 
 pub returns-clause-text : goal.returns-clause-text
 returns-clause-text g c =
-    let script = c.args.script.now in
-    let told = c.args.told.now in
-    telling_is_told (capacity_of script.shape) (call_events script told) c.loop-each.begun (string_bytes c.loop-each.text)
-    (subst (λ rest. IsToldSoFar (capacity_of script.shape) (call_events script told) (call_events script rest) c.loop-each.begun (string_bytes c.loop-each.text))
-    (drop_all c.loop-each.each-index told c.loop-each-test.false) c.loop-each.invariant)
+    telling_is_told (capacity_of c.args.script.now.shape) (call_events c.args.script.now c.args.told.now) _ c.loop-each.begun _
+    (ap (call_events c.args.script.now) (drop_all c.loop-each.each-index c.args.told.now c.loop-each-test.false)) c.loop-each.invariant
 
 pub returns-clause-small : goal.returns-clause-small
 returns-clause-small g c =
-    let script = c.args.script.now in
-    let told = c.args.told.now in
-    telling_is_small (capacity_of script.shape) (call_events script told) c.loop-each.begun (string_bytes c.loop-each.text)
-    (subst (λ rest. IsToldSoFar (capacity_of script.shape) (call_events script told) (call_events script rest) c.loop-each.begun (string_bytes c.loop-each.text))
-    (drop_all c.loop-each.each-index told c.loop-each-test.false) c.loop-each.invariant)
+    telling_is_small (capacity_of c.args.script.now.shape) (call_events c.args.script.now c.args.told.now) _ c.loop-each.begun (string_bytes c.loop-each.text)
+    (ap (call_events c.args.script.now) (drop_all c.loop-each.each-index c.args.told.now c.loop-each-test.false)) c.loop-each.invariant

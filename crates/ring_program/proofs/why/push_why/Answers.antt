@@ -8,46 +8,22 @@ use Rattle.bits_core.proofs.LawLemmas.{fault_breaks, lawful_by_one_more}
 use Rattle.ring_program.proofs.why.push_why.Goals as goal
 
 pub push_fault-requires-clause-lawful : goal.push_fault-requires-clause-lawful
-push_fault-requires-clause-lawful g c =
-    let shape = c.args.shape.now in
-    let h = c.args.events.now in
-    let first = fault_of_kind shape h c.args.verdict c.in-Fault.place c.in-Fault.kind WrongSide c.in-Fault.is c.in-WrongSide.is c.requires.there in
-    (fault_breaks shape h c.in-Fault.place WrongSide first).0
+push_fault-requires-clause-lawful g c = (fault_breaks _ _ _ WrongSide (fault_of_kind c.args.shape.now c.args.events.now c.args.verdict c.in-Fault.place c.in-Fault.kind WrongSide c.in-Fault.is c.in-WrongSide.is c.requires.there)).0
 
 pub push_fault-requires-clause-faulty : goal.push_fault-requires-clause-faulty
-push_fault-requires-clause-faulty g c =
-    let shape = c.args.shape.now in
-    let h = c.args.events.now in
-    let first = fault_of_kind shape h c.args.verdict c.in-Fault.place c.in-Fault.kind WrongSide c.in-Fault.is c.in-WrongSide.is c.requires.there in
-    not_following fault_breaks lawful_by_one_more shape h c.in-Fault.place WrongSide _ first
+push_fault-requires-clause-faulty g c = not_following fault_breaks lawful_by_one_more _ _ _ WrongSide _ (fault_of_kind c.args.shape.now c.args.events.now c.args.verdict c.in-Fault.place c.in-Fault.kind WrongSide c.in-Fault.is c.in-WrongSide.is c.requires.there)
 
 pub push_fault-requires-in-OutOfTurn-clause-lawful : goal.push_fault-requires-in-OutOfTurn-clause-lawful
-push_fault-requires-in-OutOfTurn-clause-lawful g c =
-    let shape = c.args.shape.now in
-    let h = c.args.events.now in
-    let first = fault_of_kind shape h c.args.verdict c.in-Fault.place c.in-Fault.kind OutOfTurn c.in-Fault.is c.in-OutOfTurn.is c.requires.there in
-    (fault_breaks shape h c.in-Fault.place OutOfTurn first).0
+push_fault-requires-in-OutOfTurn-clause-lawful g c = (fault_breaks _ _ _ OutOfTurn (fault_of_kind c.args.shape.now c.args.events.now c.args.verdict c.in-Fault.place c.in-Fault.kind OutOfTurn c.in-Fault.is c.in-OutOfTurn.is c.requires.there)).0
 
 pub push_fault-requires-in-OutOfTurn-clause-faulty : goal.push_fault-requires-in-OutOfTurn-clause-faulty
-push_fault-requires-in-OutOfTurn-clause-faulty g c =
-    let shape = c.args.shape.now in
-    let h = c.args.events.now in
-    let first = fault_of_kind shape h c.args.verdict c.in-Fault.place c.in-Fault.kind OutOfTurn c.in-Fault.is c.in-OutOfTurn.is c.requires.there in
-    not_following fault_breaks lawful_by_one_more shape h c.in-Fault.place OutOfTurn _ first
+push_fault-requires-in-OutOfTurn-clause-faulty g c = not_following fault_breaks lawful_by_one_more _ _ _ OutOfTurn _ (fault_of_kind c.args.shape.now c.args.events.now c.args.verdict c.in-Fault.place c.in-Fault.kind OutOfTurn c.in-Fault.is c.in-OutOfTurn.is c.requires.there)
 
 pub push_fault-requires-in-NotPermitted-clause-lawful : goal.push_fault-requires-in-NotPermitted-clause-lawful
-push_fault-requires-in-NotPermitted-clause-lawful g c =
-    let shape = c.args.shape.now in
-    let h = c.args.events.now in
-    let first = fault_of_kind shape h c.args.verdict c.in-Fault.place c.in-Fault.kind NotPermitted c.in-Fault.is c.in-NotPermitted.is c.requires.there in
-    (fault_breaks shape h c.in-Fault.place NotPermitted first).0
+push_fault-requires-in-NotPermitted-clause-lawful g c = (fault_breaks _ _ _ NotPermitted (fault_of_kind c.args.shape.now c.args.events.now c.args.verdict c.in-Fault.place c.in-Fault.kind NotPermitted c.in-Fault.is c.in-NotPermitted.is c.requires.there)).0
 
 pub push_fault-requires-in-NotPermitted-clause-faulty : goal.push_fault-requires-in-NotPermitted-clause-faulty
-push_fault-requires-in-NotPermitted-clause-faulty g c =
-    let shape = c.args.shape.now in
-    let h = c.args.events.now in
-    let first = fault_of_kind shape h c.args.verdict c.in-Fault.place c.in-Fault.kind NotPermitted c.in-Fault.is c.in-NotPermitted.is c.requires.there in
-    not_following fault_breaks lawful_by_one_more shape h c.in-Fault.place NotPermitted _ first
+push_fault-requires-in-NotPermitted-clause-faulty g c = not_following fault_breaks lawful_by_one_more _ _ _ NotPermitted _ (fault_of_kind c.args.shape.now c.args.events.now c.args.verdict c.in-Fault.place c.in-Fault.kind NotPermitted c.in-Fault.is c.in-NotPermitted.is c.requires.there)
 
 pub returns-in-NotProgram-clause-told : goal.returns-in-NotProgram-clause-told
 returns-in-NotProgram-clause-told g c =

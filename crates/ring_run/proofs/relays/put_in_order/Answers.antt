@@ -1,11 +1,11 @@
 use Rattle.std.proofs.Common.{◌⊎◌, length, ◌≡◌, ◌+◌, ◌-◌, ◌≤◌, List, suc, ℕ, false, take, refl, ap, sym, ◌∙◌, subst, arith}
 use Rattle.std.proofs.Math.ListN.{drop}
 use Rattle.bits_core.specs.declared.shapes.Shape.{Shape}
-use Rattle.bits_core.specs.Shape.{AllFit, batch_of}
+use Rattle.bits_core.specs.Shape.{batch_of}
 use Rattle.ring_core.specs.Puts.{IsBatch}
 use Rattle.ring_seats.specs.Ring.{Ring}
 use Rattle.ring_run.specs.Relays.{PutsAre}
-use Rattle.ring_run.proofs.RelayLemmas.{no_puts_are, offers, given_there, stored, was_full, same_trans, puts_there}
+use Rattle.ring_run.proofs.RelayLemmas.{fit_there, no_puts_are, offers, given_there, stored, was_full, same_trans, puts_there}
 use Rattle.ring_core.proofs.LawLemmas.{puts_are_read}
 use Rattle.ring_run.proofs.relays.put_in_order.Goals.{in-Stored, in-Full}
 use Rattle.ring_run.proofs.relays.put_in_order.Goals as goal
@@ -20,8 +20,7 @@ put_all-reply-requires-clause-batch g c =
     let b = g.E.PutEnd.end c.puts.putter in
     let i = c.puts.invariant in
     let n = c.next_batch.ensures in
-    let there : (g.E.PutEnd.end c.args.putter.now).ring.shape ≡ b.ring.shape = sym (ap (λ (r : Ring). r.shape) i.1.ring) in
-    let fit : AllFit b.ring.shape c.args.items.now = subst (λ (z : Shape). AllFit z c.args.items.now) there c.requires.fit in
+    let fit = fit_there (g.E.PutEnd.end c.args.putter.now) b c.args.items.now i.1 c.requires.fit in
     let same : c.next_batch.result ≡ c.puts.put + c.next_batch.result - c.puts.put = omega arith in
     subst (λ (k : ℕ). IsBatch b.ring.shape (take k (drop c.puts.put c.args.items.now))) same
     (offers b.ring.shape c.args.items.now c.puts.put c.next_batch.result fit c.puts-test.true n.some (subst (λ (z : Shape). c.next_batch.result ≤ batch_of z) i.7 n.few) (omega (arith, n.left, c.puts-test.true)))

@@ -1,5 +1,5 @@
 use Rattle.std.specs.Prelude.{◌-◌, if◌then◌else◌, min, vec_capacity}
-use Rattle.std.proofs.lemmas.List.{length-append}
+use Rattle.std.proofs.lemmas.List.{length-append, length-take-le}
 use Rattle.std.proofs.Common.{rules, ◌≡◌, ◌+◌, ◌<◌, ◌≤◌, ℕ, Bool, false, List, ◌++◌, length, take, refl, ap, sym, subst, ◌∙◌, arith}
 use Rattle.ring_core.specs.declared.replies.TakeBatchReply as replies
 use Rattle.ring_core.specs.declared.replies.TakeBatchReply.TheVariants as reply
@@ -7,7 +7,7 @@ use Rattle.bits_core.specs.Shape.{take_batch_of}
 use Rattle.ring_seats.specs.Ring.{Ring}
 use Rattle.ring_ends.specs.Ends.{HasTakenAll}
 use Rattle.ring_run.specs.Relays.{HasTakenMore, TakesAre}
-use Rattle.ring_run.proofs.RelayLemmas.{length_first, same_trans, takes_there, if_err}
+use Rattle.ring_run.proofs.RelayLemmas.{same_trans, takes_there, if_err}
 use Rattle.ring_run.proofs.RelayTakes.{no_takes_are, took, was_empty, was_told}
 use Rattle.ring_run.proofs.relays.take_all.Given.{Over}
 use Rattle.ring_core.proofs.LawLemmas.{takes_are_read}
@@ -62,7 +62,7 @@ few : (g : Over) (c : After-take_into g) (n : ℕ) → n ≤ length (take c.next
 few g c n most =
     let wanted : ℕ = length (take c.next_take-wanted.result c.takes.room) in
     let left : wanted ≤ c.args.limit - (length c.takes.items.items + c.takes.empty) = omega (arith, asks g c) in
-    (length_first n c.take_into.new.into (omega (arith, most, c.take_into.ensures.long)), omega (arith, most, left, c.if-len-empty.true, c.len.ensures))
+    (length-take-le n c.take_into.new.into (omega (arith, most, c.take_into.ensures.long)), omega (arith, most, left, c.if-len-empty.true, c.len.ensures))
 
 pub takes-preserved-in-Taken : goal.takes-preserved-in-Taken
 takes-preserved-in-Taken g c =
@@ -105,13 +105,10 @@ takes-preserved-in-Empty g c =
     let t = (goal.at.takes-preserved-in-Empty g c).After-take_into in
     let i = c.takes.invariant in
     let s = c.in-Empty.ensures in
-    let open_yet : c.takes.closed ≡ false = c.takes-test.true in
-    let a = g.E.TakeEnd.end c.takes.taker in
-    let b = g.E.TakeEnd.end c.take_into.new.taker in
-    let now = was_empty takes_are_read b.ring.shape a.list b.list c.args.limit c.takes.items.items c.takes.made c.takes.empty (yet g t) (length (take c.next_take-wanted.result c.takes.room)) (asks g t) c.take_into.new.into s.phrase in (
+    let open_yet : c.takes.closed ≡ false = c.takes-test.true in (
       s.idle,
-      same_trans (g.E.TakeEnd.end c.args.taker.now) a b i.1 s.same,
-      subst (TakesAre b.ring.shape b.list c.args.limit c.takes.items.items (c.takes.made + 1) (c.takes.empty + 1)) (sym open_yet) now,
+      same_trans _ _ _ i.1 s.same,
+      subst (TakesAre _ _ c.args.limit c.takes.items.items (c.takes.made + 1) (c.takes.empty + 1)) (sym open_yet) (was_empty takes_are_read _ _ _ c.args.limit c.takes.items.items c.takes.made c.takes.empty (yet g t) _ (asks g t) c.take_into.new.into s.phrase),
       subst (λ (z : Bool). length c.takes.items.items + (c.takes.empty + 1) + (if z then 1 else 0) ≤ c.args.limit) (sym open_yet) (omega (arith, c.if-len-empty.true, c.len.ensures)),
       refl,
       i.5,
@@ -125,19 +122,15 @@ pub takes-preserved : goal.takes-preserved
 takes-preserved g c =
     let t = (goal.at.takes-preserved g c).After-take_into in
     let i = c.takes.invariant in
-    let s = c.in-Closed.ensures in
-    let open_yet : c.takes.closed ≡ false = c.takes-test.true in
-    let a = g.E.TakeEnd.end c.takes.taker in
-    let b = g.E.TakeEnd.end c.take_into.new.taker in
-    let now = was_told takes_are_read b.ring.shape a.list b.list c.args.limit c.takes.items.items c.takes.made c.takes.empty (yet g t) (length (take c.next_take-wanted.result c.takes.room)) (asks g t) c.take_into.new.into s.phrase in (
+    let s = c.in-Closed.ensures in (
       s.idle,
-      same_trans (g.E.TakeEnd.end c.args.taker.now) a b i.1 s.same,
-      now,
+      same_trans _ _ _ i.1 s.same,
+      was_told takes_are_read _ _ _ c.args.limit c.takes.items.items c.takes.made c.takes.empty (yet g t) _ (asks g t) c.take_into.new.into s.phrase,
       omega (arith, c.if-len-empty.true, c.len.ensures),
       refl,
       i.5,
       i.6,
-      omega (arith, subst (λ (z : Bool). c.takes.made ≤ length c.takes.items.items + c.takes.empty + (if z then 1 else 0)) open_yet i.7),
+      omega (arith, subst (λ (z : Bool). c.takes.made ≤ length c.takes.items.items + c.takes.empty + (if z then 1 else 0)) c.takes-test.true i.7),
       i.8 ∙ sym (ap (λ (r : Ring). r.shape) s.same.ring),
     )
 

@@ -1,4 +1,4 @@
-use Rattle.std.proofs.Common.{List, append-nil, refl, subst, sym, ℕ}
+use Rattle.std.proofs.Common.{append-nil, refl, subst, sym}
 use Rattle.ring_core.specs.declared.replies.BatchReply.TheVariants as reply
 use Rattle.uses.specs.Passed.{HasStored}
 use Rattle.uses.proofs.Passing.{few_stored, stored_late, stored_more, stored_none}
@@ -6,29 +6,21 @@ use Rattle.uses.proofs.batches.put_batch.Goals as goal
 
 pub returns-in-Stored-clause-few : goal.returns-in-Stored-clause-few
 returns-in-Stored-clause-few g c =
-    let a = g.E.PutEnd.end c.args.putter.now in
-    let b = g.E.PutEnd.end c.put_all.new.self in
-    (few_stored b.ring.shape c.args.items.now a.list b.list c.in-Stored.stored c.in-Stored.ensures.phrase).1
+    (few_stored _ c.args.items.now _ _ c.in-Stored.stored c.in-Stored.ensures.phrase).1
 
 pub returns-in-Stored-clause-stored : goal.returns-in-Stored-clause-stored
 returns-in-Stored-clause-stored g c before has =
-    let a = g.E.PutEnd.end c.args.putter.now in
-    let b = g.E.PutEnd.end c.put_all.new.self in
-    stored_more c.puts_are_read.ensures a b c.in-Stored.ensures.same.ring before has c.args.items.now c.in-Stored.stored c.in-Stored.ensures.phrase
+    stored_more c.puts_are_read.ensures _ _ c.in-Stored.ensures.same.ring before has c.args.items.now c.in-Stored.stored c.in-Stored.ensures.phrase
 
 pub returns-in-Full-clause-stored : goal.returns-in-Full-clause-stored
 returns-in-Full-clause-stored g c before has =
-    let a = g.E.PutEnd.end c.args.putter.now in
-    let b = g.E.PutEnd.end c.put_all.new.self in
-    subst (λ (l : List ℕ). HasStored b l) (sym (append-nil before))
-    (stored_none c.puts_are_read.ensures a b c.in-Full.ensures.same.ring before has c.args.items.now c.in-Full.ensures.phrase)
+    subst (HasStored _) (sym (append-nil before))
+    (stored_none c.puts_are_read.ensures _ _ c.in-Full.ensures.same.ring before has c.args.items.now c.in-Full.ensures.phrase)
 
 pub returns-in-Closed-clause-stored : goal.returns-in-Closed-clause-stored
 returns-in-Closed-clause-stored g c before has =
-    let a = g.E.PutEnd.end c.args.putter.now in
-    let b = g.E.PutEnd.end c.put_all.new.self in
-    subst (λ (l : List ℕ). HasStored b l) (sym (append-nil before))
-    (stored_late c.puts_are_read.ensures a b c.in-Closed.ensures.same.ring before has c.args.items.now c.in-Closed.ensures.phrase)
+    subst (HasStored _) (sym (append-nil before))
+    (stored_late c.puts_are_read.ensures _ _ c.in-Closed.ensures.same.ring before has c.args.items.now c.in-Closed.ensures.phrase)
 
 pub returns-in-Stored-clause-made : goal.returns-in-Stored-clause-made
 returns-in-Stored-clause-made g c = (reply.Stored c.in-Stored.stored, c.in-Stored.ensures.phrase, refl)

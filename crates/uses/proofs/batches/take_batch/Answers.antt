@@ -5,21 +5,15 @@ use Rattle.uses.proofs.batches.take_batch.Goals as goal
 
 pub returns-in-Taken-clause-took : goal.returns-in-Taken-clause-took
 returns-in-Taken-clause-took g c before has =
-    let a = g.E.TakeEnd.end c.args.taker.now in
-    let b = g.E.TakeEnd.end c.take_all.new.self in
-    took_all c.takes_are_read.ensures a b c.in-Taken.ensures.same.ring before has (length c.args.into.now) (reply.Taken c.in-Taken.taken) c.take_all.new.into c.in-Taken.ensures.phrase
+    took_all c.takes_are_read.ensures _ _ c.in-Taken.ensures.same.ring before has (length c.args.into.now) (reply.Taken c.in-Taken.taken) c.take_all.new.into c.in-Taken.ensures.phrase
 
 pub returns-in-Empty-clause-took : goal.returns-in-Empty-clause-took
 returns-in-Empty-clause-took g c before has =
-    let a = g.E.TakeEnd.end c.args.taker.now in
-    let b = g.E.TakeEnd.end c.take_all.new.self in
-    took_all c.takes_are_read.ensures a b c.in-Empty.ensures.same.ring before has (length c.args.into.now) reply.Empty c.take_all.new.into c.in-Empty.ensures.phrase
+    took_all c.takes_are_read.ensures _ _ c.in-Empty.ensures.same.ring before has (length c.args.into.now) reply.Empty c.take_all.new.into c.in-Empty.ensures.phrase
 
 pub returns-in-Closed-clause-took : goal.returns-in-Closed-clause-took
 returns-in-Closed-clause-took g c before has =
-    let a = g.E.TakeEnd.end c.args.taker.now in
-    let b = g.E.TakeEnd.end c.take_all.new.self in
-    took_all c.takes_are_read.ensures a b c.in-Closed.ensures.same.ring before has (length c.args.into.now) reply.Closed c.take_all.new.into c.in-Closed.ensures.phrase
+    took_all c.takes_are_read.ensures _ _ c.in-Closed.ensures.same.ring before has (length c.args.into.now) reply.Closed c.take_all.new.into c.in-Closed.ensures.phrase
 
 pub returns-in-Taken-clause-made : goal.returns-in-Taken-clause-made
 returns-in-Taken-clause-made g c = (reply.Taken c.in-Taken.taken, c.in-Taken.ensures.phrase, refl)

@@ -8,19 +8,15 @@ use Rattle.uses.proofs.calls.first_of.Goals as goal
 
 pub returns-in-Err-OutOfTurn-clause-judged : goal.returns-in-Err-OutOfTurn-clause-judged
 returns-in-Err-OutOfTurn-clause-judged g c fresh =
-    let inv = c.loop-number.invariant in
-    let was = inv.1 fresh in
+    let was = c.loop-number.invariant.1 fresh in
     let refused = rw c.in-Err-OutOfTurn.field-0-is at c.in-Err-OutOfTurn.ensures.reads in
-    let stops = ((refused.1 (map told (take c.loop-number.number c.args.events.now)) was.0).1).1 in
-    stops_there c.loop-number.auditor.capacity c.args.auditor.now.capacity c.args.events.now c.loop-number.number _ inv.0 c.loop-number-test.true was.1 stops
+    stops_there c.loop-number.auditor.capacity c.args.auditor.now.capacity c.args.events.now c.loop-number.number _ c.loop-number.invariant.0 c.loop-number-test.true was.1 (refused.1 _ was.0).1.1
 
 pub returns-in-Err-NotLinearizable-clause-judged : goal.returns-in-Err-NotLinearizable-clause-judged
 returns-in-Err-NotLinearizable-clause-judged g c fresh =
-    let inv = c.loop-number.invariant in
-    let was = inv.1 fresh in
+    let was = c.loop-number.invariant.1 fresh in
     let refused = rw c.in-Err-NotLinearizable.field-0-is at c.in-Err-NotLinearizable.ensures.reads in
-    let stops = ((refused.1 (map told (take c.loop-number.number c.args.events.now)) was.0).1).1 in
-    stops_there c.loop-number.auditor.capacity c.args.auditor.now.capacity c.args.events.now c.loop-number.number _ inv.0 c.loop-number-test.true was.1 stops
+    stops_there c.loop-number.auditor.capacity c.args.auditor.now.capacity c.args.events.now c.loop-number.number _ c.loop-number.invariant.0 c.loop-number-test.true was.1 (refused.1 _ was.0).1.1
 
 pub loop-number-preserved : goal.loop-number-preserved
 loop-number-preserved g c =

@@ -1,10 +1,10 @@
-use Rattle.std.proofs.Common.{◌≡◌, ◌%◌, ℕ, List, true, length, take, ap, sym, ◌∙◌, subst, Bool}
+use Rattle.std.proofs.Common.{◌≡◌, ◌%◌, ℕ, List, true, length, take, ap, sym, ◌∙◌, subst, Bool, length-take-le}
 use Rattle.bits_core.specs.Shape.{modulus_of}
 use Rattle.ring_run.specs.Counters.{ShowsWords}
 use Rattle.ring_run.specs.Ring.{Ring, RingEnd}
 use Rattle.ring_run.specs.Meetings.{TellsAre}
 use Rattle.uses.specs.Passed.{HasTook}
-use Rattle.uses.proofs.Passing.{counts_put, counts_taken, length_first, of_ok, passed, passed_all}
+use Rattle.uses.proofs.Passing.{counts_put, counts_taken, of_ok, passed, passed_all}
 use Rattle.uses.proofs.two_threads.pass_through.Goals as goal
 
 pub returns-clause-prefix : goal.returns-clause-prefix
@@ -41,7 +41,7 @@ returns-clause-counts g c =
     let took : HasTook t w.new.taken.items = of_ok w.result.1 c.in_ok-takes.field-0 (HasTook t w.new.taken.items) c.in_ok-takes.was w.ensures.took in
     let shows : ShowsWords p.ring.shape words c.finish-finished.result.history = subst (λ (r : Ring). ShowsWords r.shape words c.finish-finished.result.history) (sym at) c.close-words.ensures.shows in (
       c.word.ensures ∙ counts_put p t same c.finish-finished.result.history c.finish-finished.ensures.meets stored w.new.taken.items w.ensures.stored took words shows c.counts_are_shown.ensures.puts ∙
-          (λ i. length_first w.result.0 c.args.items.now w.ensures.few i % modulus_of (shape_is i)),
+          (λ i. length-take-le w.result.0 c.args.items.now w.ensures.few i % modulus_of (shape_is i)),
       c.word-2.ensures ∙ counts_taken p t same c.finish-finished.result.history c.finish-finished.ensures.meets stored w.new.taken.items w.ensures.stored took words shows c.counts_are_shown.ensures.takes ∙
           (λ i. length w.new.taken.items % modulus_of (shape_is i)),
     )

@@ -1,9 +1,10 @@
 use Rattle.std.proofs.Common.{◌≡◌, ◌+◌, ℕ, List, take, refl, ap, sym, ◌∙◌, subst, arith}
 use Rattle.bits_core.specs.declared.shapes.Shape.{Shape}
-use Rattle.bits_core.specs.Shape.{AllFit, batch_of}
+use Rattle.bits_core.specs.Shape.{batch_of}
 use Rattle.ring_run.specs.Ring.{Ring}
 use Rattle.uses.specs.Passed.{HasStored}
-use Rattle.uses.proofs.Passing.{chunk, chunk_first, chunk_within, none_stored, same_trans}
+use Rattle.ring_run.proofs.RelayLemmas.{fit_there, same_trans}
+use Rattle.uses.proofs.Passing.{chunk, chunk_first, chunk_within, none_stored}
 use Rattle.uses.proofs.two_threads.put_each.Goals as goal
 
 pub puts-init : goal.puts-init
@@ -16,8 +17,7 @@ put_batch-stored-requires-clause-batch g c =
     let e = g.E.PutEnd.end c.puts.putter in
     let i = c.puts.invariant in
     let shape : Shape = e.ring.shape in
-    let there : (g.E.PutEnd.end c.args.putter.now).ring.shape ≡ shape = sym (ap (λ (r : Ring). r.shape) i.1.ring) in
-    let fit : AllFit shape c.args.items.now = subst (λ (z : Shape). AllFit z c.args.items.now) there c.requires.fit in
+    let fit = fit_there (g.E.PutEnd.end c.args.putter.now) e c.args.items.now i.1 c.requires.fit in
     let batch : c.batch.result ≡ batch_of shape = c.batch.ensures.value ∙ ap batch_of i.5 in
     chunk shape c.args.items.now c.puts.stored (c.puts.stored + c.min.result) fit
     (omega (arith, c.min.ensures, c.batch.ensures.some, c.if-stored-items.false, i.3))
