@@ -3,9 +3,8 @@ use Rattle.std.proofs.Common.{◌≡◌, ◌⊎◌, inl, inr, Bool, ℕ, Option,
 use Rattle.std.proofs.lemmas.List.{append-nil}
 use Rattle.queue_calls.specs.Calls.{Event}
 use Rattle.queue_calls.specs.Noting.{OutgrowsLists}
-use Rattle.call_lines.specs.Lines.{line_text}
+use Rattle.call_lines.specs.Lines.{line_text, BeginsWithNumbers}
 use Rattle.queue_calls.specs.Recordings.{Line, line, first_word, lines_text, AreLines, and_then, begun_behind, capacity_told, event_told, events_told}
-use Rattle.call_lines.specs.Lines.{BeginsWithNumbers}
 use Rattle.queue_calls.specs.Rooms.{AreTooShort, HasLongHistory, HasLongLine, HasManyNumbers, Rooms}
 use Rattle.call_causes.specs.declared.entries.TheConstants.{TAKEN_LIMIT}
 use Rattle.call_lines.specs.declared.lines.Word.{Word}

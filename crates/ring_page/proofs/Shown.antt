@@ -12,13 +12,13 @@ use Rattle.bits_core.specs.declared.audits.Verdict.{Verdict}
 use Rattle.bits_core.specs.declared.audits.Verdict.TheVariants.{Lawful, Fault}
 use Rattle.bits_core.specs.Audit.{IsVerdict}
 use Rattle.bits_core.specs.History.{held}
-use Rattle.bits_core.specs.Laws.{FaultBreaks, FlickerIsByInterval}
 use Rattle.bits_core.specs.Lawful.{IsLawful}
 use Rattle.bits_core.specs.Memory.{EndsOverlappedRead, is_flicker, is_flicker_at}
 use Rattle.bits_core.specs.Seen.{AreSeen, IsSeen, clashes, sound_count}
 use Rattle.ring_page.specs.Audit.{AreMarksOf, IsNothingSeen, Names, ShowsPlace, ShowsNothing, nothing}
 use Rattle.ring_page.specs.Marks.{ArePut, mark_of}
 use Rattle.ring_page.specs.declared.marks.Mark.{Mark}
+use Rattle.bits_core.proofs.LawLemmas.{fault_breaks}
 
 -- ---- lists
 
@@ -39,14 +39,14 @@ names : (e : Event) (x : Seen) (m : Mark) → m ≡ mark_of e x → Names e m
 names e x m is = subst (λ (k : Mark). Names e k) (sym is) (record { side = refl; row = refl; index = refl; digit = refl; act = refl; value = refl })
 
 -- the events before the one at fault are lawful
-sound : FaultBreaks → (shape : Shape) (h : List Event) (verdict : Verdict) → IsVerdict shape h verdict → IsLawful shape (take (sound_count h verdict) h)
-sound breaks shape h Lawful is = subst (IsLawful shape) (sym (take-length h)) is
-sound breaks shape h (Fault place kind) is = (breaks shape h place kind is).0
+sound : (shape : Shape) (h : List Event) (verdict : Verdict) → IsVerdict shape h verdict → IsLawful shape (take (sound_count h verdict) h)
+sound shape h Lawful is = subst (IsLawful shape) (sym (take-length h)) is
+sound shape h (Fault place kind) is = (fault_breaks shape h place kind is).0
 
 -- what is seen at a place is what the beginning that is lawful shows there
-shown : FlickerIsByInterval → (shape : Shape) (h : List Event) (n p : ℕ) (e : Event) (x : Seen) (m : Mark) → IsLawful shape (take n h) → p < n → slice_get h p ≡ Some e → IsSeen (take p h) e x → m ≡ mark_of e x
+shown : (shape : Shape) (h : List Event) (n p : ℕ) (e : Event) (x : Seen) (m : Mark) → IsLawful shape (take n h) → p < n → slice_get h p ≡ Some e → IsSeen (take p h) e x → m ≡ mark_of e x
     → ShowsPlace (take n h) p e m
-shown by_interval shape h n p e x m lawful below at seen is = record {
+shown shape h n p e x m lawful below at seen is = record {
   held_is = ap (λ (k : Mark). k.held) is ∙ seen.held_is ∙ ap (held e.bit) later;
   overlapped_is = (λ t. law.0 (sym flicker ∙ t), λ ends. flicker ∙ law.1 ends);
   clashes_is = ap (λ (k : Mark). k.clashes) is ∙ seen.clashes_is ∙ ap clashes later;
@@ -78,12 +78,12 @@ shows_nothing e x m is none = record {
   clashes_is = ap (λ (k : Mark). k.clashes) is ∙ ap (λ (s : Seen). s.clashes) none;
 }
 
-pub AreMarksOf-audited : FaultBreaks → FlickerIsByInterval → (shape : Shape) (h : List Event) (verdict : Verdict) (old new : List Seen) (marks : List Mark) → IsVerdict shape h verdict → IsNothingSeen old
+pub AreMarksOf-audited : (shape : Shape) (h : List Event) (verdict : Verdict) (old new : List Seen) (marks : List Mark) → IsVerdict shape h verdict → IsNothingSeen old
     → AreSeen h (sound_count h verdict) old new → length h ≤ length new → ArePut h new marks → AreMarksOf h (sound_count h verdict) marks
-AreMarksOf-audited breaks by_interval shape h verdict old new marks is none seen room put = record {
+AreMarksOf-audited shape h verdict old new marks is none seen room put = record {
   names = λ p e m at there. let x = seen_at p e at in names e x.0 m (put p e x.0 m at x.1 there);
   shows = λ p e m at there below. let x = seen_at p e at in
-      shown by_interval shape h (sound_count h verdict) p e x.0 m (sound breaks shape h verdict is) below at (seen.seen p e x.0 below at x.1) (put p e x.0 m at x.1 there);
+      shown shape h (sound_count h verdict) p e x.0 m (sound shape h verdict is) below at (seen.seen p e x.0 below at x.1) (put p e x.0 m at x.1 there);
   rest = λ p e m at there past. let x = seen_at p e at in
       shows_nothing e x.0 m (put p e x.0 m at x.1 there) (unseen p x.0 (sym (seen.rest p past) ∙ x.1));
 }

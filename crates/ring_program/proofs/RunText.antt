@@ -2,7 +2,6 @@
 use Rattle.std.proofs.Common.{rules, ◌≡◌, ◌∙◌, ℕ, Bool, false, ◌-◌, ◌<◌, ◌≤◌, List, [], ◌∷◌, ◌++◌, drop, refl, ap, ap₂, sym, subst, arith}
 use Rattle.std.proofs.lemmas.List.{append-nil, drop-drop}
 use Rattle.std.proofs.lemmas.List.Sums.{sum_by_push}
-use Rattle.std.proofs.lemmas.Grind.{flat_map-append}
 use Rattle.std.specs.List.{sum_by}
 use Rattle.bits_core.specs.Shape.{batch_of, capacity_of, take_batch_of}
 use Rattle.bits_core.specs.declared.shapes.Shape.{Shape}
@@ -28,6 +27,8 @@ use Rattle.ring_program.specs.declared.run_recordings.TheConstants.{RECORDED}
 use Rattle.ring_program.proofs.RecordingText.{line_is}
 use Rattle.ring_program.proofs.RunTelling.{are_more, tell_more}
 use Rattle.ring_program.proofs.TellingText.{told_is_recording}
+use Rattle.queue_calls.proofs.HeardLines.{begun_more}
+use Rattle.queue_calls.proofs.RecordingLemmas.{lines_more as text_more}
 
 tells_nothing : (all : RunCounts) → TellAllBut all all []
 tells_nothing all = search (rules, arith)
@@ -38,16 +39,9 @@ lines_more : (b : Begun) (h : List Event) (event : Event) → lines_of b (h ++ e
 lines_more b [] event = refl
 lines_more b (e ∷ h) event = ap (λ (ls : List Line). line_of b e ∷ ls) (lines_more (begun_after b (line_of b e).word (line_of b e).numbers) h event)
 
-begun_more : (b : Begun) (lines : List Line) (l : Line) → begun_behind b (lines ++ l ∷ []) ≡ begun_after (begun_behind b lines) l.word l.numbers
-begun_more b [] l = refl
-begun_more b (x ∷ lines) l = begun_more (begun_after b x.word x.numbers) lines l
-
 small_more : (h : List Event) (event : Event) → TellsSmall h → AreSmall (numbers_in event) → TellsSmall (h ++ event ∷ [])
 small_more [] event all small = (small, tt)
 small_more (e ∷ h) event all small = (all.0, small_more h event all.1 small)
-
-text_more : (lines : List Line) (l : Line) → lines_text (lines ++ l ∷ []) ≡ lines_text lines ++ text_of l
-text_more lines l = flat_map-append text_of lines (l ∷ []) ∙ ap (λ (t : List ℕ). lines_text lines ++ t) (append-nil (text_of l))
 
 -- ---- what is told so far
 

@@ -4,7 +4,6 @@ use Rattle.std.proofs.Math.ListN.{get_or}
 use Rattle.std.proofs.lemmas.List.{length-take-le, take_more}
 use Rattle.std.proofs.lemmas.Option.{slice_get-get_or, slice_get_within}
 use Rattle.bits_core.specs.Audit.{IsFirstFault, IsVerdict}
-use Rattle.bits_core.specs.Laws.{FaultBreaks, LawfulByOneMore}
 use Rattle.bits_core.specs.Lawful.{IsLawful}
 use Rattle.bits_core.specs.Steps.{MayFollow}
 use Rattle.bits_core.specs.declared.audits.Kind.{Kind}
@@ -19,6 +18,7 @@ use Rattle.ring_program.specs.Answers.{IsJudged}
 use Rattle.ring_program.specs.declared.command_line.Audited.{Audited}
 use Rattle.ring_program.specs.declared.command_line.Audited.TheVariants.{Programs, Bits}
 use Rattle.ring_program.specs.Why.{IsFaultThere, TellsWhy, TellsWhyAt, verdict_in}
+use Rattle.bits_core.proofs.LawLemmas.{fault_breaks, lawful_by_one_more}
 
 -- what holds where a call went well, from what did
 pub map_ok : {A E P Q : Type 0} → (r : Result A E) → (P → Q) → OnOk r P → OnOk r Q
@@ -26,14 +26,14 @@ map_ok (Ok x) f p = f p
 map_ok (Err e) f p = tt
 
 -- the event at the first fault may not follow those before it
-pub not_following : FaultBreaks → LawfulByOneMore → (shape : Shape) (h : List Event) (place : ℕ) (kind : Kind) (d : Event) → IsFirstFault shape h place kind
+pub not_following : (shape : Shape) (h : List Event) (place : ℕ) (kind : Kind) (d : Event) → IsFirstFault shape h place kind
     → ¬ MayFollow shape (take place h) (get_or h place d)
-not_following breaks more shape h place kind d first follows =
-    let parts = breaks shape h place kind first in
+not_following shape h place kind d first follows =
+    let parts = fault_breaks shape h place kind first in
     let within : place < length h = slice_get_within h place first.event first.at_place in
     let next : place + 1 ≡ suc place = omega arith in
     let longer : take (suc place) h ≡ take place h ++ get_or h place d ∷ [] = ap (λ (n : ℕ). take n h) (sym next) ∙ take_more h place d within in
-    parts.1 (subst (λ t. IsLawful shape t) (sym longer) ((more shape (take place h) (get_or h place d)).1 (parts.0, follows)))
+    parts.1 (subst (λ t. IsLawful shape t) (sym longer) ((lawful_by_one_more shape (take place h) (get_or h place d)).1 (parts.0, follows)))
 
 -- a fault that there is, by its kind
 first_of_kind : (shape : Shape) (h : List Event) (place : ℕ) (kind : Kind) → IsFaultThere shape h (Fault place kind) → place < length h

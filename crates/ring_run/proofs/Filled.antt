@@ -1,5 +1,5 @@
 -- What a put that finds the ring full says of the takes that its putter knows.
-use Rattle.std.proofs.Common.{◌≡◌, ℕ, ◌+◌, ◌-◌, ◌*◌, ◌≤◌, Bool, true, false, Some, List, [], ◌∷◌, ◌++◌, length, refl, ap, sym, subst, ◌∙◌, arith, append-nil, append_assoc, length-append}
+use Rattle.std.proofs.Common.{◌≡◌, ℕ, ◌+◌, ◌-◌, ◌*◌, ◌≤◌, Bool, true, false, Some, List, [], ◌∷◌, ◌++◌, length, refl, ap, sym, subst, ◌∙◌, arith, append-nil, length-append}
 use Rattle.std.specs.Prelude.{nat_le}
 use Rattle.bits_core.specs.declared.events.Side.TheVariants.{P, C}
 use Rattle.bits_core.specs.declared.events.Event.{Event}
@@ -10,7 +10,7 @@ use Rattle.ring_core.specs.declared.replies.PutReply.TheVariants as one
 use Rattle.ring_core.specs.declared.replies.BatchReply.{BatchReply}
 use Rattle.ring_core.specs.declared.replies.BatchReply.TheVariants as reply
 use Rattle.ring_core.specs.Counts.{Count, first_count, number_past}
-use Rattle.ring_core.specs.Puts.{Put, Stored, Full, Puts, stored_in, stored_after, stored_count, put_phrase, put_phrases, close_phrase, put_program}
+use Rattle.ring_core.specs.Puts.{Put, Stored, Full, Puts, stored_in, stored_count, put_phrases, close_phrase, put_program}
 use Rattle.ring_core.specs.Takes.{Take, Item, ItemAfterClose, Empty, Takes, count_after, take_phrase, take_phrases, end_phrase, take_program}
 use Rattle.ring_core.specs.Items.{events_in, all_put, all_taken, items_taken}
 use Rattle.ring_core.specs.CallsAt.{IsPutAt, takes_ended}
@@ -24,6 +24,8 @@ use Rattle.ring_ends.specs.Ends.{HasPuts, HasTakes, PutAdds, HasPutAll}
 use Rattle.ring_run.specs.Laws.{FullAfterMeeting, ItemFullAfterMeeting, PutsAdd}
 use Rattle.ring_ends.proofs.Lists.{events_of-append, length-events_of}
 use Rattle.ring_run.proofs.Emptied.{behind_known, by_true, known_first, later, past_is, within_le}
+use Rattle.ring_core.proofs.Readings.Over.{puts-append as put_phrases-append}
+use Rattle.ring_core.proofs.LawLemmas.{calls_are_first_takes}
 
 -- ---- how many items are stored, and how many are taken by takes that have ended
 
@@ -59,7 +61,7 @@ all_ended shape c (Empty seen ∷ xs) more t le =
 
 -- ---- the put that finds the ring full
 
-module _ (law : InEveryRun FullIsFresh) (first : TakesAreFirst)
+module _ (law : InEveryRun FullIsFresh)
     (shape : Shape) (known before after : List Event) (takes : Takes) (calls : Puts) (seen : ℕ) (is_open : calls.closes ≡ false)
     (whole : HasTakes shape (subhistory C known) takes) (was : HasPuts shape before calls) (begins : IsPrefix (subhistory P known) before)
     (st : Stands shape P after known) (has : HasPuts shape after (and_put calls (Full seen))) where
@@ -98,7 +100,7 @@ module _ (law : InEveryRun FullIsFresh) (first : TakesAreFirst)
   known_before = later P st (put_phrases shape first_count calls.puts) (close_phrase calls.closes) place begins was.list_is (ap close_phrase is_open) fresh.1
 
   are_first : (others : List Take) × (st.ring.takes.takes ≡ takes.takes ++ others)
-  are_first = let follows = st.ring.run.takes_follow in (first shape takes st.ring.takes whole.are follows.are (known_first P st C whole.list_is follows.events)).0
+  are_first = let follows = st.ring.run.takes_follow in (calls_are_first_takes shape takes st.ring.takes whole.are follows.are (known_first P st C whole.list_is follows.events)).0
 
   known_long : length (subhistory C known) ≡ 2 * (length (take_phrases shape first_count takes.takes) + length (end_phrase takes.end))
   known_long = omega (arith, ap length whole.list_is, length-events_of C (take_program shape takes), length-append (take_phrases shape first_count takes.takes) (end_phrase takes.end))
@@ -143,13 +145,6 @@ item-full-after law first read shape known before after takes calls item whole w
     full-after law first read shape known before after takes calls (item ∷ []) whole was begins st (subst (λ r. HasPutAll shape (item ∷ []) before after r) (full_answer answer is) put)
 
 -- ---- a put adds to the list
-
-put_phrases-append : (shape : Shape) (c : Count) (xs ys : List Put) → put_phrases shape c (xs ++ ys) ≡ put_phrases shape c xs ++ put_phrases shape (stored_count shape c xs) ys
-put_phrases-append shape c [] ys = refl
-put_phrases-append shape c (x ∷ xs) ys =
-    let next : Count = stored_after shape c x in
-    ap (λ l. put_phrase shape c x ++ l) (put_phrases-append shape next xs ys) ∙
-    sym (append_assoc (put_phrase shape c x) (put_phrases shape next xs) (put_phrases shape (stored_count shape next xs) ys))
 
 one_more : (shape : Shape) (calls : Puts) (x : Put) → calls.closes ≡ false → (rest : List Made) × (put_program shape (and_put calls x) ≡ put_program shape calls ++ rest)
 one_more shape calls x is_open =

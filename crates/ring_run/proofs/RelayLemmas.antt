@@ -14,13 +14,15 @@ use Rattle.ring_core.specs.Puts as puts
 use Rattle.ring_core.specs.Puts.{Put, Puts, IsBatch}
 use Rattle.ring_core.specs.Items.{all_put}
 use Rattle.ring_core.specs.Over.{fulls}
-use Rattle.ring_core.specs.Readings.{PutsAreRead}
 use Rattle.ring_core.specs.ProducerCalls.{and_put, no_puts, IsPutOf}
 use Rattle.ring_core.specs.ProducerCalls as put_calls
 use Rattle.ring_seats.specs.Ring.{Ring, RingEnd}
 use Rattle.ring_seats.specs.Steppers.{IsSameEnd}
 use Rattle.ring_ends.specs.Ends.{HasPuts, HasPutAll, PutAdds}
 use Rattle.ring_run.specs.Relays.{AreGiven, PutsAre, TakesAre}
+pub use Rattle.ring_seats.proofs.CounterPuts.{first_fit as fit_first}
+pub use Rattle.ring_seats.proofs.CounterSteps.{same_end as same_trans}
+use Rattle.ring_core.proofs.LawLemmas.{puts_are_read}
 
 -- ---- lists
 
@@ -57,12 +59,6 @@ fulls_full (puts.Full s ∷ xs) seen = omega (arith, fulls_full xs seen)
 
 one_longer : (xs : List Put) (x : Put) → length (xs ++ x ∷ []) ≡ suc (length xs)
 one_longer xs x = omega (arith, length-append xs (x ∷ []))
-
--- what one put is given
-pub fit_first : (shape : Shape) (n : ℕ) (xs : List ℕ) → AllFit shape xs → AllFit shape (take n xs)
-fit_first shape zero xs fit = tt
-fit_first shape (suc n) [] fit = tt
-fit_first shape (suc n) (x ∷ xs) fit = (fit.0, fit_first shape n xs fit.1)
 
 pub fit_left : (shape : Shape) (n : ℕ) (xs : List ℕ) → AllFit shape xs → AllFit shape (drop n xs)
 fit_left shape zero xs fit = fit
@@ -123,8 +119,8 @@ counted_is : (shape : Shape) (c : Count) (xs : List Put) → (puts.stored_count 
 counted_is shape c [] = refl
 counted_is shape c (x ∷ xs) = counted_is shape (puts.stored_after shape c x) xs
 
-same_puts : PutsAreRead → (shape : Shape) (list : List Event) (a b : Puts) → HasPuts shape list a → HasPuts shape list b → a ≡ b
-same_puts read shape list a b ha hb = read shape a b ha.are hb.are (sym ha.list_is ∙ hb.list_is)
+same_puts : (shape : Shape) (list : List Event) (a b : Puts) → HasPuts shape list a → HasPuts shape list b → a ≡ b
+same_puts shape list a b ha hb = puts_are_read shape a b ha.are hb.are (sym ha.list_is ∙ hb.list_is)
 
 pub no_puts_are : (shape : Shape) (list : List Event) (items : List ℕ) → list ≡ [] → PutsAre shape list items 0 0 0 false
 no_puts_are shape list items is = record {
@@ -138,10 +134,10 @@ no_puts_are shape list items is = record {
   closes_is = refl;
 }
 
-module _ (read : PutsAreRead) (shape : Shape) (list list' : List Event) (items : List ℕ) (put made full : ℕ) (p : PutsAre shape list items put made full false) where
+module _ (shape : Shape) (list list' : List Event) (items : List ℕ) (put made full : ℕ) (p : PutsAre shape list items put made full false) where
   adds_false : (given : List ℕ) (reply : batch_replies.BatchReply) → HasPutAll shape given list list' reply → PutAdds false shape p.calls given reply list list'
   adds_false given reply h =
-      let same : h.calls ≡ p.calls = same_puts read shape list h.calls p.calls h.before_is p.list_is in
+      let same : h.calls ≡ p.calls = same_puts shape list h.calls p.calls h.before_is p.list_is in
       subst (λ (z : Puts × Bool). PutAdds z.1 shape z.0 given reply list list') (λ i. (same i, (ap (λ (q : Puts). q.closes) same ∙ p.closes_is) i)) h.adds
 
   -- the calls with one put more
@@ -208,9 +204,6 @@ if_err (Ok a) X x = tt
 if_err (Err e) X x = x
 
 -- ---- an end after two calls
-
-pub same_trans : (a b c : RingEnd) → IsSameEnd a b → IsSameEnd b c → IsSameEnd a c
-same_trans a b c s t = record { ring = t.ring ∙ s.ring; side = t.side ∙ s.side; known = t.known ∙ s.known }
 
 -- what fits the ring of an end fits it later
 pub fit_there : (a b : RingEnd) (items : List ℕ) → IsSameEnd a b → AllFit a.ring.shape items → AllFit b.ring.shape items

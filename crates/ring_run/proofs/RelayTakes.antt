@@ -7,19 +7,21 @@ use Rattle.bits_core.specs.declared.events.Event.{Event}
 use Rattle.ring_core.specs.declared.replies.TakeBatchReply as replies
 use Rattle.ring_core.specs.declared.replies.TakeBatchReply.TheVariants as reply
 use Rattle.bits_core.specs.Shape.{take_batch_of}
-use Rattle.ring_core.specs.Counts.{Count, first_count}
+use Rattle.ring_core.specs.Counts.{first_count}
 use Rattle.ring_core.specs.Takes as takes
-use Rattle.ring_core.specs.Takes.{Take, Takes, Open, AreTakes, IsTake, count_after, taken_after, taken_count, taken_in}
+use Rattle.ring_core.specs.Takes.{Take, Takes, Open, AreTakes, IsTake, taken_after, taken_in}
 use Rattle.ring_core.specs.Items.{all_taken, taken_of}
 use Rattle.ring_core.specs.Over.{empties}
-use Rattle.ring_core.specs.Readings.{TakesAreRead}
-use Rattle.ring_core.specs.ConsumerCalls.{and_take, and_end, no_takes, ends_closed, IsTakeOf, items_at_end, last_items, reply_at_end, take_batch_reply, take_reply_to}
+use Rattle.ring_core.specs.ConsumerCalls.{and_take, and_end, no_takes, ends_closed, IsTakeOf, items_at_end, reply_at_end, take_batch_reply, take_reply_to}
 use Rattle.ring_ends.specs.Ends.{HasTakenAll, HasTakes, TakeAllAdds, number_brought}
 use Rattle.ring_run.proofs.Lists.{last-snoc}
 use Rattle.ring_run.specs.Relays.{AreAsked, TakesAre, used_by}
+use Rattle.ring_core.proofs.OverSpans.CallSpans.{taken_number as counted_is}
+pub use Rattle.ring_core.proofs.Machines.TakeCalls.{items-push as items_snoc}
+use Rattle.ring_core.proofs.LawLemmas.{takes_are_read}
 
-same_takes : TakesAreRead → (shape : Shape) (list : List Event) (a b : Takes) → HasTakes shape list a → HasTakes shape list b → a ≡ b
-same_takes read shape list a b ha hb = read shape a b ha.are hb.are (sym ha.list_is ∙ hb.list_is)
+same_takes : (shape : Shape) (list : List Event) (a b : Takes) → HasTakes shape list a → HasTakes shape list b → a ≡ b
+same_takes shape list a b ha hb = takes_are_read shape a b ha.are hb.are (sym ha.list_is ∙ hb.list_is)
 
 pub no_takes_are : (shape : Shape) (list : List Event) (limit : ℕ) → list ≡ [] → TakesAre shape list limit [] 0 0 false
 no_takes_are shape list limit is = record {
@@ -49,10 +51,6 @@ taken_snoc : (xs : List Take) (x : Take) → all_taken (xs ++ x ∷ []) ≡ all_
 taken_snoc [] x = append-nil (taken_of x)
 taken_snoc (y ∷ xs) x = ap (λ (l : List ℕ). taken_of y ++ l) (taken_snoc xs x) ∙ sym (append_assoc (taken_of y) (all_taken xs) (taken_of x))
 
-pub items_snoc : (first : List ℕ) (xs : List Take) (x : Take) → last_items first (xs ++ x ∷ []) ≡ taken_of x
-items_snoc first [] x = refl
-items_snoc first (y ∷ xs) x = items_snoc (taken_of y) xs x
-
 empties_snoc : (xs : List Take) (x : Take) → empties (xs ++ x ∷ []) ≡ empties xs + empty_of x
 unfolding empty_of
 empties_snoc [] (takes.Item seen items) = refl
@@ -61,10 +59,6 @@ empties_snoc [] (takes.Empty seen) = refl
 empties_snoc (takes.Item s i ∷ xs) x = empties_snoc xs x
 empties_snoc (takes.ItemAfterClose s a i ∷ xs) x = empties_snoc xs x
 empties_snoc (takes.Empty s ∷ xs) x = omega (arith, empties_snoc xs x)
-
-counted_is : (shape : Shape) (c : Count) (xs : List Take) → (taken_count shape c xs).number ≡ taken_in c.number xs
-counted_is shape c [] = refl
-counted_is shape c (x ∷ xs) = counted_is shape (count_after shape c x) xs
 
 last_is_take : (shape : Shape) (k : ℕ) (xs : List Take) (x : Take) → AreTakes shape k (xs ++ x ∷ []) Open → IsTake shape (taken_in k xs) x
 last_is_take shape k [] x are = are.0
@@ -125,11 +119,11 @@ record Made (shape : Shape) (list' : List Event) (calls : Takes) (wanted : ℕ) 
   told : Some y ≡ take_batch_reply (Some (take_reply_to x)) (taken_of x)
   brought : take (number_brought y) into ≡ taken_of x
 
-module _ (read : TakesAreRead) (shape : Shape) (list list' : List Event) (limit : ℕ) (taken : List ℕ) (made empty : ℕ) (p : TakesAre shape list limit taken made empty false)
+module _ (shape : Shape) (list list' : List Event) (limit : ℕ) (taken : List ℕ) (made empty : ℕ) (p : TakesAre shape list limit taken made empty false)
     (wanted : ℕ) (wanted_is : wanted ≡ min (take_batch_of shape) (limit - (length taken + empty))) (into : List ℕ) where
   adds : (y : replies.TakeBatchReply) → HasTakenAll shape wanted list list' y into → TakeAllAdds false shape wanted p.calls y into list list'
   adds y h =
-      let same : h.calls ≡ p.calls = same_takes read shape list h.calls p.calls h.before_is p.list_is in
+      let same : h.calls ≡ p.calls = same_takes shape list h.calls p.calls h.before_is p.list_is in
       subst (λ (z : Takes × Bool). TakeAllAdds z.1 shape wanted z.0 y into list list') (λ i. (same i, (ap (λ (q : Takes). ends_closed q.end) same ∙ p.told_is) i)) h.adds
 
   made_so : (y : replies.TakeBatchReply) → y ≢ reply.Closed → HasTakenAll shape wanted list list' y into → Made shape list' p.calls wanted y into

@@ -3,7 +3,6 @@ use Rattle.std.proofs.Common.{Bool, false, List, [], ap, append-nil, arith, eqb-
 use Rattle.std.proofs.lemmas.List.{length-append, length-take-le}
 use Rattle.std.proofs.Math.Seq.{take-length}
 use Rattle.bits_core.specs.declared.shapes.Shape.{Shape}
-use Rattle.bits_core.specs.declared.events.Side.{Side}
 use Rattle.bits_core.specs.declared.events.Side.TheVariants.{P, C}
 use Rattle.bits_core.specs.declared.events.Event.{Event}
 use Rattle.bits_core.specs.Shape.{capacity_of}
@@ -22,9 +21,8 @@ use Rattle.ring_seats.specs.Programs.{IsRing}
 use Rattle.ring_core.specs.Linear.{EachReadingIsLinearizable}
 use Rattle.ring_run.specs.Relays.{HasMadePuts, HasRelayedPuts, HasRelayedTakes, HasTakenMore, IsRelayed, PutsAre, TakesAre}
 use Rattle.ring_ends.proofs.Lists.{length-events_of}
-
-clock_at_end : (s : Side) (h : List Event) → clock s h (length h) ≡ length (subhistory s h)
-clock_at_end s h = ap (λ (l : List Event). length (subhistory s l)) (take-length h)
+use Rattle.ring_core.proofs.OwnEvents.{clock_end as clock_at_end}
+use Rattle.ring_core.proofs.LawLemmas.{whole_calls_count_puts, whole_calls_count_takes}
 
 tells_true : (end : End) → ends_closed end ≡ true → Tells end
 tells_true Open e = absurd (true≢false (sym e))
@@ -40,11 +38,11 @@ module _ (shape : Shape) (items : List ℕ) (put made full : ℕ) (closes : Bool
     takes_follow = record { are = ts.list_is.are; events = ([], append-nil (subhistory C h) ∙ ts.list_is.list_is) };
   }
 
-  put_of : WholePutsCount → items_put shape first_count ps.calls.puts (clock P h (length h)) ≡ take put items
-  put_of count = ap (items_put shape first_count ps.calls.puts) (clock_at_end P h) ∙ (count shape h ps.calls ps.list_is.are ps.list_is.list_is).0 ∙ ps.in_order
+  put_of : items_put shape first_count ps.calls.puts (clock P h (length h)) ≡ take put items
+  put_of = ap (items_put shape first_count ps.calls.puts) (clock_at_end P h) ∙ (whole_calls_count_puts shape h ps.calls ps.list_is.are ps.list_is.list_is).0 ∙ ps.in_order
 
-  taken_of : WholeTakesCount → items_taken shape first_count ts.calls.takes (clock C h (length h)) ≡ taken
-  taken_of count = ap (items_taken shape first_count ts.calls.takes) (clock_at_end C h) ∙ (count shape h ts.calls ts.list_is.are ts.list_is.list_is).0 ∙ ts.taken_is
+  taken_of : items_taken shape first_count ts.calls.takes (clock C h (length h)) ≡ taken
+  taken_of = ap (items_taken shape first_count ts.calls.takes) (clock_at_end C h) ∙ (whole_calls_count_takes shape h ts.calls ts.list_is.are ts.list_is.list_is).0 ∙ ts.taken_is
 
   prefix_of : InEveryRun TakenArePrefix → WholePutsCount → WholeTakesCount → IsPrefix taken (take put items)
   prefix_of prefix puts_count takes_count = subst (λ (z : List ℕ × List ℕ). IsPrefix z.0 z.1) (λ i. (taken_of takes_count i, put_of puts_count i)) (prefix shape h ps.calls ts.calls run_of (length h))
@@ -55,7 +53,7 @@ module _ (shape : Shape) (items : List ℕ) (put made full : ℕ) (closes : Bool
       let p = prefix_of prefix puts_count takes_count in
       omega (arith, ap length p.1, length-append taken p.0, length-take-le put items ps.within, ps.within)
 
-module _ (within : InEveryRun IsWithin) (prefix : InEveryRun TakenArePrefix) (closed_law : InEveryRun ClosedIsTrue) (puts_count : WholePutsCount) (takes_count : WholeTakesCount)
+module _ (within : InEveryRun IsWithin) (prefix : InEveryRun TakenArePrefix) (closed_law : InEveryRun ClosedIsTrue)
     (shape : Shape) (items : List ℕ) (most_puts most_takes put made full : ℕ) (taken : List ℕ) (made_takes empty : ℕ) (closed : Bool) (r : IsRelayed shape items most_puts most_takes put made full taken made_takes empty closed) where
   abbrev h : List Event
   h = r.history
@@ -70,13 +68,13 @@ module _ (within : InEveryRun IsWithin) (prefix : InEveryRun TakenArePrefix) (cl
   run = run_of shape items put made full (put == length items) most_takes taken made_takes empty closed h r.ring r.puts.puts r.takes.takes
 
   put_is : items_put shape first_count puts.puts (clock P h (length h)) ≡ take put items
-  put_is = put_of shape items put made full (put == length items) most_takes taken made_takes empty closed h r.ring r.puts.puts r.takes.takes puts_count
+  put_is = put_of shape items put made full (put == length items) most_takes taken made_takes empty closed h r.ring r.puts.puts r.takes.takes
 
   taken_is : items_taken shape first_count takes.takes (clock C h (length h)) ≡ taken
-  taken_is = taken_of shape items put made full (put == length items) most_takes taken made_takes empty closed h r.ring r.puts.puts r.takes.takes takes_count
+  taken_is = taken_of shape items put made full (put == length items) most_takes taken made_takes empty closed h r.ring r.puts.puts r.takes.takes
 
   pub relayed_prefix : IsPrefix taken (take put items)
-  relayed_prefix = prefix_of shape items put made full (put == length items) most_takes taken made_takes empty closed h r.ring r.puts.puts r.takes.takes prefix puts_count takes_count
+  relayed_prefix = prefix_of shape items put made full (put == length items) most_takes taken made_takes empty closed h r.ring r.puts.puts r.takes.takes prefix whole_calls_count_puts whole_calls_count_takes
 
   pub relayed_all : closed ≡ true → (put ≡ length items) × (taken ≡ items)
   relayed_all e =
@@ -92,8 +90,8 @@ module _ (within : InEveryRun IsWithin) (prefix : InEveryRun TakenArePrefix) (cl
   pub relayed_within : put ≤ length taken + capacity_of shape
   relayed_within =
       let w = within shape h puts takes run (length h) in
-      let p = (puts_count shape h puts r.puts.puts.list_is.are r.puts.puts.list_is.list_is).1 in
-      let t = (takes_count shape h takes r.takes.takes.list_is.are r.takes.takes.list_is.list_is).1 in
+      let p = (whole_calls_count_puts shape h puts r.puts.puts.list_is.are r.puts.puts.list_is.list_is).1 in
+      let t = (whole_calls_count_takes shape h takes r.takes.takes.list_is.are r.takes.takes.list_is.list_is).1 in
       omega (arith, w.1, ap (puts_begun shape puts) (clock_at_end P h), ap (takes_begun shape takes) (clock_at_end C h), p, t, ap length r.puts.puts.in_order, length-take-le put items r.puts.puts.within, ap length r.takes.takes.taken_is)
 
 -- what a relay's ends and their meeting say, of one history

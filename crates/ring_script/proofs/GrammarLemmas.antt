@@ -1,7 +1,6 @@
 -- The reading of a schedule's text byte by byte meets its grammar.
-use Rattle.std.proofs.Common.{◌≡◌, ◌∙◌, ◌≤◌, ◌<◌, ◌+◌, ◌-◌, ◌*◌, ℕ, zero, suc, max, Bool, true, false, List, [], ◌∷◌, ◌++◌, length, replicate, take, Some, None, refl, sym, ap, ap₂, subst, arith, true≢false}
+use Rattle.std.proofs.Common.{◌≡◌, ◌∙◌, ◌≤◌, ◌<◌, ◌+◌, ◌-◌, ◌*◌, ℕ, zero, suc, max, Bool, true, false, List, [], ◌∷◌, ◌++◌, length, replicate, take, Some, None, refl, sym, ap, ap₂, subst, arith, true≢false, ◌^◌, get_or}
 use Rattle.std.specs.Prelude.{if◌then◌else◌, decimal}
-use Rattle.std.proofs.Common.{◌^◌, get_or}
 use Rattle.std.proofs.lemmas.Fmt.{decimal_is_IsNumeral, first_decimal}
 use Rattle.std.specs.List.{flat_map}
 use Rattle.std.specs.Char.{digit_value}

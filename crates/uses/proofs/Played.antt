@@ -1,11 +1,10 @@
 -- What a play's report says of its items.
 use Rattle.std.proofs.Common.{◌+◌, ◌≡◌, ◌↔◌, ◌≤◌, ◌∙◌, Bool, true, List, ap, arith, length, subst, sym, ℕ}
 use Rattle.std.proofs.lemmas.List.{length-append}
-use Rattle.std.proofs.Math.Seq.{take-length}
 use Rattle.bits_core.specs.declared.events.Side.{Side}
 use Rattle.bits_core.specs.declared.events.Side.TheVariants.{P, C}
 use Rattle.bits_core.specs.declared.events.Event.{Event}
-use Rattle.bits_core.specs.Made.{IsPrefix, clock, subhistory}
+use Rattle.bits_core.specs.Made.{IsPrefix}
 use Rattle.ring_core.specs.Counts.{first_count}
 use Rattle.ring_core.specs.Puts.{Puts, FollowsPuts}
 use Rattle.ring_core.specs.Takes.{Takes, FollowsTakes}
@@ -15,12 +14,10 @@ use Rattle.ring_player.specs.Plays.{HasFlickers}
 use Rattle.ring_script.specs.Content.{Content}
 use Rattle.ring_script.specs.Script.{IsScript}
 use Rattle.uses.specs.Plays.{LeavesInside, TakesSoMany}
+use Rattle.ring_core.proofs.OwnEvents.{clock_end as clock_at_end}
 
 pub no_longer : {A : Type 0} (xs ys : List A) → IsPrefix xs ys → length xs ≤ length ys
 no_longer xs ys (rest, e) = omega (arith, ap length e, length-append xs rest)
-
-clock_at_end : (s : Side) (h : List Event) → clock s h (length h) ≡ length (subhistory s h)
-clock_at_end s h = ap (λ (l : List Event). length (subhistory s l)) (take-length h)
 
 -- no more items were taken than put
 pub play_within :

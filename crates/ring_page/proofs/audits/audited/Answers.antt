@@ -7,7 +7,6 @@ use Rattle.ring_page.specs.declared.programs.Judged.{Judged}
 use Rattle.std.proofs.lemmas.List.{length-take-le}
 use Rattle.ring_page.proofs.Shown.{AreMarksOf-audited}
 use Rattle.ring_page.proofs.Sinces.{since_fits, since_told}
-use Rattle.bits_core.proofs.LawLemmas.{fault_breaks, flicker_is_by_interval}
 use Rattle.ring_page.proofs.audits.audited.Goals as goal
 
 pub since_when-since-requires : goal.since_when-since-requires
@@ -35,7 +34,7 @@ returns-in-Ok c =
       count = c.told_verdict.ensures.count ∙ sym count;
       since = subst (λ (n : ℕ). TellsSince c.in-Ok.shape events verdict n) (sym c.told_verdict.ensures.since) (rw c.since_when-since.ensures (since_told c.in-Ok.shape events verdict c.audit_bits_into-verdict.result.1 c.audit_bits_into-verdict.ensures.why));
       programs = subst (λ (j : Judged). TellsPrograms shape events c.tell_programs-programs.new.put c.tell_programs-programs.new.taken j) (sym c.told_verdict.ensures.programs) c.tell_programs-programs.ensures;
-      are_marks = AreMarksOf-audited fault_breaks flicker_is_by_interval shape events verdict c.args.seen.now c.audit_bits_into-verdict.new.seen c.put_marks.new.marks
+      are_marks = AreMarksOf-audited shape events verdict c.args.seen.now c.audit_bits_into-verdict.new.seen c.put_marks.new.marks
           c.audit_bits_into-verdict.ensures.verdict c.requires.seen.1 c.audit_bits_into-verdict.ensures.seen few c.put_marks.ensures;
     })
 

@@ -4,26 +4,26 @@ use Rattle.bits_core.specs.declared.audits.Kind.TheVariants.{WrongSide, OutOfTur
 use Rattle.bits_core.specs.declared.audits.Verdict.{Verdict}
 use Rattle.ring_program.specs.Why.{TellsWhy}
 use Rattle.ring_program.proofs.WhyLemmas.{fault_behind, fault_of_kind, fault_within, map_ok, not_following, why_there}
-use Rattle.bits_core.proofs.LawLemmas.{fault_breaks, lawful_by_one_more}
+use Rattle.bits_core.proofs.LawLemmas.{fault_breaks}
 use Rattle.ring_program.proofs.why.push_why.Goals as goal
 
 pub push_fault-requires-clause-lawful : goal.push_fault-requires-clause-lawful
 push_fault-requires-clause-lawful g c = (fault_breaks _ _ _ WrongSide (fault_of_kind c.args.shape.now c.args.events.now c.args.verdict c.in-Fault.place c.in-Fault.kind WrongSide c.in-Fault.is c.in-WrongSide.is c.requires.there)).0
 
 pub push_fault-requires-clause-faulty : goal.push_fault-requires-clause-faulty
-push_fault-requires-clause-faulty g c = not_following fault_breaks lawful_by_one_more _ _ _ WrongSide _ (fault_of_kind c.args.shape.now c.args.events.now c.args.verdict c.in-Fault.place c.in-Fault.kind WrongSide c.in-Fault.is c.in-WrongSide.is c.requires.there)
+push_fault-requires-clause-faulty g c = not_following _ _ _ WrongSide _ (fault_of_kind c.args.shape.now c.args.events.now c.args.verdict c.in-Fault.place c.in-Fault.kind WrongSide c.in-Fault.is c.in-WrongSide.is c.requires.there)
 
 pub push_fault-requires-in-OutOfTurn-clause-lawful : goal.push_fault-requires-in-OutOfTurn-clause-lawful
 push_fault-requires-in-OutOfTurn-clause-lawful g c = (fault_breaks _ _ _ OutOfTurn (fault_of_kind c.args.shape.now c.args.events.now c.args.verdict c.in-Fault.place c.in-Fault.kind OutOfTurn c.in-Fault.is c.in-OutOfTurn.is c.requires.there)).0
 
 pub push_fault-requires-in-OutOfTurn-clause-faulty : goal.push_fault-requires-in-OutOfTurn-clause-faulty
-push_fault-requires-in-OutOfTurn-clause-faulty g c = not_following fault_breaks lawful_by_one_more _ _ _ OutOfTurn _ (fault_of_kind c.args.shape.now c.args.events.now c.args.verdict c.in-Fault.place c.in-Fault.kind OutOfTurn c.in-Fault.is c.in-OutOfTurn.is c.requires.there)
+push_fault-requires-in-OutOfTurn-clause-faulty g c = not_following _ _ _ OutOfTurn _ (fault_of_kind c.args.shape.now c.args.events.now c.args.verdict c.in-Fault.place c.in-Fault.kind OutOfTurn c.in-Fault.is c.in-OutOfTurn.is c.requires.there)
 
 pub push_fault-requires-in-NotPermitted-clause-lawful : goal.push_fault-requires-in-NotPermitted-clause-lawful
 push_fault-requires-in-NotPermitted-clause-lawful g c = (fault_breaks _ _ _ NotPermitted (fault_of_kind c.args.shape.now c.args.events.now c.args.verdict c.in-Fault.place c.in-Fault.kind NotPermitted c.in-Fault.is c.in-NotPermitted.is c.requires.there)).0
 
 pub push_fault-requires-in-NotPermitted-clause-faulty : goal.push_fault-requires-in-NotPermitted-clause-faulty
-push_fault-requires-in-NotPermitted-clause-faulty g c = not_following fault_breaks lawful_by_one_more _ _ _ NotPermitted _ (fault_of_kind c.args.shape.now c.args.events.now c.args.verdict c.in-Fault.place c.in-Fault.kind NotPermitted c.in-Fault.is c.in-NotPermitted.is c.requires.there)
+push_fault-requires-in-NotPermitted-clause-faulty g c = not_following _ _ _ NotPermitted _ (fault_of_kind c.args.shape.now c.args.events.now c.args.verdict c.in-Fault.place c.in-Fault.kind NotPermitted c.in-Fault.is c.in-NotPermitted.is c.requires.there)
 
 pub returns-in-NotProgram-clause-told : goal.returns-in-NotProgram-clause-told
 returns-in-NotProgram-clause-told g c =

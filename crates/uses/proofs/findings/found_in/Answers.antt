@@ -1,10 +1,11 @@
-use Rattle.std.proofs.Common.{◌≡◌, ◌<◌, ◌+◌, ◌++◌, ◌∷◌, [], ℕ, List, Bor, Result, Ok, Err, IfErr, IfOk, length, take, drop, slice_index_or, refl, ap, sym, rules, subst, ◌∙◌, arith}
+use Rattle.std.proofs.Common.{◌≡◌, ◌<◌, ◌+◌, ◌++◌, ◌∷◌, [], ℕ, List, Bor, Result, Ok, Err, IfOk, length, take, drop, slice_index_or, refl, ap, sym, rules, subst, ◌∙◌, arith}
 use Rattle.std.specs.Prelude.{flat_map}
 use Rattle.std.proofs.lemmas.Grind.{flat_map-append}
 use Rattle.std.proofs.lemmas.List.{append-nil, append_assoc, take-append-drop, take_all, take_more}
 use Rattle.queue_calls.specs.Recordings.{IsFindingOf, RefusesText}
 use Rattle.queue_calls.specs.RecordingStates.{HasRead}
 use Rattle.uses.proofs.findings.found_in.Goals as goal
+use Rattle.bits_core.proofs.TraceTexts.{then_err as if_err}
 
 -- what holds of an answer follows from what else holds of it
 if_ok : {T E : Type 0} {P Q : T → Type 0} (r : Result T E) → IfOk r P → ((x : T) → P x → Q x) → IfOk r Q
@@ -35,11 +36,6 @@ all_pieces pieces index d less =
     sym (append_assoc (flat_map f (take index pieces)) (slice_index_or pieces index d).now (flat_map f (drop (index + 1) pieces)))
     ∙ ap (λ t. t ++ flat_map f (drop (index + 1) pieces)) (one_more pieces index d less)
     ∙ sym (flat_map-append f (take (index + 1) pieces) (drop (index + 1) pieces)) ∙ ap (flat_map f) (take-append-drop (index + 1) pieces)
-
--- what holds of an error follows from what else holds of it
-if_err : {T E : Type 0} {P Q : E → Type 0} (r : Result T E) → IfErr r P → ((e : E) → P e → Q e) → IfErr r Q
-if_err (Ok x) p q = tt
-if_err (Err e) p q = q e p
 
 pub returns-in_err-read-clause-refused : goal.returns-in_err-read-clause-refused
 returns-in_err-read-clause-refused g c =

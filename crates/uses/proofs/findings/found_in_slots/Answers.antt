@@ -1,17 +1,13 @@
-use Rattle.std.proofs.Common.{[], Result, Ok, Err, IfErr, IfOk, rules, subst}
+use Rattle.std.proofs.Common.{[], Result, Ok, Err, IfOk, rules, subst}
 use Rattle.std.proofs.lemmas.List.{append-nil}
 use Rattle.queue_calls.specs.Recordings.{RefusesText}
 use Rattle.uses.proofs.findings.found_in_slots.Goals as goal
+use Rattle.bits_core.proofs.TraceTexts.{then_err as if_err}
 
 -- what holds of an answer follows from what else holds of it
 if_ok : {T E : Type 0} {P Q : T → Type 0} (r : Result T E) → IfOk r P → ((x : T) → P x → Q x) → IfOk r Q
 if_ok (Ok x) p q = q x p
 if_ok (Err e) p q = tt
-
--- what holds of an error follows from what else holds of it
-if_err : {T E : Type 0} {P Q : E → Type 0} (r : Result T E) → IfErr r P → ((e : E) → P e → Q e) → IfErr r Q
-if_err (Ok x) p q = tt
-if_err (Err e) p q = q e p
 
 pub returns-in_err-read-clause-refused : goal.returns-in_err-read-clause-refused
 returns-in_err-read-clause-refused c =
