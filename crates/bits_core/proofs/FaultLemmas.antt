@@ -12,7 +12,7 @@ use Rattle.bits_core.specs.declared.audits.Verdict.{Verdict}
 use Rattle.bits_core.specs.declared.audits.Verdict.TheVariants.{Lawful, Fault}
 use Rattle.bits_core.specs.declared.reasons.Reason.{Reason}
 use Rattle.bits_core.specs.Audit.{IsFault, IsFirstFault, IsFaultAfter, IsVerdict}
-use Rattle.bits_core.specs.Reasons.{IsReasonBehind, TellsWhy}
+use Rattle.bits_core.specs.Reasons.{IsReasonBehind, HasReason}
 use Rattle.bits_core.specs.Steps.{MayFollow, EachMayFollow}
 use Rattle.bits_core.specs.Lawful.{TakesTurn, IsLawfulEvent, IsLawful}
 use Rattle.bits_core.specs.Laws.{FaultBreaks}
@@ -125,10 +125,10 @@ not_MayFollow shape past e NotPermitted fault follows = fault.2 follows.permitte
 not_MayFollow shape past e NotProgram fault follows = fault
 
 -- a reason that is none only of an event that may follow tells why the one at fault may not
-pub TellsWhy-at : (shape : Shape) (h : List Event) (place : ℕ) (d : Event) (kind : Kind) (why : Option Reason) → place < length h → IsFaultAfter shape (take place h) (get_or h place d) kind →
+pub HasReason-at : (shape : Shape) (h : List Event) (place : ℕ) (d : Event) (kind : Kind) (why : Option Reason) → place < length h → IsFaultAfter shape (take place h) (get_or h place d) kind →
     (why ≡ None → MayFollow shape (take place h) (get_or h place d)) →
     IfSome why (λ reason. (¬ MayFollow shape (take place h) (get_or h place d)) × IsReasonBehind shape (take place h) (get_or h place d) reason) →
-    TellsWhy shape h (Fault place kind) why
-TellsWhy-at shape h place d kind None within fault none some e at = absurd (not_MayFollow shape (take place h) (get_or h place d) kind fault (none refl))
-TellsWhy-at shape h place d kind (Some reason) within fault none some e at =
+    HasReason shape h (Fault place kind) why
+HasReason-at shape h place d kind None within fault none some e at = absurd (not_MayFollow shape (take place h) (get_or h place d) kind fault (none refl))
+HasReason-at shape h place d kind (Some reason) within fault none some e at =
     (reason, refl, subst (λ f. IsReasonBehind shape (take place h) f reason) (same_event h place (get_or h place d) e (slice_get-get_or h place d within) at) some.1)

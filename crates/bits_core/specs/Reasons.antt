@@ -47,7 +47,7 @@ IsReasonBehind shape past e (Held value since begun) =
     IsByRightSide shape e × IsInTurn past e × (¬ IsPermitted past e) × IsLastPlace e.side past begun × IsHeldSince e.bit (take begun past) value since
 
 -- why the event at fault may not follow those before it; none of a lawful history
-abbrev pub TellsWhy : Shape → List Event → Verdict → Option Reason → Type 0
-TellsWhy shape h Lawful why = why ≡ None
-TellsWhy shape h (Fault place kind) why =
+abbrev pub HasReason : Shape → List Event → Verdict → Option Reason → Type 0
+HasReason shape h Lawful why = why ≡ None
+HasReason shape h (Fault place kind) why =
     (e : Event) → slice_get h place ≡ Some e → (reason : Reason) × (why ≡ Some reason) × IsReasonBehind shape (take place h) e reason

@@ -9,7 +9,7 @@ ghost use Rattle.bits_core.specs.Lawful.{IsLawful};
 ghost use Rattle.bits_core.specs.Audit.{IsFaultAfter, IsVerdict};
 ghost use Rattle.bits_core.specs.Marks.{AreMarks, IsInTable};
 ghost use Rattle.bits_core.specs.Memory.{is_flicker};
-ghost use Rattle.bits_core.specs.Reasons.{TellsWhy};
+ghost use Rattle.bits_core.specs.Reasons.{HasReason};
 ghost use Rattle.bits_core.specs.Seen.{AreSeen, IsSeen, sound_count};
 
 use crate::events::{Access, Act, Bit, Event, Side};
@@ -284,7 +284,7 @@ pub fn audit_bits_into(
     seen: &mut [Seen],
 ) -> (Verdict, Option<Reason>)
     ensures verdict { IsVerdict shape.now events.now result.0 }
-    ensures why { TellsWhy shape.now events.now result.0 result.1 }
+    ensures why { HasReason shape.now events.now result.0 result.1 }
     ensures seen { AreSeen events.now (sound_count events.now result.0) seen.old seen.new }
 {
     let mut marks = Marks::new();

@@ -5,8 +5,8 @@ use Rattle.ring_core.specs.ProducerState.{ProducerState}
 use Rattle.ring_core.specs.declared.consumers.Consumer.TheInside as consumer
 use Rattle.ring_core.specs.declared.producers.Producer.TheInside as producer
 
-abbrev pub producer_of : producer.Inside → ProducerState
-producer_of p = record {
+abbrev pub producer_view : producer.Inside → ProducerState
+producer_view p = record {
   shape = p.shape;
   count = p.count;
   cell = p.cell;
@@ -22,8 +22,8 @@ producer_of p = record {
   reply = p.reply;
 }
 
-abbrev pub consumer_of : consumer.Inside → ConsumerState
-consumer_of p = record {
+abbrev pub consumer_view : consumer.Inside → ConsumerState
+consumer_view p = record {
   shape = p.shape;
   count = p.count;
   cell = p.cell;

@@ -53,11 +53,11 @@ impl Model for Consumer {
 
     ghost Value = { ConsumerState };
 
-    ghost use Rattle.ring_core.specs.Insides.{consumer_of};
+    ghost use Rattle.ring_core.specs.Insides.{consumer_view};
 
-    ghost view = { consumer_of };
+    ghost view = { consumer_view };
 
-    ghost invariant = { λ p. IsConsumer (consumer_of p) × (p.taken ≤ 64) × (p.wanted ≤ 64) × (p.most ≤ 64) };
+    ghost invariant = { λ p. IsConsumer (consumer_view p) × (p.taken ≤ 64) × (p.wanted ≤ 64) × (p.most ≤ 64) };
 }
 
 // By hand, as a derived one clones each field, which costs the proof ten times as much.

@@ -81,11 +81,11 @@ impl Model for Producer {
 
     ghost Value = { ProducerState };
 
-    ghost use Rattle.ring_core.specs.Insides.{producer_of};
+    ghost use Rattle.ring_core.specs.Insides.{producer_view};
 
-    ghost view = { producer_of };
+    ghost view = { producer_view };
 
-    ghost invariant = { λ p. IsProducer (producer_of p) × (p.offered ≤ 64) × (p.most ≤ 64) × (p.index ≤ 64) };
+    ghost invariant = { λ p. IsProducer (producer_view p) × (p.offered ≤ 64) × (p.most ≤ 64) × (p.index ≤ 64) };
 }
 
 // By hand, as a derived one clones each field, which costs the proof ten times as much.

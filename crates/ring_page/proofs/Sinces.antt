@@ -2,7 +2,7 @@
 use Rattle.std.proofs.Common.{◌≡◌, ◌↔◌, ◌≤◌, ℕ, Option, None, Some, List, length, slice_get, take, get_or, subst, refl, arith}
 use Rattle.std.proofs.lemmas.Option.{get_or_from_slice_get, slice_get_within}
 use Rattle.bits_core.specs.Audit.{IsVerdict}
-use Rattle.bits_core.specs.Reasons.{IsReasonBehind, TellsWhy}
+use Rattle.bits_core.specs.Reasons.{IsReasonBehind, HasReason}
 use Rattle.bits_core.specs.declared.audits.Kind.TheVariants.{NotProgram}
 use Rattle.bits_core.specs.declared.audits.Verdict.{Verdict}
 use Rattle.bits_core.specs.declared.audits.Verdict.TheVariants.{Lawful, Fault}
@@ -40,13 +40,13 @@ reason_fits shape h place e (Held value None begun) is = omega arith
 reason_fits shape h place e (Held value (Some last) begun) (right, turn, refused, began, (held, ended)) =
     slice_get_within h last ended.event (slice_get-from_take h place last ended.event (slice_get-from_take (take place h) begun last ended.event ended.at_place).0).0
 
-pub since_fits : (shape : Shape) (h : List Event) (verdict : Verdict) (why : Option Reason) → IsVerdict shape h verdict → TellsWhy shape h verdict why → since_in why ≤ length h
+pub since_fits : (shape : Shape) (h : List Event) (verdict : Verdict) (why : Option Reason) → IsVerdict shape h verdict → HasReason shape h verdict why → since_in why ≤ length h
 since_fits shape h Lawful why is tells = rw tells (omega arith)
 since_fits shape h (Fault place kind) why is tells =
     let (reason, same, behind) = tells is.event is.at_place in
     rw same (reason_fits shape h place is.event reason behind)
 
-pub since_told : (shape : Shape) (h : List Event) (verdict : Verdict) (why : Option Reason) → TellsWhy shape h verdict why → TellsSince shape h verdict (since_in why)
+pub since_told : (shape : Shape) (h : List Event) (verdict : Verdict) (why : Option Reason) → HasReason shape h verdict why → TellsSince shape h verdict (since_in why)
 since_told shape h Lawful why tells = rw tells refl
 since_told shape h (Fault place kind) why tells = λ e at. let (reason, same, behind) = tells e at in (reason, behind, rw same refl)
 

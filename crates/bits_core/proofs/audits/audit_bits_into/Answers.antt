@@ -2,7 +2,7 @@ use Rattle.std.proofs.Common.{arith, take, subst, sym}
 use Rattle.std.proofs.lemmas.List.{take_more}
 use Rattle.std.proofs.lemmas.Option.{slice_get-get_or}
 use Rattle.bits_core.specs.Marks.{AreMarks}
-use Rattle.bits_core.proofs.FaultLemmas.{IsFirstFault-at, TellsWhy-at}
+use Rattle.bits_core.proofs.FaultLemmas.{IsFirstFault-at, HasReason-at}
 use Rattle.bits_core.proofs.LawfulLemmas.{IsLawful-to}
 use Rattle.bits_core.proofs.MarkLemmas.{IsInTable-belongs}
 use Rattle.bits_core.proofs.SeenLemmas.{AreSeen-more, AreSeen-none}
@@ -25,7 +25,7 @@ returns-in-Some-clause-verdict c =
 pub returns-in-Some-clause-why : goal.returns-in-Some-clause-why
 returns-in-Some-clause-why c =
     let past = take c.loop-place.place c.args.events.now in
-    TellsWhy-at c.args.shape.now c.args.events.now c.loop-place.place _ c.in-Some.kind c.reason_by-why.result (omega arith) (c.in-Some.ensures.found past c.loop-place.invariant.marks)
+    HasReason-at c.args.shape.now c.args.events.now c.loop-place.place _ c.in-Some.kind c.reason_by-why.result (omega arith) (c.in-Some.ensures.found past c.loop-place.invariant.marks)
     c.reason_by-why.ensures.none c.reason_by-why.ensures.reason
 
 pub loop-place-preserved : goal.loop-place-preserved
