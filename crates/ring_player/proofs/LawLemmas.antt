@@ -1,6 +1,6 @@
 -- The laws of src/laws.rt as lemmas, each under its name, and two more that only proofs ask for: what proofs cite, here and in the
 -- crates above.
-use Rattle.std.specs.Prelude.{ℕ, Bool, true, false, List, []}
+use Rattle.std.specs.Prelude.{◌≡◌, ℕ, ◌+◌, Bool, true, false, List, [], ◌∷◌, ◌++◌}
 use Rattle.bits_core.specs.declared.events.Act.TheVariants.{ReadEnd}
 use Rattle.bits_core.specs.declared.events.Event.{Event}
 use Rattle.bits_core.specs.declared.shapes.Shape.{Shape}

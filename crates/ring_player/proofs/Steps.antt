@@ -10,7 +10,7 @@ use Rattle.bits_core.specs.declared.events.Act.TheVariants.{ReadEnd}
 use Rattle.bits_core.specs.declared.events.Event.{Event}
 use Rattle.bits_core.specs.Bits.{begun_by, other}
 use Rattle.bits_core.specs.History.{open_access}
-use Rattle.bits_core.specs.Laws.{OpenChanges, SubhistoryChanges}
+use Rattle.bits_core.proofs.LawLemmas.{open_changes}
 use Rattle.bits_core.specs.Lawful.{IsLawful}
 use Rattle.bits_core.specs.Made.{Made, Read, answered, end_event, events_of, subhistory, opening_event}
 use Rattle.bits_core.specs.Open.{IsReading, IsWriting, bit_of}
@@ -32,8 +32,8 @@ use Rattle.ring_core.proofs.LawLemmas.{last_bit_is_one_puts, last_bit_is_one_tak
 abbrev pub Stands : Type 1
 Stands = List Made → Option Access → Type 0
 
-pub open_by : OpenChanges → (s : Side) (h : List Event) (e : Event) → e.side ≡ s → open_access s (h ++ e ∷ []) ≡ begun_by e
-open_by law s h e by = law s h e ∙ ap (λ t. if t then begun_by e else open_access s h) (by_side s e by)
+pub open_by : (s : Side) (h : List Event) (e : Event) → e.side ≡ s → open_access s (h ++ e ∷ []) ≡ begun_by e
+open_by s h e by = open_changes s h e ∙ ap (λ t. if t then begun_by e else open_access s h) (by_side s e by)
 
 none_some : {A : Type 0} {G : Type 0} (a : A) → None ≡ Some a → G
 none_some a p = absurd (cc)
@@ -71,14 +71,14 @@ writing (Some (access.Write b v)) w = (v, refl)
 
 -- the actor, which has made room, ends the access that its side has open
 pub after_end :
-    OpenChanges → SubhistoryChanges → (s : Side) (h h' : List Event) (due mid due' : Option Access) (stands between stands' : Stands) (a : Access) (v : Bool) (e : Event) → IsPlaying s h due stands →
+    (s : Side) (h h' : List Event) (due mid due' : Option Access) (stands between stands' : Stands) (a : Access) (v : Bool) (e : Event) → IsPlaying s h due stands →
     mid ≡ due → ((list : List Made) (o : Option Access) → stands list o → between list o) → open_access s h ≡ Some a → h' ≡ h ++ e ∷ [] → e ≡ end_event s (answered a v) → e.side ≡ s → begun_by e ≡ None →
     ((list : List Made) (access : Access) → mid ≡ Some access → between list (Some access) → stands' (list ++ answered access v ∷ []) None) → IsPlaying s h' due' stands'
-after_end opens owns s h h' due mid due' stands between stands' a v e p same on o is end by ends moves =
+after_end s h h' due mid due' stands between stands' a v e p same on o is end by ends moves =
     subst (λ (t : List Event). IsPlaying s t due' stands') (sym is)
-    (playing s (h ++ e ∷ []) due' stands' (p.list ++ answered a v ∷ []) None (open_by opens s h e by ∙ ends)
+    (playing s (h ++ e ∷ []) due' stands' (p.list ++ answered a v ∷ []) None (open_by s h e by ∙ ends)
     (moves p.list a (same ∙ p.is_due a o) (on p.list (Some a) (there_with s h due stands (Some a) p o)))
-    (own_by owns s h e by ∙ ap (λ l. l ++ e ∷ []) (own_with s h due stands (Some a) p o) ∙ ap (λ x. so_far s p.list (Some a) ++ x ∷ []) end ∙ sym (events-more s p.list a v))
+    (own_by s h e by ∙ ap (λ l. l ++ e ∷ []) (own_with s h due stands (Some a) p o) ∙ ap (λ x. so_far s p.list (Some a) ++ x ∷ []) end ∙ sym (events-more s p.list a v))
     (λ b f. none_some b f))
 
 pub begun_side : (s : Side) (a : Access) → (opening_event s a).side ≡ s

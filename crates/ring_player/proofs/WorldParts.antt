@@ -8,7 +8,7 @@ use Rattle.bits_core.specs.declared.events.Event.{Event}
 use Rattle.bits_core.specs.Bits.{begun_by, other}
 use Rattle.bits_core.specs.History.{open_access}
 use Rattle.bits_core.specs.Lawful.{IsLawful}
-use Rattle.bits_core.specs.Laws.{OpenChanges, SubhistoryChanges}
+use Rattle.bits_core.proofs.LawLemmas.{open_changes}
 use Rattle.bits_core.specs.Made.{clock, IsPrefix, subhistory}
 use Rattle.bits_core.specs.Memory.{MemoryState}
 use Rattle.bits_core.specs.Oracle.{turn}
@@ -48,18 +48,18 @@ grown script s h h' (Err e) ok err = inr err
 
 -- the other side stands where it was
 playing_other :
-    OpenChanges → SubhistoryChanges → (script : Content) (s : Side) (h h' : List Event) (due : Option Access) (stands : Stands) → Grown script s h h' → IsPlaying (other s) h due stands →
+    (script : Content) (s : Side) (h h' : List Event) (due : Option Access) (stands : Stands) → Grown script s h h' → IsPlaying (other s) h due stands →
     IsPlaying (other s) h' due stands
-playing_other opens owns script s h h' due stands (inl (e, is, by, n)) p =
+playing_other script s h h' due stands (inl (e, is, by, n)) p =
     let open_same : open_access (other s) (h ++ e ∷ []) ≡ open_access (other s) h =
-    opens (other s) h e ∙ ap (λ t. if t then begun_by e else open_access (other s) h) (not_by s e by) in
+    open_changes (other s) h e ∙ ap (λ t. if t then begun_by e else open_access (other s) h) (not_by s e by) in
     subst (λ (t : List Event). IsPlaying (other s) t due stands) (sym is) (record {
       list = p.list;
       there = subst (stands p.list) (sym open_same) p.there;
-      own_is = own_other owns s h e by ∙ p.own_is ∙ ap (so_far (other s) p.list) (sym open_same);
+      own_is = own_other s h e by ∙ p.own_is ∙ ap (so_far (other s) p.list) (sym open_same);
       is_due = λ a f. p.is_due a (sym open_same ∙ f);
     })
-playing_other opens owns script s h h' due stands (inr is) p = subst (λ (t : List Event). IsPlaying (other s) t due stands) (sym is) p
+playing_other script s h h' due stands (inr is) p = subst (λ (t : List Event). IsPlaying (other s) t due stands) (sym is) p
 
 moves_grown : (script : Content) (s : Side) (h h' : List Event) → Grown script s h h' → AreMoves script (event_sides h) [] h → AreMoves script (event_sides h') [] h'
 moves_grown script s h h' (inl (e, is, by, not)) m =
@@ -68,32 +68,32 @@ moves_grown script s h h' (inl (e, is, by, not)) m =
 moves_grown script s h h' (inr is) m = subst (λ (t : List Event). AreMoves script (event_sides t) [] t) (sym is) m
 
 pub producer_steps :
-    OpenChanges → SubhistoryChanges → (script : Content) (m m' : MemoryState) (ps ps' cs : Content) (pd pd' cd : Option Access) (pt pt' ct : Stands) (a a' : ℕ → Bool) → IsWorld script m ps cs pd cd pt ct a →
+    (script : Content) (m m' : MemoryState) (ps ps' cs : Content) (pd pd' cd : Option Access) (pt pt' ct : Stands) (a a' : ℕ → Bool) → IsWorld script m ps cs pd cd pt ct a →
     m'.shape ≡ m.shape → ps' ≡ ps → IsPlaying P m'.events pd' pt' → Grown ps P m.events m'.events → ((turns : ℕ → Bool) → IsAtTurn turns m.events a → IsAtTurn turns m'.events a') →
     IsWorld script m' ps' cs pd' cd pt' ct a'
-producer_steps opens owns script m m' ps ps' cs pd pd' cd pt pt' ct a a' w shape same playing g turns =
+producer_steps script m m' ps ps' cs pd pd' cd pt pt' ct a a' w shape same playing g turns =
     let g' : Grown script P m.events m'.events = subst (λ (t : Content). Grown t P m.events m'.events) w.put_script_is g in
     record {
       shape = shape ∙ w.shape;
       put_script_is = same ∙ w.put_script_is;
       take_script_is = w.take_script_is;
       puts = playing;
-      takes = playing_other opens owns script P m.events m'.events cd ct g' w.takes;
+      takes = playing_other script P m.events m'.events cd ct g' w.takes;
       oracle = turns (turn script.oracle) w.oracle;
       moves = moves_grown script P m.events m'.events g' w.moves;
     }
 
 pub consumer_steps :
-    OpenChanges → SubhistoryChanges → (script : Content) (m m' : MemoryState) (ps cs cs' : Content) (pd cd cd' : Option Access) (pt ct ct' : Stands) (a a' : ℕ → Bool) → IsWorld script m ps cs pd cd pt ct a →
+    (script : Content) (m m' : MemoryState) (ps cs cs' : Content) (pd cd cd' : Option Access) (pt ct ct' : Stands) (a a' : ℕ → Bool) → IsWorld script m ps cs pd cd pt ct a →
     m'.shape ≡ m.shape → cs' ≡ cs → IsPlaying C m'.events cd' ct' → Grown cs C m.events m'.events → ((turns : ℕ → Bool) → IsAtTurn turns m.events a → IsAtTurn turns m'.events a') →
     IsWorld script m' ps cs' pd cd' pt ct' a'
-consumer_steps opens owns script m m' ps cs cs' pd cd cd' pt ct ct' a a' w shape same playing g turns =
+consumer_steps script m m' ps cs cs' pd cd cd' pt ct ct' a a' w shape same playing g turns =
     let g' : Grown script C m.events m'.events = subst (λ (t : Content). Grown t C m.events m'.events) w.take_script_is g in
     record {
       shape = shape ∙ w.shape;
       put_script_is = w.put_script_is;
       take_script_is = same ∙ w.take_script_is;
-      puts = playing_other opens owns script C m.events m'.events pd pt g' w.puts;
+      puts = playing_other script C m.events m'.events pd pt g' w.puts;
       takes = playing;
       oracle = turns (turn script.oracle) w.oracle;
       moves = moves_grown script C m.events m'.events g' w.moves;

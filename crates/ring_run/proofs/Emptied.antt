@@ -10,6 +10,7 @@ use Rattle.bits_core.specs.declared.events.Event.{Event}
 use Rattle.bits_core.specs.declared.shapes.Shape.{Shape}
 use Rattle.bits_core.specs.Bits.{is_by}
 use Rattle.bits_core.specs.Intervals.{IsWrite}
+use Rattle.bits_core.proofs.Statements.{MadeIsAccess}
 use Rattle.bits_core.specs.Made.{Made, Write, events_of, subhistory, clock, place_of, IsPlaceOf, IsPrefix}
 use Rattle.ring_core.specs.declared.replies.TakeReply.{TakeReply}
 use Rattle.ring_core.specs.declared.replies.TakeReply.TheVariants as reply
@@ -20,6 +21,7 @@ use Rattle.ring_core.specs.Puts.{Put, Stored, Full, Puts, stored_after, put_phra
 use Rattle.ring_core.specs.Takes.{Take, Item, ItemAfterClose, Empty, End, Open, Takes, taken_count, count_after, take_phrase, take_phrases, end_phrase, take_program, taken_in}
 use Rattle.ring_core.specs.Items.{events_in, items_taken, all_put, all_taken, taken_of}
 use Rattle.ring_core.specs.CallsAt.{IsTakeAt, items_ended, puts_ended, takes_ended}
+use Rattle.ring_core.specs.Readings.{PutsAreFirst, TakesAreRead}
 use Rattle.ring_core.specs.RingLaw.{IsRun, InEveryRun, EmptyIsFresh}
 use Rattle.ring_core.specs.ConsumerCalls as takes
 use Rattle.ring_core.specs.ConsumerCalls.{and_take, ends_closed, reply_at_end}
@@ -31,8 +33,6 @@ use Rattle.ring_run.proofs.Lists.{by_case, last-snoc}
 use Rattle.bits_core.proofs.OwnEvents.{own-no as own_theirs, own-yes as own_mine}
 use Rattle.ring_core.proofs.RingHolds.{there}
 pub use Rattle.ring_core.proofs.CountRow.{past_is}
-use Rattle.ring_core.proofs.LawLemmas.{calls_are_first_puts, takes_are_read}
-use Rattle.bits_core.proofs.LawLemmas.{made_is_access}
 
 -- ---- how many items calls store and take that have ended
 
@@ -143,7 +143,7 @@ module _ {shape : Shape} {known : List Event} (x : Side) {after : List Event} (s
 
 -- ---- the take that finds the ring empty
 
-module _ (law : InEveryRun EmptyIsFresh)
+module _ (law : InEveryRun EmptyIsFresh) (first : PutsAreFirst) (made : MadeIsAccess)
     (shape : Shape) (known before after : List Event) (puts : Puts) (calls : Takes) (seen : ℕ) (is_open : calls.end ≡ Open)
     (whole : HasPuts shape (subhistory P known) puts) (was : HasTakes shape before calls) (begins : IsPrefix (subhistory C known) before)
     (st : Stands shape C after known) (has : HasTakes shape after (and_take calls (Empty seen))) where
@@ -171,8 +171,8 @@ module _ (law : InEveryRun EmptyIsFresh)
   over =
       omega (arith, ap length (st.list_is ∙ has.list_is), length-events_of C (take_program shape more), length-append (take_phrases shape first_count (calls.takes ++ Empty seen ∷ [])) [])
 
-  fresh : (calls_are_first_puts : ℕ) × IsPlaceOf C h start × (puts_ended shape st.ring.puts (clock P h) ≤ takes_ended shape more (clock C h)) ×
-      ((v : Bool) (from to : ℕ) → IsWrite h X v from to → ¬ (to < calls_are_first_puts))
+  fresh : (first : ℕ) × IsPlaceOf C h start first × (puts_ended shape st.ring.puts (clock P h first) ≤ takes_ended shape more (clock C h first)) ×
+      ((v : Bool) (from to : ℕ) → IsWrite h X v from to → ¬ (to < first))
   fresh = law shape h st.ring.puts more run seen (taken_in 0 calls.takes) start (events_in (take_phrases shape first_count (calls.takes ++ Empty seen ∷ []))) is_take over
 
   abbrev place : ℕ
@@ -183,7 +183,7 @@ module _ (law : InEveryRun EmptyIsFresh)
   known_before = later C st (take_phrases shape first_count calls.takes) (end_phrase calls.end) place begins was.list_is (ap end_phrase is_open) fresh.1
 
   are_first : ((more : List Put) × (st.ring.puts.puts ≡ puts.puts ++ more)) × (puts.closes ≡ true → puts ≡ st.ring.puts)
-  are_first = let follows = st.ring.run.puts_follow in calls_are_first_puts shape puts st.ring.puts whole.are follows.are (known_first C st P whole.list_is follows.events)
+  are_first = let follows = st.ring.run.puts_follow in first shape puts st.ring.puts whole.are follows.are (known_first C st P whole.list_is follows.events)
 
   known_long : length (subhistory P known) ≡ 2 * (length (put_phrases shape first_count puts.puts) + length (close_phrase puts.closes))
   known_long =
@@ -207,7 +207,7 @@ module _ (law : InEveryRun EmptyIsFresh)
       let long : length (subhistory P known) ≡ 2 * (length phrases + 1) = known_long ∙ ap (λ b. 2 * (length phrases + length (close_phrase b))) closes in
       let mine = own_known C st P in
       let more_own : length (subhistory P known) ≤ length (subhistory P h) = omega (arith, ap length mine.1, length-append (subhistory P known) mine.0) in
-      let (stop, at) = made_is_access P h (put_program shape st.ring.puts) st.ring.run.puts_follow.events (length phrases) (Write X true)
+      let (stop, at) = made P h (put_program shape st.ring.puts) st.ring.run.puts_follow.events (length phrases) (Write X true)
       (ap (λ l. slice_get l (length phrases)) program ∙ there phrases (Write X true) []) (omega (arith, long, more_own)) in
       let ended = (at.ended (omega (arith, long, more_own))).0 in
       let not_before : ¬ (stop < place) = fresh.3 true (place_of P h (2 * length phrases)) stop at.access in
@@ -268,17 +268,17 @@ first_empty (reply.Item item) items is = absurd (cc)
 first_empty reply.Empty items is = refl
 first_empty reply.Closed items is = absurd (cc)
 
-module _ (law : InEveryRun EmptyIsFresh) where
+module _ (law : InEveryRun EmptyIsFresh) (first : PutsAreFirst) (read : TakesAreRead) (made : MadeIsAccess) where
   empty_of_any :
       (shape : Shape) (wanted : ℕ) (known before after : List Event) (puts : Puts) (calls : Takes) → HasPuts shape (subhistory P known) puts → HasTakes shape before calls →
       IsPrefix (subhistory C known) before → Stands shape C after known → HasTakenOf shape wanted before after reply.Empty →
       (length (all_put puts.puts) ≤ length (all_taken calls.takes)) × (puts.closes ≡ false)
   empty_of_any shape wanted known before after puts calls whole was begins st taken =
-      let same : taken.calls ≡ calls = takes_are_read shape taken.calls calls taken.before_is.are was.are (sym taken.before_is.list_is ∙ was.list_is) in
+      let same : taken.calls ≡ calls = read shape taken.calls calls taken.before_is.are was.are (sym taken.before_is.list_is ∙ was.list_is) in
       let adds : TakeAdds (ends_closed calls.end) shape wanted calls reply.Empty before after = subst (λ (t : Takes). TakeAdds (ends_closed t.end) shape wanted t reply.Empty before after) same taken.adds in
       let (seen, is_open, has) = empty_adds shape wanted before after calls (ends_closed calls.end) adds in (
-        items law calls_are_first_puts made_is_access shape known before after puts calls seen is_open whole was begins st has,
-        open_yet law calls_are_first_puts made_is_access shape known before after puts calls seen is_open whole was begins st has,
+        items law first made shape known before after puts calls seen is_open whole was begins st has,
+        open_yet law first made shape known before after puts calls seen is_open whole was begins st has,
       )
 
   pub empty-after : EmptyAfterMeeting

@@ -25,7 +25,6 @@ use Rattle.ring_run.specs.Laws.{FullAfterMeeting, ItemFullAfterMeeting, PutsAdd}
 use Rattle.ring_ends.proofs.Lists.{events_of-append, length-events_of}
 use Rattle.ring_run.proofs.Emptied.{behind_known, by_true, known_first, later, past_is, within_le}
 use Rattle.ring_core.proofs.Readings.Over.{puts-append as put_phrases-append}
-use Rattle.ring_core.proofs.LawLemmas.{calls_are_first_takes}
 
 -- ---- how many items are stored, and how many are taken by takes that have ended
 
@@ -61,7 +60,7 @@ all_ended shape c (Empty seen ∷ xs) more t le =
 
 -- ---- the put that finds the ring full
 
-module _ (law : InEveryRun FullIsFresh)
+module _ (law : InEveryRun FullIsFresh) (first : TakesAreFirst)
     (shape : Shape) (known before after : List Event) (takes : Takes) (calls : Puts) (seen : ℕ) (is_open : calls.closes ≡ false)
     (whole : HasTakes shape (subhistory C known) takes) (was : HasPuts shape before calls) (begins : IsPrefix (subhistory P known) before)
     (st : Stands shape P after known) (has : HasPuts shape after (and_put calls (Full seen))) where
@@ -100,7 +99,7 @@ module _ (law : InEveryRun FullIsFresh)
   known_before = later P st (put_phrases shape first_count calls.puts) (close_phrase calls.closes) place begins was.list_is (ap close_phrase is_open) fresh.1
 
   are_first : (others : List Take) × (st.ring.takes.takes ≡ takes.takes ++ others)
-  are_first = let follows = st.ring.run.takes_follow in (calls_are_first_takes shape takes st.ring.takes whole.are follows.are (known_first P st C whole.list_is follows.events)).0
+  are_first = let follows = st.ring.run.takes_follow in (first shape takes st.ring.takes whole.are follows.are (known_first P st C whole.list_is follows.events)).0
 
   known_long : length (subhistory C known) ≡ 2 * (length (take_phrases shape first_count takes.takes) + length (end_phrase takes.end))
   known_long = omega (arith, ap length whole.list_is, length-events_of C (take_program shape takes), length-append (take_phrases shape first_count takes.takes) (end_phrase takes.end))

@@ -14,6 +14,7 @@ use Rattle.ring_core.specs.Puts as puts
 use Rattle.ring_core.specs.Puts.{Put, Puts, IsBatch}
 use Rattle.ring_core.specs.Items.{all_put}
 use Rattle.ring_core.specs.Over.{fulls}
+use Rattle.ring_core.specs.Readings.{PutsAreRead}
 use Rattle.ring_core.specs.ProducerCalls.{and_put, no_puts, IsPutOf}
 use Rattle.ring_core.specs.ProducerCalls as put_calls
 use Rattle.ring_seats.specs.Ring.{Ring, RingEnd}
@@ -22,7 +23,6 @@ use Rattle.ring_ends.specs.Ends.{HasPuts, HasPutAll, PutAdds}
 use Rattle.ring_run.specs.Relays.{AreGiven, PutsAre, TakesAre}
 pub use Rattle.ring_seats.proofs.CounterPuts.{first_fit as fit_first}
 pub use Rattle.ring_seats.proofs.CounterSteps.{same_end as same_trans}
-use Rattle.ring_core.proofs.LawLemmas.{puts_are_read}
 
 -- ---- lists
 
@@ -119,8 +119,8 @@ counted_is : (shape : Shape) (c : Count) (xs : List Put) → (puts.stored_count 
 counted_is shape c [] = refl
 counted_is shape c (x ∷ xs) = counted_is shape (puts.stored_after shape c x) xs
 
-same_puts : (shape : Shape) (list : List Event) (a b : Puts) → HasPuts shape list a → HasPuts shape list b → a ≡ b
-same_puts shape list a b ha hb = puts_are_read shape a b ha.are hb.are (sym ha.list_is ∙ hb.list_is)
+same_puts : PutsAreRead → (shape : Shape) (list : List Event) (a b : Puts) → HasPuts shape list a → HasPuts shape list b → a ≡ b
+same_puts read shape list a b ha hb = read shape a b ha.are hb.are (sym ha.list_is ∙ hb.list_is)
 
 pub no_puts_are : (shape : Shape) (list : List Event) (items : List ℕ) → list ≡ [] → PutsAre shape list items 0 0 0 false
 no_puts_are shape list items is = record {
@@ -134,10 +134,10 @@ no_puts_are shape list items is = record {
   closes_is = refl;
 }
 
-module _ (shape : Shape) (list list' : List Event) (items : List ℕ) (put made full : ℕ) (p : PutsAre shape list items put made full false) where
+module _ (read : PutsAreRead) (shape : Shape) (list list' : List Event) (items : List ℕ) (put made full : ℕ) (p : PutsAre shape list items put made full false) where
   adds_false : (given : List ℕ) (reply : batch_replies.BatchReply) → HasPutAll shape given list list' reply → PutAdds false shape p.calls given reply list list'
   adds_false given reply h =
-      let same : h.calls ≡ p.calls = same_puts shape list h.calls p.calls h.before_is p.list_is in
+      let same : h.calls ≡ p.calls = same_puts read shape list h.calls p.calls h.before_is p.list_is in
       subst (λ (z : Puts × Bool). PutAdds z.1 shape z.0 given reply list list') (λ i. (same i, (ap (λ (q : Puts). q.closes) same ∙ p.closes_is) i)) h.adds
 
   -- the calls with one put more

@@ -12,16 +12,16 @@ use Rattle.ring_core.specs.Takes as takes
 use Rattle.ring_core.specs.Takes.{Take, Takes, Open, AreTakes, IsTake, taken_after, taken_in}
 use Rattle.ring_core.specs.Items.{all_taken, taken_of}
 use Rattle.ring_core.specs.Over.{empties}
+use Rattle.ring_core.specs.Readings.{TakesAreRead}
 use Rattle.ring_core.specs.ConsumerCalls.{and_take, and_end, no_takes, ends_closed, IsTakeOf, items_at_end, reply_at_end, take_batch_reply, take_reply_to}
 use Rattle.ring_ends.specs.Ends.{HasTakenAll, HasTakes, TakeAllAdds, number_brought}
 use Rattle.ring_run.proofs.Lists.{last-snoc}
 use Rattle.ring_run.specs.Relays.{AreAsked, TakesAre, used_by}
 use Rattle.ring_core.proofs.OverSpans.CallSpans.{taken_number as counted_is}
 pub use Rattle.ring_core.proofs.Machines.TakeCalls.{items-push as items_snoc}
-use Rattle.ring_core.proofs.LawLemmas.{takes_are_read}
 
-same_takes : (shape : Shape) (list : List Event) (a b : Takes) → HasTakes shape list a → HasTakes shape list b → a ≡ b
-same_takes shape list a b ha hb = takes_are_read shape a b ha.are hb.are (sym ha.list_is ∙ hb.list_is)
+same_takes : TakesAreRead → (shape : Shape) (list : List Event) (a b : Takes) → HasTakes shape list a → HasTakes shape list b → a ≡ b
+same_takes read shape list a b ha hb = read shape a b ha.are hb.are (sym ha.list_is ∙ hb.list_is)
 
 pub no_takes_are : (shape : Shape) (list : List Event) (limit : ℕ) → list ≡ [] → TakesAre shape list limit [] 0 0 false
 no_takes_are shape list limit is = record {
@@ -119,11 +119,11 @@ record Made (shape : Shape) (list' : List Event) (calls : Takes) (wanted : ℕ) 
   told : Some y ≡ take_batch_reply (Some (take_reply_to x)) (taken_of x)
   brought : take (number_brought y) into ≡ taken_of x
 
-module _ (shape : Shape) (list list' : List Event) (limit : ℕ) (taken : List ℕ) (made empty : ℕ) (p : TakesAre shape list limit taken made empty false)
+module _ (read : TakesAreRead) (shape : Shape) (list list' : List Event) (limit : ℕ) (taken : List ℕ) (made empty : ℕ) (p : TakesAre shape list limit taken made empty false)
     (wanted : ℕ) (wanted_is : wanted ≡ min (take_batch_of shape) (limit - (length taken + empty))) (into : List ℕ) where
   adds : (y : replies.TakeBatchReply) → HasTakenAll shape wanted list list' y into → TakeAllAdds false shape wanted p.calls y into list list'
   adds y h =
-      let same : h.calls ≡ p.calls = same_takes shape list h.calls p.calls h.before_is p.list_is in
+      let same : h.calls ≡ p.calls = same_takes read shape list h.calls p.calls h.before_is p.list_is in
       subst (λ (z : Takes × Bool). TakeAllAdds z.1 shape wanted z.0 y into list list') (λ i. (same i, (ap (λ (q : Takes). ends_closed q.end) same ∙ p.told_is) i)) h.adds
 
   made_so : (y : replies.TakeBatchReply) → y ≢ reply.Closed → HasTakenAll shape wanted list list' y into → Made shape list' p.calls wanted y into

@@ -22,7 +22,6 @@ use Rattle.ring_core.specs.Linear.{EachReadingIsLinearizable}
 use Rattle.ring_run.specs.Relays.{HasMadePuts, HasRelayedPuts, HasRelayedTakes, HasTakenMore, IsRelayed, PutsAre, TakesAre}
 use Rattle.ring_ends.proofs.Lists.{length-events_of}
 use Rattle.ring_core.proofs.OwnEvents.{clock_end as clock_at_end}
-use Rattle.ring_core.proofs.LawLemmas.{whole_calls_count_puts, whole_calls_count_takes}
 
 tells_true : (end : End) → ends_closed end ≡ true → Tells end
 tells_true Open e = absurd (true≢false (sym e))
@@ -38,11 +37,11 @@ module _ (shape : Shape) (items : List ℕ) (put made full : ℕ) (closes : Bool
     takes_follow = record { are = ts.list_is.are; events = ([], append-nil (subhistory C h) ∙ ts.list_is.list_is) };
   }
 
-  put_of : items_put shape first_count ps.calls.puts (clock P h (length h)) ≡ take put items
-  put_of = ap (items_put shape first_count ps.calls.puts) (clock_at_end P h) ∙ (whole_calls_count_puts shape h ps.calls ps.list_is.are ps.list_is.list_is).0 ∙ ps.in_order
+  put_of : WholePutsCount → items_put shape first_count ps.calls.puts (clock P h (length h)) ≡ take put items
+  put_of count = ap (items_put shape first_count ps.calls.puts) (clock_at_end P h) ∙ (count shape h ps.calls ps.list_is.are ps.list_is.list_is).0 ∙ ps.in_order
 
-  taken_of : items_taken shape first_count ts.calls.takes (clock C h (length h)) ≡ taken
-  taken_of = ap (items_taken shape first_count ts.calls.takes) (clock_at_end C h) ∙ (whole_calls_count_takes shape h ts.calls ts.list_is.are ts.list_is.list_is).0 ∙ ts.taken_is
+  taken_of : WholeTakesCount → items_taken shape first_count ts.calls.takes (clock C h (length h)) ≡ taken
+  taken_of count = ap (items_taken shape first_count ts.calls.takes) (clock_at_end C h) ∙ (count shape h ts.calls ts.list_is.are ts.list_is.list_is).0 ∙ ts.taken_is
 
   prefix_of : InEveryRun TakenArePrefix → WholePutsCount → WholeTakesCount → IsPrefix taken (take put items)
   prefix_of prefix puts_count takes_count = subst (λ (z : List ℕ × List ℕ). IsPrefix z.0 z.1) (λ i. (taken_of takes_count i, put_of puts_count i)) (prefix shape h ps.calls ts.calls run_of (length h))
@@ -53,7 +52,7 @@ module _ (shape : Shape) (items : List ℕ) (put made full : ℕ) (closes : Bool
       let p = prefix_of prefix puts_count takes_count in
       omega (arith, ap length p.1, length-append taken p.0, length-take-le put items ps.within, ps.within)
 
-module _ (within : InEveryRun IsWithin) (prefix : InEveryRun TakenArePrefix) (closed_law : InEveryRun ClosedIsTrue)
+module _ (within : InEveryRun IsWithin) (prefix : InEveryRun TakenArePrefix) (closed_law : InEveryRun ClosedIsTrue) (puts_count : WholePutsCount) (takes_count : WholeTakesCount)
     (shape : Shape) (items : List ℕ) (most_puts most_takes put made full : ℕ) (taken : List ℕ) (made_takes empty : ℕ) (closed : Bool) (r : IsRelayed shape items most_puts most_takes put made full taken made_takes empty closed) where
   abbrev h : List Event
   h = r.history
@@ -68,13 +67,13 @@ module _ (within : InEveryRun IsWithin) (prefix : InEveryRun TakenArePrefix) (cl
   run = run_of shape items put made full (put == length items) most_takes taken made_takes empty closed h r.ring r.puts.puts r.takes.takes
 
   put_is : items_put shape first_count puts.puts (clock P h (length h)) ≡ take put items
-  put_is = put_of shape items put made full (put == length items) most_takes taken made_takes empty closed h r.ring r.puts.puts r.takes.takes
+  put_is = put_of shape items put made full (put == length items) most_takes taken made_takes empty closed h r.ring r.puts.puts r.takes.takes puts_count
 
   taken_is : items_taken shape first_count takes.takes (clock C h (length h)) ≡ taken
-  taken_is = taken_of shape items put made full (put == length items) most_takes taken made_takes empty closed h r.ring r.puts.puts r.takes.takes
+  taken_is = taken_of shape items put made full (put == length items) most_takes taken made_takes empty closed h r.ring r.puts.puts r.takes.takes takes_count
 
   pub relayed_prefix : IsPrefix taken (take put items)
-  relayed_prefix = prefix_of shape items put made full (put == length items) most_takes taken made_takes empty closed h r.ring r.puts.puts r.takes.takes prefix whole_calls_count_puts whole_calls_count_takes
+  relayed_prefix = prefix_of shape items put made full (put == length items) most_takes taken made_takes empty closed h r.ring r.puts.puts r.takes.takes prefix puts_count takes_count
 
   pub relayed_all : closed ≡ true → (put ≡ length items) × (taken ≡ items)
   relayed_all e =
@@ -90,8 +89,8 @@ module _ (within : InEveryRun IsWithin) (prefix : InEveryRun TakenArePrefix) (cl
   pub relayed_within : put ≤ length taken + capacity_of shape
   relayed_within =
       let w = within shape h puts takes run (length h) in
-      let p = (whole_calls_count_puts shape h puts r.puts.puts.list_is.are r.puts.puts.list_is.list_is).1 in
-      let t = (whole_calls_count_takes shape h takes r.takes.takes.list_is.are r.takes.takes.list_is.list_is).1 in
+      let p = (puts_count shape h puts r.puts.puts.list_is.are r.puts.puts.list_is.list_is).1 in
+      let t = (takes_count shape h takes r.takes.takes.list_is.are r.takes.takes.list_is.list_is).1 in
       omega (arith, w.1, ap (puts_begun shape puts) (clock_at_end P h), ap (takes_begun shape takes) (clock_at_end C h), p, t, ap length r.puts.puts.in_order, length-take-le put items r.puts.puts.within, ap length r.takes.takes.taken_is)
 
 -- what a relay's ends and their meeting say, of one history

@@ -18,15 +18,18 @@ use Rattle.ring_core.specs.Puts as puts
 use Rattle.ring_core.specs.Puts.{Put, Puts, IsBatch, IsPut, ArePuts, room_in}
 use Rattle.ring_core.specs.Takes.{Takes, AreTakes, Open, Closed, take_program}
 use Rattle.ring_core.specs.Items.{all_put, all_taken, taken_of, items_put, items_taken, events_in, IsTold}
-use Rattle.ring_core.specs.Readings.{TakesAreRead}
+use Rattle.ring_core.specs.Readings.{PutsAreRead, TakesAreRead}
 use Rattle.ring_core.specs.ProducerCalls.{no_puts, and_put, count_of}
 use Rattle.ring_core.specs.ConsumerCalls.{no_takes, and_take, ends_closed, reply_at_end, reply_items, take_reply_to}
+use Rattle.ring_core.specs.OneCallMore.{TakesOfOne}
 use Rattle.ring_core.specs.RingLaw.{IsRun, InEveryRun, TakenArePrefix, ClosedIsTrue}
 use Rattle.ring_core.proofs.Machines.Following.{length-events}
+use Rattle.ring_core.specs.Whole.{WholePutsCount, WholeTakesCount}
 use Rattle.ring_run.specs.Ring.{Ring, RingEnd}
 use Rattle.ring_run.specs.Meetings.{Meets, TellsAre}
 use Rattle.ring_run.specs.Ends.{HasPuts, HasPut, HasPutAll, PutAdds, HasTakes, HasTaken, TakeAdds}
 use Rattle.ring_run.specs.Counters.{ShowsWords}
+use Rattle.ring_run.specs.Laws.{PutsAreShown, TakesAreShown}
 use Rattle.ring_run.proofs.RelayLemmas.{fit_first, fit_left}
 use Rattle.uses.specs.Passed.{HasStored, HasTook}
 use Rattle.ring_audit.proofs.TakeItems.{taken-push as all_taken_snoc}
@@ -35,8 +38,6 @@ use Rattle.ring_core.proofs.Machines.TakeCalls.{reply-push as last_reply}
 use Rattle.ring_core.proofs.OwnEvents.{clock_end as clock_at_end}
 pub use Rattle.ring_core.proofs.Machines.ConsumerMoves.{item_fits as fit_snoc}
 pub use Rattle.ring_core.proofs.Recorded.RecordedStates.{longer as then_begins}
-use Rattle.ring_core.proofs.LawLemmas.{programs_by_one_call_one, puts_are_read, takes_are_read, whole_calls_count_puts, whole_calls_count_takes}
-use Rattle.ring_seats.proofs.LawLemmas.{counts_are_shown_puts, counts_are_shown_takes}
 
 -- ---- lists
 
@@ -114,14 +115,14 @@ few_stored shape given before after m h = few_by_one shape before after h.calls 
 pub none_stored : (e : RingEnd) → e.list ≡ [] → HasStored e []
 none_stored e is = record { calls = no_puts; list_is = record { are = tt; list_is = is }; items_are = refl }
 
-module _ (a b : RingEnd) (same : b.ring ≡ a.ring) (items : List ℕ) (before : HasStored a items) where
+module _ (read : PutsAreRead) (a b : RingEnd) (same : b.ring ≡ a.ring) (items : List ℕ) (before : HasStored a items) where
   put_there : HasPuts b.ring.shape a.list before.calls
   put_there = subst (λ (r : Ring). HasPuts r.shape a.list before.calls) (sym same) before.list_is
 
   -- whichever calls the list is read as, these are its items
   put_items_of : (calls : Puts) → HasPuts b.ring.shape a.list calls → all_put calls.puts ≡ items
   put_items_of calls has =
-      let one : calls ≡ before.calls = puts_are_read b.ring.shape calls before.calls has.are put_there.are (sym has.list_is ∙ put_there.list_is) in
+      let one : calls ≡ before.calls = read b.ring.shape calls before.calls has.are put_there.are (sym has.list_is ∙ put_there.list_is) in
       ap (λ (c : Puts). all_put c.puts) one ∙ before.items_are
 
   put_unchanged : (calls : Puts) → HasPuts b.ring.shape a.list calls → b.list ≡ a.list → HasStored b items
@@ -193,41 +194,41 @@ module _ (a b : RingEnd) (same : b.ring ≡ a.ring) (items : List ℕ) (before :
 pub none_took : (e : RingEnd) → e.list ≡ [] → HasTook e []
 none_took e is = record { calls = no_takes; list_is = record { are = tt; list_is = is }; items_are = refl }
 
-module _ (a b : RingEnd) (same : b.ring ≡ a.ring) (items : List ℕ) (before : HasTook a items) where
+module _ (read : TakesAreRead) (a b : RingEnd) (same : b.ring ≡ a.ring) (items : List ℕ) (before : HasTook a items) where
   take_there : HasTakes b.ring.shape a.list before.calls
   take_there = subst (λ (r : Ring). HasTakes r.shape a.list before.calls) (sym same) before.list_is
 
   -- whichever calls the list is read as, these are its items
   pub take_items_of : (calls : Takes) → HasTakes b.ring.shape a.list calls → all_taken calls.takes ≡ items
   take_items_of calls has =
-      let one : calls ≡ before.calls = takes_are_read b.ring.shape calls before.calls has.are take_there.are (sym has.list_is ∙ take_there.list_is) in
+      let one : calls ≡ before.calls = read b.ring.shape calls before.calls has.are take_there.are (sym has.list_is ∙ take_there.list_is) in
       ap (λ (c : Takes). all_taken c.takes) one ∙ before.items_are
 
-module _ (a b : RingEnd) (same : b.ring ≡ a.ring) (items : List ℕ) (before : HasTook a items) where
+module _ (read : TakesAreRead) (single : TakesOfOne) (a b : RingEnd) (same : b.ring ≡ a.ring) (items : List ℕ) (before : HasTook a items) where
   took_by_one : (calls : Takes) → HasTakes b.ring.shape a.list calls → (over : Bool) (reply : TakeReply) → TakeAdds over b.ring.shape 1 calls reply a.list b.list → ends_closed calls.end ≡ over → HasTook b (items ++ reply_items reply)
   took_by_one calls has true reply adds was =
       let none : items ++ reply_items reply ≡ items = ap (λ (r : TakeReply). items ++ reply_items r) adds.0 ∙ append-nil items in
       subst (HasTook b) (sym none) (record {
         calls = calls;
         list_is = subst (λ (l : List Event). HasTakes b.ring.shape l calls) (sym adds.1) has;
-        items_are = take_items_of a b same items before calls has;
+        items_are = take_items_of read a b same items before calls has;
       })
   took_by_one calls has false reply (more, is_more, replied, after) was = ⊎_elim
       (λ one.
       let is : reply ≡ take_reply_to one.0 = let q : Some reply ≡ Some (take_reply_to one.0) = replied ∙ ap (λ (t : Takes). reply_at_end t.end t.takes) one.2 ∙ last_reply None calls.takes one.0 in cc in
       let are : AreTakes b.ring.shape 0 (and_take calls one.0).takes Open = subst (λ (t : Takes). AreTakes b.ring.shape 0 t.takes t.end) one.2 is_more.are in
-      let takes_one : taken_of one.0 ≡ reply_items reply = programs_by_one_call_one b.ring.shape calls one.0 are one.1 ∙ ap reply_items (sym is) in
+      let takes_one : taken_of one.0 ≡ reply_items reply = single b.ring.shape calls one.0 are one.1 ∙ ap reply_items (sym is) in
       record {
         calls = more;
         list_is = after;
-        items_are = ap (λ (t : Takes). all_taken t.takes) one.2 ∙ all_taken_snoc calls.takes one.0 ∙ (λ i. take_items_of a b same items before calls has i ++ takes_one i);
+        items_are = ap (λ (t : Takes). all_taken t.takes) one.2 ∙ all_taken_snoc calls.takes one.0 ∙ (λ i. take_items_of read a b same items before calls has i ++ takes_one i);
       })
       (λ told.
       let is : reply ≡ replies.Closed = let q : Some reply ≡ Some replies.Closed = replied ∙ ap (λ (t : Takes). reply_at_end t.end t.takes) told.2 in cc in
       record {
         calls = more;
         list_is = after;
-        items_are = ap (λ (t : Takes). all_taken t.takes) told.2 ∙ take_items_of a b same items before calls has ∙ sym (append-nil items) ∙ ap (λ (r : TakeReply). items ++ reply_items r) (sym is);
+        items_are = ap (λ (t : Takes). all_taken t.takes) told.2 ∙ take_items_of read a b same items before calls has ∙ sym (append-nil items) ∙ ap (λ (r : TakeReply). items ++ reply_items r) (sym is);
       })
       is_more.is_one_more
 
@@ -254,38 +255,39 @@ module _ (p c : RingEnd) (same : p.ring ≡ c.ring) (h : List Event) (meets : Me
     takes_follow = record { are = takes_here.are; events = ([], append-nil (subhistory C h) ∙ meets.taken ∙ takes_here.list_is) };
   }
 
-  put_is : items_put shape first_count ps.calls.puts (clock P h (length h)) ≡ put
-  put_is = ap (items_put shape first_count ps.calls.puts) (clock_at_end P h) ∙ (whole_calls_count_puts shape h ps.calls ps.list_is.are (meets.put ∙ ps.list_is.list_is)).0 ∙ ps.items_are
+  module _ (puts_count : WholePutsCount) (takes_count : WholeTakesCount) where
+    put_is : items_put shape first_count ps.calls.puts (clock P h (length h)) ≡ put
+    put_is = ap (items_put shape first_count ps.calls.puts) (clock_at_end P h) ∙ (puts_count shape h ps.calls ps.list_is.are (meets.put ∙ ps.list_is.list_is)).0 ∙ ps.items_are
 
-  taken_is : items_taken shape first_count ts.calls.takes (clock C h (length h)) ≡ taken
-  taken_is = ap (items_taken shape first_count ts.calls.takes) (clock_at_end C h) ∙ (whole_calls_count_takes shape h ts.calls takes_here.are (meets.taken ∙ takes_here.list_is)).0 ∙ ts.items_are
+    taken_is : items_taken shape first_count ts.calls.takes (clock C h (length h)) ≡ taken
+    taken_is = ap (items_taken shape first_count ts.calls.takes) (clock_at_end C h) ∙ (takes_count shape h ts.calls takes_here.are (meets.taken ∙ takes_here.list_is)).0 ∙ ts.items_are
 
-  -- by the law of the ring
-  pub passed : InEveryRun TakenArePrefix → IsPrefix taken put
-  passed prefix = subst (λ (z : List ℕ × List ℕ). IsPrefix z.0 z.1) (λ i. (taken_is i, put_is i)) (prefix shape h ps.calls ts.calls run (length h))
+    -- by the law of the ring
+    pub passed : InEveryRun TakenArePrefix → IsPrefix taken put
+    passed prefix = subst (λ (z : List ℕ × List ℕ). IsPrefix z.0 z.1) (λ i. (taken_is i, put_is i)) (prefix shape h ps.calls ts.calls run (length h))
 
-  -- and once the taker was told that the ring is closed, all came through
-  pub passed_all : InEveryRun ClosedIsTrue → TakesAreRead → TellsAre c.ring.shape c.list true → taken ≡ put
-  passed_all closed read tells =
-      let one : ts.calls ≡ tells.calls = read c.ring.shape ts.calls tells.calls ts.list_is.are tells.list_is.are (sym ts.list_is.list_is ∙ tells.list_is.list_is) in
-      let over : ends_closed ts.calls.end ≡ true = ap (λ (t : Takes). ends_closed t.end) one ∙ sym tells.told_is in
-      let told : IsTold shape ts.calls (clock C h (length h)) = (
-        tells_true ts.calls.end over,
-        subst (λ (n : ℕ). events_in (take_program shape ts.calls) ≤ n) (sym (clock_at_end C h ∙ ap length (meets.taken ∙ takes_here.list_is) ∙ length-events C (take_program shape ts.calls))) (omega arith),
-      ) in
-      let all = closed shape h ps.calls ts.calls run (length h) (length h) told (omega arith) in
-      sym taken_is ∙ all.1 ∙ sym all.0 ∙ put_is
+    -- and once the taker was told that the ring is closed, all came through
+    pub passed_all : InEveryRun ClosedIsTrue → TakesAreRead → TellsAre c.ring.shape c.list true → taken ≡ put
+    passed_all closed read tells =
+        let one : ts.calls ≡ tells.calls = read c.ring.shape ts.calls tells.calls ts.list_is.are tells.list_is.are (sym ts.list_is.list_is ∙ tells.list_is.list_is) in
+        let over : ends_closed ts.calls.end ≡ true = ap (λ (t : Takes). ends_closed t.end) one ∙ sym tells.told_is in
+        let told : IsTold shape ts.calls (clock C h (length h)) = (
+          tells_true ts.calls.end over,
+          subst (λ (n : ℕ). events_in (take_program shape ts.calls) ≤ n) (sym (clock_at_end C h ∙ ap length (meets.taken ∙ takes_here.list_is) ∙ length-events C (take_program shape ts.calls))) (omega arith),
+        ) in
+        let all = closed shape h ps.calls ts.calls run (length h) (length h) told (omega arith) in
+        sym taken_is ∙ all.1 ∙ sym all.0 ∙ put_is
 
   -- by the words that the ring leaves
   module _ (words : List ℕ) (shows : ShowsWords p.ring.shape words h) where
-    pub counts_put : slice_index words 1 ≡ length put % modulus_of p.ring.shape
-    counts_put =
-        counts_are_shown_puts shape words h ps.calls shows (subst (λ (l : List Event). HasPuts shape l ps.calls) (sym meets.put) ps.list_is) ∙
+    pub counts_put : PutsAreShown → slice_index words 1 ≡ length put % modulus_of p.ring.shape
+    counts_put law =
+        law shape words h ps.calls shows (subst (λ (l : List Event). HasPuts shape l ps.calls) (sym meets.put) ps.list_is) ∙
         ap (λ (l : List ℕ). length l % modulus_of shape) ps.items_are
 
-    pub counts_taken : slice_index words 2 ≡ length taken % modulus_of p.ring.shape
-    counts_taken =
-        counts_are_shown_takes shape words h ts.calls shows (subst (λ (l : List Event). HasTakes shape l ts.calls) (sym meets.taken) takes_here) ∙
+    pub counts_taken : TakesAreShown → slice_index words 2 ≡ length taken % modulus_of p.ring.shape
+    counts_taken law =
+        law shape words h ts.calls shows (subst (λ (l : List Event). HasTakes shape l ts.calls) (sym meets.taken) takes_here) ∙
         ap (λ (l : List ℕ). length l % modulus_of shape) ts.items_are
 
 -- ---- first calls
@@ -295,12 +297,12 @@ emptied : RingEnd → RingEnd
 emptied e = record { ring = e.ring; side = e.side; list = []; known = e.known; loads = e.loads }
 
 -- the first put of an item stored it, or nothing
-pub first_put : (e : RingEnd) (item : ℕ) (reply : PutReply) → HasPut e.ring.shape item [] e.list reply → (put : List ℕ) × HasStored e put × IsPrefix put (item ∷ [])
+pub first_put : PutsAreRead → (e : RingEnd) (item : ℕ) (reply : PutReply) → HasPut e.ring.shape item [] e.list reply → (put : List ℕ) × HasStored e put × IsPrefix put (item ∷ [])
 unfolding emptied
-first_put e item single.Stored h = (item ∷ [], one_stored (emptied e) e refl [] (none_stored (emptied e) refl) item h, ([], refl))
-first_put e item single.Full h = ([], one_full (emptied e) e refl [] (none_stored (emptied e) refl) item h, (item ∷ [], refl))
-first_put e item single.Closed h = ([], one_late (emptied e) e refl [] (none_stored (emptied e) refl) item h, (item ∷ [], refl))
+first_put read e item single.Stored h = (item ∷ [], one_stored read (emptied e) e refl [] (none_stored (emptied e) refl) item h, ([], refl))
+first_put read e item single.Full h = ([], one_full read (emptied e) e refl [] (none_stored (emptied e) refl) item h, (item ∷ [], refl))
+first_put read e item single.Closed h = ([], one_late read (emptied e) e refl [] (none_stored (emptied e) refl) item h, (item ∷ [], refl))
 
-pub first_take : (e : RingEnd) (reply : TakeReply) → HasTaken e.ring.shape [] e.list reply → HasTook e (reply_items reply)
+pub first_take : TakesAreRead → TakesOfOne → (e : RingEnd) (reply : TakeReply) → HasTaken e.ring.shape [] e.list reply → HasTook e (reply_items reply)
 unfolding emptied
-first_take e reply h = took_more (emptied e) e refl [] (none_took (emptied e) refl) reply h
+first_take read single e reply h = took_more read single (emptied e) e refl [] (none_took (emptied e) refl) reply h

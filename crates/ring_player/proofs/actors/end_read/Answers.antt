@@ -15,7 +15,6 @@ use Rattle.ring_player.specs.Plays.{IsProgram}
 use Rattle.ring_script.specs.Content.{Content}
 use Rattle.ring_player.proofs.Steps.{after_end, ends_there, answers_one, end_move, playing_on, reading}
 use Rattle.ring_player.proofs.Turns.{turn_read}
-use Rattle.bits_core.proofs.LawLemmas.{open_changes, subhistory_changes}
 use Rattle.ring_player.proofs.actors.end_read.Goals as goal
 
 pub end-requires-clause-one : goal.end-requires-clause-one
@@ -42,7 +41,7 @@ returns-clause-playing g c =
     let s = c.args.side in
     let h = c.args.memory.now.events in
     let b = bit_of (open_access s h) in
-    after_end open_changes subhistory_changes s h c.end_read.new.self.events _ _ _ _ _ _ (access.Read b) c.in_ok-answer.answer (record { side = s; bit = b; act = ReadEnd c.in_ok-answer.answer }) c.requires.playing c.reserve.ensures.due c.reserve.ensures.stands
+    after_end s h c.end_read.new.self.events _ _ _ _ _ _ (access.Read b) c.in_ok-answer.answer (record { side = s; bit = b; act = ReadEnd c.in_ok-answer.answer }) c.requires.playing c.reserve.ensures.due c.reserve.ensures.stands
     (reading (open_access s h) c.requires.open) (ap (λ (m : MemoryState). m.events) c.in_ok-answer.ensures.ok) refl refl refl c.end.ensures.stands
 
 pub returns-clause-ok : goal.returns-clause-ok

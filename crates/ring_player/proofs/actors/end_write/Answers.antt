@@ -7,7 +7,6 @@ use Rattle.bits_core.specs.Memory.{MemoryState}
 use Rattle.bits_core.specs.Open.{bit_of}
 use Rattle.ring_player.proofs.Steps.{after_end, ends_there, end_move, writing}
 use Rattle.ring_player.proofs.Turns.{turn_quiet}
-use Rattle.bits_core.proofs.LawLemmas.{open_changes, subhistory_changes}
 use Rattle.ring_player.proofs.actors.end_write.Goals as goal
 
 pub returns-clause-playing : goal.returns-clause-playing
@@ -16,7 +15,7 @@ returns-clause-playing g c =
     let h = c.args.memory.now.events in
     let b = bit_of (open_access s h) in
     let (v, o) = writing (open_access s h) c.requires.open in
-    after_end open_changes subhistory_changes s h c.end_write.new.self.events _ _ _ _ _ _ (access.Write b v) true (record { side = s; bit = b; act = WriteEnd }) c.requires.playing c.reserve.ensures.due c.reserve.ensures.stands
+    after_end s h c.end_write.new.self.events _ _ _ _ _ _ (access.Write b v) true (record { side = s; bit = b; act = WriteEnd }) c.requires.playing c.reserve.ensures.due c.reserve.ensures.stands
     o (ap (λ (m : MemoryState). m.events) c.in_ok-end_write.ensures.ok) refl refl refl c.end.ensures.stands
 
 pub returns-clause-ok : goal.returns-clause-ok

@@ -6,6 +6,7 @@ use Rattle.ring_core.specs.Puts.{IsBatch}
 use Rattle.ring_seats.specs.Ring.{Ring}
 use Rattle.ring_run.specs.Relays.{PutsAre}
 use Rattle.ring_run.proofs.RelayLemmas.{fit_there, no_puts_are, offers, given_there, stored, was_full, same_trans, puts_there}
+use Rattle.ring_core.proofs.LawLemmas.{puts_are_read}
 use Rattle.ring_run.proofs.relays.put_in_order.Goals.{in-Stored, in-Full}
 use Rattle.ring_run.proofs.relays.put_in_order.Goals as goal
 
@@ -41,9 +42,9 @@ puts-preserved g c =
       same_trans (g.E.PutEnd.end c.args.putter.now) a b i.1 s.same,
       elim c.match-reply.branch [
         | in-Stored w ↦ subst (λ (z : ℕ × ℕ × ℕ). PutsAre b.ring.shape b.list c.args.items.now z.0 z.1 z.2 false) (λ j. (sym w.put-is j, plus j, sym w.full-is j))
-            (stored b.ring.shape a.list b.list c.args.items.now c.puts.put c.puts.made c.puts.full there given (c.puts.put + c.next_batch.result - c.puts.put) w.in-Stored.stored refl whole w.in-Stored.ensures.phrase).1
+            (stored puts_are_read b.ring.shape a.list b.list c.args.items.now c.puts.put c.puts.made c.puts.full there given (c.puts.put + c.next_batch.result - c.puts.put) w.in-Stored.stored refl whole w.in-Stored.ensures.phrase).1
         | in-Full w ↦ subst (λ (z : ℕ × ℕ × ℕ). PutsAre b.ring.shape b.list c.args.items.now z.0 z.1 z.2 false) (λ j. (sym w.put-is j, plus j, (more ∙ sym w.full-is) j))
-            (was_full b.ring.shape a.list b.list c.args.items.now c.puts.put c.puts.made c.puts.full there given whole w.in-Full.ensures.phrase)
+            (was_full puts_are_read b.ring.shape a.list b.list c.args.items.now c.puts.put c.puts.made c.puts.full there given whole w.in-Full.ensures.phrase)
       ],
       omega (arith, c.if-made-limit.true),
       elim c.match-reply.branch [ in-Stored w ↦ omega (arith, i.4, w.full-is) | in-Full w ↦ omega (arith, i.4, w.full-is) ],

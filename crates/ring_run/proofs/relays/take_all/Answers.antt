@@ -10,6 +10,7 @@ use Rattle.ring_run.specs.Relays.{HasTakenMore, TakesAre}
 use Rattle.ring_run.proofs.RelayLemmas.{same_trans, takes_there, if_err}
 use Rattle.ring_run.proofs.RelayTakes.{no_takes_are, took, was_empty, was_told}
 use Rattle.ring_run.proofs.relays.take_all.Given.{Over}
+use Rattle.ring_core.proofs.LawLemmas.{takes_are_read}
 use Rattle.ring_run.proofs.relays.take_all.Goals.{After-take_into}
 use Rattle.ring_run.proofs.relays.take_all.Goals as goal
 
@@ -53,7 +54,7 @@ brought : (g : Over) (c : After-take_into g) (n : ℕ) → Came g c (reply.Taken
 brought g c n came =
     let a = g.E.TakeEnd.end c.takes.taker in
     let b = g.E.TakeEnd.end c.take_into.new.taker in
-    took b.ring.shape a.list b.list c.args.limit c.takes.items.items c.takes.made c.takes.empty (yet g c) (length (take c.next_take-wanted.result c.takes.room)) (asks g c) c.take_into.new.into n came
+    took takes_are_read b.ring.shape a.list b.list c.args.limit c.takes.items.items c.takes.made c.takes.empty (yet g c) (length (take c.next_take-wanted.result c.takes.room)) (asks g c) c.take_into.new.into n came
 
 -- it brought no more than is left of the limit
 few : (g : Over) (c : After-take_into g) (n : ℕ) → n ≤ length (take c.next_take-wanted.result c.takes.room) →
@@ -107,7 +108,7 @@ takes-preserved-in-Empty g c =
     let open_yet : c.takes.closed ≡ false = c.takes-test.true in (
       s.idle,
       same_trans _ _ _ i.1 s.same,
-      subst (TakesAre _ _ c.args.limit c.takes.items.items (c.takes.made + 1) (c.takes.empty + 1)) (sym open_yet) (was_empty _ _ _ c.args.limit c.takes.items.items c.takes.made c.takes.empty (yet g t) _ (asks g t) c.take_into.new.into s.phrase),
+      subst (TakesAre _ _ c.args.limit c.takes.items.items (c.takes.made + 1) (c.takes.empty + 1)) (sym open_yet) (was_empty takes_are_read _ _ _ c.args.limit c.takes.items.items c.takes.made c.takes.empty (yet g t) _ (asks g t) c.take_into.new.into s.phrase),
       subst (λ (z : Bool). length c.takes.items.items + (c.takes.empty + 1) + (if z then 1 else 0) ≤ c.args.limit) (sym open_yet) (omega (arith, c.if-len-empty.true, c.len.ensures)),
       refl,
       i.5,
@@ -124,7 +125,7 @@ takes-preserved g c =
     let s = c.in-Closed.ensures in (
       s.idle,
       same_trans _ _ _ i.1 s.same,
-      was_told _ _ _ c.args.limit c.takes.items.items c.takes.made c.takes.empty (yet g t) _ (asks g t) c.take_into.new.into s.phrase,
+      was_told takes_are_read _ _ _ c.args.limit c.takes.items.items c.takes.made c.takes.empty (yet g t) _ (asks g t) c.take_into.new.into s.phrase,
       omega (arith, c.if-len-empty.true, c.len.ensures),
       refl,
       i.5,

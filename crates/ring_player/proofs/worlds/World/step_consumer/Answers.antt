@@ -1,12 +1,11 @@
 use Rattle.bits_core.specs.declared.events.Side.TheVariants.{C}
 use Rattle.ring_player.proofs.WorldParts.{consumer_steps, grown}
 use Rattle.ring_script.specs.Borrowed.{content_of}
-use Rattle.bits_core.proofs.LawLemmas.{open_changes, subhistory_changes}
 use Rattle.ring_player.proofs.worlds.World.step_consumer.Goals as goal
 
 pub invariant_of-self : goal.invariant_of-self
 invariant_of-self g c =
     let w = c.self.inside in
     let e = c.advance.ensures in
-    consumer_steps open_changes subhistory_changes (content_of w.script) w.memory c.advance.new.memory _ _ _ _ _ _ _ _ _ _ _ c.self.invariant e.shape e.script e.playing
+    consumer_steps (content_of w.script) w.memory c.advance.new.memory _ _ _ _ _ _ _ _ _ _ _ c.self.invariant e.shape e.script e.playing
     (grown (content_of w.consumer.script) C w.memory.events c.advance.new.memory.events c.advance.result e.ok e.err) e.turns
