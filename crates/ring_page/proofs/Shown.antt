@@ -18,7 +18,7 @@ use Rattle.bits_core.specs.Seen.{AreSeen, IsSeen, clashes, sound_count}
 use Rattle.ring_page.specs.Audit.{AreMarksOf, IsNothingSeen, Names, ShowsPlace, ShowsNothing, nothing}
 use Rattle.ring_page.specs.Marks.{ArePut, mark_of}
 use Rattle.ring_page.specs.declared.marks.Mark.{Mark}
-use Rattle.bits_core.proofs.LawLemmas.{fault_breaks}
+use Rattle.bits_core.proofs.LawLemmas.{fault_breaks, flicker_is_by_interval}
 
 -- ---- lists
 
@@ -62,7 +62,7 @@ shown shape h n p e x m lawful below at seen is = record {
     later = sym (take-take (suc p) n h within ∙ one_more h p e at)
 
     law : (is_flicker_at (take n h) p ≡ true) ↔ EndsOverlappedRead (take n h) p
-    law = by_interval shape (take n h) lawful p
+    law = flicker_is_by_interval shape (take n h) lawful p
 
     here : is_flicker (take p h) e ≡ is_flicker_at (take n h) p
     here = ap (λ (t : List Event). is_flicker t e) (sym (take-take p n h before)) ∙ ap (λ o. option_map_or (is_flicker (take p (take n h))) o false) (sym (in_take h n p e at below))
