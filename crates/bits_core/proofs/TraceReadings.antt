@@ -9,10 +9,10 @@ use mathlib.Core.HLevel.{is_prop→PathP}
 use Rattle.bits_core.specs.declared.events.Event.{Event}
 use Rattle.bits_core.specs.declared.reading.Numbers.{Numbers}
 use Rattle.bits_core.specs.declared.shapes.Shape.{Shape}
-use Rattle.bits_core.specs.declared.shapes.ShapeFault.{ShapeFault}
-use Rattle.bits_core.specs.declared.shapes.ShapeFault.TheVariants.{Capacity, Modulus, Width, Batch, TakeBatch, ModulusOfBatches}
-use Rattle.bits_core.specs.declared.traces.TraceFault.{TraceFault}
-use Rattle.bits_core.specs.declared.traces.TraceFault.TheVariants.{BadShape, BadLine, TooLong, OutOfMemory}
+use Rattle.bits_core.specs.declared.faults.ShapeFault.{ShapeFault}
+use Rattle.bits_core.specs.declared.faults.ShapeFault.TheVariants.{Capacity, Modulus, Width, Batch, TakeBatch, ModulusOfBatches}
+use Rattle.bits_core.specs.declared.faults.TraceFault.{TraceFault}
+use Rattle.bits_core.specs.declared.faults.TraceFault.TheVariants.{BadShape, BadLine, TooLong, OutOfMemory}
 use Rattle.bits_core.specs.Shape.{IsRefusedBatches, batch_of, belongs, capacity_of, modulus_of, take_batch_of, width_of}
 use Rattle.bits_core.specs.TraceText.{event_line, shape_line, trace_text}
 use Rattle.bits_core.specs.TraceReading.{event_at, shape_at}

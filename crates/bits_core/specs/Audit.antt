@@ -1,28 +1,14 @@
 -- What an audit of the bits says.
-use Rattle.std.specs.Prelude.{◌≡◌, ℕ, ◌<◌, Some, List, codes, slice_get}
+use Rattle.std.specs.Prelude.{◌≡◌, ℕ, ◌<◌, Some, List, slice_get}
 use Rattle.bits_core.specs.declared.events.Event.{Event}
-use Rattle.bits_core.specs.declared.audits.Kind.{Kind}
-use Rattle.bits_core.specs.declared.audits.Kind.TheVariants.{WrongSide, OutOfTurn, NotPermitted, NotProgram}
+use Rattle.bits_core.specs.declared.faults.Kind.{Kind}
+use Rattle.bits_core.specs.declared.faults.Kind.TheVariants.{WrongSide, OutOfTurn, NotPermitted, NotProgram}
 use Rattle.bits_core.specs.declared.audits.Verdict.{Verdict}
 use Rattle.bits_core.specs.declared.audits.Verdict.TheVariants.{Lawful, Fault}
 use Rattle.bits_core.specs.declared.shapes.Shape.{Shape}
 use Rattle.bits_core.specs.Shape.{IsByRightSide}
 use Rattle.bits_core.specs.Steps.{IsInTurn, IsPermitted}
 use Rattle.bits_core.specs.Lawful.{TakesTurn, AnswersSafely, IsLawfulEvent, IsLawful}
-
--- the words of each kind
-abbrev pub kind_words : Kind → List ℕ
-kind_words WrongSide = codes "wrong side"
-kind_words OutOfTurn = codes "out of turn"
-kind_words NotPermitted = codes "not permitted"
-kind_words NotProgram = codes "not of the program"
-
--- the number of each kind
-abbrev pub kind_number : Kind → ℕ
-kind_number WrongSide = 1
-kind_number OutOfTurn = 2
-kind_number NotPermitted = 3
-kind_number NotProgram = 4
 
 -- the event at a place is at fault, and this is the first kind that applies to it
 abbrev pub IsFault : Shape → List Event → ℕ → Event → Kind → Type 0

@@ -4,12 +4,12 @@ use Rattle.bits_core.specs.declared.events.Side.{Side}
 use Rattle.bits_core.specs.declared.events.Bit.{Bit}
 use Rattle.bits_core.specs.declared.events.Access.{Access}
 use Rattle.bits_core.specs.declared.events.Event.{Event}
-use Rattle.bits_core.specs.declared.audits.Kind.{Kind}
+use Rattle.bits_core.specs.declared.faults.Kind.{Kind}
 use Rattle.bits_core.specs.declared.audits.Verdict.{Verdict}
 use Rattle.bits_core.specs.declared.shapes.Shape.{Shape}
 use Rattle.bits_core.specs.declared.traces.TheConstants.{EVENT_LIMIT}
-use Rattle.bits_core.specs.declared.traces.TraceFault.{TraceFault}
-use Rattle.bits_core.specs.declared.traces.TraceFault.TheVariants.{TooLong}
+use Rattle.bits_core.specs.declared.faults.TraceFault.{TraceFault}
+use Rattle.bits_core.specs.declared.faults.TraceFault.TheVariants.{TooLong}
 use Rattle.bits_core.specs.Audit.{IsFirstFault, IsVerdict}
 use Rattle.bits_core.specs.Trace.{IsTrace, IsTraceFault, IsTraceText, RefusesTraceText}
 use Rattle.bits_core.specs.Bits.{is_by, begun_by}

@@ -1,5 +1,6 @@
 pub mod Bits
 pub mod Shape
+pub mod Faults
 pub mod History
 pub mod Intervals
 pub mod Lawful

@@ -1,8 +1,8 @@
 -- Which numbers make a shape, and which bits a shape has.
-use Rattle.std.specs.Prelude.{◌≡◌, ℕ, ◌+◌, ◌^◌, ◌<◌, ◌≤◌, Bool, true, ◌&&◌, nat_lt, List, [], ◌∷◌, codes}
+use Rattle.std.specs.Prelude.{◌≡◌, ℕ, ◌+◌, ◌^◌, ◌<◌, ◌≤◌, Bool, true, ◌&&◌, nat_lt, List, [], ◌∷◌}
 use Rattle.bits_core.specs.declared.shapes.Shape.{Shape}
-use Rattle.bits_core.specs.declared.shapes.ShapeFault.{ShapeFault}
-use Rattle.bits_core.specs.declared.shapes.ShapeFault.TheVariants.{Capacity, Modulus, Width, Batch, TakeBatch, ModulusOfBatches}
+use Rattle.bits_core.specs.declared.faults.ShapeFault.{ShapeFault}
+use Rattle.bits_core.specs.declared.faults.ShapeFault.TheVariants.{Capacity, Modulus, Width, Batch, TakeBatch, ModulusOfBatches}
 use Rattle.bits_core.specs.declared.events.Event.{Event}
 use Rattle.bits_core.specs.declared.events.Bit.{Bit}
 use Rattle.bits_core.specs.declared.events.Bit.TheVariants.{S, R, X, Cell}
@@ -102,24 +102,6 @@ IsRefusedBatches capacity modulus width batch take_batch ModulusOfBatches =
     AreBatchSizes capacity batch take_batch × (1 < take_batch) × ¬ IsModulusForBoth capacity batch take_batch modulus
 IsRefusedBatches capacity modulus width batch take_batch Width =
     AreBatchSizes capacity batch take_batch × IsModulusForBoth capacity batch take_batch modulus × ¬ IsWidth width
-
--- the words of each fault
-abbrev pub shape_fault_words : ShapeFault → List ℕ
-shape_fault_words Capacity = codes "capacity must be from 1 to 64"
-shape_fault_words Modulus = codes "modulus must be from capacity + batch + 1 to 256"
-shape_fault_words Width = codes "width must be from 1 to 64"
-shape_fault_words Batch = codes "batch must be from 1 to capacity"
-shape_fault_words TakeBatch = codes "take batch must be from 1 to capacity"
-shape_fault_words ModulusOfBatches = codes "modulus must be from capacity + the larger batch + 1 to 256"
-
--- the number of each fault
-abbrev pub shape_fault_number : ShapeFault → ℕ
-shape_fault_number Capacity = 1
-shape_fault_number Modulus = 2
-shape_fault_number Width = 3
-shape_fault_number Batch = 4
-shape_fault_number TakeBatch = 5
-shape_fault_number ModulusOfBatches = 6
 
 -- whether a bit is one of the shape's
 abbrev pub belongs : Shape → Bit → Bool

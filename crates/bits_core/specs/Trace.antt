@@ -1,27 +1,13 @@
 -- Which bytes are a trace, and why others are none.
-use Rattle.std.specs.Prelude.{◌≡◌, ◌≢◌, ◌⊎◌, ℕ, ◌+◌, ◌-◌, ◌^◌, ◌<◌, ◌≤◌, true, List, [], ◌∷◌, ◌++◌, All, codes, decimal, length}
+use Rattle.std.specs.Prelude.{◌≡◌, ◌≢◌, ◌⊎◌, ℕ, ◌+◌, ◌-◌, ◌^◌, ◌<◌, ◌≤◌, true, List, [], ◌∷◌, ◌++◌, All, length}
 use Rattle.bits_core.specs.declared.traces.TheConstants.{EVENT_LIMIT}
 use Rattle.bits_core.specs.declared.events.Event.{Event}
 use Rattle.bits_core.specs.declared.shapes.Shape.{Shape}
-use Rattle.bits_core.specs.declared.shapes.ShapeFault.{ShapeFault}
-use Rattle.bits_core.specs.declared.traces.TraceFault.{TraceFault}
-use Rattle.bits_core.specs.declared.traces.TraceFault.TheVariants.{BadShape, BadLine, TooLong, OutOfMemory}
-use Rattle.bits_core.specs.Shape.{IsRefusedBatches, batch_of, belongs, capacity_of, modulus_of, shape_fault_words, take_batch_of, width_of}
+use Rattle.bits_core.specs.declared.faults.ShapeFault.{ShapeFault}
+use Rattle.bits_core.specs.declared.faults.TraceFault.{TraceFault}
+use Rattle.bits_core.specs.declared.faults.TraceFault.TheVariants.{BadShape, BadLine, TooLong, OutOfMemory}
+use Rattle.bits_core.specs.Shape.{IsRefusedBatches, batch_of, belongs, capacity_of, modulus_of, take_batch_of, width_of}
 use Rattle.bits_core.specs.TraceText.{event_line, shape_line, trace_text}
-
--- the words of each fault
-abbrev pub trace_fault_words : TraceFault → List ℕ
-trace_fault_words (BadShape fault) = shape_fault_words fault
-trace_fault_words (BadLine line) = codes "trace line " ++ (decimal line ++ codes " is not a line of the format")
-trace_fault_words TooLong = codes "trace has too many events"
-trace_fault_words OutOfMemory = codes "out of memory"
-
--- the number of each fault
-abbrev pub trace_fault_number : TraceFault → ℕ
-trace_fault_number (BadShape fault) = 1
-trace_fault_number (BadLine line) = 2
-trace_fault_number TooLong = 3
-trace_fault_number OutOfMemory = 4
 
 -- each event is one of a bit of the shape
 abbrev pub AreOfShape : Shape → List Event → Type 0

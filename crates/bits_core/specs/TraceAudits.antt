@@ -1,15 +1,15 @@
 -- What is kept of a trace that is being read.
 use Rattle.std.specs.Prelude.{◌≡◌, ℕ, ◌+◌, ◌-◌, ◌^◌, ◌≤◌, List, [], ◌∷◌, ◌++◌, Option, Some, None, length}
 use Rattle.bits_core.specs.declared.audits.BitAuditor.{BitAuditor}
-use Rattle.bits_core.specs.declared.audits.Kind.{Kind}
+use Rattle.bits_core.specs.declared.faults.Kind.{Kind}
 use Rattle.bits_core.specs.declared.audits.Verdict.{Verdict}
 use Rattle.bits_core.specs.declared.audits.Verdict.TheVariants.{Lawful, Fault}
 use Rattle.bits_core.specs.declared.events.Event.{Event}
 use Rattle.bits_core.specs.declared.shapes.Shape.{Shape}
 use Rattle.bits_core.specs.declared.trace_audits.TraceHearing.{TraceHearing}
 use Rattle.bits_core.specs.declared.trace_audits.TraceAudit.{TraceAudit}
-use Rattle.bits_core.specs.declared.traces.TraceFault.{TraceFault}
-use Rattle.bits_core.specs.declared.traces.TraceFault.TheVariants.{BadShape, BadLine, TooLong, OutOfMemory}
+use Rattle.bits_core.specs.declared.faults.TraceFault.{TraceFault}
+use Rattle.bits_core.specs.declared.faults.TraceFault.TheVariants.{BadShape, BadLine, TooLong, OutOfMemory}
 use Rattle.bits_core.specs.Audit.{IsFaultAfter}
 use Rattle.bits_core.specs.Auditors.{HeardEvents}
 use Rattle.bits_core.specs.Lawful.{IsLawful}

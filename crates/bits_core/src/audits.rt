@@ -13,59 +13,10 @@ ghost use Rattle.bits_core.specs.Reasons.{HasReason};
 ghost use Rattle.bits_core.specs.Seen.{AreSeen, IsSeen, sound_count};
 
 use crate::events::{Access, Act, Bit, Event, Side};
+use crate::faults::Kind;
 use crate::marks::Marks;
 use crate::reasons::{Reason, reason_by};
 use crate::shapes::Shape;
-use std::fmt;
-
-/// What is wrong with an event. Where more than one kind applies, the first is told.
-///
-/// For example, it is printed as `not permitted`. In use: `uses::audits::is_lawful`, whose audit tells it.
-#[derive(Clone, Copy, PartialEq, Eq, Debug)]
-pub enum Kind {
-    /// The bit is not in the shape, or the side is not its reader or writer, as this act needs.
-    WrongSide,
-    /// A begin while the side has an access open, or an end where it has no access of this bit and
-    /// kind open.
-    OutOfTurn,
-    /// A read's answer that a safe bit may not give.
-    NotPermitted,
-    /// Not the next event of its side's program. An audit of the bits alone never tells it.
-    NotProgram,
-}
-
-impl Kind {
-    ghost use Rattle.bits_core.specs.Audit.{kind_number};
-
-    /// The number of the kind: 1 `WrongSide`, 2 `OutOfTurn`, 3 `NotPermitted`, 4 `NotProgram`.
-    pub fn number(&self) -> u8
-        ensures { result ≡ kind_number self.now }
-    {
-        match self {
-            Kind::WrongSide => 1,
-            Kind::OutOfTurn => 2,
-            Kind::NotPermitted => 3,
-            Kind::NotProgram => 4,
-        }
-    }
-}
-
-impl fmt::Display for Kind {
-    ghost use Rattle.std.specs.Prelude.{Some};
-    ghost use Rattle.bits_core.specs.Audit.{kind_words};
-
-    ghost output = { λ k. Some (kind_words k) };
-
-    /// The words of the kind.
-    fn fmt<W: fmt::Write>(&self, f: &mut fmt::Formatter<W>) -> fmt::Result {
-        f.write_str(match self {
-            Kind::WrongSide => "wrong side",
-            Kind::OutOfTurn => "out of turn",
-            Kind::NotPermitted => "not permitted",
-            Kind::NotProgram => "not of the program",
-        })
-    }
-}
 
 /// What an audit tells of a history.
 ///

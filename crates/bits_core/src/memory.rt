@@ -10,61 +10,14 @@ ghost use Rattle.bits_core.specs.Steps.{MayFollow};
 ghost use Rattle.bits_core.specs.Trace.{AreOfShape};
 
 use crate::events::{Access, Act, Bit, Event, Side};
+use crate::faults::MemoryFault;
 use crate::marks::Marks;
 use crate::oracles::Oracle;
 use crate::shapes::Shape;
 use lists::Store;
-use std::alloc::{AllocError, AllocFailed, Allocator};
-use std::error::Error;
+use std::alloc::Allocator;
 use std::fmt;
 use std::marker::Model;
-
-/// Why a memory made no event.
-///
-/// In use: `uses::by_hand::step_producer`.
-#[derive(Clone, Copy, PartialEq, Eq, Debug)]
-pub enum MemoryFault {
-    /// Memory for the history ran out.
-    OutOfMemory,
-}
-
-impl fmt::Display for MemoryFault {
-    ghost use Rattle.std.specs.Prelude.{Some, codes};
-
-    ghost output = { λ _. Some (codes "out of memory") };
-
-    /// The words of the fault.
-    fn fmt<W: fmt::Write>(&self, f: &mut fmt::Formatter<W>) -> fmt::Result {
-        match self {
-            MemoryFault::OutOfMemory => f.write_str("out of memory"),
-        }
-    }
-}
-
-impl Error for MemoryFault {}
-
-impl MemoryFault {
-    /// The number of the fault: 1 `OutOfMemory`.
-    pub fn number(&self) -> u8
-        ensures { result ≡ 1 }
-    {
-        match self {
-            MemoryFault::OutOfMemory => 1,
-        }
-    }
-}
-
-impl From<AllocError> for MemoryFault {
-    fn from(_error: AllocError) -> MemoryFault {
-        MemoryFault::OutOfMemory
-    }
-}
-
-impl<T: Drop> From<AllocFailed<T>> for MemoryFault {
-    fn from(_error: AllocFailed<T>) -> MemoryFault {
-        MemoryFault::OutOfMemory
-    }
-}
 
 /// The safe bits of a shape, with the recorded history of the accesses to them (Lamport, 1986).
 ///

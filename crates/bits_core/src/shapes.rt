@@ -2,64 +2,7 @@
 ghost use Rattle.std.specs.Prelude.{◌≡◌, ℕ, ◌+◌, ◌^◌, ◌<◌, ◌≤◌, ◌↔◌, All, IsTrue, MatchResult};
 
 use crate::events::Bit;
-use std::error::Error;
-use std::fmt;
-
-/// Why numbers are no shape.
-///
-/// For example, `Shape::new(1, 2, 1)` is refused by `ShapeFault::Modulus`: with one cell a count needs three
-/// values.
-#[derive(Clone, Copy, PartialEq, Eq, Debug)]
-pub enum ShapeFault {
-    Capacity,
-    Modulus,
-    Width,
-    Batch,
-    TakeBatch,
-    /// The modulus, where the take batch is over 1.
-    ModulusOfBatches,
-}
-
-impl fmt::Display for ShapeFault {
-    ghost use Rattle.std.specs.Prelude.{Some};
-    ghost use Rattle.bits_core.specs.Shape.{shape_fault_words};
-
-    ghost output = { λ fault. Some (shape_fault_words fault) };
-
-    /// The words of the fault.
-    fn fmt<W: fmt::Write>(&self, f: &mut fmt::Formatter<W>) -> fmt::Result {
-        f.write_str(match self {
-            ShapeFault::Capacity => "capacity must be from 1 to 64",
-            ShapeFault::Modulus => "modulus must be from capacity + batch + 1 to 256",
-            ShapeFault::Width => "width must be from 1 to 64",
-            ShapeFault::Batch => "batch must be from 1 to capacity",
-            ShapeFault::TakeBatch => "take batch must be from 1 to capacity",
-            ShapeFault::ModulusOfBatches => {
-                "modulus must be from capacity + the larger batch + 1 to 256"
-            }
-        })
-    }
-}
-
-impl Error for ShapeFault {}
-
-impl ShapeFault {
-    ghost use Rattle.bits_core.specs.Shape.{shape_fault_number};
-
-    /// The number of the fault: 1 `Capacity`, 2 `Modulus`, 3 `Width`, 4 `Batch`, 5 `TakeBatch`, 6 `ModulusOfBatches`.
-    pub fn number(&self) -> u8
-        ensures { result ≡ shape_fault_number self.now }
-    {
-        match self {
-            ShapeFault::Capacity => 1,
-            ShapeFault::Modulus => 2,
-            ShapeFault::Width => 3,
-            ShapeFault::Batch => 4,
-            ShapeFault::TakeBatch => 5,
-            ShapeFault::ModulusOfBatches => 6,
-        }
-    }
-}
+use crate::faults::ShapeFault;
 
 /// How many cells a ring has, the modulus of its two counts, how many binary digits an item has, and how many
 /// items one count write of the producer and one of the consumer may count: its batch and its take batch.

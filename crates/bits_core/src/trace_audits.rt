@@ -8,8 +8,9 @@ ghost use Rattle.bits_core.specs.TraceLines.{EndsAtFeed, IsFeedless};
 use crate::audits::{BitAuditor, Verdict};
 use crate::cuts::LineFront;
 use crate::events::Event;
+use crate::faults::TraceFault;
 use crate::shapes::Shape;
-use crate::traces::{TraceFault, first_shape, read_event};
+use crate::traces::{first_shape, read_event};
 
 // The events of the lines that have ended, with what is found of them so far.
 #[derive(Drop)]

@@ -5,88 +5,16 @@ ghost use Rattle.bits_core.specs.declared.shapes.Shape.{Shape};
 ghost use Rattle.bits_core.specs.Trace.{BeginsWithEvent, BeginsWithMore, BeginsWithShape, HasBadShape, HasMore, HasNoEvent, HasShapeLine, IsTrace, IsTraceFault};
 
 use crate::events::Event;
+use crate::faults::{ShapeFault, TraceFault};
 use crate::reading::{event_at, shape_at};
-use crate::shapes::{Shape, ShapeFault};
+use crate::shapes::Shape;
 use lists::{Filled, Store};
-use std::alloc::{AllocError, AllocFailed, Allocator};
-use std::error::Error;
-use std::fmt;
+use std::alloc::Allocator;
 
 /// The most events that a trace may have.
 ///
 /// For example, `lamport_ring audit` refuses a trace of one event more as `trace has too many events`.
 pub const EVENT_LIMIT: usize = 1_000_000;
-
-/// Why bytes are no trace.
-///
-/// For example, it is printed as `trace line 3 is not a line of the format`.
-#[derive(Clone, Copy, PartialEq, Eq, Debug)]
-pub enum TraceFault {
-    /// The numbers of line 1 are no shape.
-    BadShape(ShapeFault),
-    /// This line, counted from 1, is missing or unfinished, or not of the format, or names a bit
-    /// that is not in the shape.
-    BadLine(u64),
-    /// More events come than a trace may have.
-    TooLong,
-    /// Memory ran out.
-    OutOfMemory,
-}
-
-impl fmt::Display for TraceFault {
-    ghost use Rattle.std.specs.Prelude.{Some};
-    ghost use Rattle.bits_core.specs.Trace.{trace_fault_words};
-
-    ghost output = { λ fault. Some (trace_fault_words fault) };
-
-    /// The words of the fault.
-    fn fmt<W: fmt::Write>(&self, f: &mut fmt::Formatter<W>) -> fmt::Result {
-        match self {
-            TraceFault::BadShape(fault) => write!(f, "{fault}"),
-            TraceFault::BadLine(line) => write!(f, "trace line {line} is not a line of the format"),
-            TraceFault::TooLong => f.write_str("trace has too many events"),
-            TraceFault::OutOfMemory => f.write_str("out of memory"),
-        }
-    }
-}
-
-impl Error for TraceFault {}
-
-impl TraceFault {
-    ghost use Rattle.bits_core.specs.Trace.{trace_fault_number};
-
-    /// The number of the fault: 1 `BadShape`, 2 `BadLine`, 3 `TooLong`, 4 `OutOfMemory`.
-    pub fn number(&self) -> u8
-        ensures { result ≡ trace_fault_number self.now }
-    {
-        match self {
-            TraceFault::BadShape(_) => 1,
-            TraceFault::BadLine(_) => 2,
-            TraceFault::TooLong => 3,
-            TraceFault::OutOfMemory => 4,
-        }
-    }
-}
-
-impl From<AllocError> for TraceFault {
-    ghost use Rattle.bits_core.specs.declared.traces.TraceFault.TheVariants.{OutOfMemory};
-
-    ghost from_gives = { λ _ e. e ≡ OutOfMemory };
-
-    fn from(_error: AllocError) -> TraceFault {
-        TraceFault::OutOfMemory
-    }
-}
-
-impl<T: Drop> From<AllocFailed<T>> for TraceFault {
-    ghost use Rattle.bits_core.specs.declared.traces.TraceFault.TheVariants.{OutOfMemory};
-
-    ghost from_gives = { λ _ e. e ≡ OutOfMemory };
-
-    fn from(_error: AllocFailed<T>) -> TraceFault {
-        TraceFault::OutOfMemory
-    }
-}
 
 /// The shape of the first line, where one stands at the front, and the bytes behind it.
 pub fn first_shape(bytes: &[u8]) -> Result<Option<(Shape, &[u8])>, ShapeFault>

@@ -6,8 +6,9 @@ ghost use Rattle.bits_core.specs.Trace.{AreOfShape, IsTrace};
 ghost use Rattle.bits_core.specs.TraceText.{act_text, batch_text, batches_text, bit_text, event_line, shape_line, side_text, trace_text, value_text};
 
 use crate::events::{Act, Bit, Event, Side};
+use crate::faults::TraceFault;
 use crate::shapes::Shape;
-use crate::traces::{EVENT_LIMIT, TraceFault};
+use crate::traces::EVENT_LIMIT;
 use itoa::Buffer;
 use std::alloc::Allocator;
 
@@ -63,29 +64,17 @@ fn push_numbered<A: Allocator>(
     push_text(text, buffer.format(number))
 }
 
-// A letter, and the index after it.
-fn push_indexed<A: Allocator>(
-    text: &mut String<A>,
-    letter: &str,
-    index: u8,
-) -> Result<(), TraceFault>
-    ensures ok { OnOk result (string_bytes text.new ≡ string_bytes text.old ++ (letter.now ++ decimal index)) }
-    ensures err { IfErr result (λ e. e ≡ TraceFault.OutOfMemory) }
-{
-    push_numbered(text, letter, u64::from(index))
-}
-
 fn push_bit<A: Allocator>(text: &mut String<A>, bit: Bit) -> Result<(), TraceFault>
     ensures ok { OnOk result (string_bytes text.new ≡ string_bytes text.old ++ bit_text bit) }
     ensures err { IfErr result (λ e. e ≡ TraceFault.OutOfMemory) }
 {
     match bit {
-        Bit::S(index) => push_indexed(text, "s", index),
-        Bit::R(index) => push_indexed(text, "r", index),
+        Bit::S(index) => push_numbered(text, "s", u64::from(index)),
+        Bit::R(index) => push_numbered(text, "r", u64::from(index)),
         Bit::X => push_text(text, "x"),
         Bit::Cell(cell, digit) => {
-            push_indexed(text, "c", cell)?;
-            push_indexed(text, ".", digit)
+            push_numbered(text, "c", u64::from(cell))?;
+            push_numbered(text, ".", u64::from(digit))
         }
     }
 }

@@ -19,47 +19,12 @@ use crate::taking::NearTaker;
 use bits_core::{Access, Event, Memory, MemoryFault, Oracle, Side, Store, Tape};
 use queue_calls::CallEvent;
 use ring_script::{Script, ScriptRef};
-use std::alloc::{AllocError, AllocFailed, Allocator};
-use thiserror::Error;
+use std::alloc::Allocator;
 
-/// Why a script was not played.
+/// Why a script was not played: `OutOfMemory`, where memory ran out. Its number is 1.
 ///
 /// In use: `lamport_ring play --wrong`.
-#[derive(Clone, Copy, PartialEq, Eq, Debug, Error)]
-pub enum NearFault {
-    /// Memory ran out.
-    #[error("out of memory")]
-    OutOfMemory,
-}
-
-impl NearFault {
-    /// The number of the fault: 1 `OutOfMemory`.
-    pub fn number(&self) -> u8
-        ensures { result ≡ 1 }
-    {
-        match self {
-            NearFault::OutOfMemory => 1,
-        }
-    }
-}
-
-impl From<AllocError> for NearFault {
-    fn from(_error: AllocError) -> NearFault {
-        NearFault::OutOfMemory
-    }
-}
-
-impl<T: Drop> From<AllocFailed<T>> for NearFault {
-    fn from(_error: AllocFailed<T>) -> NearFault {
-        NearFault::OutOfMemory
-    }
-}
-
-impl From<MemoryFault> for NearFault {
-    fn from(_error: MemoryFault) -> NearFault {
-        NearFault::OutOfMemory
-    }
-}
+pub type NearFault = MemoryFault;
 
 /// What an event of a play by a near miss tells of a call: a put that begins tells how many items of the script were stored before it, a
 /// take that begins how many it wants, and one that took some how many.

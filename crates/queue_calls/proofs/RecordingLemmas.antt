@@ -17,8 +17,8 @@ use Rattle.call_causes.specs.declared.entries.Taken.{Taken}
 use Rattle.queue_calls.specs.declared.hearings.Hearing.{Hearing}
 use Rattle.queue_calls.specs.declared.recordings.Lines.{Lines}
 use Rattle.queue_calls.specs.declared.recordings.RecordingIn.{RecordingIn}
-use Rattle.queue_calls.specs.declared.recordings.RecordingFault.{RecordingFault}
-use Rattle.queue_calls.specs.declared.recordings.RecordingFault.TheVariants.{BadLine, TooLong, OutOfMemory}
+use Rattle.queue_calls.specs.declared.faults.RecordingFault.{RecordingFault}
+use Rattle.queue_calls.specs.declared.faults.RecordingFault.TheVariants.{BadLine, TooLong, OutOfMemory}
 use Rattle.call_lines.proofs.LineLemmas.{line_no_feed}
 use Rattle.queue_calls.proofs.HeardLines.{is_line}
 use Rattle.queue_calls.proofs.HearingLemmas.{report_of, heard_lawful}

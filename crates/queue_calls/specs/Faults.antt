@@ -1,18 +1,24 @@
--- The numbers of the faults.
-use Rattle.std.specs.Prelude.{ℕ}
+-- The number of each fault, and its words.
+use Rattle.std.specs.Prelude.{ℕ, List, ◌++◌, codes, decimal}
 use Rattle.queue_calls.specs.declared.faults.Fault.{Fault}
 use Rattle.queue_calls.specs.declared.faults.Fault.TheVariants as auditor
-use Rattle.queue_calls.specs.declared.recordings.RecordingFault.{RecordingFault}
-use Rattle.queue_calls.specs.declared.recordings.RecordingFault.TheVariants as recording
+use Rattle.queue_calls.specs.declared.faults.RecordingFault.{RecordingFault}
+use Rattle.queue_calls.specs.declared.faults.RecordingFault.TheVariants.{BadLine, TooLong, OutOfMemory}
 
--- of an auditor's
+-- the number of an auditor's
 abbrev pub number_of : Fault → ℕ
 number_of auditor.OutOfTurn = 1
 number_of auditor.NotLinearizable = 2
 number_of auditor.OutOfMemory = 3
 
--- of a recording's
+-- of bytes that are no recording
+abbrev pub recording_fault_told : RecordingFault → ℕ × List ℕ
+recording_fault_told (BadLine line) = (1, codes "calls line " ++ (decimal line ++ codes " is not a line of the format"))
+recording_fault_told TooLong = (2, codes "calls have too many lines")
+recording_fault_told OutOfMemory = (3, codes "out of memory")
+
 abbrev pub recording_fault_number : RecordingFault → ℕ
-recording_fault_number (recording.BadLine line) = 1
-recording_fault_number recording.TooLong = 2
-recording_fault_number recording.OutOfMemory = 3
+recording_fault_number fault = (recording_fault_told fault).0
+
+abbrev pub recording_fault_words : RecordingFault → List ℕ
+recording_fault_words fault = (recording_fault_told fault).1

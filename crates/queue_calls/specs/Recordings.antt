@@ -1,5 +1,5 @@
 -- The text of recorded calls, and what is found of it: a first line that tells the capacity, and further lines that tell the events.
-use Rattle.std.specs.Prelude.{◌≡◌, ◌≢◌, ℕ, ◌+◌, ◌-◌, ◌^◌, ◌≤◌, nat_lt, if◌then◌else◌, List, [], ◌∷◌, ◌++◌, Bool, true, false, Option, Some, None, length, codes, decimal, All, flat_map}
+use Rattle.std.specs.Prelude.{◌≡◌, ◌≢◌, ℕ, ◌+◌, ◌-◌, ◌^◌, ◌≤◌, nat_lt, if◌then◌else◌, List, [], ◌∷◌, ◌++◌, Bool, true, false, Option, Some, None, length, codes, All, flat_map}
 use Rattle.queue_calls.specs.Queue.{Capacity, Unbounded, Between, exactly}
 use Rattle.queue_calls.specs.Calls.{Event, PutBegin, PutStored, PutFull, PutShort, PutNothing, PutClosed, CloseBegin, CloseEnd, TakeBegin, TakeItems, TakeEmpty, TakeShort, TakeNothing, TakeClosed, IsLinearizable}
 use Rattle.queue_calls.specs.InTurn.{CallsAreInTurn}
@@ -13,15 +13,9 @@ use Rattle.queue_calls.specs.declared.hearings.Begun.{Begun}
 use Rattle.queue_calls.specs.declared.hearings.Begun.TheVariants as begun
 use Rattle.queue_calls.specs.declared.recordings.CallsFinding.{CallsFinding}
 use Rattle.queue_calls.specs.declared.recordings.CallsFinding.TheVariants.{Lawful, OutOfTurn, NotLinearizable}
-use Rattle.queue_calls.specs.declared.recordings.RecordingFault.{RecordingFault}
+use Rattle.queue_calls.specs.declared.faults.RecordingFault.{RecordingFault}
 use Rattle.queue_calls.specs.declared.reports.CallsReport.{CallsReport}
-use Rattle.queue_calls.specs.declared.recordings.RecordingFault.TheVariants.{BadLine, TooLong, OutOfMemory}
-
--- the words of each fault
-abbrev pub recording_fault_words : RecordingFault → List ℕ
-recording_fault_words (BadLine line) = codes "calls line " ++ (decimal line ++ codes " is not a line of the format")
-recording_fault_words TooLong = codes "calls have too many lines"
-recording_fault_words OutOfMemory = codes "out of memory"
+use Rattle.queue_calls.specs.declared.faults.RecordingFault.TheVariants.{BadLine, TooLong, OutOfMemory}
 
 -- a line: its word and its numbers
 pub record Line : Type 0 where

@@ -12,9 +12,9 @@ ghost use Rattle.queue_calls.specs.Told.{meant, told};
 use crate::auditors::{AuditorState, CallAuditor};
 use crate::capacities::{Capacity, exactly};
 use crate::events::Event;
-use crate::faults::Fault;
+use crate::faults::{Fault, RecordingFault};
 use crate::insides::Lined;
-use crate::recordings::{CallsFinding, RecordingFault};
+use crate::recordings::CallsFinding;
 use crate::reports::{CallsReport, Tally};
 use crate::storage::Storage;
 use crate::witnesses::Witness;
@@ -171,7 +171,7 @@ pub fn begun_after(begun: Begun, word: Word, numbers: &[u64]) -> Begun
 impl<S: Storage> Hearing<S> {
     ghost use Rattle.queue_calls.specs.declared.hearings.Begun.TheVariants.{Nothing};
     ghost use Rattle.queue_calls.specs.declared.recordings.CallsFinding.TheVariants.{Lawful};
-    ghost use Rattle.queue_calls.specs.declared.recordings.RecordingFault.TheVariants.{OutOfMemory};
+    ghost use Rattle.queue_calls.specs.declared.faults.RecordingFault.TheVariants.{OutOfMemory};
 
     /// Nothing was heard, and of what queue is not told. What the lists hold is taken away.
     ///

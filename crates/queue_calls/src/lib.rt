@@ -22,11 +22,11 @@ pub use call_causes::{CAUSE_WORDS, Cause, Next, Offered, Said, TAKEN_LIMIT, Take
 pub use call_lines::{Word, allows};
 pub use capacities::{Capacity, exactly};
 pub use events::{CallEvent, Event};
-pub use faults::Fault;
+pub use faults::{Fault, RecordingFault};
 pub use hearings::{Begun, Hearing, HearingState, begun_after, event_told};
 pub use insides::Inside;
 pub use lists::{Fifo, Filled, Slots, Store};
-pub use recordings::{CallsFinding, Recording, RecordingFault, RecordingIn};
+pub use recordings::{CallsFinding, Recording, RecordingIn};
 pub use reports::CallsReport;
 pub use storage::{Lent, Lists, Owned, Storage};
 pub use turns::{PutTurn, TakeTurn};

@@ -9,6 +9,7 @@ ghost use Rattle.call_lines.specs.Lines.{BeginsWithNumbers};
 ghost use Rattle.queue_calls.specs.Rooms.{AreTooShort, HasLongHistory, rooms_in, rooms_of};
 ghost use Rattle.call_causes.specs.declared.entries.TheConstants.{TAKEN_LIMIT};
 
+use crate::faults::RecordingFault;
 use crate::hearings::{Hearing, begun_after, event_told};
 use crate::reports::CallsReport;
 use crate::storage::{Lists, Owned, Storage};
@@ -16,10 +17,8 @@ use call_causes::{Cause, TAKEN_LIMIT};
 use call_lines::{Word, read_line};
 use lists::Store;
 use memchr::memchr;
-use std::alloc::{AllocError, Allocator};
+use std::alloc::Allocator;
 use std::collections::VecDeque;
-use std::error::Error;
-use std::fmt;
 
 /// What is found of a recording.
 ///
@@ -33,65 +32,6 @@ pub enum CallsFinding {
     OutOfTurn { line: u64 },
     /// With the event of this line the history stops being linearizable.
     NotLinearizable { line: u64, cause: Cause },
-}
-
-/// Why bytes are no recording.
-///
-/// In use: `uses::findings::found_in`.
-#[derive(Clone, Copy, PartialEq, Eq, Debug)]
-pub enum RecordingFault {
-    /// This line, counted from 1, is missing or unfinished, or not of the format.
-    BadLine(u64),
-    /// There are more lines than a number of 64 bits counts.
-    TooLong,
-    /// Memory ran out.
-    OutOfMemory,
-}
-
-impl RecordingFault {
-    ghost use Rattle.queue_calls.specs.Faults.{recording_fault_number};
-
-    /// The number of the fault: 1 `BadLine`, 2 `TooLong`, 3 `OutOfMemory`.
-    pub fn number(&self) -> u8
-        ensures { result ≡ recording_fault_number self.now }
-    {
-        match self {
-            RecordingFault::BadLine(_) => 1,
-            RecordingFault::TooLong => 2,
-            RecordingFault::OutOfMemory => 3,
-        }
-    }
-}
-
-impl fmt::Display for RecordingFault {
-    ghost use Rattle.std.specs.Prelude.{Some};
-    ghost use Rattle.queue_calls.specs.Recordings.{recording_fault_words};
-
-    ghost output = { λ fault. Some (recording_fault_words fault) };
-
-    /// The words of the fault.
-    fn fmt<W: fmt::Write>(&self, f: &mut fmt::Formatter<W>) -> fmt::Result {
-        match self {
-            RecordingFault::BadLine(line) => write!(
-                f,
-                "calls line {line} is not a line of the format"
-            ),
-            RecordingFault::TooLong => f.write_str("calls have too many lines"),
-            RecordingFault::OutOfMemory => f.write_str("out of memory"),
-        }
-    }
-}
-
-impl Error for RecordingFault {}
-
-impl From<AllocError> for RecordingFault {
-    ghost use Rattle.queue_calls.specs.declared.recordings.RecordingFault.TheVariants.{OutOfMemory};
-
-    ghost from_gives = { λ _ e. e ≡ OutOfMemory };
-
-    fn from(_error: AllocError) -> RecordingFault {
-        RecordingFault::OutOfMemory
-    }
 }
 
 // The lines that have ended.
@@ -108,7 +48,7 @@ struct Lines<S: Storage> {
 }
 
 impl<S: Storage> Lines<S> {
-    ghost use Rattle.queue_calls.specs.declared.recordings.RecordingFault.TheVariants.{OutOfMemory};
+    ghost use Rattle.queue_calls.specs.declared.faults.RecordingFault.TheVariants.{OutOfMemory};
 
     // Reads one more line, without its line feed.
     fn read(&mut self, line: &[u8]) -> Result<(), RecordingFault>
@@ -194,7 +134,7 @@ impl<A: Allocator + Copy> RecordingIn<Owned<A>> {
 }
 
 impl<S: Storage> RecordingIn<S> {
-    ghost use Rattle.queue_calls.specs.declared.recordings.RecordingFault.TheVariants.{OutOfMemory};
+    ghost use Rattle.queue_calls.specs.declared.faults.RecordingFault.TheVariants.{OutOfMemory};
 
     /// A recording of which nothing was read, with these lists to read it in. What they hold is taken away.
     pub fn within(lists: Lists<S>) -> RecordingIn<S>

@@ -17,7 +17,7 @@ use crate::insides::Inside;
 ///
 /// In use: `uses::findings::found_in`.
 #[repr(C)]
-#[derive(Clone, Copy, PartialEq, Eq, Debug)]
+#[derive(Clone, Copy, Default, PartialEq, Eq, Debug)]
 pub struct CallsReport {
     /// Calls that have begun.
     pub calls: usize,
@@ -57,19 +57,7 @@ impl Tally {
         ensures inside { (result.report.surely_inside ≡ 0) × (result.report.perhaps_inside ≡ 0) }
     {
         Tally {
-            report: CallsReport {
-                calls: 0,
-                stored: 0,
-                taken: 0,
-                full: 0,
-                empty: 0,
-                nothing: 0,
-                told: false,
-                surely_inside: 0,
-                perhaps_inside: 0,
-                overlapped: 0,
-                under_way: 0,
-            },
+            report: CallsReport::default(),
             put_overlaps: false,
             take_overlaps: false,
         }

@@ -12,8 +12,8 @@ use Rattle.queue_calls.specs.declared.hearings.Begun.TheVariants.{Nothing}
 use Rattle.call_lines.specs.declared.lines.Word.{Word}
 use Rattle.call_lines.specs.declared.lines.Word.TheVariants.{Queue}
 use Rattle.queue_calls.specs.declared.recordings.CallsFinding.{CallsFinding}
-use Rattle.queue_calls.specs.declared.recordings.RecordingFault.{RecordingFault}
-use Rattle.queue_calls.specs.declared.recordings.RecordingFault.TheVariants.{BadLine, TooLong, OutOfMemory}
+use Rattle.queue_calls.specs.declared.faults.RecordingFault.{RecordingFault}
+use Rattle.queue_calls.specs.declared.faults.RecordingFault.TheVariants.{BadLine, TooLong, OutOfMemory}
 use Rattle.queue_calls.proofs.HeardLines.{first_heard, first_line}
 use Rattle.queue_calls_c.specs.Heard.{TellsLine, TellLines, SaysOf, StopsWith, HearsSome}
 use Rattle.queue_calls_c.specs.declared.hearings.WordLine.{WordLine}

@@ -5,8 +5,8 @@ use Rattle.std.proofs.lemmas.List.Elements.{filter-append}
 use Rattle.std.proofs.lemmas.List.{take-append-drop, take_more, take_at}
 use Rattle.bits_core.specs.declared.events.Side.TheVariants.{P, C}
 use Rattle.bits_core.specs.declared.events.Event.{Event}
-use Rattle.bits_core.specs.declared.audits.Kind.{Kind}
-use Rattle.bits_core.specs.declared.audits.Kind.TheVariants.{WrongSide, OutOfTurn, NotPermitted, NotProgram}
+use Rattle.bits_core.specs.declared.faults.Kind.{Kind}
+use Rattle.bits_core.specs.declared.faults.Kind.TheVariants.{WrongSide, OutOfTurn, NotPermitted, NotProgram}
 use Rattle.bits_core.specs.declared.shapes.Shape.{Shape}
 use Rattle.bits_core.specs.Audit.{IsFirstFault}
 use Rattle.bits_core.specs.Lawful.{IsLawful}

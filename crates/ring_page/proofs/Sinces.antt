@@ -3,7 +3,7 @@ use Rattle.std.proofs.Common.{◌≡◌, ◌↔◌, ◌≤◌, ℕ, Option, None
 use Rattle.std.proofs.lemmas.Option.{get_or_from_slice_get, slice_get_within}
 use Rattle.bits_core.specs.Audit.{IsVerdict}
 use Rattle.bits_core.specs.Reasons.{IsReasonBehind, HasReason}
-use Rattle.bits_core.specs.declared.audits.Kind.TheVariants.{NotProgram}
+use Rattle.bits_core.specs.declared.faults.Kind.TheVariants.{NotProgram}
 use Rattle.bits_core.specs.declared.audits.Verdict.{Verdict}
 use Rattle.bits_core.specs.declared.audits.Verdict.TheVariants.{Lawful, Fault}
 use Rattle.bits_core.specs.declared.events.Event.{Event}

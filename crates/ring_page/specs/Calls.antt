@@ -7,8 +7,8 @@ use Rattle.queue_calls.specs.Rooms.{AreTooShort, Rooms}
 use Rattle.queue_calls.specs.Recordings.{IsFoundOf, IsRecording, RefusesText}
 use Rattle.queue_calls.specs.declared.recordings.CallsFinding.{CallsFinding}
 use Rattle.queue_calls.specs.declared.recordings.CallsFinding.TheVariants.{Lawful, OutOfTurn, NotLinearizable}
-use Rattle.queue_calls.specs.declared.recordings.RecordingFault.{RecordingFault}
-use Rattle.queue_calls.specs.declared.recordings.RecordingFault.TheVariants.{BadLine, TooLong, OutOfMemory}
+use Rattle.queue_calls.specs.declared.faults.RecordingFault.{RecordingFault}
+use Rattle.queue_calls.specs.declared.faults.RecordingFault.TheVariants.{BadLine, TooLong, OutOfMemory}
 use Rattle.queue_calls.specs.declared.reports.CallsReport.{CallsReport}
 use Rattle.ring_page.specs.Marks.{bit_number}
 use Rattle.ring_page.specs.declared.calls.CallsTold.{CallsTold}

@@ -1,6 +1,6 @@
 -- What the page is told of a play.
 use Rattle.std.specs.Prelude.{◌≡◌, ◌⊎◌, ◌↔◌, ◌<◌, min, not, nat_eq, ℕ, List, length, take}
-use Rattle.bits_core.specs.Shape.{shape_fault_number}
+use Rattle.bits_core.specs.Faults.{shape_fault_number}
 use Rattle.bits_core.specs.declared.events.Event.{Event}
 use Rattle.ring_core.specs.Items.{ToldIn, items_put_in, items_taken_in}
 use Rattle.ring_core.specs.Over.{empties, fulls, puts_over_in, takes_over_in}

@@ -1,8 +1,8 @@
 -- What the page is told of the programs of a trace's two sides.
 use Rattle.std.specs.Prelude.{◌≡◌, ◌⊎◌, ◌↔◌, ◌<◌, ℕ, Bool, true, IsTrue, Option, Some, None, List, length, take, slice_get}
-use Rattle.bits_core.specs.Audit.{kind_number}
-use Rattle.bits_core.specs.declared.audits.Kind.{Kind}
-use Rattle.bits_core.specs.declared.audits.Kind.TheVariants.{WrongSide, OutOfTurn, NotPermitted, NotProgram}
+use Rattle.bits_core.specs.Faults.{kind_number}
+use Rattle.bits_core.specs.declared.faults.Kind.{Kind}
+use Rattle.bits_core.specs.declared.faults.Kind.TheVariants.{WrongSide, OutOfTurn, NotPermitted, NotProgram}
 use Rattle.bits_core.specs.declared.events.Act.TheVariants.{ReadBegin, WriteBegin}
 use Rattle.bits_core.specs.declared.events.Bit.TheVariants.{S, X}
 use Rattle.bits_core.specs.declared.events.Event.{Event}

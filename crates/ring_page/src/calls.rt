@@ -2,7 +2,7 @@
 ghost use Rattle.std.specs.Prelude.{◌≡◌, IfErr, IfOk, length};
 ghost use Rattle.queue_calls.specs.Recordings.{RefusesText};
 ghost use Rattle.queue_calls.specs.Rooms.{AreTooShort};
-ghost use Rattle.queue_calls.specs.declared.recordings.RecordingFault.TheVariants.{OutOfMemory};
+ghost use Rattle.queue_calls.specs.declared.faults.RecordingFault.TheVariants.{OutOfMemory};
 ghost use Rattle.ring_page.specs.Calls.{HasShortWords, IsFindingIn, TellsRecording, slots_for, counts_of, no_counts, told_of_finding, told_of_refusal, words_told};
 
 use crate::marks::bit_number;

@@ -10,23 +10,21 @@ use Rattle.bits_core.specs.declared.audits.Verdict.{Verdict}
 use Rattle.bits_core.specs.declared.audits.Verdict.TheVariants.{Lawful, Fault}
 use Rattle.bits_core.specs.declared.events.Event.{Event}
 use Rattle.bits_core.specs.declared.shapes.Shape.{Shape}
-use Rattle.bits_core.specs.declared.shapes.ShapeFault.{ShapeFault}
+use Rattle.bits_core.specs.declared.faults.ShapeFault.{ShapeFault}
 use Rattle.bits_core.specs.Shape.{HasBatches, IsRefusedBatches, capacity_of}
 use Rattle.bits_core.specs.Made.{IsPrefix}
-use Rattle.bits_core.specs.declared.traces.TraceFault.{TraceFault}
-use Rattle.bits_core.specs.declared.traces.TraceFault.TheVariants as trace
+use Rattle.bits_core.specs.declared.faults.TraceFault.{TraceFault}
+use Rattle.bits_core.specs.declared.faults.TraceFault.TheVariants as trace
 use Rattle.near_misses.specs.NearPlays.{IsNearPlay}
 use Rattle.queue_calls.specs.Queue.{exactly}
 use Rattle.queue_calls.specs.Recordings.{IsRecording, RefusesText}
-use Rattle.queue_calls.specs.declared.recordings.RecordingFault.{RecordingFault}
+use Rattle.queue_calls.specs.declared.faults.RecordingFault.{RecordingFault}
 use Rattle.ring_audit.specs.Audit.{IsFinding, SaysLinearizable, SaysSentence, Statement}
-use Rattle.ring_audit.specs.declared.faults.AuditFault.TheVariants as finding
 use Rattle.ring_core.specs.Linear.{EachReadingIsLinearizable}
 use Rattle.ring_player.specs.Headline.{IsPlayOf}
 use Rattle.ring_player.specs.Tellings.{RecordsPlay, call_events}
 use Rattle.ring_player.specs.declared.tellings.TakenItems.{TakenItems}
 use Rattle.queue_calls.specs.declared.events.CallEvent.{CallEvent}
-use Rattle.ring_player.specs.declared.faults.PlayFault.TheVariants as play
 use Rattle.ring_script.specs.Faults.{IsScriptFault}
 use Rattle.ring_script.specs.Content.{Content}
 use Rattle.ring_script.specs.Script.{IsScript}
@@ -36,7 +34,6 @@ use Rattle.ring_program.specs.Faults.{SaysRefusal, refusal_line}
 use Rattle.ring_program.specs.Readings.{AnswersCalls}
 use Rattle.ring_program.specs.Reports.{Reports}
 use Rattle.ring_run.specs.Relays.{IsRelayed}
-use Rattle.bits_core.specs.declared.memory.MemoryFault.TheVariants as run
 use Rattle.ring_program.specs.RunRecordings.{RecordsRun, run_counts}
 use Rattle.ring_program.specs.Runs.{run_items}
 use Rattle.ring_program.specs.Texts.{Summary, audit_text_of, near_calls, relay_report_of, relay_text_of, report_text_of, told_text_of, verdict_text_of}
@@ -160,11 +157,10 @@ pub record AnswersRun (run : Run) (text : List ℕ) (ending : Ending) : Type 0 w
   pub words : TellsRun run.text shape (run_items run) put calls full taken takes empty closed time text
   pub ends : ending ≡ relay_ending_of closed
 
--- memory ran out, in the program, the trace, the audit, the script, the play or the run
+-- memory ran out, as a trace or a script was read or elsewhere
 unfoldable pub IsOutOfMemory : Refusal → Type 0
 IsOutOfMemory e = (e ≡ refusal.App app.OutOfMemory)
-    ⊎ ((e ≡ refusal.Trace trace.OutOfMemory) ⊎ ((e ≡ refusal.Audit finding.OutOfMemory)
-    ⊎ ((e ≡ refusal.Script script.OutOfMemory) ⊎ ((e ≡ refusal.Play play.OutOfMemory) ⊎ (e ≡ refusal.Run run.OutOfMemory)))))
+    ⊎ ((e ≡ refusal.Trace trace.OutOfMemory) ⊎ (e ≡ refusal.Script script.OutOfMemory))
 
 -- a true cause of a refusal of a run: its numbers are no shape's, or memory ran out, or calls that it was to record were not recorded
 abbrev pub IsRunCause : Run → Refusal → Type 0

@@ -1,11 +1,11 @@
 -- The program's own faults, the words of each refusal, and what standard error is told.
 use Rattle.std.specs.Prelude.{◌≡◌, ◌⊎◌, ℕ, Bool, true, false, List, [], ◌++◌, Option, codes, take}
 use Rattle.std.specs.Io.KnownBytes.{Appends}
-use Rattle.bits_core.specs.Shape.{shape_fault_words}
-use Rattle.bits_core.specs.Trace.{trace_fault_words}
-use Rattle.bits_core.specs.declared.traces.TraceFault.TheVariants as trace
-use Rattle.queue_calls.specs.Recordings.{recording_fault_words}
-use Rattle.queue_calls.specs.declared.recordings.RecordingFault.TheVariants as calls
+use Rattle.bits_core.specs.Faults.{shape_fault_words}
+use Rattle.bits_core.specs.Faults.{trace_fault_words}
+use Rattle.bits_core.specs.declared.faults.TraceFault.TheVariants as trace
+use Rattle.queue_calls.specs.Faults.{recording_fault_words}
+use Rattle.queue_calls.specs.declared.faults.RecordingFault.TheVariants as calls
 use Rattle.ring_script.specs.Faults.{script_fault_words}
 use Rattle.ring_script.specs.declared.faults.ScriptFault.{ScriptFault}
 use Rattle.ring_program.specs.declared.faults.AppFault.{AppFault}
@@ -34,11 +34,8 @@ abbrev pub refusal_words : Refusal → List ℕ
 refusal_words (refusal.App fault) = app_fault_words fault
 refusal_words (refusal.Trace fault) = trace_fault_words fault
 refusal_words (refusal.Calls fault) = recording_fault_words fault
-refusal_words (refusal.Audit fault) = codes "out of memory"
 refusal_words (refusal.Script fault) = script_fault_words fault
-refusal_words (refusal.Play fault) = codes "out of memory"
 refusal_words (refusal.Shape fault) = shape_fault_words fault
-refusal_words (refusal.Run fault) = codes "out of memory"
 
 -- the line that tells it
 abbrev pub refusal_line : Refusal → List ℕ

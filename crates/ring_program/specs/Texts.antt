@@ -1,10 +1,10 @@
 -- The texts of the answers.
 use Rattle.std.specs.Prelude.{ℕ, ◌+◌, ◌*◌, ◌/◌, ◌^◌, Bool, true, false, ◌&&◌, List, [], ◌∷◌, ◌++◌, Option, Some, None, codes, decimal, drop, length, take, Vec, nat_lt, if◌then◌else◌, option_and_then}
 use Rattle.std.specs.List.{flat_map}
-use Rattle.bits_core.specs.Audit.{kind_words}
+use Rattle.bits_core.specs.Faults.{kind_words}
 use Rattle.bits_core.specs.declared.audits.Verdict.{Verdict}
 use Rattle.bits_core.specs.declared.audits.Verdict.TheVariants as bits
-use Rattle.bits_core.specs.declared.audits.Kind.{Kind}
+use Rattle.bits_core.specs.declared.faults.Kind.{Kind}
 use Rattle.bits_core.specs.declared.events.Event.{Event}
 use Rattle.bits_core.specs.Shape.{capacity_of}
 use Rattle.queue_calls.specs.Calls as queue

@@ -1,12 +1,9 @@
 //! Why the program refuses.
 ghost use Rattle.std.specs.Prelude.{◌≡◌};
 
-use bits_core::{ShapeFault, TraceFault};
-use near_misses::NearFault;
+use bits_core::{MemoryFault, ShapeFault, TraceFault};
 use queue_calls::RecordingFault;
-use ring_audit::AuditFault;
-use ring_player::{PlayFault, ScriptFault};
-use ring_run::RunFault;
+use ring_script::ScriptFault;
 use std::alloc::AllocError;
 use std::error::Error;
 use std::fmt;
@@ -17,7 +14,7 @@ use std::fmt;
 #[derive(Clone, Copy, Debug, PartialEq, Eq)]
 pub enum AppFault {
     /// A read of the input failed.
-    ReadFailed,
+    ReadFailed = 1,
     /// More bytes came than an input may have.
     TooLarge,
     /// A write of the output failed.
@@ -55,13 +52,7 @@ impl AppFault {
     pub fn number(&self) -> u8
         ensures { result ≡ app_fault_number self.now }
     {
-        match self {
-            AppFault::ReadFailed => 1,
-            AppFault::TooLarge => 2,
-            AppFault::WriteFailed => 3,
-            AppFault::OutOfMemory => 4,
-            AppFault::NotOfRun => 5,
-        }
+        *self as u8
     }
 }
 
@@ -86,16 +77,10 @@ pub enum Refusal {
     Trace(TraceFault),
     /// The input is no recording of calls.
     Calls(RecordingFault),
-    /// The audit of a trace stopped.
-    Audit(AuditFault),
     /// The input is no script.
     Script(ScriptFault),
-    /// The play of a script stopped.
-    Play(PlayFault),
     /// The numbers of a run are no shape's.
     Shape(ShapeFault),
-    /// A run stopped.
-    Run(RunFault),
 }
 
 impl fmt::Display for Refusal {
@@ -110,11 +95,8 @@ impl fmt::Display for Refusal {
             Refusal::App(fault) => write!(f, "{fault}"),
             Refusal::Trace(fault) => write!(f, "{fault}"),
             Refusal::Calls(fault) => write!(f, "{fault}"),
-            Refusal::Audit(fault) => write!(f, "{fault}"),
             Refusal::Script(fault) => write!(f, "{fault}"),
-            Refusal::Play(fault) => write!(f, "{fault}"),
             Refusal::Shape(fault) => write!(f, "{fault}"),
-            Refusal::Run(fault) => write!(f, "{fault}"),
         }
     }
 }
@@ -151,16 +133,6 @@ impl From<RecordingFault> for Refusal {
     }
 }
 
-impl From<AuditFault> for Refusal {
-    ghost use Rattle.ring_program.specs.declared.faults.Refusal.TheVariants.{Audit};
-
-    ghost from_gives = { λ fault e. e ≡ Audit fault };
-
-    fn from(fault: AuditFault) -> Refusal {
-        Refusal::Audit(fault)
-    }
-}
-
 impl From<ScriptFault> for Refusal {
     ghost use Rattle.ring_program.specs.declared.faults.Refusal.TheVariants.{Script};
 
@@ -171,24 +143,14 @@ impl From<ScriptFault> for Refusal {
     }
 }
 
-impl From<PlayFault> for Refusal {
-    ghost use Rattle.ring_program.specs.declared.faults.Refusal.TheVariants.{Play};
-
-    ghost from_gives = { λ fault e. e ≡ Play fault };
-
-    fn from(fault: PlayFault) -> Refusal {
-        Refusal::Play(fault)
-    }
-}
-
-impl From<NearFault> for Refusal {
+impl From<MemoryFault> for Refusal {
     ghost use Rattle.ring_program.specs.declared.faults.AppFault.TheVariants.{OutOfMemory};
     ghost use Rattle.ring_program.specs.declared.faults.Refusal.TheVariants.{App};
 
     ghost from_gives = { λ _ e. e ≡ App OutOfMemory };
 
-    // (there is no other fault of a play by a near miss)
-    fn from(_fault: NearFault) -> Refusal {
+    // (an audit, a play and a run have no other fault)
+    fn from(_fault: MemoryFault) -> Refusal {
         Refusal::App(AppFault::OutOfMemory)
     }
 }
@@ -200,15 +162,5 @@ impl From<ShapeFault> for Refusal {
 
     fn from(fault: ShapeFault) -> Refusal {
         Refusal::Shape(fault)
-    }
-}
-
-impl From<RunFault> for Refusal {
-    ghost use Rattle.ring_program.specs.declared.faults.Refusal.TheVariants.{Run};
-
-    ghost from_gives = { λ fault e. e ≡ Run fault };
-
-    fn from(fault: RunFault) -> Refusal {
-        Refusal::Run(fault)
     }
 }

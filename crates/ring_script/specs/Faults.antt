@@ -1,7 +1,8 @@
 -- Why bytes are no script: each fault by what it means of the bytes, in the order in which they are told.
 use Rattle.std.specs.Prelude.{◌≡◌, ◌≢◌, ◌≤◌, ◌<◌, ℕ, suc, Bool, true, false, List, ◌++◌, codes, decimal, length, take, Some, None}
 use Rattle.serde_json.specs.Data.{Data, Members, object}
-use Rattle.bits_core.specs.Shape.{IsRefusedBatches, shape_fault_words}
+use Rattle.bits_core.specs.Shape.{IsRefusedBatches}
+use Rattle.bits_core.specs.Faults.{shape_fault_words}
 use Rattle.bits_core.specs.declared.events.Side.{Side}
 use Rattle.ring_script.specs.Schedule.{IsSchedule, IsScheduleText}
 use Rattle.ring_script.specs.Fields.{HasKnownNames, IsJson, IsObject, IsOfKind, held_as, name_of}

@@ -5,8 +5,8 @@ use Rattle.serde_json.specs.Data.{Data}
 use Rattle.serde_json.specs.Read.{read}
 use Rattle.serde_json.specs.Find.{as_object}
 use Rattle.bits_core.specs.Shape.{batch_of, capacity_of, modulus_of, take_batch_of, width_of}
-use Rattle.bits_core.specs.declared.shapes.ShapeFault.{ShapeFault}
-use Rattle.bits_core.specs.declared.shapes.ShapeFault.TheVariants as shape
+use Rattle.bits_core.specs.declared.faults.ShapeFault.{ShapeFault}
+use Rattle.bits_core.specs.declared.faults.ShapeFault.TheVariants as shape
 use Rattle.bits_core.specs.declared.events.Side.{Side}
 use Rattle.ring_script.specs.Results.{result_and_then}
 use Rattle.ring_script.specs.ScheduleReading.{letters_of, stray_in}

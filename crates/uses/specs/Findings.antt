@@ -1,7 +1,7 @@
 -- What is read of the finding of an audit of the ring.
 use Rattle.std.specs.Prelude.{◌≡◌, ℕ, ◌+◌, ◌++◌, Bool, if◌then◌else◌, List, codes, decimal, length}
-use Rattle.bits_core.specs.Audit.{kind_words}
-use Rattle.bits_core.specs.declared.audits.Kind.{Kind}
+use Rattle.bits_core.specs.Faults.{kind_words}
+use Rattle.bits_core.specs.declared.faults.Kind.{Kind}
 use Rattle.bits_core.specs.declared.events.Event.{Event}
 use Rattle.bits_core.specs.declared.shapes.Shape.{Shape}
 use Rattle.ring_audit.specs.Audit.{IsFound, Statement, Lawful, Fault}

@@ -4,8 +4,8 @@ use Rattle.bits_core.specs.TraceAudits.{BeginsWithNoLine, HasEnded}
 use Rattle.bits_core.specs.Shape.{batch_of, capacity_of, modulus_of, take_batch_of, width_of}
 use Rattle.bits_core.specs.TraceText.{event_line, shape_line}
 use Rattle.bits_core.specs.declared.trace_audits.TraceHearing.{TraceHearing}
-use Rattle.bits_core.specs.declared.traces.TraceFault.{TraceFault}
-use Rattle.bits_core.specs.declared.traces.TraceFault.TheVariants.{BadLine, TooLong}
+use Rattle.bits_core.specs.declared.faults.TraceFault.{TraceFault}
+use Rattle.bits_core.specs.declared.faults.TraceFault.TheVariants.{BadLine, TooLong}
 use Rattle.bits_core.proofs.TraceTexts.{bad_shape_more, behind_ended, event_ends, first_ended, next_ended, no_line_refused, nothing_ended, shape_ends, too_many}
 use Rattle.bits_core.proofs.trace_audits.read_line.Goals as goal
 

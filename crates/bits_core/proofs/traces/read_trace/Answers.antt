@@ -1,5 +1,5 @@
 use Rattle.std.proofs.Common.{◌≡◌, inl, inr, rules}
-use Rattle.bits_core.specs.declared.traces.TraceFault.TheVariants.{OutOfMemory}
+use Rattle.bits_core.specs.declared.faults.TraceFault.TheVariants.{OutOfMemory}
 use Rattle.bits_core.proofs.TraceReadings.{faulty_is_no_trace, one_reading}
 use Rattle.bits_core.proofs.traces.read_trace.Goals as goal
 

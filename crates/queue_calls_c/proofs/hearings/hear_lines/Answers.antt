@@ -2,7 +2,7 @@ use Rattle.std.proofs.Common.{◌≡◌, ◌∙◌, ◌+◌, ◌≢◌, suc, Lis
 use Rattle.std.proofs.lemmas.Bool.{false≢true}
 use Rattle.queue_calls.specs.Hearings.{FollowsLines}
 use Rattle.queue_calls.specs.Recordings as recordings
-use Rattle.queue_calls.specs.declared.recordings.RecordingFault.TheVariants.{TooLong}
+use Rattle.queue_calls.specs.declared.faults.RecordingFault.TheVariants.{TooLong}
 use Rattle.lists.specs.Rings.{ring_items}
 use Rattle.queue_calls_c.specs.Heard.{TellLines, SaysOf, offered_room, taken_room}
 use Rattle.queue_calls_c.proofs.ToldLines.{hears_all, hears_at, says_map, told_more, with_next}

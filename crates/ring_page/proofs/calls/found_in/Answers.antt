@@ -2,8 +2,8 @@ use Rattle.std.proofs.Common.{◌≡◌, length, sym, [], Result, Err, IfErr, ru
 use Rattle.std.proofs.lemmas.List.{append-nil}
 use Rattle.queue_calls.specs.Recordings.{IsFindingOf, RefusesText}
 use Rattle.queue_calls.specs.Rooms.{AreTooShort, Rooms}
-use Rattle.queue_calls.specs.declared.recordings.RecordingFault.{RecordingFault}
-use Rattle.queue_calls.specs.declared.recordings.RecordingFault.TheVariants.{OutOfMemory}
+use Rattle.queue_calls.specs.declared.faults.RecordingFault.{RecordingFault}
+use Rattle.queue_calls.specs.declared.faults.RecordingFault.TheVariants.{OutOfMemory}
 use Rattle.ring_page.specs.Calls.{slots_for}
 use Rattle.ring_page.proofs.calls.found_in.Goals as goal
 

@@ -3,7 +3,7 @@ use Rattle.std.specs.Result.{IsErrAnd}
 use Rattle.std.proofs.KnownBytes.{Consumes-nil, Consumes-trans}
 use Rattle.bits_core.specs.Trace.{RefusesTraceText}
 use Rattle.bits_core.specs.declared.audits.Verdict.{Verdict}
-use Rattle.bits_core.specs.declared.traces.TraceFault.{TraceFault}
+use Rattle.bits_core.specs.declared.faults.TraceFault.{TraceFault}
 use Rattle.ring_program.specs.Answers.{IsLongBitsCause}
 use Rattle.ring_program.specs.declared.faults.Refusal.{Refusal}
 use Rattle.ring_program.specs.declared.faults.Refusal.TheVariants as refusal

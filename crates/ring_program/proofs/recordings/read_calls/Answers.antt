@@ -4,7 +4,7 @@ use Rattle.std.specs.Prelude.{MatchOption}
 use Rattle.std.proofs.lemmas.Option.{none-some, same_Some}
 use Rattle.std.proofs.KnownBytes.{Consumes-nil, Consumes-trans}
 use Rattle.queue_calls.specs.Recordings.{RefusesText}
-use Rattle.queue_calls.specs.declared.recordings.RecordingFault.{RecordingFault}
+use Rattle.queue_calls.specs.declared.faults.RecordingFault.{RecordingFault}
 use Rattle.ring_program.specs.Answers.{IsCallsCause}
 use Rattle.ring_program.specs.Readings.{IsFoundBy}
 use Rattle.ring_program.specs.declared.faults.Refusal.{Refusal}

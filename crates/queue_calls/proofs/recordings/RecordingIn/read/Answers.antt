@@ -2,8 +2,8 @@ use Rattle.std.proofs.Common.{◌≡◌, ◌≢◌, inr, length-append, arith, �
 use Rattle.std.proofs.lemmas.List.{append-nil}
 use Rattle.std.proofs.lemmas.List.Elements.{All-append}
 use Rattle.queue_calls.specs.Rooms.{AreTooShort, rooms_in}
-use Rattle.queue_calls.specs.declared.recordings.RecordingFault.{RecordingFault}
-use Rattle.queue_calls.specs.declared.recordings.RecordingFault.TheVariants.{OutOfMemory}
+use Rattle.queue_calls.specs.declared.faults.RecordingFault.{RecordingFault}
+use Rattle.queue_calls.specs.declared.faults.RecordingFault.TheVariants.{OutOfMemory}
 use Rattle.queue_calls.proofs.Results.{if_err, of_err}
 use Rattle.queue_calls.proofs.NotingLemmas.{rooms_same, too_short_on}
 use Rattle.queue_calls.specs.Recordings.{RefusesText, lines_text}

@@ -4,8 +4,8 @@ use Rattle.std.proofs.lemmas.List.{nil_from_length}
 use Rattle.std.proofs.lemmas.List.Elements.{All-append}
 use Rattle.queue_calls.specs.Recordings.{RefusesText, lines_text}
 use Rattle.queue_calls.specs.Rooms.{AreTooShort, rooms_in}
-use Rattle.queue_calls.specs.declared.recordings.RecordingFault.{RecordingFault}
-use Rattle.queue_calls.specs.declared.recordings.RecordingFault.TheVariants.{OutOfMemory}
+use Rattle.queue_calls.specs.declared.faults.RecordingFault.{RecordingFault}
+use Rattle.queue_calls.specs.declared.faults.RecordingFault.TheVariants.{OutOfMemory}
 use Rattle.queue_calls.specs.RecordingStates.{HasRead, RefusesLine}
 use Rattle.queue_calls.proofs.Results.{if_err, of_err}
 use Rattle.queue_calls.proofs.RecordingLemmas.{end_refused, ended_text, line_ended}
