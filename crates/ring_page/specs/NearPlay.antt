@@ -83,24 +83,15 @@ pub record TellsNearPlayed (miss : NearMiss) (held : HeldFields) (letters : ℕ)
 
 -- a fault, as `page_play` tells it
 abbrev pub near_refused : Played → NearPlayed
-near_refused told = record {
-  outcome = told.outcome;
-  number = told.number;
-  place = told.place;
-  shape_fault = told.shape_fault;
-  count = 0;
-  told = 0;
-  taken = 0;
-  all_letters = 0;
-  modulus = 0;
-}
+near_refused told =
+    record (near_played 0 0 0 0 0) { outcome = told.outcome; number = told.number; place = told.place; shape_fault = told.shape_fault }
 
 abbrev pub TellsNearRefused : HeldFields → ℕ → NearPlayed → Type 0
 TellsNearRefused held letters told = (fault : Played) × TellsRefused held letters fault × (told ≡ near_refused fault)
 
 -- there is no near miss of this number
 abbrev pub no_near_miss : NearPlayed
-no_near_miss = record { outcome = 3; number = 0; place = 0; shape_fault = 0; count = 0; told = 0; taken = 0; all_letters = 0; modulus = 0 }
+no_near_miss = record (near_played 0 0 0 0 0) { outcome = 3 }
 
 -- what is told of the values of a script's fields and of a near miss
 abbrev pub TellsNearPlay : Option NearMiss → HeldFields → ℕ → List Mark → List Telling → List ℕ → NearPlayed → Type 0

@@ -10,7 +10,7 @@ use Rattle.ring_player.specs.Headline.{IsPlayOf}
 use Rattle.ring_player.specs.Plays.{HasFlickers}
 use Rattle.ring_script.specs.Faults.{IsScriptFault, script_fault_number}
 use Rattle.ring_script.specs.Content.{Content}
-use Rattle.ring_script.specs.Script.{HeldFields, HoldsFields, IsContentOf, IsScript}
+use Rattle.ring_script.specs.Script.{HeldFields, HoldsFields, IsContentOf, IsScript, held_fields}
 use Rattle.ring_script.specs.declared.faults.ScriptFault.{ScriptFault}
 use Rattle.ring_script.specs.declared.faults.ScriptFault.TheVariants as fault
 use Rattle.ring_script.specs.Schedule.{run_count}
@@ -23,18 +23,8 @@ use Rattle.ring_page.specs.declared.plays.Played.{Played}
 
 -- the values of a script's fields that the page asks for
 abbrev pub fields_of : Asked → List ℕ → List ℕ → List ℕ → HeldFields
-fields_of asked items schedule oracle = record {
-  capacity = asked.capacity;
-  modulus = asked.modulus;
-  width = asked.width;
-  items = items;
-  takes = asked.takes;
-  close = not (nat_eq asked.closes 0);
-  schedule = schedule;
-  oracle = oracle;
-  batch = asked.batch;
-  take_batch = asked.take_batch;
-}
+fields_of asked items schedule oracle =
+    held_fields asked.capacity asked.modulus asked.width items asked.takes (not (nat_eq asked.closes 0)) schedule oracle asked.batch asked.take_batch
 
 -- the list stands at the front of the room, as much of it as there is room for
 abbrev pub Fills : List ℕ → List ℕ → Type 0

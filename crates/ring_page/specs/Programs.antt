@@ -35,39 +35,6 @@ begins_closing = record { side = P; bit = X; act = WriteBegin true }
 abbrev pub begins_scanning : Event
 begins_scanning = record { side = C; bit = S 0; act = ReadBegin }
 
--- the history is of the programs: so many items put and taken, whether the consumer was told that the ring is closed, and whether a
--- close may begin next, and a scan of the consumer
-abbrev pub of_programs : ℕ → ℕ → Bool → Bool → Bool → Judged
-of_programs put taken told may_close may_scan = record {
-  outcome = 0;
-  number = 0;
-  place = 0;
-  put = put;
-  taken = taken;
-  told = bit_number told;
-  may_close = bit_number may_close;
-  may_scan = bit_number may_scan;
-  first = no_due;
-  second = no_due;
-  third = no_due;
-}
-
--- it is not, from the event at a place on, where these were due
-abbrev pub broken : Kind → ℕ → Dues → Judged
-broken kind place dues = record {
-  outcome = 1;
-  number = kind_number kind;
-  place = place;
-  put = 0;
-  taken = 0;
-  told = 0;
-  may_close = 0;
-  may_scan = 0;
-  first = told_due dues.first;
-  second = told_due dues.second;
-  third = told_due dues.third;
-}
-
 -- nothing is told
 abbrev pub unjudged : Judged
 unjudged = record {
@@ -82,6 +49,23 @@ unjudged = record {
   first = no_due;
   second = no_due;
   third = no_due;
+}
+
+-- the history is of the programs: so many items put and taken, whether the consumer was told that the ring is closed, and whether a
+-- close may begin next, and a scan of the consumer
+abbrev pub of_programs : ℕ → ℕ → Bool → Bool → Bool → Judged
+of_programs put taken told may_close may_scan =
+    record unjudged { outcome = 0; put = put; taken = taken; told = bit_number told; may_close = bit_number may_close; may_scan = bit_number may_scan }
+
+-- it is not, from the event at a place on, where these were due
+abbrev pub broken : Kind → ℕ → Dues → Judged
+broken kind place dues = record unjudged {
+  outcome = 1;
+  number = kind_number kind;
+  place = place;
+  first = told_due dues.first;
+  second = told_due dues.second;
+  third = told_due dues.third;
 }
 
 abbrev pub none_due : Dues

@@ -13,21 +13,19 @@ use Rattle.ring_program.specs.declared.faults.AppFault.TheVariants.{ReadFailed, 
 use Rattle.ring_program.specs.declared.faults.Refusal.{Refusal}
 use Rattle.ring_program.specs.declared.faults.Refusal.TheVariants as refusal
 
--- the number of each fault
-abbrev pub app_fault_number : AppFault → ℕ
-app_fault_number ReadFailed = 1
-app_fault_number TooLarge = 2
-app_fault_number WriteFailed = 3
-app_fault_number OutOfMemory = 4
-app_fault_number NotOfRun = 5
+-- the number of each fault, and its words
+abbrev pub app_fault_told : AppFault → ℕ × List ℕ
+app_fault_told ReadFailed = (1, codes "input failed")
+app_fault_told TooLarge = (2, codes "input is too large")
+app_fault_told WriteFailed = (3, codes "output failed")
+app_fault_told OutOfMemory = (4, codes "out of memory")
+app_fault_told NotOfRun = (5, codes "recording is not of the run")
 
--- its words
+abbrev pub app_fault_number : AppFault → ℕ
+app_fault_number fault = (app_fault_told fault).0
+
 abbrev pub app_fault_words : AppFault → List ℕ
-app_fault_words ReadFailed = codes "input failed"
-app_fault_words TooLarge = codes "input is too large"
-app_fault_words WriteFailed = codes "output failed"
-app_fault_words OutOfMemory = codes "out of memory"
-app_fault_words NotOfRun = codes "recording is not of the run"
+app_fault_words fault = (app_fault_told fault).1
 
 -- the words of a refusal: those of the fault that it holds
 abbrev pub refusal_words : Refusal → List ℕ

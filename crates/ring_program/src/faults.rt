@@ -1,5 +1,5 @@
 //! Why the program refuses.
-ghost use Rattle.std.specs.Prelude.{◌≡◌};
+ghost use Rattle.std.specs.Prelude.{◌≡◌, Some};
 
 use bits_core::{MemoryFault, ShapeFault, TraceFault};
 use queue_calls::RecordingFault;
@@ -26,7 +26,6 @@ pub enum AppFault {
 }
 
 impl fmt::Display for AppFault {
-    ghost use Rattle.std.specs.Prelude.{Some};
     ghost use Rattle.ring_program.specs.Faults.{app_fault_words};
 
     ghost output = { λ fault. Some (app_fault_words fault) };
@@ -84,7 +83,6 @@ pub enum Refusal {
 }
 
 impl fmt::Display for Refusal {
-    ghost use Rattle.std.specs.Prelude.{Some};
     ghost use Rattle.ring_program.specs.Faults.{refusal_words};
 
     ghost output = { λ refusal. Some (refusal_words refusal) };

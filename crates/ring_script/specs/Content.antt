@@ -11,3 +11,7 @@ pub record Content : Type 0 where
   pub closes : Bool
   pub letters : List Side
   pub oracle : List Bool
+
+abbrev pub content_with : Shape → (items : List ℕ) (takes : ℕ) (closes : Bool) (letters : List Side) (oracle : List Bool) → Content
+content_with shape items takes closes letters oracle =
+    record { shape = shape; items = items; takes = takes; closes = closes; letters = letters; oracle = oracle }

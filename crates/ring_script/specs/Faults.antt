@@ -31,16 +31,9 @@ field_place TakeBatch = 9
 
 -- whether the field has to stand
 abbrev pub is_needed : Field → Bool
-is_needed Capacity = true
-is_needed Modulus = true
-is_needed Width = true
-is_needed Items = true
-is_needed Takes = true
-is_needed Close = true
-is_needed Schedule = true
-is_needed Oracle = true
 is_needed Batch = false
 is_needed TakeBatch = false
+is_needed _ = true
 
 -- the field has to stand, and the members lack it
 abbrev pub IsMissing : Members → Field → Type 0
@@ -83,32 +76,23 @@ IsScriptFault bytes (fault.BadOracle place) =
     (held : HeldFields) × (letters : List Side) × HoldsLetters bytes held letters × IsFirstStray IsOracleText held.oracle place
 IsScriptFault bytes fault.OutOfMemory = ⊥
 
--- the words of each fault
-abbrev pub script_fault_words : ScriptFault → List ℕ
-script_fault_words fault.NotJson = codes "script is not JSON"
-script_fault_words fault.NotObject = codes "script is not an object"
-script_fault_words fault.UnknownField = codes "script has an unknown field"
-script_fault_words (fault.MissingField field) = codes "field " ++ (name_of field ++ codes " is missing")
-script_fault_words (fault.WrongKind field) = codes "field " ++ (name_of field ++ codes " has the wrong kind")
-script_fault_words (fault.Shape refusal) = shape_fault_words refusal
-script_fault_words fault.TooManyItems = codes "script has too many items"
-script_fault_words (fault.ItemTooWide place) = codes "item " ++ (decimal place ++ codes " does not fit the width")
-script_fault_words (fault.BadSchedule place) = codes "schedule is wrong at byte " ++ decimal place
-script_fault_words fault.ScheduleTooLong = codes "schedule is too long"
-script_fault_words (fault.BadOracle place) = codes "oracle is wrong at byte " ++ decimal place
-script_fault_words fault.OutOfMemory = codes "out of memory"
+-- the number of each fault, and its words
+abbrev pub script_fault_told : ScriptFault → ℕ × List ℕ
+script_fault_told fault.NotJson = (1, codes "script is not JSON")
+script_fault_told fault.NotObject = (2, codes "script is not an object")
+script_fault_told fault.UnknownField = (3, codes "script has an unknown field")
+script_fault_told (fault.MissingField field) = (4, codes "field " ++ (name_of field ++ codes " is missing"))
+script_fault_told (fault.WrongKind field) = (5, codes "field " ++ (name_of field ++ codes " has the wrong kind"))
+script_fault_told (fault.Shape refusal) = (6, shape_fault_words refusal)
+script_fault_told fault.TooManyItems = (7, codes "script has too many items")
+script_fault_told (fault.ItemTooWide place) = (8, codes "item " ++ (decimal place ++ codes " does not fit the width"))
+script_fault_told (fault.BadSchedule place) = (9, codes "schedule is wrong at byte " ++ decimal place)
+script_fault_told fault.ScheduleTooLong = (10, codes "schedule is too long")
+script_fault_told (fault.BadOracle place) = (11, codes "oracle is wrong at byte " ++ decimal place)
+script_fault_told fault.OutOfMemory = (12, codes "out of memory")
 
--- the number of each fault
 abbrev pub script_fault_number : ScriptFault → ℕ
-script_fault_number fault.NotJson = 1
-script_fault_number fault.NotObject = 2
-script_fault_number fault.UnknownField = 3
-script_fault_number (fault.MissingField field) = 4
-script_fault_number (fault.WrongKind field) = 5
-script_fault_number (fault.Shape refusal) = 6
-script_fault_number fault.TooManyItems = 7
-script_fault_number (fault.ItemTooWide place) = 8
-script_fault_number (fault.BadSchedule place) = 9
-script_fault_number fault.ScheduleTooLong = 10
-script_fault_number (fault.BadOracle place) = 11
-script_fault_number fault.OutOfMemory = 12
+script_fault_number fault = (script_fault_told fault).0
+
+abbrev pub script_fault_words : ScriptFault → List ℕ
+script_fault_words fault = (script_fault_told fault).1

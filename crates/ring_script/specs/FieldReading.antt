@@ -5,7 +5,7 @@ use Rattle.serde_json.specs.Data.{Data, Items as ItemData, no_items, item, Membe
 use Rattle.serde_json.specs.Find.{get, as_number, as_u64, as_bool, as_str, as_array}
 use Rattle.ring_script.specs.Results.{result_and_then}
 use Rattle.ring_script.specs.Fields.{name_of}
-use Rattle.ring_script.specs.Script.{HeldFields}
+use Rattle.ring_script.specs.Script.{HeldFields, held_fields}
 use Rattle.ring_script.specs.declared.faults.Field.{Field}
 use Rattle.ring_script.specs.declared.faults.Field.TheVariants.{Capacity, Modulus, Width, Items, Takes, Close, Schedule, Oracle, Batch, TakeBatch}
 use Rattle.ring_script.specs.declared.faults.ScriptFault.{ScriptFault}
@@ -112,15 +112,4 @@ typed_of values =
     result_and_then (of_kind Oracle (as_str values.oracle)) (λ oracle.
     result_and_then (batch_in Batch values.batch) (λ batch.
     result_and_then (batch_in TakeBatch values.take_batch) (λ take_batch.
-    Ok (record {
-      capacity = capacity;
-      modulus = modulus;
-      width = width;
-      items = items;
-      takes = takes;
-      close = close;
-      schedule = schedule;
-      oracle = oracle;
-      batch = batch;
-      take_batch = take_batch;
-    })))))))))))
+    Ok (held_fields capacity modulus width items takes close schedule oracle batch take_batch)))))))))))

@@ -3,7 +3,7 @@ use Rattle.std.specs.Prelude.{◌≡◌, ◌≤◌, ℕ, List, length, option_ma
 use Rattle.bits_core.specs.Shape.{width_of}
 use Rattle.bits_core.specs.declared.events.Side.{Side}
 use Rattle.bits_core.specs.declared.shapes.Shape.{Shape}
-use Rattle.ring_script.specs.Script.{Fit, HeldFields}
+use Rattle.ring_script.specs.Script.{Fit, HeldFields, held_fields}
 use Rattle.ring_script.specs.declared.schedules.TheConstants.{LETTER_LIMIT}
 use Rattle.ring_script.specs.declared.scripts.TheConstants.{ITEM_LIMIT}
 use Rattle.serde_json.specs.View.{view}
@@ -28,18 +28,7 @@ values_view v = record {
 
 -- the numbers, lists and texts
 abbrev pub typed_view : {A : Type 0} → Typed A → HeldFields
-typed_view {A} t = record {
-  capacity = t.capacity;
-  modulus = t.modulus;
-  width = t.width;
-  items = t.items.items;
-  takes = t.takes;
-  close = t.close;
-  schedule = t.schedule.now;
-  oracle = t.oracle.now;
-  batch = t.batch;
-  take_batch = t.take_batch;
-}
+typed_view {A} t = held_fields t.capacity t.modulus t.width t.items.items t.takes t.close t.schedule.now t.oracle.now t.batch t.take_batch
 
 -- what a script keeps: how many letters it has, and its limits
 pub record IsKept (shape : Shape) (items : List ℕ) (count : ℕ) (letters : List Side) : Type 0 where

@@ -1,5 +1,5 @@
 //! Why bytes are no script.
-ghost use Rattle.std.specs.Prelude.{◌≡◌};
+ghost use Rattle.std.specs.Prelude.{◌≡◌, Some};
 ghost use Rattle.ring_script.specs.Fields.{name_of};
 ghost use Rattle.ring_script.specs.Faults.{script_fault_number};
 
@@ -56,8 +56,6 @@ impl Field {
 }
 
 impl fmt::Display for Field {
-    ghost use Rattle.std.specs.Prelude.{Some};
-
     ghost output = { λ field. Some (name_of field) };
 
     fn fmt<W: fmt::Write>(&self, f: &mut fmt::Formatter<W>) -> fmt::Result {
@@ -99,7 +97,6 @@ pub enum ScriptFault {
 }
 
 impl fmt::Display for ScriptFault {
-    ghost use Rattle.std.specs.Prelude.{Some};
     ghost use Rattle.ring_script.specs.Faults.{script_fault_words};
 
     ghost output = { λ fault. Some (script_fault_words fault) };

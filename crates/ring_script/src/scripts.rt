@@ -4,7 +4,7 @@ ghost use Rattle.serde_json.specs.View.{view};
 ghost use Rattle.bits_core.specs.Shape.{HasBatches, width_of};
 ghost use Rattle.ring_script.specs.Schedule.{run_count, spelled};
 ghost use Rattle.ring_script.specs.Borrowed.{content_of, content_read, held_of};
-ghost use Rattle.ring_script.specs.Content.{Content};
+ghost use Rattle.ring_script.specs.Content.{Content, content_with};
 ghost use Rattle.ring_script.specs.Script.{Fit, IsScript};
 ghost use Rattle.ring_script.specs.ScriptReading.{given_by, given_in, given_of, is_no_answer, is_too_wide, items_within, json_of, oracle_of, schedule_of, script_of, shape_in};
 ghost use Rattle.ring_script.specs.Faults.{IsScriptFault};
@@ -42,14 +42,7 @@ pub struct Script<A: Allocator> {
 impl<A: Allocator> Model for Script<A> {
     ghost Value = { Content };
 
-    ghost view = { λ s. record {
-      shape = s.shape;
-      items = s.items.items;
-      takes = s.takes;
-      closes = s.closes;
-      letters = spelled s.runs.items;
-      oracle = s.oracle.items;
-    } };
+    ghost view = { λ s. content_with s.shape s.items.items s.takes s.closes (spelled s.runs.items) s.oracle.items };
 
     ghost invariant = { λ s. IsKept s.shape s.items.items s.letters (spelled s.runs.items) };
 }
