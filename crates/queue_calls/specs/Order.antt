@@ -1,7 +1,7 @@
 -- Linearizability in the form of Herlihy and Wing: an order of all operations of the calls, which is legal and keeps real time.
 use Rattle.std.specs.Prelude.{◌≡◌, ◌⊎◌, ℕ, suc, ◌<◌, false, List, [], ◌∷◌, length, map}
-use Rattle.queue_calls.specs.Queue.{Capacity, Operation, Enqueue, FindNoRoom, FindShut, Close, Dequeue, FindFewer, FindClosed, queue, IsLegal}
-use Rattle.queue_calls.specs.Calls.{Event, PutBegin, PutStored, PutFull, PutShort, PutNothing, PutClosed, CloseBegin, CloseEnd, TakeBegin, TakeItems, TakeEmpty, TakeShort, TakeNothing, TakeClosed, Happens, Effect, Producer, Idle, Consumer, Resting, ProducerStep, ConsumerStep}
+use Rattle.queue_calls.specs.Queue.{Capacity, Operation, Dequeue, FindFewer, FindClosed, queue, IsLegal}
+use Rattle.queue_calls.specs.Calls.{Event, TakeBegin, TakeItems, TakeEmpty, TakeShort, TakeNothing, TakeClosed, Happens, Effect, Producer, Idle, Consumer, Resting, ProducerStep, ConsumerStep}
 
 pub data Side : Type 0 where
   P : Side
@@ -16,29 +16,19 @@ pick C C same other = same
 
 -- the side of an event, and of an operation
 abbrev pub side_of : Event → Side
-side_of (PutBegin items) = P
-side_of (PutStored count why) = P
-side_of PutFull = P
-side_of PutShort = P
-side_of PutNothing = P
-side_of PutClosed = P
-side_of CloseBegin = P
-side_of CloseEnd = P
 side_of (TakeBegin wanted) = C
 side_of (TakeItems items why) = C
 side_of TakeEmpty = C
 side_of TakeShort = C
 side_of TakeNothing = C
 side_of TakeClosed = C
+side_of _ = P
 
 abbrev pub doer_of : Operation → Side
-doer_of (Enqueue item) = P
-doer_of (FindNoRoom count) = P
-doer_of FindShut = P
-doer_of Close = P
 doer_of (Dequeue item) = C
 doer_of (FindFewer count) = C
 doer_of FindClosed = C
+doer_of _ = P
 
 -- an event of a history, and its number in it
 pub record Numbered : Type 0 where

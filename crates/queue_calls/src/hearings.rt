@@ -335,31 +335,22 @@ impl<S: Storage> Hearing<S> {
     pub fn keep(self) -> (HearingState, S::Offered, S::Taken)
         ensures { self.fault ≡ None → self ≡ hearing_of result.0 result.1 result.2 }
     {
-        let Witness {
-            auditor,
-            taken,
-            limit,
-            last_taken,
-            ended_at,
-            told_at,
-            put_at,
-            stored_at,
-        } = self.witness;
-        let (auditor, inside) = auditor.keep();
+        let witness = self.witness;
+        let (auditor, inside) = witness.auditor.keep();
         let state = HearingState {
             auditor,
-            limit,
-            last_taken,
-            ended_at,
-            told_at,
-            put_at,
-            stored_at,
+            limit: witness.limit,
+            last_taken: witness.last_taken,
+            ended_at: witness.ended_at,
+            told_at: witness.told_at,
+            put_at: witness.put_at,
+            stored_at: witness.stored_at,
             report: self.tally.report,
             put_overlaps: self.tally.put_overlaps,
             take_overlaps: self.tally.take_overlaps,
             begun: self.begun,
         };
-        (state, inside.list, taken)
+        (state, inside.list, witness.taken)
     }
 
     /// What is found of what was heard.

@@ -8,7 +8,7 @@ use Rattle.std.specs.List.{flat_map, sum_by}
 use Rattle.std.specs.Str.{bytes_eq}
 use Rattle.bits_core.specs.declared.shapes.Shape.{Shape}
 use Rattle.queue_calls.specs.Calls.{Event, PutBegin, TakeItems}
-use Rattle.ring_program.specs.RunRecordings.{AreOfRun, IsOfRun, RunCounts, TellAllBut, stored_with, taken_with, tells_close, tells_shut, tells_empty, tells_full, tells_put, tells_take}
+use Rattle.ring_program.specs.RunRecordings.{AreOfRun, IsOfRun, RunCounts, TellAllBut, counts_with, stored_with}
 use Rattle.ring_program.specs.Untold.{TakesOff}
 use Rattle.ring_program.specs.declared.run_recordings.Untold.{Untold}
 
@@ -49,15 +49,15 @@ pub tell_more : (left mid all : RunCounts) (events : List Event) (event : Event)
     → TellAllBut left all (events ++ event ∷ [])
 tell_more left mid all events event before now = record {
   put = tells_more stored_with events event _ _ _ before.put now.put;
-  calls = tells_more tells_put events event _ _ _ before.calls now.calls;
-  full = tells_more tells_full events event _ _ _ before.full now.full;
-  closes = tells_more tells_close events event _ _ _ before.closes now.closes;
-  takes = tells_more tells_take events event _ _ _ before.takes now.takes;
-  empty = tells_more tells_empty events event _ _ _ before.empty now.empty;
-  told = tells_more tells_shut events event _ _ _ before.told now.told;
-  taken = ap (λ (xs : List ℕ). xs ++ left.taken) (flat_map-append taken_with events (event ∷ []))
-      ∙ append_assoc (flat_map taken_with events) (flat_map taken_with (event ∷ [])) left.taken
-      ∙ ap (λ (xs : List ℕ). flat_map taken_with events ++ xs) now.taken ∙ before.taken;
+  calls = tells_more (λ e. (counts_with e).calls) events event _ _ _ before.calls now.calls;
+  full = tells_more (λ e. (counts_with e).full) events event _ _ _ before.full now.full;
+  closes = tells_more (λ e. (counts_with e).closes) events event _ _ _ before.closes now.closes;
+  takes = tells_more (λ e. (counts_with e).takes) events event _ _ _ before.takes now.takes;
+  empty = tells_more (λ e. (counts_with e).empty) events event _ _ _ before.empty now.empty;
+  told = tells_more (λ e. (counts_with e).told) events event _ _ _ before.told now.told;
+  taken = ap (λ (xs : List ℕ). xs ++ left.taken) (flat_map-append (λ e. (counts_with e).taken) events (event ∷ []))
+      ∙ append_assoc (flat_map (λ e. (counts_with e).taken) events) (flat_map (λ e. (counts_with e).taken) (event ∷ [])) left.taken
+      ∙ ap (λ (xs : List ℕ). flat_map (λ e. (counts_with e).taken) events ++ xs) now.taken ∙ before.taken;
 }
 
 pub are_more : (shape : Shape) (left : List ℕ) (events : List Event) (event : Event) → AreOfRun shape left events → IsOfRun shape (drop (sum_by stored_with events) left) event

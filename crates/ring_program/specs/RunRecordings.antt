@@ -10,43 +10,52 @@ use Rattle.queue_calls.specs.Queue.{exactly}
 use Rattle.queue_calls.specs.Recordings.{IsRecording}
 use Rattle.ring_program.specs.declared.run_recordings.TheConstants.{RECORDED}
 
--- ---- what an event tells
+-- ---- what a run counts, and what an event tells of it
 
--- the items that a take ends with
-abbrev pub taken_with : Event → List ℕ
-taken_with (TakeItems items why) = items
-taken_with _ = []
+-- what a run counts: the items stored, the puts, those that found the ring full, the closes, the takes, those that found it empty, those
+-- that were told that it is closed; and the items taken
+pub record RunCounts : Type 0 where
+  pub put : ℕ
+  pub calls : ℕ
+  pub full : ℕ
+  pub closes : ℕ
+  pub takes : ℕ
+  pub empty : ℕ
+  pub told : ℕ
+  pub taken : List ℕ
+
+-- by what came of it: a close was made where all items were stored
+abbrev pub run_counts : (items : List ℕ) → (put calls full : ℕ) → (taken : List ℕ) → (takes empty : ℕ) → (closed : Bool) → RunCounts
+run_counts items put calls full taken takes empty closed = record {
+  put = put;
+  calls = calls;
+  full = full;
+  closes = (if put == length items then 1 else 0);
+  takes = takes;
+  empty = empty;
+  told = (if closed then 1 else 0);
+  taken = taken;
+}
+
+abbrev pub nothing_left : RunCounts
+nothing_left = record { put = 0; calls = 0; full = 0; closes = 0; takes = 0; empty = 0; told = 0; taken = [] }
+
+-- what an event tells: a put that begins, one that ends with items stored, or as the ring is full; a close that ends; a take that begins,
+-- one that ends with items, as the ring is empty, or as it is empty and closed
+abbrev pub counts_with : Event → RunCounts
+counts_with (PutBegin items) = record nothing_left { calls = 1 }
+counts_with (PutStored count why) = record nothing_left { put = count }
+counts_with PutFull = record nothing_left { full = 1 }
+counts_with CloseEnd = record nothing_left { closes = 1 }
+counts_with (TakeBegin wanted) = record nothing_left { takes = 1 }
+counts_with (TakeItems items why) = record nothing_left { taken = items }
+counts_with TakeEmpty = record nothing_left { empty = 1 }
+counts_with TakeClosed = record nothing_left { told = 1 }
+counts_with _ = nothing_left
 
 -- how many items a put ends with as stored
 abbrev pub stored_with : Event → ℕ
-stored_with (PutStored count why) = count
-stored_with _ = 0
-
--- 1 for a put that begins, one that ends as the ring is full, a close that ends, a take that begins, one that ends as the ring is
--- empty, one that ends as it is empty and closed; 0 for any other event
-abbrev pub tells_put : Event → ℕ
-tells_put (PutBegin items) = 1
-tells_put _ = 0
-
-abbrev pub tells_full : Event → ℕ
-tells_full PutFull = 1
-tells_full _ = 0
-
-abbrev pub tells_close : Event → ℕ
-tells_close CloseEnd = 1
-tells_close _ = 0
-
-abbrev pub tells_take : Event → ℕ
-tells_take (TakeBegin wanted) = 1
-tells_take _ = 0
-
-abbrev pub tells_empty : Event → ℕ
-tells_empty TakeEmpty = 1
-tells_empty _ = 0
-
-abbrev pub tells_shut : Event → ℕ
-tells_shut TakeClosed = 1
-tells_shut _ = 0
+stored_with event = (counts_with event).put
 
 -- the room that its line takes in the log of a side: a put that begins, and a take that ends with items, as much as it has items
 abbrev pub room_with : Side → Event → ℕ
@@ -78,44 +87,16 @@ AreOfRun shape left (event ∷ events) = IsOfRun shape left event × AreOfRun sh
 
 -- ---- how much of a run is told
 
--- what a run counts: the items stored, the puts, those that found the ring full, the closes, the takes, those that found it empty, those
--- that were told that it is closed; and the items taken
-pub record RunCounts : Type 0 where
-  pub put : ℕ
-  pub calls : ℕ
-  pub full : ℕ
-  pub closes : ℕ
-  pub takes : ℕ
-  pub empty : ℕ
-  pub told : ℕ
-  pub taken : List ℕ
-
--- by what came of it: a close was made where all items were stored
-abbrev pub run_counts : (items : List ℕ) → (put calls full : ℕ) → (taken : List ℕ) → (takes empty : ℕ) → (closed : Bool) → RunCounts
-run_counts items put calls full taken takes empty closed = record {
-  put = put;
-  calls = calls;
-  full = full;
-  closes = (if put == length items then 1 else 0);
-  takes = takes;
-  empty = empty;
-  told = (if closed then 1 else 0);
-  taken = taken;
-}
-
-abbrev pub nothing_left : RunCounts
-nothing_left = record { put = 0; calls = 0; full = 0; closes = 0; takes = 0; empty = 0; told = 0; taken = [] }
-
 -- the events tell all of what a run counts but this; the items, from the first on
 pub record TellAllBut (left all : RunCounts) (events : List Event) : Type 0 where
   pub put : sum_by stored_with events + left.put ≡ all.put
-  pub calls : sum_by tells_put events + left.calls ≡ all.calls
-  pub full : sum_by tells_full events + left.full ≡ all.full
-  pub closes : sum_by tells_close events + left.closes ≡ all.closes
-  pub takes : sum_by tells_take events + left.takes ≡ all.takes
-  pub empty : sum_by tells_empty events + left.empty ≡ all.empty
-  pub told : sum_by tells_shut events + left.told ≡ all.told
-  pub taken : flat_map taken_with events ++ left.taken ≡ all.taken
+  pub calls : sum_by (λ e. (counts_with e).calls) events + left.calls ≡ all.calls
+  pub full : sum_by (λ e. (counts_with e).full) events + left.full ≡ all.full
+  pub closes : sum_by (λ e. (counts_with e).closes) events + left.closes ≡ all.closes
+  pub takes : sum_by (λ e. (counts_with e).takes) events + left.takes ≡ all.takes
+  pub empty : sum_by (λ e. (counts_with e).empty) events + left.empty ≡ all.empty
+  pub told : sum_by (λ e. (counts_with e).told) events + left.told ≡ all.told
+  pub taken : flat_map (λ e. (counts_with e).taken) events ++ left.taken ≡ all.taken
 
 -- the log of each side had room for one more line
 abbrev pub HasRoomLeft : Shape → List Event → Type 0
