@@ -121,26 +121,6 @@ impl From<TraceFault> for Refusal {
     }
 }
 
-impl From<RecordingFault> for Refusal {
-    ghost use Rattle.ring_program.specs.declared.faults.Refusal.TheVariants.{Calls};
-
-    ghost from_gives = { λ fault e. e ≡ Calls fault };
-
-    fn from(fault: RecordingFault) -> Refusal {
-        Refusal::Calls(fault)
-    }
-}
-
-impl From<ScriptFault> for Refusal {
-    ghost use Rattle.ring_program.specs.declared.faults.Refusal.TheVariants.{Script};
-
-    ghost from_gives = { λ fault e. e ≡ Script fault };
-
-    fn from(fault: ScriptFault) -> Refusal {
-        Refusal::Script(fault)
-    }
-}
-
 impl From<MemoryFault> for Refusal {
     ghost use Rattle.ring_program.specs.declared.faults.AppFault.TheVariants.{OutOfMemory};
     ghost use Rattle.ring_program.specs.declared.faults.Refusal.TheVariants.{App};
@@ -153,12 +133,12 @@ impl From<MemoryFault> for Refusal {
     }
 }
 
-impl From<ShapeFault> for Refusal {
-    ghost use Rattle.ring_program.specs.declared.faults.Refusal.TheVariants.{Shape};
+impl From<RecordingFault> for Refusal {
+    ghost use Rattle.ring_program.specs.declared.faults.Refusal.TheVariants.{Calls};
 
-    ghost from_gives = { λ fault e. e ≡ Shape fault };
+    ghost from_gives = { λ fault e. e ≡ Calls fault };
 
-    fn from(fault: ShapeFault) -> Refusal {
-        Refusal::Shape(fault)
+    fn from(fault: RecordingFault) -> Refusal {
+        Refusal::Calls(fault)
     }
 }

@@ -126,68 +126,68 @@ fn asks_two_texts(words: &[&str]) -> bool {
 fn clash(words: &[&str]) -> Option<&'static str> {
     if asks_two_texts(words) {
         return Some(
-            "error: a run prints a report or a recording: --report and --record do not go together\n\nFor more information, try '--help'.\n",
+            "a run prints a report or a recording: --report and --record do not go together",
         );
     }
     if asks_wrong_alone(words) {
         return Some(
-            "error: a play by a near miss prints its trace or its calls: --wrong goes with --trace or with --calls\n\nFor more information, try '--help'.\n",
+            "a play by a near miss prints its trace or its calls: --wrong goes with --trace or with --calls",
         );
     }
     if asks_two_plays(words) {
-        return Some(
-            "error: a play prints a trace or its calls: --trace and --calls do not go together\n\nFor more information, try '--help'.\n",
-        );
+        return Some("a play prints a trace or its calls: --trace and --calls do not go together");
     }
     if asks_two_audits(words) {
-        return Some(
-            "error: an audit is of bits or of calls: --bits and --calls do not go together\n\nFor more information, try '--help'.\n",
-        );
+        return Some("an audit is of bits or of calls: --bits and --calls do not go together");
     }
     if asks_long_alone(words) {
-        return Some(
-            "error: a trace of any length is audited for its bits alone: --long goes with --bits\n\nFor more information, try '--help'.\n",
-        );
+        return Some("a trace of any length is audited for its bits alone: --long goes with --bits");
     }
     if asks_why_of_pieces(words) {
         return Some(
-            "error: --why goes with a trace that is kept, so neither with --long nor with --calls\n\nFor more information, try '--help'.\n",
+            "--why goes with a trace that is kept, so neither with --long nor with --calls",
         );
     }
     if asks_stop_alone(words) {
         return Some(
-            "error: an audit of recorded calls may stop at the first fault: --stop goes with --calls\n\nFor more information, try '--help'.\n",
+            "an audit of recorded calls may stop at the first fault: --stop goes with --calls",
         );
     }
     None
 }
 
+// Tells what is wrong with the words.
+fn complain_of<E: Write, D: Display + Drop>(what: D, err: &mut E) -> bool {
+    complain(
+        err,
+        format_args!("error: {what}\n\nFor more information, try '--help'.\n"),
+    )
+}
+
 // The words name no such near miss.
 fn tell_miss<E: Write>(name: &str, err: &mut E) -> bool {
     let name = Quoted(name);
-    complain(
-        err,
+    complain_of(
         format_args!(
-            "error: no near miss is called '{name}': there are count-before-cell, no-second-scan, small-modulus, clears-first and clears-upwards\n\nFor more information, try '--help'.\n"
+            "no near miss is called '{name}': there are count-before-cell, no-second-scan, small-modulus, clears-first and clears-upwards"
         ),
+        err,
     )
 }
 
 // The words name no such ring.
 fn tell_ring<E: Write>(name: &str, err: &mut E) -> bool {
     let name = Quoted(name);
-    complain(
+    complain_of(
+        format_args!("no ring is called '{name}': a ring is flicker or counter"),
         err,
-        format_args!(
-            "error: no ring is called '{name}': a ring is flicker or counter\n\nFor more information, try '--help'.\n"
-        ),
     )
 }
 
 // Tells words that were taken, and name no command, no ring, no near miss, or options that do not go together.
 fn tell_unnamed<E: Write>(words: &[&str], err: &mut E) -> bool {
     if let Some(text) = clash(words) {
-        return complain(err, text);
+        return complain_of(text, err);
     }
     if let Some(name) = value_of(words, "--wrong") {
         return tell_miss(name, err);
@@ -195,9 +195,9 @@ fn tell_unnamed<E: Write>(words: &[&str], err: &mut E) -> bool {
     if let Some(name) = value_of(words, "--ring") {
         return tell_ring(name, err);
     }
-    complain(
+    complain_of(
+        "no such command, or no such ring: a ring is flicker or counter",
         err,
-        "error: no such command, or no such ring: a ring is flicker or counter\n\nFor more information, try '--help'.\n",
     )
 }
 
@@ -251,11 +251,9 @@ pub fn tell_mistake<E: Write>(words: &[&str], error: &Error, err: &mut E) -> boo
     match signed_number(words) {
         Some((option, number)) => {
             let number = Quoted(number);
-            complain(
+            complain_of(
+                format_args!("invalid value '{number}' for '{option}': a number has no minus sign"),
                 err,
-                format_args!(
-                    "error: invalid value '{number}' for '{option}': a number has no minus sign\n\nFor more information, try '--help'.\n"
-                ),
             )
         }
         None => complain(err, error),
