@@ -58,16 +58,7 @@ begun {shape = shape} {r = r} {new = new} {es = es} {items_on = items_on} {store
 abbrev pub stores_on :
     {shape : Shape} {r : PutReading} {puts : List Put} {items stored : List ℕ} {stage : Stage} {word : ReaderState} {open_access : Option Access} → InPut shape r puts items stored →
     InPut shape (record r { stage = stage; word = word; open_access = open_access }) puts items stored
-stores_on s = record {
-  seen = s.seen;
-  may = s.may;
-  fit = s.fit;
-  next_is = s.next_is;
-  cell_is = s.cell_is;
-  some_is = s.some_is;
-  holds = s.holds;
-  items_are = s.items_are;
-}
+stores_on s = record { seen = s.seen; may = s.may; fit = s.fit; next_is = s.next_is; cell_is = s.cell_is; some_is = s.some_is; holds = s.holds; items_are = s.items_are }
 
 pub begins_word :
     (shape : Shape) (r : PutReading) (es : List Event) (items stored : List ℕ) (word : ReaderState) (a : Access) → PutsStand shape r es items stored → r.open_access ≡ None →

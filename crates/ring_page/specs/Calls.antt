@@ -33,19 +33,7 @@ counts_of report = record {
 }
 
 abbrev pub no_counts : Counts
-no_counts = record {
-  calls = 0;
-  stored = 0;
-  taken = 0;
-  full = 0;
-  empty = 0;
-  nothing = 0;
-  told = 0;
-  surely_inside = 0;
-  perhaps_inside = 0;
-  overlapped = 0;
-  under_way = 0;
-}
+no_counts = record { calls = 0; stored = 0; taken = 0; full = 0; empty = 0; nothing = 0; told = 0; surely_inside = 0; perhaps_inside = 0; overlapped = 0; under_way = 0 }
 
 abbrev pub told_as : (outcome number line against words cut : ℕ) → Counts → CallsTold
 told_as outcome number line against words cut counts = record { outcome = outcome; number = number; line = line; against = against; words = words; cut = cut; counts = counts }

@@ -51,17 +51,8 @@ said_in telling = (word_of telling.word, telling.number)
 
 -- what is told of a play of so many events, tellings and items taken, of a schedule of so many letters, whose counts go round at this modulus
 abbrev pub near_played : (events tellings items letters modulus : ℕ) → NearPlayed
-near_played events tellings items letters modulus = record {
-  outcome = 0;
-  number = 0;
-  place = 0;
-  shape_fault = 0;
-  count = events;
-  told = tellings;
-  taken = items;
-  all_letters = letters;
-  modulus = modulus;
-}
+near_played events tellings items letters modulus =
+    record { outcome = 0; number = 0; place = 0; shape_fault = 0; count = events; told = tellings; taken = items; all_letters = letters; modulus = modulus }
 
 -- this is told of the play of the script's first letters
 pub record TellsNearLetters (miss : NearMiss) (script : Content) (letters : ℕ) (marks : List Mark) (tellings : List Telling) (items : List ℕ) (told : NearPlayed) : Type 0 where

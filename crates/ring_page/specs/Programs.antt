@@ -37,19 +37,7 @@ begins_scanning = record { side = C; bit = S 0; act = ReadBegin }
 
 -- nothing is told
 abbrev pub unjudged : Judged
-unjudged = record {
-  outcome = 2;
-  number = 0;
-  place = 0;
-  put = 0;
-  taken = 0;
-  told = 0;
-  may_close = 0;
-  may_scan = 0;
-  first = no_due;
-  second = no_due;
-  third = no_due;
-}
+unjudged = record { outcome = 2; number = 0; place = 0; put = 0; taken = 0; told = 0; may_close = 0; may_scan = 0; first = no_due; second = no_due; third = no_due }
 
 -- the history is of the programs: so many items put and taken, whether the consumer was told that the ring is closed, and whether a
 -- close may begin next, and a scan of the consumer
@@ -59,14 +47,8 @@ of_programs put taken told may_close may_scan =
 
 -- it is not, from the event at a place on, where these were due
 abbrev pub broken : Kind → ℕ → Dues → Judged
-broken kind place dues = record unjudged {
-  outcome = 1;
-  number = kind_number kind;
-  place = place;
-  first = told_due dues.first;
-  second = told_due dues.second;
-  third = told_due dues.third;
-}
+broken kind place dues =
+    record unjudged { outcome = 1; number = kind_number kind; place = place; first = told_due dues.first; second = told_due dues.second; third = told_due dues.third }
 
 abbrev pub none_due : Dues
 none_due = record { first = None; second = None; third = None }

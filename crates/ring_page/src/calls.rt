@@ -3,7 +3,7 @@ ghost use Rattle.std.specs.Prelude.{◌≡◌, IfErr, IfOk, length};
 ghost use Rattle.queue_calls.specs.Recordings.{RefusesText};
 ghost use Rattle.queue_calls.specs.Rooms.{AreTooShort};
 ghost use Rattle.queue_calls.specs.declared.faults.RecordingFault.TheVariants.{OutOfMemory};
-ghost use Rattle.ring_page.specs.Calls.{HasShortWords, IsFindingIn, TellsRecording, slots_for, counts_of, no_counts, told_of_finding, told_of_refusal, words_told};
+ghost use Rattle.ring_page.specs.Calls.{HasShortWords, IsFindingIn, TellsRecording, slots_for, counts_of, told_of_finding, told_of_refusal, words_told};
 
 use crate::marks::bit_number;
 use queue_calls::{
@@ -13,7 +13,7 @@ use queue_calls::{
 
 /// The numbers of the report on a recording that is lawful; all 0 on another.
 #[repr(C)]
-#[derive(Clone, Copy, PartialEq, Eq, Debug)]
+#[derive(Clone, Copy, Default, PartialEq, Eq, Debug)]
 pub struct Counts {
     pub calls: u64,
     pub stored: u64,
@@ -68,24 +68,6 @@ fn counts_of(report: &CallsReport) -> Counts
     }
 }
 
-fn no_counts() -> Counts
-    ensures { result ≡ no_counts }
-{
-    Counts {
-        calls: 0,
-        stored: 0,
-        taken: 0,
-        full: 0,
-        empty: 0,
-        nothing: 0,
-        told: 0,
-        surely_inside: 0,
-        perhaps_inside: 0,
-        overlapped: 0,
-        under_way: 0,
-    }
-}
-
 // What is told of a finding, and whether later calls are missing, with the words of its cause at the front of the slots.
 fn told_finding(finding: CallsFinding, is_cut: bool, words: &mut [u8]) -> CallsTold
     ensures told { result ≡ told_of_finding (length words.old) finding is_cut }
@@ -94,10 +76,17 @@ fn told_finding(finding: CallsFinding, is_cut: bool, words: &mut [u8]) -> CallsT
 {
     let (outcome, number, line, against, count, counts) = match finding {
         CallsFinding::Lawful(report) => (0, 0, 0, 0, 0, counts_of(&report)),
-        CallsFinding::OutOfTurn { line } => (1, 1, line, 0, 0, no_counts()),
+        CallsFinding::OutOfTurn { line } => (1, 1, line, 0, 0, Counts::default()),
         CallsFinding::NotLinearizable { line, cause } => {
             let against = cause.line().unwrap_or(0);
-            (1, 2, line, against, write_cause(words, cause), no_counts())
+            (
+                1,
+                2,
+                line,
+                against,
+                write_cause(words, cause),
+                Counts::default(),
+            )
         }
     };
     CallsTold {
@@ -126,7 +115,7 @@ fn told_refusal(fault: RecordingFault) -> CallsTold
         against: 0,
         words: 0,
         cut: 0,
-        counts: no_counts(),
+        counts: Counts::default(),
     }
 }
 

@@ -9,7 +9,7 @@ use ring_audit::{Dues, Found, audit_into, due_behind, dues_of_both};
 
 /// An event that was due; all is 0 where there is none.
 #[repr(C)]
-#[derive(Clone, Copy, PartialEq, Eq, Debug)]
+#[derive(Clone, Copy, Default, PartialEq, Eq, Debug)]
 pub struct Due {
     /// 1 where there is one.
     pub is_due: u64,
@@ -23,7 +23,7 @@ pub struct Due {
 
 /// What the audit of programs tells, as numbers.
 #[repr(C)]
-#[derive(Clone, Copy, PartialEq, Eq, Debug)]
+#[derive(Clone, Copy, Default, PartialEq, Eq, Debug)]
 pub struct Judged {
     /// 0 the history is lawful and both sides follow their programs, 1 they do not, 2 nothing is told.
     pub outcome: u64,
@@ -51,14 +51,7 @@ fn told_due(event: Option<Event>) -> Due
     ensures { result ≡ told_due event }
 {
     match event {
-        None => Due {
-            is_due: 0,
-            row: 0,
-            index: 0,
-            digit: 0,
-            act: 0,
-            value: 0,
-        },
+        None => Due::default(),
         Some(event) => Due {
             is_due: 1,
             row: u64::from(row_of(event.bit)),
@@ -119,14 +112,10 @@ fn told_break(kind: Kind, place: usize, dues: Dues) -> Judged
         outcome: 1,
         number: u64::from(kind.number()),
         place: place as u64,
-        put: 0,
-        taken: 0,
-        told: 0,
-        may_close: 0,
-        may_scan: 0,
         first: told_due(dues.first),
         second: told_due(dues.second),
         third: told_due(dues.third),
+        ..Judged::default()
     }
 }
 
@@ -134,17 +123,12 @@ fn told_programs(put: usize, taken: usize, told: bool, may_close: bool, may_scan
     ensures { result ≡ of_programs put taken told may_close may_scan }
 {
     Judged {
-        outcome: 0,
-        number: 0,
-        place: 0,
         put: put as u64,
         taken: taken as u64,
         told: bit_number(told),
         may_close: bit_number(may_close),
         may_scan: bit_number(may_scan),
-        first: told_due(None),
-        second: told_due(None),
-        third: told_due(None),
+        ..Judged::default()
     }
 }
 
@@ -154,16 +138,7 @@ pub fn unjudged() -> Judged
 {
     Judged {
         outcome: 2,
-        number: 0,
-        place: 0,
-        put: 0,
-        taken: 0,
-        told: 0,
-        may_close: 0,
-        may_scan: 0,
-        first: told_due(None),
-        second: told_due(None),
-        third: told_due(None),
+        ..Judged::default()
     }
 }
 

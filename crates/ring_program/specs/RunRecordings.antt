@@ -26,16 +26,8 @@ pub record RunCounts : Type 0 where
 
 -- by what came of it: a close was made where all items were stored
 abbrev pub run_counts : (items : List ℕ) → (put calls full : ℕ) → (taken : List ℕ) → (takes empty : ℕ) → (closed : Bool) → RunCounts
-run_counts items put calls full taken takes empty closed = record {
-  put = put;
-  calls = calls;
-  full = full;
-  closes = (if put == length items then 1 else 0);
-  takes = takes;
-  empty = empty;
-  told = (if closed then 1 else 0);
-  taken = taken;
-}
+run_counts items put calls full taken takes empty closed =
+    record { put = put; calls = calls; full = full; closes = (if put == length items then 1 else 0); takes = takes; empty = empty; told = (if closed then 1 else 0); taken = taken }
 
 abbrev pub nothing_left : RunCounts
 nothing_left = record { put = 0; calls = 0; full = 0; closes = 0; takes = 0; empty = 0; told = 0; taken = [] }

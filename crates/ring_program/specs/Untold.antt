@@ -6,16 +6,7 @@ use Rattle.ring_program.specs.declared.run_recordings.Untold.{Untold}
 
 -- how much of the run that is
 abbrev pub left_of : Untold → RunCounts
-left_of u = record {
-  put = u.put;
-  calls = u.calls;
-  full = u.full;
-  closes = u.closes;
-  takes = u.takes;
-  empty = u.empty;
-  told = u.told;
-  taken = u.taken.now;
-}
+left_of u = record { put = u.put; calls = u.calls; full = u.full; closes = u.closes; takes = u.takes; empty = u.empty; told = u.told; taken = u.taken.now }
 
 -- an event tells of it all but what is left behind the event
 pub record TakesOff (before : Untold) (event : Event) (after : Untold) : Type 0 where
