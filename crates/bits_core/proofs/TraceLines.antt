@@ -276,12 +276,4 @@ pub bad_line : {bytes : List ℕ} {c m w g h : ℕ} (fault : ShapeFault) → IsR
 bad_line {bytes} {c} {m} {w} {g} {h} fault refused line = record { capacity = c; modulus = m; width = w; batch = g; take_batch = h; line = line; refused = refused }
 
 pub bad_numbers : (bytes rest : List ℕ) (n : Numbers) (fault : ShapeFault) → BeginsShape bytes (n, rest) → IsRefusedBatches n.capacity n.modulus n.width n.batch n.take_batch fault → HasBadShape bytes fault
-bad_numbers bytes rest n fault begins refused = bad_line fault refused (record {
-  rest = rest;
-  text = begins.text;
-  short_capacity = begins.short_capacity;
-  short_modulus = begins.short_modulus;
-  short_width = begins.short_width;
-  short_batch = begins.short_batch;
-  short_take_batch = begins.short_take_batch;
-})
+bad_numbers bytes rest n fault begins refused = bad_line fault refused (record { rest = rest; text = begins.text; short_capacity = begins.short_capacity; short_modulus = begins.short_modulus; short_width = begins.short_width; short_batch = begins.short_batch; short_take_batch = begins.short_take_batch })

@@ -63,21 +63,7 @@ stops_here capacity events event number Says so_far stops says is = record {
 
 -- the report of what was counted, where these calls are under way
 pub report_of : {S O T N B : Type 0} → Witness S O T N B → Tally → CallsReport
-report_of w tally =
-    let r = tally.report in
-    record {
-      calls = r.calls;
-      stored = r.stored;
-      taken = r.taken;
-      full = r.full;
-      empty = r.empty;
-      nothing = r.nothing;
-      told = r.told;
-      surely_inside = r.surely_inside;
-      perhaps_inside = r.perhaps_inside;
-      overlapped = r.overlapped;
-      under_way = as_number (has_put w.auditor.put) + as_number (has_take w.auditor.take);
-    }
+report_of w tally = record tally.report { under_way = as_number (has_put w.auditor.put) + as_number (has_take w.auditor.take) }
 
 module _ {S O T N B : Type 0} (offered : O → List Offered) (last : T → List Taken) (capacity : Capacity) (events : List Event) where
   -- what is remembered is linearizable

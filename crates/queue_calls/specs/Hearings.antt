@@ -26,16 +26,7 @@ auditor_of state inside = record { capacity = state.capacity; inside = inside; p
 -- the hearing that goes on from what one kept, with these lists
 abbrev pub hearing_of : {S O T N B : Type 0} → HearingState → O → T → Hearing S O T N B
 hearing_of state offered taken = record {
-  witness = record {
-    auditor = auditor_of state.auditor (record { list = offered });
-    taken = taken;
-    limit = state.limit;
-    last_taken = state.last_taken;
-    ended_at = state.ended_at;
-    told_at = state.told_at;
-    put_at = state.put_at;
-    stored_at = state.stored_at;
-  };
+  witness = record { auditor = auditor_of state.auditor (record { list = offered }); taken = taken; limit = state.limit; last_taken = state.last_taken; ended_at = state.ended_at; told_at = state.told_at; put_at = state.put_at; stored_at = state.stored_at };
   tally = record { report = state.report; put_overlaps = state.put_overlaps; take_overlaps = state.take_overlaps };
   begun = state.begun;
   fault = None;

@@ -162,17 +162,8 @@ abbrev pub text_given : List Row → Option RunText
 text_given rows = text_asked (is_flag_given (codes "report") rows) (is_flag_given (codes "record") rows)
 
 abbrev pub run_of_numbers : RingKind → ℕ → ℕ → ℕ → ℕ → ℕ → ℕ → ℕ → ℕ → RunText → Run
-run_of_numbers ring capacity modulus width batch take_batch count puts takes text = record {
-  ring = ring;
-  capacity = capacity;
-  modulus = modulus;
-  width = width;
-  batch = batch;
-  take_batch = take_batch;
-  count = count;
-  limits = record { puts = puts; takes = takes };
-  text = text;
-}
+run_of_numbers ring capacity modulus width batch take_batch count puts takes text =
+    record { ring = ring; capacity = capacity; modulus = modulus; width = width; batch = batch; take_batch = take_batch; count = count; limits = record { puts = puts; takes = takes }; text = text }
 
 -- what the options of `run` ask for: as many takes as puts, where nothing else is said
 abbrev pub run_in : List Row → Option Run

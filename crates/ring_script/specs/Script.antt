@@ -27,18 +27,8 @@ pub record HeldFields : Type 0 where
   pub take_batch : ℕ
 
 abbrev pub held_fields : (capacity modulus width : ℕ) (items : List ℕ) (takes : ℕ) (close : Bool) (schedule oracle : List ℕ) (batch take_batch : ℕ) → HeldFields
-held_fields capacity modulus width items takes close schedule oracle batch take_batch = record {
-  capacity = capacity;
-  modulus = modulus;
-  width = width;
-  items = items;
-  takes = takes;
-  close = close;
-  schedule = schedule;
-  oracle = oracle;
-  batch = batch;
-  take_batch = take_batch;
-}
+held_fields capacity modulus width items takes close schedule oracle batch take_batch =
+    record { capacity = capacity; modulus = modulus; width = width; items = items; takes = takes; close = close; schedule = schedule; oracle = oracle; batch = batch; take_batch = take_batch }
 
 -- the bytes are an object whose fields all stand and hold this
 pub record HoldsFields (bytes : List ℕ) (held : HeldFields) : Type 0 where
