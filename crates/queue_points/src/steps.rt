@@ -85,16 +85,7 @@ pub fn put_event<'a>(put: PutStand<'a>, event: Event<'a>) -> Option<PutStand<'a>
         (Event::PutClosed, PutStand::FoundShut) => Some(PutStand::Idle),
         (Event::CloseBegins, PutStand::Idle) => Some(PutStand::Closing(false)),
         (Event::CloseEnds, PutStand::Closing(true)) => Some(PutStand::Idle),
-        (
-            Event::TakeBegins(_)
-            | Event::TakeItems(_)
-            | Event::TakeSome(_)
-            | Event::TakeEmpty
-            | Event::TakeShort
-            | Event::TakeNothing
-            | Event::TakeClosed,
-            _,
-        ) => Some(put),
+        _ if !event.is_of_producer() => Some(put),
         _ => None,
     }
 }
@@ -188,18 +179,7 @@ pub fn take_event(row: &[u64], head: usize, take: TakeStand, event: Event<'_>) -
         (Event::TakeNothing, TakeStand::Taking(0, from, _))
             if stretch(row, from, head).is_empty() => Some(TakeStand::Resting),
         (Event::TakeClosed, TakeStand::FoundClosed) => Some(TakeStand::Resting),
-        (
-            Event::PutBegins(_)
-            | Event::PutStored(_)
-            | Event::PutSome(_)
-            | Event::PutFull
-            | Event::PutShort
-            | Event::PutNothing
-            | Event::PutClosed
-            | Event::CloseBegins
-            | Event::CloseEnds,
-            _,
-        ) => Some(take),
+        _ if event.is_of_producer() => Some(take),
         _ => None,
     }
 }
