@@ -142,3 +142,23 @@ impl From<RecordingFault> for Refusal {
         Refusal::Calls(fault)
     }
 }
+
+impl From<ScriptFault> for Refusal {
+    ghost use Rattle.ring_program.specs.declared.faults.Refusal.TheVariants.{Script};
+
+    ghost from_gives = { λ fault e. e ≡ Script fault };
+
+    fn from(fault: ScriptFault) -> Refusal {
+        Refusal::Script(fault)
+    }
+}
+
+impl From<ShapeFault> for Refusal {
+    ghost use Rattle.ring_program.specs.declared.faults.Refusal.TheVariants.{Shape};
+
+    ghost from_gives = { λ fault e. e ≡ Shape fault };
+
+    fn from(fault: ShapeFault) -> Refusal {
+        Refusal::Shape(fault)
+    }
+}

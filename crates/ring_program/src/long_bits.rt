@@ -28,7 +28,10 @@ fn read_long_bits<I: Read>(input: &mut I) -> Result<Verdict, Refusal>
     let mut audit = TraceAudit::new();
     let mut piece = [0u8; PIECE];
     for _ in 0..u64::MAX {
-        let count = input.read(&mut piece).map_err(|_| AppFault::ReadFailed)?;
+        let count = match input.read(&mut piece) {
+            Ok(count) => count,
+            Err(_) => return Err(Refusal::App(AppFault::ReadFailed)),
+        };
         if count == 0 {
             return Ok(audit.verdict()?);
         }

@@ -102,7 +102,7 @@ pub fn play_answer<A: Allocator + Copy>(
     ensures answered { IfOk result (λ answer. PlaysScript shows input.now (string_bytes answer.text) answer.ending) }
     ensures refused { IfErr result (λ e. IsOutOfMemory e ⊎ RefusesScript input.now e) }
 {
-    let script = Script::read_in(alloc, json, input).map_err(Refusal::Script)?;
+    let script = Script::read_in(alloc, json, input)?;
     let text = play_text(alloc, shows, &script)?;
     Ok(Answer {
         text,

@@ -131,7 +131,10 @@ fn read_calls<A: Allocator + Copy, I: Read>(
 {
     let mut piece = [0u8; PIECE];
     for _ in 0..u64::MAX {
-        let count = input.read(&mut piece).map_err(|_| AppFault::ReadFailed)?;
+        let count = match input.read(&mut piece) {
+            Ok(count) => count,
+            Err(_) => return Err(Refusal::App(AppFault::ReadFailed)),
+        };
         if count == 0 {
             *at_end = true;
             return Ok(found_at_end(recording)?);

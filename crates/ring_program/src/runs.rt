@@ -270,8 +270,7 @@ pub fn run_answer<R: Threads + Clock, A: Allocator + Copy>(
         run.width,
         run.batch,
         run.take_batch,
-    )
-    .map_err(Refusal::Shape)?;
+    )?;
     let items = items_of(alloc, &run)?;
     let puts = slots_for(alloc, run.text)?;
     let takes = slots_for(alloc, run.text)?;
