@@ -256,11 +256,11 @@ module _ (shape : Shape) (h : List Event) (puts : Puts) (takes : Takes) (run : I
     quiet = quiet;
     prefix = prefix;
     items = items;
+    closed = closed;
     empty = λ s k x st o l first q.
         (let (all, not_closed) = law.empty (length h) s k x st o (omega (arith, l, clock_end C h)) first (is_place C s first q) in
         (all, omega (arith, not_closed, put_total shape puts)));
     full = λ s n x st o l first q. law.full (length h) s n x st o (omega (arith, l, clock_end P h)) first (is_place P s first q);
     fill = λ s n x st fills l first q. law.fill (length h) s n x st fills (omega (arith, l, clock_end P h)) first (is_place P s first q);
     drain = λ s k x st o drains l first q. law.drain (length h) s k x st o drains (omega (arith, l, clock_end C h)) first (is_place C s first q);
-    closed = closed;
   }

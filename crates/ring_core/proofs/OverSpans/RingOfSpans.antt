@@ -47,6 +47,11 @@ abbrev pub IsWordAccess : Side → Shape → List Event → ℕ → Span → ℕ
 IsWordAccess side shape h s x i start stop =
     IsInterval side h (s + x.scan + 2 * (i * width_of shape)) (s + x.scan + 2 * (suc i * width_of shape) - 1) start stop
 
+-- at every moment no more items are taken than put, and at most as many are put and not taken as the ring has cells
+abbrev pub IsWithin : Shape → List Event → Puts → Takes → Type 0
+IsWithin shape h puts takes =
+    (t : ℕ) → (takes_begun shape h takes t ≤ puts_begun shape h puts t) × (puts_begun shape h puts t ≤ takes_begun shape h takes t + capacity_of shape)
+
 -- a put behind n items reads a count from n - capacity - 1 to n
 abbrev pub PutsAreInRange : Shape → List Event → Puts → Takes → Type 0
 PutsAreInRange shape h puts takes =
@@ -75,14 +80,13 @@ TakesMatchPuts shape h puts takes =
 
 -- what holds of a run
 pub record LawOfSpans (shape : Shape) (h : List Event) (puts : Puts) (takes : Takes) : Type 0 where
-  -- at every moment no more items are taken than put, and at most as many are put and not taken as the ring has cells
-  pub within :
-      (t : ℕ) → (takes_begun shape h takes t ≤ puts_begun shape h puts t) × (puts_begun shape h puts t ≤ takes_begun shape h takes t + capacity_of shape)
+  pub within : IsWithin shape h puts takes
   pub put_range : PutsAreInRange shape h puts takes
   pub take_range : TakesAreInRange shape h puts takes
   pub quiet : CellsAreQuiet shape h puts takes
   pub prefix : TakenArePrefix shape h puts takes
   pub items : TakesMatchPuts shape h puts takes
+  pub closed : ClosedIsTrue shape h puts takes
   -- a take that finds the ring empty: each put that stored and had ended where it began was taken by a take that had ended then, and no
   -- close had ended
   pub empty :
@@ -105,4 +109,3 @@ pub record LawOfSpans (shape : Shape) (h : List Event) (puts : Puts) (takes : Ta
       (s k : ℕ) (x : Span) → IsSpanAt (take_spans shape takes) s k x → 1 ≤ counts x.outcome →
       distance (modulus_of shape) x.seen (k % modulus_of shape) ≡ counts x.outcome → s + x.scan ≤ length (subhistory C h) →
       (first : ℕ) → IsPlaceOf C h s first → puts_ended shape h puts first ≤ k + counts x.outcome
-  pub closed : ClosedIsTrue shape h puts takes
