@@ -21,7 +21,7 @@ use Rattle.ring_core.proofs.OverSpans.Clocks.{IsPlace, AreCloseReads, Ring}
 use Rattle.ring_core.proofs.OverSpans.Clocks as clocks
 use Rattle.ring_core.proofs.OverSpans.LookSpans.{put_looks, take_looks, word_part, count_part, look_accesses, spans, put_spans, take_spans, LookAt}
 use Rattle.ring_core.specs.RingLaw.{IsRun, TakenArePrefix, ClosedIsTrue}
-use Rattle.ring_core.proofs.OverSpans.RingOfSpans.{LawOfSpans, PutsAreInRange, TakesAreInRange, CellsAreQuiet, TakesMatchPuts}
+use Rattle.ring_core.proofs.OverSpans.RingOfSpans.{LawOfSpans, PutsAreInRange, TakesAreInRange, CellsAreQuiet, TakesMatchPuts, EmptyIsFresh}
 use Rattle.ring_core.proofs.Readings.Cuts.{at_most_or_above}
 use Rattle.ring_core.proofs.OverSpans.SpanLaw.{SpanLaw, span_law, IsToldAt, LastTwo}
 use Rattle.ring_core.proofs.HistoryClocks.{clocks_of}
@@ -158,6 +158,11 @@ module _ (shape : Shape) (h : List Event) (puts : Puts) (takes : Takes) (run : I
       let size : suc i * (2 * width_of shape) ≡ 2 * (suc i * width_of shape) = doubled (suc i) (width_of shape) in
       ap (λ l. slice_get l (k + i)) (puts_items shape first_count puts.puts (clock P h t)) ∙ law.items t s k i x item st at (omega (arith, l, size))
 
+  empty : EmptyIsFresh shape h puts takes
+  empty s k x st o l first q =
+      let (all, not_closed) = law.empty (length h) s k x st o (omega (arith, l, clock_end C h)) first (is_place C s first q) in
+      (all, omega (arith, not_closed, put_total shape puts))
+
   closed : ClosedIsTrue shape h puts takes
   closed t u (tells, ended) l =
       let told : IsToldAt (clock C h) (take_spans shape takes) t = record { two = ends_told takes.end tells; ended = omega (arith, ended, take_total shape takes) } in
@@ -256,10 +261,8 @@ module _ (shape : Shape) (h : List Event) (puts : Puts) (takes : Takes) (run : I
     quiet = quiet;
     prefix = prefix;
     items = items;
+    empty = empty;
     closed = closed;
-    empty = λ s k x st o l first q.
-        (let (all, not_closed) = law.empty (length h) s k x st o (omega (arith, l, clock_end C h)) first (is_place C s first q) in
-        (all, omega (arith, not_closed, put_total shape puts)));
     full = λ s n x st o l first q. law.full (length h) s n x st o (omega (arith, l, clock_end P h)) first (is_place P s first q);
     fill = λ s n x st fills l first q. law.fill (length h) s n x st fills (omega (arith, l, clock_end P h)) first (is_place P s first q);
     drain = λ s k x st o drains l first q. law.drain (length h) s k x st o drains (omega (arith, l, clock_end C h)) first (is_place C s first q);

@@ -23,8 +23,9 @@ use Rattle.ring_core.specs.ConsumerState.{ConsumerState, IsBetweenWords, due_tak
 use Rattle.ring_core.specs.Items.{taken_of}
 use Rattle.ring_core.specs.ConsumerCalls.{ConsumerStands, ConsumerMadeAt, Finding, Finds, Once, Twice, finding_phrase, made_of_take, count_taken, values_taken, AreItemsOfTake, ConsumerHasMoved, items_reply, take_reply_to, and_take, and_end, HasTakeMore, IsTakeOf, IsOpenForTake, ends_closed, IsReplyToTake, IsAfterTake}
 use Rattle.ring_core.proofs.Machines.MachineParts.{ScanGoesOn, RowGoesOn, longer}
+use Rattle.ring_core.proofs.CountRow.{values_writes-push}
 use Rattle.ring_core.proofs.Machines.Batches.{far_from, past_so}
-use Rattle.ring_core.proofs.Machines.TakeCalls.{count-push, are-push, are-end, reply-push, items-push, program-push, values_writes-push, values-empty, values-push, words_read-push, fit-push, take_of, take_of-is, take_of-items, take_of-takes, take_of-replies, take_of-phrase}
+use Rattle.ring_core.proofs.Machines.TakeCalls.{count-push, are-push, are-end, reply-push, items-push, program-push, values_hold, values-empty, values-push, words_read-push, fit-push, take_of, take_of-is, take_of-items, take_of-takes, take_of-replies, take_of-phrase}
 
 -- ---- what is known at a stage
 
@@ -504,7 +505,7 @@ count_over p row answer reply count cell e goes some size few reply_is count_is 
     let rows' : UnaryStands row values (old ++ (writes ++ x)) =
     subst (λ l. UnaryStands row values l) (append_assoc old writes x) (goes values (old ++ writes) access rows (due_is Counting p access e due)) in
     let all : old ++ (writes ++ x) ≡ count_writes C values = whole values (old ++ (writes ++ x)) rows' in
-    let all_counted : writes ++ x ≡ counting = append_cancel_left old (writes ++ x) counting (all ∙ values_writes-push p.shape calls p.items C) in
+    let all_counted : writes ++ x ≡ counting = append_cancel_left old (writes ++ x) counting (all ∙ values_writes-push p.shape C (values_taken p.shape calls) p.items c (values_hold p.shape first_count calls.takes)) in
     let rests : UnaryStands row values (count_writes C values) = subst (λ l. UnaryStands row values l) all rows' in
     take_over p Counting took reply count cell p.scan p.word row calls made (made ++ x) e refl stands
     (take_of-is p.shape c.number p.wanted look p.items (subst (λ m. Finds p.shape c.number p.wanted look m) (sym size) finds)

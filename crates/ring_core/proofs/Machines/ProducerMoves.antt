@@ -20,13 +20,15 @@ use Rattle.ring_core.specs.declared.replies.BatchReply.TheVariants as reply
 use Rattle.ring_core.specs.declared.producers.Stage.{Stage}
 use Rattle.ring_core.specs.declared.producers.Stage.TheVariants.{Idle, Scanning, Storing, Counting, Closing}
 use Rattle.ring_core.specs.Counts.{LeavesRoom, LeavesRoomFor, distance, number_past, Count, first_count, batch_phrase}
-use Rattle.ring_core.specs.Puts.{Puts, Stored, Full, number_after, stored_after, words_phrase, put_phrase, put_phrases, put_program, IsBatch, IsPut, ArePuts}
+use Rattle.ring_core.specs.Puts.{Puts, Stored, Full, number_after, words_phrase, put_phrase, put_phrases, IsBatch, IsPut, ArePuts}
 use Rattle.ring_core.specs.Puts as puts
 use Rattle.ring_core.specs.ProducerState.{ProducerState, Call, Put, Close, call_of, call_at, due_put, producer_due_at}
 use Rattle.ring_core.specs.ProducerCalls.{count_of, values_of, ProducerStands, ProducerMadeAt, ProducerHasMoved, IsPutOf, put_reply_to, and_put, and_close, HasCallMore, IsOpenForCall, closes_with, IsReplyToCall, IsAfterCall}
 use Rattle.ring_core.proofs.Machines.MachineParts.{ScanGoesOn, RowGoesOn, longer}
 use Rattle.ring_core.proofs.Machines.Batches.{taken_so, taken_batch, has_seen, words-take, far_from, past_so}
-use Rattle.ring_core.proofs.Machines.PutCalls.{stored-push, are-push, reply-push, program-push, values-push, values-full, values_writes-push}
+use Rattle.ring_core.proofs.Machines.PutCalls.{puts_go_by_calls, are-push, reply-push, program-push, values_hold, values-push, values-full}
+use Rattle.ring_core.proofs.CountRow.{values_writes-push}
+use Rattle.ring_core.proofs.Readings.Phrases.{state-push}
 
 -- ---- what is known at a stage
 
@@ -102,7 +104,7 @@ pub put_over :
 put_over p st x count cell scan word row calls made more e before stands of_items is count_is cell_is rests made_is =
     let was : call_of p ≡ Some (Put p.items) = subst (λ s. call_at s p.items ≡ Some (Put p.items)) (sym e) before in
     let n : (count_of p.shape (and_put calls x)).number ≡ number_after (count_of p.shape calls).number x =
-    ap (λ (c : Count). c.number) (stored-push p.shape first_count calls.puts x) in
+    ap (λ (c : Count). c.number) (state-push (puts_go_by_calls p.shape) first_count calls.puts x) in
     let are : ArePuts p.shape 0 (calls.puts ++ x ∷ []) = are-push p.shape first_count calls.puts x stands.are is in (
       and_put calls x,
       record {
@@ -325,7 +327,7 @@ count_over p row answer count cell e goes batch some few count_is cell_is whole 
     subst (λ l. UnaryStands row values l) (append_assoc old writes x) (goes values (old ++ writes) access rows (due_is Counting p access e due)) in
     let all : old ++ (writes ++ x) ≡ count_writes P values = whole values (old ++ (writes ++ x)) rows' in
     let all_counted : writes ++ x ≡ batch_phrase p.shape P c stored =
-    append_cancel_left old (writes ++ x) (batch_phrase p.shape P c stored) (all ∙ values_writes-push p.shape calls stored P) in
+    append_cancel_left old (writes ++ x) (batch_phrase p.shape P c stored) (all ∙ values_writes-push p.shape P (values_of p.shape calls) stored c (values_hold p.shape first_count calls.puts)) in
     let rests : UnaryStands row values (count_writes P values) = subst (λ l. UnaryStands row values l) all rows' in
     let moved : ProducerHasMoved p (ended_put p (Stored seen stored) count cell p.scan p.word row) calls (made ++ x) =
     put_over p Counting (Stored seen stored) count cell p.scan p.word row calls made (made ++ x) e refl stands has.kept

@@ -47,11 +47,6 @@ abbrev pub IsWordAccess : Side → Shape → List Event → ℕ → Span → ℕ
 IsWordAccess side shape h s x i start stop =
     IsInterval side h (s + x.scan + 2 * (i * width_of shape)) (s + x.scan + 2 * (suc i * width_of shape) - 1) start stop
 
--- at every moment no more items are taken than put, and at most as many are put and not taken as the ring has cells
-abbrev pub IsWithin : Shape → List Event → Puts → Takes → Type 0
-IsWithin shape h puts takes =
-    (t : ℕ) → (takes_begun shape h takes t ≤ puts_begun shape h puts t) × (puts_begun shape h puts t ≤ takes_begun shape h takes t + capacity_of shape)
-
 -- a put behind n items reads a count from n - capacity - 1 to n
 abbrev pub PutsAreInRange : Shape → List Event → Puts → Takes → Type 0
 PutsAreInRange shape h puts takes =
@@ -78,21 +73,26 @@ TakesMatchPuts shape h puts takes =
     (t s k i : ℕ) (x : Span) (item : ℕ) → IsSpanAt (take_spans shape takes) s k x → slice_get (items_of x.outcome) i ≡ Some item →
     s + x.scan + 2 * (suc i * width_of shape) ≤ clock C h t → slice_get (items_put shape first_count puts.puts (clock P h t)) (k + i) ≡ Some item
 
+-- a take that finds the ring empty: each put that stored and had ended where it began was taken by a take that had ended then, and no
+-- close had ended
+abbrev pub EmptyIsFresh : Shape → List Event → Puts → Takes → Type 0
+EmptyIsFresh shape h puts takes =
+    (s k : ℕ) (x : Span) → IsSpanAt (take_spans shape takes) s k x → x.outcome ≡ Asks false → s + before_count x ≤ length (subhistory C h) →
+    (first : ℕ) → IsPlaceOf C h s first →
+    (puts_ended shape h puts first ≤ takes_ended shape h takes first) × (clock P h first < events_in (put_phrases shape first_count puts.puts) + 2)
+
 -- what holds of a run
 pub record LawOfSpans (shape : Shape) (h : List Event) (puts : Puts) (takes : Takes) : Type 0 where
-  pub within : IsWithin shape h puts takes
+  -- at every moment no more items are taken than put, and at most as many are put and not taken as the ring has cells
+  pub within :
+      (t : ℕ) → (takes_begun shape h takes t ≤ puts_begun shape h puts t) × (puts_begun shape h puts t ≤ takes_begun shape h takes t + capacity_of shape)
   pub put_range : PutsAreInRange shape h puts takes
   pub take_range : TakesAreInRange shape h puts takes
   pub quiet : CellsAreQuiet shape h puts takes
   pub prefix : TakenArePrefix shape h puts takes
   pub items : TakesMatchPuts shape h puts takes
+  pub empty : EmptyIsFresh shape h puts takes
   pub closed : ClosedIsTrue shape h puts takes
-  -- a take that finds the ring empty: each put that stored and had ended where it began was taken by a take that had ended then, and no
-  -- close had ended
-  pub empty :
-      (s k : ℕ) (x : Span) → IsSpanAt (take_spans shape takes) s k x → x.outcome ≡ Asks false → s + before_count x ≤ length (subhistory C h) →
-      (first : ℕ) → IsPlaceOf C h s first →
-      (puts_ended shape h puts first ≤ takes_ended shape h takes first) × (clock P h first < events_in (put_phrases shape first_count puts.puts) + 2)
   -- a put that finds the ring full: the items stored before it, less the takes of an item that had ended where it began, are at
   -- least the capacity
   pub full :
