@@ -236,13 +236,8 @@ module _ (shape : Shape) (h : List Event) (puts : Puts) (takes : Takes) (run : I
       ] in
       law.quiet s' k i' y st' takes_it start' stop' order (omega (arith, b.begins.before)) ended'
       (record {
-        start = s;
-        number = n;
-        put = x;
-        index = i;
-        stands = st;
+        write = record { start = s; number = n; put = x; index = i; stands = st; same_cell = cell };
         stored = stores;
-        same_cell = cell;
         begun_before = omega (arith, clock_rises P h (suc start) stop' begun, a.begins.past);
         not_ended = ended start' (at_most start' stop not_after);
       })
