@@ -22,7 +22,7 @@ use Rattle.ring_core.specs.Calls.{IsScanning, EndsInZeros}
 use Rattle.ring_core.specs.Lengths.{longest_taking}
 use Rattle.ring_core.specs.Items.{taken_of}
 use Rattle.ring_core.specs.Takes.{Take, Takes, Item, ItemAfterClose, Empty, Open, Closed, words_read, items_phrase, take_phrase, take_phrases, end_phrase, take_program, IsTake, SeesItems, SeesNone, IsTakeBatch, AreTakes}
-use Rattle.ring_core.specs.ConsumerState.{ConsumerState, IsTaking, IsLoading, takes_at, is_taking}
+use Rattle.ring_core.specs.ConsumerState.{ConsumerState, IsTaking, IsLoading, due_take, takes_at, is_taking}
 use Rattle.ring_core.specs.ConsumerCalls.{ConsumerStands, Finding, Twice, finding_phrase, Finds, made_of_take, count_taken, values_taken, and_take, and_end, BeginsTake, TakeGoesOn, TakesAll, IsTakeOf}
 use Rattle.ring_core.proofs.CountRow.{values_writes-push}
 use Rattle.ring_core.proofs.Machines.Lengths.{takes-are_short, ends-are_short, longest_up}
@@ -185,7 +185,7 @@ pub record Going (shape : Shape) (wanted : ℕ) (taking : Bool) (calls : Takes) 
   pub some : 1 ≤ wanted
   pub goes_on : TakeGoesOn shape wanted calls made access
 
-pub going_rests :
+going_rests :
     (shape : Shape) (wanted : ℕ) (taking : Bool) (calls : Takes) (made : List Made) (due : Option Access) → Going shape wanted taking calls made due → due ≡ None →
     (taking ≡ false) × (made ≡ take_program shape calls)
 going_rests shape wanted taking calls made due g none = absurd (let clash : Some g.access ≡ None = sym g.due_is ∙ none in cc)
@@ -202,6 +202,29 @@ pub going_bounded :
     (shape : Shape) (wanted : ℕ) (taking : Bool) (calls : Takes) (made : List Made) (due : Option Access) → Going shape wanted taking calls made due →
     length made < length (take_program shape calls) + longest_taking shape wanted
 going_bounded shape wanted taking calls made due g = begins_short shape wanted calls made (answered g.access true) g.some (g.goes_on true (λ l. refl))
+
+-- what is told of the due access of a consumer whose take goes on with it
+pub told_next :
+    (p : ConsumerState) (next : Option Access) → next ≡ due_take p → IfSome next (IsOpenRight p.shape C) → IsTaking p →
+    ((calls : Takes) (made : List Made) → ConsumerStands p calls made → Going p.shape p.wanted (is_taking p) calls made next) →
+    record {
+      due : next ≡ due_take p;
+      right : IfSome next (IsOpenRight p.shape C);
+      rest : (calls : Takes) (made : List Made) → ConsumerStands p calls made → next ≡ None → (is_taking p ≡ false) × (made ≡ take_program p.shape calls);
+      goes_on : (calls : Takes) (made : List Made) (access : Access) → ConsumerStands p calls made → next ≡ Some access →
+          (is_taking p ≡ true) × TakeGoesOn p.shape p.wanted calls made access;
+      few : is_taking p ≡ true → p.wanted ≤ take_batch_of p.shape;
+      bounded : (calls : Takes) (made : List Made) → ConsumerStands p calls made → is_taking p ≡ true →
+          length made < length (take_program p.shape calls) + longest_taking p.shape p.wanted;
+    }
+told_next p next is_due right taking going = record {
+  due = is_due;
+  right = right;
+  rest = λ calls made stands none. going_rests p.shape p.wanted (is_taking p) calls made next (going calls made stands) none;
+  goes_on = λ calls made access stands some. going_on p.shape p.wanted (is_taking p) calls made next (going calls made stands) access some;
+  few = λ under_way. taking.few;
+  bounded = λ calls made stands under_way. going_bounded p.shape p.wanted (is_taking p) calls made next (going calls made stands);
+}
 
 is_next : (shape : Shape) (wanted : ℕ) (taking : Bool) (calls : Takes) (made : List Made) (due : Option Access) (access : Access) → taking ≡ true → 1 ≤ wanted → due ≡ Some access →
     TakeGoesOn shape wanted calls made access → Going shape wanted taking calls made due

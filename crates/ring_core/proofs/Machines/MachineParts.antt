@@ -139,6 +139,11 @@ gives shape side old new answer value seen is fed some values reads stands =
     let read : IsValueRead (row_read_by new.side) new.modulus reads (Some seen) = subst (λ v. IsValueRead (row_read_by new.side) new.modulus reads v) some (values reads stands) in
     subst (λ s. IsScanOf (row_read_by s) (modulus_of shape) reads seen) of_side (subst (λ m. IsScanOf (row_read_by new.side) m reads seen) of_modulus read)
 
+-- what a test that failed would have told does not hold
+pub denied : {A : Type 0} (b : Bool) → (A → b ≡ true) → b ≡ false → A → ⊥
+denied true told e a = absurd (cc)
+denied false told e a = let clash : false ≡ true = told a in absurd (cc)
+
 -- ---- machines that are done
 
 pub none_next : {A : Type 0} (o : Option A) (b : Bool) → is_some o ≡ not b → b ≡ true → o ≡ None

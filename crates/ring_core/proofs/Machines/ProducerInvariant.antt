@@ -5,7 +5,7 @@ use Rattle.bits_core.specs.declared.events.Side.TheVariants.{P}
 use Rattle.bits_core.specs.declared.events.Access.{Access}
 use Rattle.bits_core.specs.Shape.{capacity_of, modulus_of, width_of}
 use Rattle.bits_core.specs.Made.{Made}
-use Rattle.register_core.specs.ScanState.{ScanState, scan_read, due_scan}
+use Rattle.register_core.specs.ScanState.{ScanState, ScanStands, IsScanOf, IsValueRead, row_read_by, scan_read, due_scan}
 use Rattle.register_core.specs.Machine.{IsNext}
 use Rattle.register_core.specs.Word.{word_write}
 use Rattle.register_core.specs.WordState.{WriterState, WriterStands}
@@ -15,7 +15,7 @@ use Rattle.ring_core.specs.declared.producers.Stage.TheVariants.{Scanning, Stori
 use Rattle.ring_core.specs.Calls.{LastBitIsDue}
 use Rattle.ring_core.specs.ProducerState.{ProducerState, IsProducer, ProducerIsAt, IsPutting, IsWritingWord, due_put, producer_due_at}
 use Rattle.ring_core.proofs.CountRow.{batch_below}
-use Rattle.ring_core.proofs.Machines.MachineParts.{scanning, counting_on}
+use Rattle.ring_core.proofs.Machines.MachineParts.{ScanGoesOn, scanning, gives, counting_on}
 use Rattle.ring_core.proofs.Machines.Batches.{taken_so, taken_batch}
 
 pub at_stage : (p : ProducerState) (st : Stage) → IsProducer p → p.stage ≡ st → ProducerIsAt st p
@@ -49,6 +49,22 @@ scan_keeps p s answer is e one fed open_still =
     stays_one p p.stage s p.word p.row p.index is refl refl
     (subst (λ st. ProducerIsAt st (record p { stage = st; scan = s })) (sym e)
     (counted, same_putting p Scanning s p.word p.row p.most putting refl refl refl, fresh, start, scanning p.shape P p.scan s answer scans one' fed open_still))
+
+-- what is known of the scan of a put once it has given a value: it is one of the consumer's count
+pub record HasGiven (p : ProducerState) (s : ScanState) (answer : Bool) (seen : ℕ) : Type 0 where
+  pub stage_is : p.stage ≡ Scanning
+  pub fresh : p.word.written ≡ 0
+  pub start : p.index ≡ 0
+  pub goes : ScanGoesOn p.scan s answer
+  pub is_scan : (reads : List Made) → ScanStands s reads → IsScanOf (row_read_by P) (modulus_of p.shape) reads seen
+
+pub has_given :
+    (p : ProducerState) (s : ScanState) (answer : Bool) (value : Option ℕ) (seen : ℕ) → p.stage ≡ Scanning → IsProducer p →
+    record { state : s ≡ scan_read p.scan answer; stands : ScanGoesOn p.scan s answer } → value ≡ Some seen →
+    ((reads : List Made) → ScanStands s reads → IsValueRead (row_read_by s.side) s.modulus reads value) → HasGiven p s answer seen
+has_given p s answer value seen e is fed some values =
+    let (counted, putting, fresh, start, scans) = at_stage p Scanning is e in
+    record { stage_is = e; fresh = fresh; start = start; goes = fed.stands; is_scan = gives p.shape P p.scan s answer value seen scans fed.state some values }
 
 -- a word that is written
 stores_so :

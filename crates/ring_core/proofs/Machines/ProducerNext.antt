@@ -21,7 +21,7 @@ use Rattle.ring_core.specs.Counts.{LeavesRoom, LeavesRoomFor, distance, number_p
 use Rattle.ring_core.specs.Calls.{IsScanning}
 use Rattle.ring_core.specs.Puts.{Puts, Stored, Full, words_phrase, put_phrase, put_phrases, put_program, IsBatch, IsPut, ArePuts}
 use Rattle.ring_core.specs.Puts as puts
-use Rattle.ring_core.specs.ProducerState.{ProducerState, Call, Put, Close, call_at, call_of, IsWritingWord, IsKeeping}
+use Rattle.ring_core.specs.ProducerState.{ProducerState, Call, Put, Close, call_at, call_of, due_put, IsWritingWord, IsKeeping}
 use Rattle.ring_core.specs.ProducerCalls.{count_of, values_of, room_in, ProducerStands, IsPutOf, and_put, BeginsCall, PutGoesOn, longest_of, longest}
 use Rattle.ring_core.proofs.CountRow.{values_writes-push}
 use Rattle.ring_core.proofs.Machines.Lengths.{item_puts-are_short, full_puts-are_short, puts-are_short}
@@ -139,7 +139,7 @@ pub record Going (shape : Shape) (call : Option Call) (calls : Puts) (made : Lis
   pub due_is : due ≡ Some access
   pub goes_on : PutGoesOn shape calls under_way made access
 
-pub going_rests :
+going_rests :
     (shape : Shape) (call : Option Call) (calls : Puts) (made : List Made) (due : Option Access) → Going shape call calls made due → due ≡ None →
     (call ≡ None) × (made ≡ put_program shape calls)
 going_rests shape call calls made due g none = absurd (let clash : Some g.access ≡ None = sym g.due_is ∙ none in cc)
@@ -161,6 +161,27 @@ going_bounded shape call calls made due g c e =
   where
     some_same : (a b : Call) → Some a ≡ Some b → a ≡ b
     some_same a b e = cc
+
+-- what is told of the due access of a producer whose call goes on with it
+pub told_next :
+    (p : ProducerState) (next : Option Access) → next ≡ due_put p → IfSome next (IsOpenRight p.shape P) →
+    ((calls : Puts) (made : List Made) → ProducerStands p calls made → Going p.shape (call_of p) calls made next) →
+    record {
+      due : next ≡ due_put p;
+      right : IfSome next (IsOpenRight p.shape P);
+      rest : (calls : Puts) (made : List Made) → ProducerStands p calls made → next ≡ None → (call_of p ≡ None) × (made ≡ put_program p.shape calls);
+      goes_on : (calls : Puts) (made : List Made) (access : Access) → ProducerStands p calls made → next ≡ Some access →
+          (c : Call) × (call_of p ≡ Some c) × PutGoesOn p.shape calls c made access;
+      bounded : (calls : Puts) (made : List Made) (c : Call) → ProducerStands p calls made → call_of p ≡ Some c →
+          length made < length (put_program p.shape calls) + longest p.shape c;
+    }
+told_next p next is_due right going = record {
+  due = is_due;
+  right = right;
+  rest = λ calls made stands none. going_rests p.shape (call_of p) calls made next (going calls made stands) none;
+  goes_on = λ calls made access stands some. going_on p.shape (call_of p) calls made next (going calls made stands) access some;
+  bounded = λ calls made c stands call. going_bounded p.shape (call_of p) calls made next (going calls made stands) c call;
+}
 
 is_next : (shape : Shape) (call : Option Call) (c : Call) (calls : Puts) (made : List Made) (due : Option Access) (access : Access) → call ≡ Some c → due ≡ Some access →
     PutGoesOn shape calls c made access → Going shape call calls made due
