@@ -159,14 +159,27 @@ row_whole side row new due is same none next values made stands =
 
 -- ---- an access more
 
--- what the machines stand after once the due access was made
+-- what a machine stands after once the due access was made
+abbrev pub GoesOn : {S : Type 0} → (S → List Made → Type 0) → (S → Option Access) → S → S → Bool → Type 0
+GoesOn Stands due old new answer = (made : List Made) (access : Access) → Stands old made → due old ≡ Some access → Stands new (made ++ answered access answer ∷ [])
+
 abbrev pub ScanGoesOn : ScanState → ScanState → Bool → Type 0
-ScanGoesOn old new answer =
-    (reads : List Made) (access : Access) → ScanStands old reads → due_scan old ≡ Some access → ScanStands new (reads ++ answered access answer ∷ [])
+ScanGoesOn = GoesOn ScanStands due_scan
 
 abbrev pub RowGoesOn : UnaryState → UnaryState → Bool → Type 0
 RowGoesOn old new answer =
     (values : List ℕ) (made : List Made) (access : Access) → UnaryStands old values made → due_unary old ≡ Some access → UnaryStands new values (made ++ answered access answer ∷ [])
+
+-- a row that has made writes behind others makes one more
+pub row_more :
+    (old new : UnaryState) (answer : Bool) (values : List ℕ) (front writes : List Made) (access : Access) → RowGoesOn old new answer →
+    UnaryStands old values (front ++ writes) → due_unary old ≡ Some access → UnaryStands new values (front ++ (writes ++ answered access answer ∷ []))
+row_more old new answer values front writes access goes stands due =
+    subst (λ l. UnaryStands new values l) (append_assoc front writes (answered access answer ∷ [])) (goes values (front ++ writes) access stands due)
+
+-- one access more behind a part of those made
+pub and_more : (made front part x : List Made) → made ≡ front ++ part → made ++ x ≡ front ++ (part ++ x)
+and_more made front part x e = ap (λ l. l ++ x) e ∙ append_assoc front part x
 
 -- a call under way, one access more
 pub longer : (front scan writes x : List Made) → (front ++ (scan ++ writes)) ++ x ≡ front ++ (scan ++ (writes ++ x))
