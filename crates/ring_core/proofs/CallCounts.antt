@@ -6,8 +6,8 @@ use Rattle.bits_core.specs.declared.events.Bit.TheVariants.{X}
 use Rattle.bits_core.specs.declared.shapes.Shape.{Shape}
 use Rattle.bits_core.specs.Made.{Made, Read}
 use Rattle.register_core.specs.ScanState.{scan_phrase, row_read_by}
-use Rattle.ring_core.specs.Counts.{Count, batch_phrase}
-use Rattle.ring_core.specs.Puts.{Put, Stored, Full, stored_in, stored_after, words_phrase, put_phrase}
+use Rattle.ring_core.specs.Counts.{Count}
+use Rattle.ring_core.specs.Puts.{Put, Stored, Full, stored_in, stored_after, put_phrase}
 use Rattle.ring_core.specs.Takes.{Take, Item, ItemAfterClose, Empty, End, Open, Closed, taken_in, count_after, words_read, take_phrase}
 use Rattle.ring_core.specs.Items.{events_in}
 use Rattle.ring_core.proofs.Machines.Lengths.{length-scan}
@@ -16,7 +16,7 @@ use Rattle.ring_core.proofs.OverSpans.Spans.{Span, Passes, Stops, Asks, whole, b
 use Rattle.ring_core.proofs.OverSpans.LookSpans.{look, put_looks, take_looks, span_of, spans}
 use Rattle.ring_core.proofs.EndedCounts.{stored_ended, taken_begun, take_before_count, none_or as no_count}
 use Rattle.ring_core.proofs.CountRow.{past_is}
-use Rattle.ring_core.proofs.OverSpans.CallSpans.{three, take_phrase-item, take_phrase-after, take_phrase-empty}
+use Rattle.ring_core.proofs.OverSpans.CallSpans.{put_phrase-stored, take_phrase-item, take_phrase-after, take_phrase-empty}
 
 -- counts where the same test holds, before the same counts
 same_count : (a b : Bool) (n l m : ℕ) → a ≡ b → l ≡ m → (if a then n else 0) + l ≡ (if b then n else 0) + m
@@ -26,12 +26,9 @@ same_count a b n l m e f = cc
 pub stored_ended_is : (shape : Shape) (c : Count) (puts : List Put) (t : ℕ) → stored_ended shape c puts t ≡ counts_ended (spans P shape c (put_looks puts)) t
 stored_ended_is shape c [] t = refl
 stored_ended_is shape c (Stored seen items ∷ puts) t =
-    let a : List Made = scan_phrase (row_read_by P) seen in
-    let b : List Made = words_phrase shape c.number items in
-    let d : List Made = batch_phrase shape P c items in
     let y : Span = span_of P shape c (look seen (Passes items)) in
     let next : Count = stored_after shape c (Stored seen items) in
-    let long : events_in (put_phrase shape c (Stored seen items)) ≡ whole y = omega (arith, three a b d) in
+    let long : events_in (put_phrase shape c (Stored seen items)) ≡ whole y = put_phrase-stored shape c seen items in
     same_count (nat_le (events_in (put_phrase shape c (Stored seen items))) t) (nat_le (whole y) t) (length items) _ _ (ap (λ k. nat_le k t) long)
     (ap (λ k. stored_ended shape next puts (t - k)) long ∙ stored_ended_is shape next puts (t - whole y))
 stored_ended_is shape c (Full seen ∷ puts) t =

@@ -1,7 +1,7 @@
 -- The bits of a count: which of them are set after n unary writes, and how many bit writes the next one has.
 use Rattle.std.proofs.Common.{◌≡◌, ℕ, zero, suc, ◌+◌, ◌%◌, ◌<◌, ◌≤◌, Bool, true, false, cond, List, [], ◌∷◌, ◌++◌, length, refl, sym, ap, arith, ◌∙◌, ◌⊎◌, inl, inr, length-append}
 use Rattle.std.proofs.lemmas.Bool.{cases_lt}
-use Rattle.std.proofs.lemmas.List.{length-map}
+use Rattle.std.proofs.lemmas.List.{length-map, map-append}
 use Rattle.std.proofs.lemmas.Nat.{mod_below}
 use Rattle.std.proofs.Math.Nat.{suc-mod, mod_self, mod-eq_of_lt, zero-mod}
 use Rattle.bits_core.specs.declared.events.Side.{Side}
@@ -9,8 +9,8 @@ use Rattle.bits_core.specs.declared.events.Side.TheVariants.{P, C}
 use Rattle.bits_core.specs.declared.shapes.Shape.{Shape}
 use Rattle.bits_core.specs.Shape.{batch_of, capacity_of, modulus_of, take_batch_of}
 use Rattle.bits_core.specs.Made.{Write}
-use Rattle.register_core.specs.Row.{RowWrite, row_bit, first_bits, bits_with, bits_after}
-use Rattle.register_core.specs.Unary.{clearing, setting, unary_phrase, writes_of}
+use Rattle.register_core.specs.Row.{RowWrite, row_bit, first_bits, bits_with, bits_after, writes_in}
+use Rattle.register_core.specs.Unary.{clearing, setting, unary_phrase, unary_writes, row_writes, writes_of, count_writes}
 use Rattle.ring_core.specs.Counts.{bits_held, counted, number_past, Count, first_count, count_bits, batch_phrase, batch_by, IsCount}
 use Rattle.ring_core.proofs.OverSpans.Distances.{apart}
 use Rattle.register_core.proofs.Rows.{other_bit, same_bit}
@@ -323,3 +323,24 @@ batch_short shape s c items =
       clearing_short c.bits v,
       mod_below (number_past c.number items) (modulus_of shape) (omega (arith, some_modulus shape)),
     )
+
+-- ---- the values that are written to a count
+
+-- the bits that the write of the next value leaves, and then those of others
+pub value_held :
+    (shape : Shape) (c : Count) (items values : List ℕ) (bits : ℕ → Bool) →
+    bits_after (bits_after c.bits (count_bits shape c items)) (row_writes (unary_writes (bits_after c.bits (count_bits shape c items)) values)) ≡ bits →
+    bits_after c.bits (row_writes (unary_writes c.bits (number_past c.number items % modulus_of shape ∷ values))) ≡ bits
+value_held shape c items values bits e =
+    let next : ℕ → Bool = bits_after c.bits (count_bits shape c items) in
+    bits_after-append (count_bits shape c items) (row_writes (unary_writes next values)) c.bits ∙ e
+
+-- the writes of values that leave a count, and of one more that counts these items too
+pub values_writes-push :
+    (shape : Shape) (s : Side) (values items : List ℕ) (c : Count) → bits_after first_bits (writes_of values) ≡ c.bits →
+    count_writes s (values ++ number_past c.number items % modulus_of shape ∷ []) ≡ count_writes s values ++ batch_phrase shape s c items
+values_writes-push shape s values items c held =
+    let v : ℕ = number_past c.number items % modulus_of shape in
+    let old : List RowWrite = writes_of values in
+    ap (writes_in (row_bit s)) (row_writes-push values v first_bits ∙ ap (λ b. old ++ unary_phrase b v) held) ∙
+    map-append (λ (w : RowWrite). Write (row_bit s w.bit) w.value) old (count_bits shape c items)

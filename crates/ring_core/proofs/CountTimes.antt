@@ -486,18 +486,23 @@ past_part s a after q =
     ap (count_begun s) (events_of-append s a after) ∙ filter_map-append (count_write s) (events_of s a) (events_of s after) ∙
     ap (λ l. l ++ count_begun s (events_of s after)) (quiet_all s a q)
 
+-- the bit writes of a look's count write and of what follows it
+look_writes :
+    (s : Side) (shape : Shape) (c : Count) (l : Look) (after : List Made) →
+    count_begun s (events_of s (scan_phrase (row_read_by s) l.seen ++ (word_part s shape c.number l.outcome ++ (count_part s shape c l.outcome ++ after)))) ≡
+    count_begun s (events_of s (count_part s shape c l.outcome ++ after))
+look_writes s shape c l after =
+    past_part s (scan_phrase (row_read_by s) l.seen) (word_part s shape c.number l.outcome ++ (count_part s shape c l.outcome ++ after)) (quiet_scan s (row_read_by s) l.seen) ∙
+    past_part s (word_part s shape c.number l.outcome) (count_part s shape c l.outcome ++ after) (quiet_word s shape c.number l.outcome)
+
 program_writes :
     (s : Side) (shape : Shape) (c : Count) (looks : List Look) (behind : List Made) → IsQuiet s behind →
     count_begun s (events_of s (look_accesses s shape c looks behind)) ≡ row_writes (writes_from shape c looks)
 program_writes s shape c [] behind q = quiet_all s behind q
 program_writes s shape c (l ∷ looks) behind q =
-    let a : List Made = scan_phrase (row_read_by s) l.seen in
-    let b : List Made = word_part s shape c.number l.outcome in
     let next : Count = after_look shape c l.outcome in
     let after : List Made = look_accesses s shape next looks behind in
-    let d : List Made = count_part s shape c l.outcome ++ after in
-    past_part s a (b ++ d) (quiet_scan s (row_read_by s) l.seen) ∙ past_part s b d (quiet_word s shape c.number l.outcome) ∙
-    part_writes s shape c l.outcome (values_from shape next.number looks) after (program_writes s shape next looks behind q)
+    look_writes s shape c l after ∙ part_writes s shape c l.outcome (values_from shape next.number looks) after (program_writes s shape next looks behind q)
 
 -- the bit writes of a program's count are those of its unary writes
 pub count_writes_are :

@@ -39,9 +39,6 @@ pub use Rattle.ring_core.proofs.Readings.Over.{puts_over-read as calls_over_are_
 pub use Rattle.ring_core.proofs.OneMore.{runs-by_put as runs_by_one_more_put, runs-by_take as runs_by_one_more_take}
 pub use Rattle.ring_core.proofs.Witness.{has-a_run as has_a_run}
 
-of_spans : InEveryRun LawOfSpans
-of_spans = law_of_spans
-
 pub counts_are_written_numbers : CountsShowNumbers
 counts_are_written_numbers = λ shape. (first_is_count shape, λ count seen items. counted_is_count shape count items)
 
@@ -54,65 +51,67 @@ words_by_one_more_words = words_read-push
 pub words_by_one_more_fit : ItemsFitByOneMore
 words_by_one_more_fit = λ shape items item fit last. fit-push shape items item fit (last, tt)
 
+pub ring_law : InEveryRun RingLaw
+ring_law shape h puts takes run =
+    let spans : LawOfSpans shape h puts takes = law_of_spans shape h puts takes run in
+    record {
+      within = calls.within shape h puts takes run spans;
+      put_range = calls.put_range shape h puts takes run spans;
+      take_range = calls.take_range shape h puts takes run spans;
+      words = calls.words shape h puts takes run spans;
+      cells = cells_are_quiet shape h puts takes run (calls.items_quiet shape h puts takes run spans);
+      prefix = calls.prefix shape h puts takes run spans;
+      items = calls.items shape h puts takes run spans;
+      empty = calls.empty shape h puts takes run spans;
+      full = calls.full shape h puts takes run spans;
+      fill = calls.fill shape h puts takes run spans;
+      drain = calls.drain shape h puts takes run spans;
+      closed = calls.closed shape h puts takes run spans;
+    }
+
 pub ring_law_within : InEveryRun IsWithin
-ring_law_within = λ shape h puts takes run. calls.within shape h puts takes run (of_spans shape h puts takes run)
+ring_law_within = λ shape h puts takes run. (ring_law shape h puts takes run).within
 
 pub ring_law_put_range : InEveryRun PutsAreInRange
-ring_law_put_range = λ shape h puts takes run. calls.put_range shape h puts takes run (of_spans shape h puts takes run)
+ring_law_put_range = λ shape h puts takes run. (ring_law shape h puts takes run).put_range
 
 pub ring_law_take_range : InEveryRun TakesAreInRange
-ring_law_take_range = λ shape h puts takes run. calls.take_range shape h puts takes run (of_spans shape h puts takes run)
+ring_law_take_range = λ shape h puts takes run. (ring_law shape h puts takes run).take_range
 
 pub ring_law_words : InEveryRun WordsAreQuiet
-ring_law_words = λ shape h puts takes run. calls.words shape h puts takes run (of_spans shape h puts takes run)
+ring_law_words = λ shape h puts takes run. (ring_law shape h puts takes run).words
 
 pub ring_law_cells : InEveryRun CellsAreQuiet
-ring_law_cells = λ shape h puts takes run. cells_are_quiet shape h puts takes run (calls.items_quiet shape h puts takes run (of_spans shape h puts takes run))
+ring_law_cells = λ shape h puts takes run. (ring_law shape h puts takes run).cells
 
 pub ring_law_prefix : InEveryRun TakenArePrefix
-ring_law_prefix = λ shape h puts takes run. calls.prefix shape h puts takes run (of_spans shape h puts takes run)
+ring_law_prefix = λ shape h puts takes run. (ring_law shape h puts takes run).prefix
 
 pub ring_law_items : InEveryRun TakesMatchPuts
-ring_law_items = λ shape h puts takes run. calls.items shape h puts takes run (of_spans shape h puts takes run)
+ring_law_items = λ shape h puts takes run. (ring_law shape h puts takes run).items
 
 pub ring_law_empty : InEveryRun EmptyIsFresh
-ring_law_empty = λ shape h puts takes run. calls.empty shape h puts takes run (of_spans shape h puts takes run)
+ring_law_empty = λ shape h puts takes run. (ring_law shape h puts takes run).empty
 
 pub ring_law_full : InEveryRun FullIsFresh
-ring_law_full = λ shape h puts takes run. calls.full shape h puts takes run (of_spans shape h puts takes run)
+ring_law_full = λ shape h puts takes run. (ring_law shape h puts takes run).full
 
 pub ring_law_fill : InEveryRun FillIsFresh
-ring_law_fill = λ shape h puts takes run. calls.fill shape h puts takes run (of_spans shape h puts takes run)
+ring_law_fill = λ shape h puts takes run. (ring_law shape h puts takes run).fill
 
 pub ring_law_drain : InEveryRun DrainIsFresh
-ring_law_drain = λ shape h puts takes run. calls.drain shape h puts takes run (of_spans shape h puts takes run)
+ring_law_drain = λ shape h puts takes run. (ring_law shape h puts takes run).drain
 
 pub ring_law_closed : InEveryRun ClosedIsTrue
-ring_law_closed = λ shape h puts takes run. calls.closed shape h puts takes run (of_spans shape h puts takes run)
-
-pub ring_law : InEveryRun RingLaw
-ring_law shape h puts takes run = record {
-  within = ring_law_within shape h puts takes run;
-  put_range = ring_law_put_range shape h puts takes run;
-  take_range = ring_law_take_range shape h puts takes run;
-  words = ring_law_words shape h puts takes run;
-  cells = ring_law_cells shape h puts takes run;
-  prefix = ring_law_prefix shape h puts takes run;
-  items = ring_law_items shape h puts takes run;
-  empty = ring_law_empty shape h puts takes run;
-  full = ring_law_full shape h puts takes run;
-  fill = ring_law_fill shape h puts takes run;
-  drain = ring_law_drain shape h puts takes run;
-  closed = ring_law_closed shape h puts takes run;
-}
+ring_law_closed = λ shape h puts takes run. (ring_law shape h puts takes run).closed
 
 pub ring_is_linearizable : InEveryRun IsLinearizableRun
-ring_is_linearizable = λ shape h puts takes run. linearizable shape h puts takes run (of_spans shape h puts takes run)
+ring_is_linearizable = λ shape h puts takes run. linearizable shape h puts takes run (law_of_spans shape h puts takes run)
 
 pub recorded_is_linearizable : RecordedIsLinearizable
 recorded_is_linearizable = λ shape offers wants h puts takes run offered some wanted.
     counted_is_linearizable (exactly (capacity_of shape)) (recorded shape offers wants h puts takes) (shape.has_cells, omega arith)
-    (recorded_are_counted shape offers wants h puts takes run (of_spans shape h puts takes run) some offered wanted)
+    (recorded_are_counted shape offers wants h puts takes run (law_of_spans shape h puts takes run) some offered wanted)
 
 pub closed_stays : ClosedStays
 closed_stays = closed-stays ring_law

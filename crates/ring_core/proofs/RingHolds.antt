@@ -20,8 +20,8 @@ use Rattle.ring_core.proofs.OverSpans.Spans.{Span, Asks, counts, before_count, a
 use Rattle.ring_core.proofs.OverSpans.Clocks.{IsPlace, AreCloseReads, Ring}
 use Rattle.ring_core.proofs.OverSpans.Clocks as clocks
 use Rattle.ring_core.proofs.OverSpans.LookSpans.{put_looks, take_looks, word_part, count_part, look_accesses, spans, put_spans, take_spans, LookAt}
-use Rattle.ring_core.specs.RingLaw.{IsRun}
-use Rattle.ring_core.proofs.OverSpans.RingOfSpans.{LawOfSpans, PutsAreInRange, TakesAreInRange, CellsAreQuiet, TakenArePrefix, TakesMatchPuts, EmptyIsFresh, FullIsFresh, FillIsFresh, DrainIsFresh, ClosedIsTrue}
+use Rattle.ring_core.specs.RingLaw.{IsRun, TakenArePrefix, ClosedIsTrue}
+use Rattle.ring_core.proofs.OverSpans.RingOfSpans.{LawOfSpans, PutsAreInRange, TakesAreInRange, CellsAreQuiet, TakesMatchPuts, EmptyIsFresh}
 use Rattle.ring_core.proofs.Readings.Cuts.{at_most_or_above}
 use Rattle.ring_core.proofs.OverSpans.SpanLaw.{SpanLaw, span_law, IsToldAt, LastTwo}
 use Rattle.ring_core.proofs.HistoryClocks.{clocks_of}
@@ -163,15 +163,6 @@ module _ (shape : Shape) (h : List Event) (puts : Puts) (takes : Takes) (run : I
       let (all, not_closed) = law.empty (length h) s k x st o (omega (arith, l, clock_end C h)) first (is_place C s first q) in
       (all, omega (arith, not_closed, put_total shape puts))
 
-  full : FullIsFresh shape h puts takes
-  full s n x st o l first q = law.full (length h) s n x st o (omega (arith, l, clock_end P h)) first (is_place P s first q)
-
-  fill : FillIsFresh shape h puts takes
-  fill s n x st fills l first q = law.fill (length h) s n x st fills (omega (arith, l, clock_end P h)) first (is_place P s first q)
-
-  drain : DrainIsFresh shape h puts takes
-  drain s k x st o drains l first q = law.drain (length h) s k x st o drains (omega (arith, l, clock_end C h)) first (is_place C s first q)
-
   closed : ClosedIsTrue shape h puts takes
   closed t u (tells, ended) l =
       let told : IsToldAt (clock C h) (take_spans shape takes) t = record { two = ends_told takes.end tells; ended = omega (arith, ended, take_total shape takes) } in
@@ -245,13 +236,8 @@ module _ (shape : Shape) (h : List Event) (puts : Puts) (takes : Takes) (run : I
       ] in
       law.quiet s' k i' y st' takes_it start' stop' order (omega (arith, b.begins.before)) ended'
       (record {
-        start = s;
-        number = n;
-        put = x;
-        index = i;
-        stands = st;
+        write = record { start = s; number = n; put = x; index = i; stands = st; same_cell = cell };
         stored = stores;
-        same_cell = cell;
         begun_before = omega (arith, clock_rises P h (suc start) stop' begun, a.begins.past);
         not_ended = ended start' (at_most start' stop not_after);
       })
@@ -271,8 +257,8 @@ module _ (shape : Shape) (h : List Event) (puts : Puts) (takes : Takes) (run : I
     prefix = prefix;
     items = items;
     empty = empty;
-    full = full;
-    fill = fill;
-    drain = drain;
     closed = closed;
+    full = λ s n x st o l first q. law.full (length h) s n x st o (omega (arith, l, clock_end P h)) first (is_place P s first q);
+    fill = λ s n x st fills l first q. law.fill (length h) s n x st fills (omega (arith, l, clock_end P h)) first (is_place P s first q);
+    drain = λ s k x st o drains l first q. law.drain (length h) s k x st o drains (omega (arith, l, clock_end C h)) first (is_place C s first q);
   }

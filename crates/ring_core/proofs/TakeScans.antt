@@ -1,20 +1,21 @@
 -- The scan of a take, the first or the second.
-use Rattle.std.proofs.Common.{◌≡◌, ◌⊎◌, ⊎_elim, false, true, Option, Some, List, [], ◌∷◌, ◌++◌, ap, ◌∙◌}
+use Rattle.std.proofs.Common.{◌≡◌, ◌⊎◌, ⊎_elim, ℕ, ◌≤◌, Bool, false, true, Option, Some, List, [], ◌++◌, ap, ◌∙◌}
 use Rattle.bits_core.specs.declared.events.Side.TheVariants.{C}
 use Rattle.bits_core.specs.declared.events.Access.{Access}
 use Rattle.bits_core.specs.Shape.{modulus_of}
-use Rattle.bits_core.specs.Made.{Made, answered}
-use Rattle.register_core.specs.ScanState.{ScanState, LastIsDue, scan_read, due_scan}
-use Rattle.ring_core.specs.declared.consumers.Stage.TheVariants.{Scanning, Rescanning}
+use Rattle.bits_core.specs.Made.{Made}
+use Rattle.register_core.specs.ScanState.{ScanState, ScanStands, LastIsDue, IsScanOf, IsValueRead, row_read_by, scan_read, due_scan}
+use Rattle.register_core.specs.WordState.{ReaderState, ReaderStands}
+use Rattle.ring_core.specs.declared.consumers.Stage.TheVariants.{Scanning, Rescanning, Loading}
 use Rattle.ring_core.specs.Calls.{LastBitIsDue, EndsInZeros, IsScanning}
-use Rattle.ring_core.specs.Counts.{first_count}
+use Rattle.ring_core.specs.Counts.{ShowsItem, distance, first_count}
 use Rattle.ring_core.specs.Takes.{Takes, take_phrases}
-use Rattle.ring_core.specs.ConsumerState.{ConsumerState, IsConsumer, IsTaking, due_take, is_taking}
-use Rattle.ring_core.specs.ConsumerCalls.{ConsumerStands, ConsumerHasMoved}
-use Rattle.ring_core.proofs.Machines.MachineParts.{ScanGoesOn}
+use Rattle.ring_core.specs.ConsumerState.{ConsumerState, IsConsumer, IsTaking, due_take, consumer_due_at, is_taking}
+use Rattle.ring_core.specs.ConsumerCalls.{ConsumerStands, ConsumerMoves}
+use Rattle.ring_core.proofs.Machines.MachineParts.{ScanGoesOn, gives}
 use Rattle.ring_core.proofs.Machines.NextParts.{scan_reads}
 use Rattle.ring_core.proofs.Machines.ConsumerInvariant.{at_stage, scan_keeps, rescan_keeps}
-use Rattle.ring_core.proofs.Machines.ConsumerMoves.{made_at, scan_on, rescan_on}
+use Rattle.ring_core.proofs.Machines.ConsumerMoves.{made_at, scan_on, rescan_on, scan_item, rescan_item}
 use Rattle.ring_core.proofs.Machines.ConsumerNext.{Going, next_scan, next_rescan, rescan_zeros}
 
 abbrev pub IsAtScan : ConsumerState → Type 0
@@ -23,7 +24,11 @@ IsAtScan p = (p.stage ≡ Scanning) ⊎ (p.stage ≡ Rescanning)
 pub scans_there : (p : ConsumerState) → IsAtScan p → IsConsumer p → IsScanning C (modulus_of p.shape) p.scan
 scans_there p at is = ⊎_elim (λ e. (at_stage p Scanning is e).3) (λ e. (at_stage p Rescanning is e).3) at
 
-taking_there : (p : ConsumerState) → IsAtScan p → IsConsumer p → IsTaking p
+-- the scan's read is due
+pub due_there : (p : ConsumerState) → IsAtScan p → due_take p ≡ due_scan p.scan
+due_there p at = ⊎_elim (λ e. ap (λ st. consumer_due_at st p) e) (λ e. ap (λ st. consumer_due_at st p) e) at
+
+pub taking_there : (p : ConsumerState) → IsAtScan p → IsConsumer p → IsTaking p
 taking_there p at is = ⊎_elim (λ e. (at_stage p Scanning is e).1) (λ e. (at_stage p Rescanning is e).1) at
 
 pub next_there :
@@ -32,18 +37,49 @@ pub next_there :
 next_there p calls made due at is stands due_is =
     ⊎_elim (λ e. next_scan p calls made due e stands (taking_there p at is) (scans_there p at is) due_is) (λ e. next_rescan p calls made due e stands (taking_there p at is) (scans_there p at is) due_is) at
 
+fresh_there : (p : ConsumerState) → IsAtScan p → IsConsumer p → p.items ≡ []
+fresh_there p at is = ⊎_elim (λ e. (at_stage p Scanning is e).2) (λ e. (at_stage p Rescanning is e).2) at
+
+-- a scan without a value goes on
+pub open_keeps :
+    (p : ConsumerState) (s : ScanState) (answer : Bool) → IsAtScan p → IsConsumer p → (LastBitIsDue p.shape C (due_take p) → answer ≡ true) →
+    s ≡ scan_read p.scan answer → s.found ≡ false → IsConsumer (record p { scan = s })
+open_keeps p s answer at is one fed open_still =
+    ⊎_elim (λ e. scan_keeps p s answer is e one fed open_still) (λ e. rescan_keeps p s answer is e one fed open_still) at
+
+pub open_on : (p : ConsumerState) (s : ScanState) (answer : Bool) → IsAtScan p → ScanGoesOn p.scan s answer → ConsumerMoves p answer (record p { scan = s })
+open_on p s answer at goes = ⊎_elim (λ e. scan_on p s answer e goes) (λ e. rescan_on p s answer e goes) at
+
+-- what is known of a scan once it has given a value: it is one of the producer's count
+pub record HasGiven (p : ConsumerState) (s : ScanState) (answer : Bool) (seen : ℕ) : Type 0 where
+  pub at : IsAtScan p
+  pub fresh : p.items ≡ []
+  pub goes : ScanGoesOn p.scan s answer
+  pub is_scan : (reads : List Made) → ScanStands s reads → IsScanOf (row_read_by C) (modulus_of p.shape) reads seen
+
+pub has_given :
+    (p : ConsumerState) (s : ScanState) (answer : Bool) (value : Option ℕ) (seen : ℕ) → IsAtScan p → IsConsumer p →
+    record { state : s ≡ scan_read p.scan answer; stands : ScanGoesOn p.scan s answer } → value ≡ Some seen → ((reads : List Made) → ScanStands s reads → IsValueRead (row_read_by s.side) s.modulus reads value) →
+    HasGiven p s answer seen
+has_given p s answer value seen at is fed some values =
+    record { at = at; fresh = fresh_there p at is; goes = fed.stands; is_scan = gives p.shape C p.scan s answer value seen (scans_there p at is) fed.state some values }
+
+-- it shows an item
+pub item_there :
+    (p : ConsumerState) (s : ScanState) (w : ReaderState) (answer : Bool) (seen most : ℕ) → HasGiven p s answer seen → most ≤ distance (modulus_of p.shape) seen p.count →
+    most ≤ p.wanted → (most ≡ p.wanted) ⊎ (most ≡ distance (modulus_of p.shape) seen p.count) → ReaderStands w [] → ShowsItem p.shape seen p.count →
+    ConsumerMoves p answer (record p { stage = Loading; scan = s; word = w; most = most })
+item_there p s w answer seen most g enough wants all begins shows =
+    ⊎_elim (λ e. scan_item p s w answer seen most g.fresh enough wants all e g.goes g.is_scan begins shows)
+    (λ e. rescan_item p s w answer seen most g.fresh enough wants all e g.goes g.is_scan begins shows) g.at
+
 -- a scan whose due bit was read as 0 goes on
 pub zero_keeps :
     (p : ConsumerState) (s : ScanState) → IsAtScan p → IsConsumer p → (LastBitIsDue p.shape C (due_take p) → false ≡ true) → s ≡ scan_read p.scan false →
     IsConsumer (record p { scan = s })
 zero_keeps p s at is not_last fed =
     let open_still : s.found ≡ false = ap (λ (x : ScanState). x.found) fed ∙ (scans_there p at is).not_found in
-    ⊎_elim (λ e. scan_keeps p s false is e not_last fed open_still) (λ e. rescan_keeps p s false is e not_last fed open_still) at
-
-pub zero_on :
-    (p : ConsumerState) (s : ScanState) → IsAtScan p → ScanGoesOn p.scan s false → (calls : Takes) (made : List Made) (access : Access) → ConsumerStands p calls made →
-    due_take p ≡ Some access → ConsumerHasMoved p (record p { scan = s }) calls (made ++ answered access false ∷ [])
-zero_on p s at goes = ⊎_elim (λ e. scan_on p s false e goes) (λ e. rescan_on p s false e goes) at
+    open_keeps p s false at is not_last fed open_still
 
 scan_zeros :
     (p : ConsumerState) (calls : Takes) (made : List Made) → p.stage ≡ Scanning → ConsumerStands p calls made → IsScanning C (modulus_of p.shape) p.scan →

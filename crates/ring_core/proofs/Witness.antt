@@ -102,50 +102,31 @@ events =
     read C (S 0) ∷ got C (S 0) false ∷ read C (S 1) ∷ got C (S 1) true ∷ read C X ∷ got C X true ∷
     read C (S 0) ∷ got C (S 0) false ∷ read C (S 1) ∷ got C (S 1) true ∷ []
 
--- they are lawful, one after another
+-- they are lawful, one after another: each line is an access, but where another comes between its two events
 each_follows : EachFollows one_cell [] events
 unfolding one_cell
 each_follows =
+    reading C (S 0) refl refl refl >> answered C (S 0) true refl refl refl (inr refl) >>
+    reading C X refl refl refl >> answered C X false refl refl refl (inr refl) >>
     reading C (S 0) refl refl refl >>
-    answered C (S 0) true refl refl refl (inr refl) >>
-    reading C X refl refl refl >>
-    answered C X false refl refl refl (inr refl) >>
-    reading C (S 0) refl refl refl >>
-    reading P (R 0) refl refl refl >>
-    answered P (R 0) true refl refl refl (inr refl) >>
-    writing P (Cell 0 0) true refl refl refl >>
-    written P (Cell 0 0) true refl refl refl >>
-    writing P (S 1) true refl refl refl >>
-    written P (S 1) true refl refl refl >>
-    writing P (S 0) false refl refl refl >>
-    written P (S 0) false refl refl refl >>
-    reading P (R 0) refl refl refl >>
-    answered P (R 0) true refl refl refl (inr refl) >>
-    writing P X true refl refl refl >>
-    written P X true refl refl refl >>
+    reading P (R 0) refl refl refl >> answered P (R 0) true refl refl refl (inr refl) >>
+    writing P (Cell 0 0) true refl refl refl >> written P (Cell 0 0) true refl refl refl >>
+    writing P (S 1) true refl refl refl >> written P (S 1) true refl refl refl >>
+    writing P (S 0) false refl refl refl >> written P (S 0) false refl refl refl >>
+    reading P (R 0) refl refl refl >> answered P (R 0) true refl refl refl (inr refl) >>
+    writing P X true refl refl refl >> written P X true refl refl refl >>
     answered C (S 0) true refl refl refl (inl refl) >>
-    reading C X refl refl refl >>
-    answered C X true refl refl refl (inr refl) >>
-    reading C (S 0) refl refl refl >>
-    answered C (S 0) false refl refl refl (inr refl) >>
-    reading C (S 1) refl refl refl >>
-    answered C (S 1) true refl refl refl (inr refl) >>
-    reading C (Cell 0 0) refl refl refl >>
-    answered C (Cell 0 0) true refl refl refl (inr refl) >>
-    writing C (R 1) true refl refl refl >>
-    written C (R 1) true refl refl refl >>
-    writing C (R 0) false refl refl refl >>
-    written C (R 0) false refl refl refl >>
-    reading C (S 0) refl refl refl >>
-    answered C (S 0) false refl refl refl (inr refl) >>
-    reading C (S 1) refl refl refl >>
-    answered C (S 1) true refl refl refl (inr refl) >>
-    reading C X refl refl refl >>
-    answered C X true refl refl refl (inr refl) >>
-    reading C (S 0) refl refl refl >>
-    answered C (S 0) false refl refl refl (inr refl) >>
-    reading C (S 1) refl refl refl >>
-    answered C (S 1) true refl refl refl (inr refl) >>
+    reading C X refl refl refl >> answered C X true refl refl refl (inr refl) >>
+    reading C (S 0) refl refl refl >> answered C (S 0) false refl refl refl (inr refl) >>
+    reading C (S 1) refl refl refl >> answered C (S 1) true refl refl refl (inr refl) >>
+    reading C (Cell 0 0) refl refl refl >> answered C (Cell 0 0) true refl refl refl (inr refl) >>
+    writing C (R 1) true refl refl refl >> written C (R 1) true refl refl refl >>
+    writing C (R 0) false refl refl refl >> written C (R 0) false refl refl refl >>
+    reading C (S 0) refl refl refl >> answered C (S 0) false refl refl refl (inr refl) >>
+    reading C (S 1) refl refl refl >> answered C (S 1) true refl refl refl (inr refl) >>
+    reading C X refl refl refl >> answered C X true refl refl refl (inr refl) >>
+    reading C (S 0) refl refl refl >> answered C (S 0) false refl refl refl (inr refl) >>
+    reading C (S 1) refl refl refl >> answered C (S 1) true refl refl refl (inr refl) >>
     no_more
 
 -- the producer makes all of its calls, and so does the consumer

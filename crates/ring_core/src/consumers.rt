@@ -163,9 +163,8 @@ impl Consumer {
     {
         match self.stage {
             Stage::Idle => None,
-            Stage::Scanning => self.scan.next(),
+            Stage::Scanning | Stage::Rescanning => self.scan.next(),
             Stage::Checking => Some(Access::Read(Bit::X)),
-            Stage::Rescanning => self.scan.next(),
             Stage::Loading => self.word.next(),
             Stage::Counting => self.row.next(),
         }
@@ -185,9 +184,8 @@ impl Consumer {
     {
         match self.stage {
             Stage::Idle => {}
-            Stage::Scanning => self.feed_scan(answer),
+            Stage::Scanning | Stage::Rescanning => self.feed_scan(answer),
             Stage::Checking => self.feed_check(answer),
-            Stage::Rescanning => self.feed_rescan(answer),
             Stage::Loading => self.feed_word(answer),
             Stage::Counting => self.feed_count(answer),
         }
@@ -195,7 +193,7 @@ impl Consumer {
 
     #[inline(always)]
     fn feed_scan(&mut self, answer: bool)
-        requires stage { self.old.stage ≡ Scanning }
+        requires stage { (self.old.stage ≡ Scanning) ⊎ (self.old.stage ≡ Rescanning) }
         requires one { LastBitIsDue self.old.shape C (due_take self.old) → answer ≡ true }
         ensures shape { self.new.shape ≡ self.old.shape }
         ensures wanted { self.new.wanted ≡ self.old.wanted }
@@ -210,7 +208,14 @@ impl Consumer {
                     self.word = WordReader::new(&self.shape, self.cell);
                     self.stage = Stage::Loading;
                 } else {
-                    self.stage = Stage::Checking;
+                    match self.stage {
+                        Stage::Rescanning => {
+                            self.told = true;
+                            self.reply = Some(TakeReply::Closed);
+                            self.stage = Stage::Idle;
+                        }
+                        _ => self.stage = Stage::Checking,
+                    }
                 }
             }
         }
@@ -229,31 +234,6 @@ impl Consumer {
         } else {
             self.reply = Some(TakeReply::Empty);
             self.stage = Stage::Idle;
-        }
-    }
-
-    #[inline(always)]
-    fn feed_rescan(&mut self, answer: bool)
-        requires stage { self.old.stage ≡ Rescanning }
-        requires one { LastBitIsDue self.old.shape C (due_take self.old) → answer ≡ true }
-        ensures shape { self.new.shape ≡ self.old.shape }
-        ensures wanted { self.new.wanted ≡ self.old.wanted }
-        ensures stands { ConsumerMoves self.old answer self.new }
-    {
-        self.scan.feed(answer);
-        match self.scan.value() {
-            None => {}
-            Some(again) => {
-                if has_item(&self.shape, again, self.count) {
-                    self.most = items_shown(&self.shape, again, self.count, self.wanted);
-                    self.word = WordReader::new(&self.shape, self.cell);
-                    self.stage = Stage::Loading;
-                } else {
-                    self.told = true;
-                    self.reply = Some(TakeReply::Closed);
-                    self.stage = Stage::Idle;
-                }
-            }
         }
     }
 
@@ -437,8 +417,7 @@ impl Consumer {
             EndsInZeros self.now.shape C made }
     {
         match self.stage {
-            Stage::Scanning => self.scan.expects_one(),
-            Stage::Rescanning => self.scan.expects_one(),
+            Stage::Scanning | Stage::Rescanning => self.scan.expects_one(),
             _ => false,
         }
     }

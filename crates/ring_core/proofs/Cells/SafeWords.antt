@@ -321,13 +321,8 @@ module _ (shape : Shape) (h : List Event) (lawful : IsLawful shape h) (looks loo
     had_ended n start g l = elim (at_most_or_above (g.at + before_count g.put) (clock P h first)) [
       | inl m ↦ m
       | inr m ↦ absurd (quiet (record {
-        start = g.at;
-        number = g.number;
-        put = g.put;
-        index = g.index;
-        stands = g.stands;
+        write = record { start = g.at; number = g.number; put = g.put; index = g.index; stands = g.stands; same_cell = g.same_cell };
         stored = g.has;
-        same_cell = g.same_cell;
         begun_before = omega (arith, g.starts, clock_up (clock P h) producer_clock (suc start) last l);
         not_ended = m;
       }))

@@ -1,5 +1,5 @@
 -- A word among the accesses of a program is that of an item of a look.
-use Rattle.std.proofs.Common.{◌≡◌, ◌⊎◌, inl, inr, ℕ, zero, suc, ◌+◌, ◌*◌, ◌%◌, ◌<◌, Bool, true, false, Some, List, [], ◌∷◌, ◌++◌, length, refl, sym, ap, ◌∙◌, arith, length-append, append-nil, append_assoc}
+use Rattle.std.proofs.Common.{◌≡◌, ◌⊎◌, inl, inr, ℕ, zero, suc, ◌+◌, ◌*◌, ◌%◌, ◌<◌, Bool, true, false, Some, List, [], ◌∷◌, ◌++◌, length, refl, sym, ap, subst, ◌∙◌, arith, length-append, append-nil, append_assoc}
 use Rattle.std.specs.Prelude.{slice_get}
 use Rattle.std.proofs.Math.Nat.{suc-mul}
 use Rattle.bits_core.specs.declared.events.Side.{Side}
@@ -296,19 +296,5 @@ pub word_there :
 word_there s shape c looks tail none before after cell item e =
     let r = some_digits s (width_of shape) cell item shape.has_digits in
     let from : word_of s (width_of shape) cell item ++ after ≡ digit_access s cell 0 (digit 0 item) ∷ (r.tail ++ after) = ap (λ l. l ++ after) r.is in
-    let z = word_from s shape c looks tail none before (r.tail ++ after) cell (digit 0 item) (e ∙ ap (λ l. before ++ l) from) in
-    record {
-      start = z.start;
-      number = z.number;
-      span = z.span;
-      stands = z.stands;
-      items = z.items;
-      outcome_is = z.outcome_is;
-      index = z.index;
-      item = z.item;
-      listed = z.listed;
-      cell_is = z.cell_is;
-      place = z.place;
-      after = z.after;
-      there = from ∙ z.there;
-    }
+    subst (λ rest. WordSpan s shape c.number (spans s shape c looks) before rest cell) (sym from)
+    (word_from s shape c looks tail none before (r.tail ++ after) cell (digit 0 item) (e ∙ ap (λ l. before ++ l) from))

@@ -1,28 +1,26 @@
 -- The operations of small runs.
-use Rattle.std.proofs.Common.{◌≡◌, [], ◌∷◌, ◌++◌, refl}
+use Rattle.std.proofs.Common.{◌≡◌, ℕ, List, [], ◌∷◌, ◌++◌, refl}
 use Rattle.bits_core.specs.declared.events.Side.TheVariants.{P, C}
 use Rattle.ring_core.specs.Counts.{first_count}
 use Rattle.queue_calls.specs.Queue.{Enqueue, Close, Dequeue, FindClosed}
-use Rattle.ring_core.specs.Linear.{operations, put_operations, take_operations}
+use Rattle.ring_core.specs.Linear.{TimedOperation, operations, put_operations, take_operations}
 use Rattle.ring_core.proofs.Examples.{one_cell, put_and_close, second_scan, three_cells, three_at_once}
+
+-- the operations before these moments: none, the first ones, the same, and then the second ones behind them
+abbrev ComeAt : (ℕ → List TimedOperation) → (before with_first still with_both : ℕ) → (first second : List TimedOperation) → Type 0
+ComeAt by before with_first still with_both first second = (by before ≡ []) × (by with_first ≡ first) × (by still ≡ first) × (by with_both ≡ first ++ second)
 
 -- an item is put with the first event of its count write, number 4, and the ring is closed with the first event of the close,
 -- number 8
 put_and_close-operations :
-    (put_operations one_cell first_count 0 put_and_close.puts put_and_close.closes 4 ≡ []) ×
-    (put_operations one_cell first_count 0 put_and_close.puts put_and_close.closes 5 ≡ operations P 0 8 (Enqueue 1 ∷ [])) ×
-    (put_operations one_cell first_count 0 put_and_close.puts put_and_close.closes 8 ≡ operations P 0 8 (Enqueue 1 ∷ [])) ×
-    (put_operations one_cell first_count 0 put_and_close.puts put_and_close.closes 9 ≡ operations P 0 8 (Enqueue 1 ∷ []) ++ operations P 8 10 (Close ∷ []))
+    ComeAt (put_operations one_cell first_count 0 put_and_close.puts put_and_close.closes) 4 5 8 9 (operations P 0 8 (Enqueue 1 ∷ [])) (operations P 8 10 (Close ∷ []))
 unfolding one_cell
 put_and_close-operations = (refl, refl, refl, refl)
 
 -- it is taken with the first event of the take's count write, number 10, and that the ring is closed is told with the last of the
 -- 24 events
 second_scan-operations :
-    (take_operations one_cell first_count 0 second_scan.takes second_scan.end 10 ≡ []) ×
-    (take_operations one_cell first_count 0 second_scan.takes second_scan.end 11 ≡ operations C 0 14 (Dequeue 1 ∷ [])) ×
-    (take_operations one_cell first_count 0 second_scan.takes second_scan.end 23 ≡ operations C 0 14 (Dequeue 1 ∷ [])) ×
-    (take_operations one_cell first_count 0 second_scan.takes second_scan.end 24 ≡ operations C 0 14 (Dequeue 1 ∷ []) ++ operations C 14 24 (FindClosed ∷ []))
+    ComeAt (take_operations one_cell first_count 0 second_scan.takes second_scan.end) 10 11 23 24 (operations C 0 14 (Dequeue 1 ∷ [])) (operations C 14 24 (FindClosed ∷ []))
 unfolding one_cell
 second_scan-operations = (refl, refl, refl, refl)
 

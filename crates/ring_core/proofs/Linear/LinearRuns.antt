@@ -24,7 +24,7 @@ use Rattle.ring_core.proofs.OverSpans.CallSpans.{stands_at}
 use Rattle.ring_core.proofs.CallCounts.{taken_begun_is}
 use Rattle.ring_core.proofs.HistoryClocks.{clock-zero}
 use Rattle.ring_core.proofs.OwnEvents.{clock_within, clock_end, clock_rises}
-use Rattle.ring_core.proofs.Linear.Turns.{In, PutOp, TakeOp, Tallies}
+use Rattle.ring_core.proofs.Linear.Turns.{In, Op, TakeOp, Tallies}
 use Rattle.ring_core.proofs.Linear.OneOrder.{IsTimely, Ordered, PutsNumbered, TakesNumbered, items_put_by, IsClosedBy, goes}
 use Rattle.ring_core.proofs.Linear.PutTurns.{put_turns, put_turns-ops, put_turns-sorted}
 use Rattle.ring_core.proofs.Linear.PutTurnFacts.{put_turns-numbered, put_turns-items, put_turns-closed, puts_hold}
@@ -71,7 +71,7 @@ all_taken shape c (Empty seen ∷ takes) t l =
     all_taken shape (count_after shape c x) takes (t - long) (omega (arith, l, both))
 
 module _ (shape : Shape) (h : List Event) (puts : Puts) (takes : Takes) (run : IsRun shape h puts takes) (law : LawOfSpans shape h puts takes) where
-  abbrev xs : List PutOp
+  abbrev xs : List Op
   xs = put_turns shape first_count 0 puts.puts puts.closes (length (subhistory P h))
 
   abbrev ys : List TakeOp

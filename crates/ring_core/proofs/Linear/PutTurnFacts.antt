@@ -21,7 +21,7 @@ use Rattle.ring_core.proofs.OverSpans.Timeline.{AllProper, begun_at, begun_up, b
 use Rattle.ring_core.proofs.OverSpans.CallSpans.{three, stands_at}
 use Rattle.ring_core.proofs.CallCounts.{ended_counts}
 use Rattle.ring_core.proofs.OwnEvents.{clock_rises}
-use Rattle.ring_core.proofs.Linear.Turns.{In, Fulls, Closes, IsEnqueue, PutOp, PutFact, enqueue_not_full, enqueue_not_close}
+use Rattle.ring_core.proofs.Linear.Turns.{In, Misses, Ends, IsMove, Op, PutFact, move_not_miss, move_not_end}
 use Rattle.ring_core.proofs.Linear.OneOrder.{PutsNumbered, items_put_by, IsClosedBy}
 use Rattle.ring_core.proofs.Linear.PutTurns.{if_yes, if_no, by_test, in_append, in_if, lt_says, lt_denies, le_says, begun_past_count, begun_before_count, begun_of_none, begun_counts, put_turn, enqueue_turns, put_long, until_count, put_turns, put_turns-none, put_some, before_put_ends, enqueue_of}
 use Rattle.bits_core.proofs.LawLemmas.{subhistory_has_place}
@@ -43,7 +43,7 @@ until_is shape c seen items = omega (arith, length-append (scan_phrase (row_read
 -- ---- their numbers
 
 enqueues_numbered :
-    (last n start stop : ℕ) (items : List ℕ) (xs : List PutOp) → PutsNumbered last (number_past n items) xs → PutsNumbered last n (enqueue_turns n start stop items ++ xs)
+    (last n start stop : ℕ) (items : List ℕ) (xs : List Op) → PutsNumbered last (number_past n items) xs → PutsNumbered last n (enqueue_turns n start stop items ++ xs)
 enqueues_numbered last n start stop [] xs r = r
 enqueues_numbered last n start stop (item ∷ items) xs r = (refl, enqueues_numbered last (suc n) start stop items xs r)
 
@@ -52,12 +52,12 @@ pub put_turns-numbered :
     c.number + counts_begun (spans P shape c (put_looks puts)) (t - start) ≡ last → PutsNumbered last c.number (put_turns shape c start puts closes t)
 put_turns-numbered shape c start [] false t last e = omega (arith, e)
 put_turns-numbered shape c start [] true t last e = by_test (nat_lt start t)
-    (λ f. subst (PutsNumbered last c.number) (sym (if_yes (nat_lt start t) (put_turn c.number Closes start (start + 2) ∷ []) f)) (refl, omega (arith, e)))
-    (λ f. subst (PutsNumbered last c.number) (sym (if_no (nat_lt start t) (put_turn c.number Closes start (start + 2) ∷ []) f)) (omega (arith, e)))
+    (λ f. subst (PutsNumbered last c.number) (sym (if_yes (nat_lt start t) (put_turn c.number Ends start (start + 2) ∷ []) f)) (refl, omega (arith, e)))
+    (λ f. subst (PutsNumbered last c.number) (sym (if_no (nat_lt start t) (put_turn c.number Ends start (start + 2) ∷ []) f)) (omega (arith, e)))
 put_turns-numbered shape c start (Stored seen items ∷ puts) closes t last e =
     let stop : ℕ = start + put_long shape c (Stored seen items) in
     let next : Count = stored_after shape c (Stored seen items) in
-    let rest : List PutOp = put_turns shape next stop puts closes t in
+    let rest : List Op = put_turns shape next stop puts closes t in
     let test : Bool = nat_lt (start + until_count shape c seen items) t in
     let y : Span = span_of P shape c (look seen (Passes items)) in
     let ys : List Span = spans P shape next (put_looks puts) in
@@ -78,33 +78,33 @@ put_turns-numbered shape c start (Stored seen items ∷ puts) closes t last e =
     (subst (PutsNumbered last c.number) (sym none) e')))
 put_turns-numbered shape c start (Full seen ∷ puts) closes t last e =
     let stop : ℕ = start + put_long shape c (Full seen) in
-    let rest : List PutOp = put_turns shape c stop puts closes t in
+    let rest : List Op = put_turns shape c stop puts closes t in
     let y : Span = span_of P shape c (look seen Stops) in
     let ys : List Span = spans P shape c (put_looks puts) in
     let later : t - start - whole y ≡ t - stop = omega arith in
     let e' : c.number + counts_begun ys (t - stop) ≡ last = omega (arith, e, begun_of_none y ys (t - start) refl, ap (counts_begun ys) later) in
     let r = put_turns-numbered shape c stop puts closes t last e' in
     by_test (nat_le stop t)
-    (λ f. subst (λ l. PutsNumbered last c.number (l ++ rest)) (sym (if_yes (nat_le stop t) (put_turn c.number Fulls start stop ∷ []) f)) (refl, r))
-    (λ f. subst (λ l. PutsNumbered last c.number (l ++ rest)) (sym (if_no (nat_le stop t) (put_turn c.number Fulls start stop ∷ []) f)) r)
+    (λ f. subst (λ l. PutsNumbered last c.number (l ++ rest)) (sym (if_yes (nat_le stop t) (put_turn c.number Misses start stop ∷ []) f)) (refl, r))
+    (λ f. subst (λ l. PutsNumbered last c.number (l ++ rest)) (sym (if_no (nat_le stop t) (put_turn c.number Misses start stop ∷ []) f)) r)
 
 -- ---- their items
 
-enqueues_items : (n start stop : ℕ) (items : List ℕ) (xs : List PutOp) → items_put_by (enqueue_turns n start stop items ++ xs) ≡ items ++ items_put_by xs
+enqueues_items : (n start stop : ℕ) (items : List ℕ) (xs : List Op) → items_put_by (enqueue_turns n start stop items ++ xs) ≡ items ++ items_put_by xs
 enqueues_items n start stop [] xs = refl
 enqueues_items n start stop (item ∷ items) xs = ap (λ l. item ∷ l) (enqueues_items (suc n) start stop items xs)
 
 join_items :
-    (test test' : Bool) (n start stop : ℕ) (items rest : List ℕ) (xs : List PutOp) → test ≡ test' → items_put_by xs ≡ rest →
+    (test test' : Bool) (n start stop : ℕ) (items rest : List ℕ) (xs : List Op) → test ≡ test' → items_put_by xs ≡ rest →
     items_put_by ((if test then enqueue_turns n start stop items else []) ++ xs) ≡ (if test' then items else []) ++ rest
 join_items true test' n start stop items rest xs e f = subst (λ b. items_put_by (enqueue_turns n start stop items ++ xs) ≡ (if b then items else []) ++ rest) e (enqueues_items n start stop items xs ∙ ap (λ l. items ++ l) f)
 join_items false test' n start stop items rest xs e f = subst (λ b. items_put_by xs ≡ (if b then items else []) ++ rest) e f
 
-full_items : (test : Bool) (n start stop : ℕ) (xs : List PutOp) → items_put_by ((if test then put_turn n Fulls start stop ∷ [] else []) ++ xs) ≡ items_put_by xs
+full_items : (test : Bool) (n start stop : ℕ) (xs : List Op) → items_put_by ((if test then put_turn n Misses start stop ∷ [] else []) ++ xs) ≡ items_put_by xs
 full_items true n start stop xs = refl
 full_items false n start stop xs = refl
 
-close_items : (test : Bool) (n start stop : ℕ) → items_put_by (if test then put_turn n Closes start stop ∷ [] else []) ≡ []
+close_items : (test : Bool) (n start stop : ℕ) → items_put_by (if test then put_turn n Ends start stop ∷ [] else []) ≡ []
 close_items true n start stop = refl
 close_items false n start stop = refl
 
@@ -130,21 +130,21 @@ put_turns-items shape c start (Full seen ∷ puts) closes t =
 
 -- ---- the close
 
-closed_enqueues : (b : Bool) (n start stop : ℕ) (items : List ℕ) (xs : List PutOp) → IsClosedBy b xs → IsClosedBy b (enqueue_turns n start stop items ++ xs)
+closed_enqueues : (b : Bool) (n start stop : ℕ) (items : List ℕ) (xs : List Op) → IsClosedBy b xs → IsClosedBy b (enqueue_turns n start stop items ++ xs)
 closed_enqueues b n start stop [] xs r = r
 closed_enqueues b n start stop (item ∷ items) xs r = closed_enqueues b (suc n) start stop items xs r
 
 pub put_turns-closed :
     (shape : Shape) (c : Count) (start : ℕ) (puts : List Put) (t : ℕ) → start + events_in (put_phrases shape c puts) < t → IsClosedBy false (put_turns shape c start puts true t)
 put_turns-closed shape c start [] t l =
-    subst (IsClosedBy false) (sym (if_yes (nat_lt start t) (put_turn c.number Closes start (start + 2) ∷ []) (lt_is_here start t (omega (arith, l))))) refl
+    subst (IsClosedBy false) (sym (if_yes (nat_lt start t) (put_turn c.number Ends start (start + 2) ∷ []) (lt_is_here start t (omega (arith, l))))) refl
   where
     lt_is_here : (a b : ℕ) → a < b → nat_lt a b ≡ true
     lt_is_here a b m = grind (arith, nat_tests)
 put_turns-closed shape c start (Stored seen items ∷ puts) t l =
     let stop : ℕ = start + put_long shape c (Stored seen items) in
     let next : Count = stored_after shape c (Stored seen items) in
-    let rest : List PutOp = put_turns shape next stop puts true t in
+    let rest : List Op = put_turns shape next stop puts true t in
     let test : Bool = nat_lt (start + until_count shape c seen items) t in
     let r = put_turns-closed shape next stop puts t (omega (arith, l, length-append (put_phrase shape c (Stored seen items)) (put_phrases shape next puts))) in
     by_test test
@@ -152,11 +152,11 @@ put_turns-closed shape c start (Stored seen items ∷ puts) t l =
     (λ f. subst (λ l. IsClosedBy false (l ++ rest)) (sym (if_no test (enqueue_turns c.number start stop items) f)) r)
 put_turns-closed shape c start (Full seen ∷ puts) t l =
     let stop : ℕ = start + put_long shape c (Full seen) in
-    let rest : List PutOp = put_turns shape c stop puts true t in
+    let rest : List Op = put_turns shape c stop puts true t in
     let r = put_turns-closed shape c stop puts t (omega (arith, l, length-append (put_phrase shape c (Full seen)) (put_phrases shape c puts))) in
     by_test (nat_le stop t)
-    (λ f. subst (λ l. IsClosedBy false (l ++ rest)) (sym (if_yes (nat_le stop t) (put_turn c.number Fulls start stop ∷ []) f)) r)
-    (λ f. subst (λ l. IsClosedBy false (l ++ rest)) (sym (if_no (nat_le stop t) (put_turn c.number Fulls start stop ∷ []) f)) r)
+    (λ f. subst (λ l. IsClosedBy false (l ++ rest)) (sym (if_yes (nat_le stop t) (put_turn c.number Misses start stop ∷ []) f)) r)
+    (λ f. subst (λ l. IsClosedBy false (l ++ rest)) (sym (if_no (nat_le stop t) (put_turn c.number Misses start stop ∷ []) f)) r)
 
 -- ---- what holds of each
 
@@ -166,10 +166,10 @@ module _ (shape : Shape) (h : List Event) (puts : Puts) (takes : Takes) (law : L
   abbrev all_events : ℕ
   all_events = events_in (put_phrases shape first_count puts.puts)
 
-  abbrev IsPut : PutOp → Type 0
+  abbrev IsPut : Op → Type 0
   IsPut x =
       PutFact h (capacity_of shape) all_events (counts_begun (put_spans shape puts)) (counts_ended (put_spans shape puts)) (counts_ended (take_spans shape takes)) x ×
-      (IsEnqueue x.kind → x.number < counts_begun (put_spans shape puts) (length (subhistory P h)))
+      (IsMove x.kind → x.number < counts_begun (put_spans shape puts) (length (subhistory P h)))
 
   -- the spans of puts stand among those of all, behind so many events and a count
   abbrev Stand : Count → ℕ → List Put → Type 0
@@ -192,9 +192,9 @@ module _ (shape : Shape) (h : List Event) (puts : Puts) (takes : Takes) (law : L
   pub puts_hold :
       (c : Count) (start : ℕ) (rest : List Put) (closes : Bool) → Stand c start rest → start + events_in (put_phrases shape c rest) ≡ all_events →
       c.number + in_all (spans P shape c (put_looks rest)) ≡ in_all (put_spans shape puts) →
-      (x : PutOp) → In x (put_turns shape c start rest closes (length (subhistory P h))) → IsPut x
+      (x : Op) → In x (put_turns shape c start rest closes (length (subhistory P h))) → IsPut x
   puts_hold c start [] false stand e f x i = absurd i
-  puts_hold c start [] true stand e f x i = elim (in_if x (nat_lt start (length (subhistory P h))) (put_turn c.number Closes start (start + 2) ∷ []) i).1 [
+  puts_hold c start [] true stand e f x i = elim (in_if x (nat_lt start (length (subhistory P h))) (put_turn c.number Ends start (start + 2) ∷ []) i).1 [
     | inl g ↦ subst IsPut (sym g) ((
       record {
         some = omega arith;
@@ -228,8 +228,8 @@ module _ (shape : Shape) (h : List Event) (puts : Puts) (takes : Takes) (law : L
                 begins = omega (arith, r.starts, e);
                 not_begun = λ m l. omega (arith, begun_there start c.number y st m (omega (arith, l, r.starts)), r.number);
                 ended = λ s m l. omega (arith, ended_counts (put_spans shape puts) start c.number y m st (omega (arith, l, r.stops, long)), r.number, r.inside);
-                full = λ s. absurd (enqueue_not_full x.kind r.enqueues s);
-                close = λ s. absurd (enqueue_not_close x.kind r.enqueues s);
+                full = λ s. absurd (move_not_miss x.kind r.enqueues s);
+                close = λ s. absurd (move_not_end x.kind r.enqueues s);
               },
               λ s. omega (arith, begun, r.number, r.inside),
             ))
@@ -245,9 +245,9 @@ module _ (shape : Shape) (h : List Event) (puts : Puts) (takes : Takes) (law : L
       let some = put_some shape c seen in
       let st : IsSpanAt (put_spans shape puts) start c.number y =
       stands_at (put_spans shape puts) (start + 0) start (c.number + 0) c.number y (omega arith) (omega arith) (stand 0 0 y (inl (refl, refl, refl))) in
-      elim (in_append x (if nat_le stop t then put_turn c.number Fulls start stop ∷ [] else []) (put_turns shape c stop rest closes t) i) [
+      elim (in_append x (if nat_le stop t then put_turn c.number Misses start stop ∷ [] else []) (put_turns shape c stop rest closes t) i) [
         | inl j ↦ (
-            let (holds, k) = in_if x (nat_le stop t) (put_turn c.number Fulls start stop ∷ []) j in
+            let (holds, k) = in_if x (nat_le stop t) (put_turn c.number Misses start stop ∷ []) j in
             let over : stop ≤ t = le_says stop t holds in
             let first : ℕ = place_of P h start in
             let is_first : IsPlaceOf P h start first = subhistory_has_place P h start (omega (arith, over, some)) in

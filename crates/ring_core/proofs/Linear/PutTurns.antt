@@ -14,7 +14,7 @@ use Rattle.ring_core.proofs.OverSpans.Spans.{Span, counts, before_count, whole, 
 use Rattle.ring_core.proofs.CountRow.{past_is}
 use Rattle.ring_core.proofs.Machines.Lengths.{length-scan}
 use Rattle.ring_core.proofs.OverSpans.Timeline.{begun_zero}
-use Rattle.ring_core.proofs.Linear.Turns.{In, Putting, Enqueues, Fulls, Closes, IsEnqueue, PutOp, put_op, PutsTo, enqueue_not_full}
+use Rattle.ring_core.proofs.Linear.Turns.{In, Kind, Moves, Misses, Ends, IsMove, Op, put_op, GoesTo, move_not_miss}
 use Rattle.ring_core.proofs.Linear.OneOrder.{put_ops, PutsSorted}
 
 -- ---- lists under a test
@@ -85,12 +85,12 @@ begun_counts (y ∷ ys) s n x i (inr st) l =
 
 -- ---- the operations
 
-abbrev pub put_turn : ℕ → Putting → ℕ → ℕ → PutOp
+abbrev pub put_turn : ℕ → Kind → ℕ → ℕ → Op
 put_turn n kind start stop = record { number = n; kind = kind; start = start; stop = stop }
 
-abbrev pub enqueue_turns : ℕ → ℕ → ℕ → List ℕ → List PutOp
+abbrev pub enqueue_turns : ℕ → ℕ → ℕ → List ℕ → List Op
 enqueue_turns n start stop [] = []
-enqueue_turns n start stop (item ∷ items) = put_turn n (Enqueues item) start stop ∷ enqueue_turns (suc n) start stop items
+enqueue_turns n start stop (item ∷ items) = put_turn n (Moves item) start stop ∷ enqueue_turns (suc n) start stop items
 
 -- how many events a put has, and one that stores up to its count write
 abbrev pub put_long : Shape → Count → Put → ℕ
@@ -99,35 +99,35 @@ put_long shape c x = events_in (put_phrase shape c x)
 abbrev pub until_count : Shape → Count → ℕ → List ℕ → ℕ
 until_count shape c seen items = events_in (accesses_before_count shape c.number seen items)
 
-abbrev pub put_turns : Shape → Count → ℕ → List Put → Bool → ℕ → List PutOp
+abbrev pub put_turns : Shape → Count → ℕ → List Put → Bool → ℕ → List Op
 put_turns shape c start [] false t = []
-put_turns shape c start [] true t = (if nat_lt start t then put_turn c.number Closes start (start + 2) ∷ [] else [])
+put_turns shape c start [] true t = (if nat_lt start t then put_turn c.number Ends start (start + 2) ∷ [] else [])
 put_turns shape c start (Stored seen items ∷ puts) closes t =
     (if nat_lt (start + until_count shape c seen items) t then enqueue_turns c.number start (start + put_long shape c (Stored seen items)) items else [])
     ++ put_turns shape (stored_after shape c (Stored seen items)) (start + put_long shape c (Stored seen items)) puts closes t
 put_turns shape c start (Full seen ∷ puts) closes t =
-    (if nat_le (start + put_long shape c (Full seen)) t then put_turn c.number Fulls start (start + put_long shape c (Full seen)) ∷ [] else [])
+    (if nat_le (start + put_long shape c (Full seen)) t then put_turn c.number Misses start (start + put_long shape c (Full seen)) ∷ [] else [])
     ++ put_turns shape c (start + put_long shape c (Full seen)) puts closes t
 
 -- ---- they are those of the statement
 
-put_ops-append : (xs ys : List PutOp) → put_ops (xs ++ ys) ≡ put_ops xs ++ put_ops ys
+put_ops-append : (xs ys : List Op) → put_ops (xs ++ ys) ≡ put_ops xs ++ put_ops ys
 put_ops-append [] ys = refl
 put_ops-append (x ∷ xs) ys = ap (λ l. put_op x ∷ l) (put_ops-append xs ys)
 
-put_ops-if : (t : Bool) (xs : List PutOp) → put_ops (if t then xs else []) ≡ (if t then put_ops xs else [])
+put_ops-if : (t : Bool) (xs : List Op) → put_ops (if t then xs else []) ≡ (if t then put_ops xs else [])
 put_ops-if true xs = refl
 put_ops-if false xs = refl
 
 enqueue_turns-ops : (n start stop : ℕ) (items : List ℕ) → put_ops (enqueue_turns n start stop items) ≡ operations P start stop (map Enqueue items)
 enqueue_turns-ops n start stop [] = refl
-enqueue_turns-ops n start stop (item ∷ items) = ap (λ l. put_op (put_turn n (Enqueues item) start stop) ∷ l) (enqueue_turns-ops (suc n) start stop items)
+enqueue_turns-ops n start stop (item ∷ items) = ap (λ l. put_op (put_turn n (Moves item) start stop) ∷ l) (enqueue_turns-ops (suc n) start stop items)
 
 one_test : (a n t : ℕ) → nat_lt (a + n) t ≡ nat_le (a + suc n) t
 one_test a n t = grind (arith, nat_tests)
 
 join_ops :
-    (t t' : Bool) (xs ys : List PutOp) (os rest : List TimedOperation) → t ≡ t' → put_ops xs ≡ os → put_ops ys ≡ rest →
+    (t t' : Bool) (xs ys : List Op) (os rest : List TimedOperation) → t ≡ t' → put_ops xs ≡ os → put_ops ys ≡ rest →
     put_ops ((if t then xs else []) ++ ys) ≡ (if t' then os else []) ++ rest
 join_ops t t' xs ys os rest e f g =
     put_ops-append (if t then xs else []) ys ∙ ap₂ (λ a b. a ++ b) (put_ops-if t xs ∙ ap (λ l. if t then l else []) f ∙ ap (λ (b : Bool). if b then os else []) e) g
@@ -138,8 +138,8 @@ pub put_turns-ops :
 put_turns-ops shape c start [] false t = refl
 put_turns-ops shape c start [] true t =
     let test : nat_lt start t ≡ nat_le (start + 1) t = grind (arith, nat_tests) in
-    put_ops-if (nat_lt start t) (put_turn c.number Closes start (start + 2) ∷ []) ∙
-    ap (λ (b : Bool). if b then put_op (put_turn c.number Closes start (start + 2)) ∷ [] else []) test
+    put_ops-if (nat_lt start t) (put_turn c.number Ends start (start + 2) ∷ []) ∙
+    ap (λ (b : Bool). if b then put_op (put_turn c.number Ends start (start + 2)) ∷ [] else []) test
 put_turns-ops shape c start (Stored seen items ∷ puts) closes t =
     let stop : ℕ = start + put_long shape c (Stored seen items) in
     let until : ℕ = until_count shape c seen items in
@@ -147,7 +147,7 @@ put_turns-ops shape c start (Stored seen items ∷ puts) closes t =
     (enqueue_turns-ops c.number start stop items) (put_turns-ops shape (stored_after shape c (Stored seen items)) stop puts closes t)
 put_turns-ops shape c start (Full seen ∷ puts) closes t =
     let stop : ℕ = start + put_long shape c (Full seen) in
-    join_ops (nat_le stop t) (nat_le stop t) (put_turn c.number Fulls start stop ∷ []) _ _ _ refl refl (put_turns-ops shape c stop puts closes t)
+    join_ops (nat_le stop t) (nat_le stop t) (put_turn c.number Misses start stop ∷ []) _ _ _ refl refl (put_turns-ops shape c stop puts closes t)
 
 -- ---- where nothing has begun there are none
 
@@ -162,13 +162,13 @@ before_put_ends shape c seen items =
     let d : List Made = batch_phrase shape P c items in
     omega (arith, length-scan (row_read_by P) seen, length-append a b, length-append (a ++ b) d)
 
-no_turns : (xs ys : List PutOp) → xs ≡ [] → ys ≡ [] → xs ++ ys ≡ []
+no_turns : (xs ys : List Op) → xs ≡ [] → ys ≡ [] → xs ++ ys ≡ []
 no_turns xs ys e f = ap₂ (λ a b. a ++ b) e f
 
 pub put_turns-none :
     (shape : Shape) (c : Count) (start : ℕ) (puts : List Put) (closes : Bool) (t : ℕ) → t ≤ start → put_turns shape c start puts closes t ≡ []
 put_turns-none shape c start [] false t l = refl
-put_turns-none shape c start [] true t l = if_no (nat_lt start t) (put_turn c.number Closes start (start + 2) ∷ []) (lt_not start t l)
+put_turns-none shape c start [] true t l = if_no (nat_lt start t) (put_turn c.number Ends start (start + 2) ∷ []) (lt_not start t l)
 put_turns-none shape c start (Stored seen items ∷ puts) closes t l =
     let stop : ℕ = start + put_long shape c (Stored seen items) in
     no_turns _ (put_turns shape (stored_after shape c (Stored seen items)) stop puts closes t)
@@ -177,56 +177,56 @@ put_turns-none shape c start (Stored seen items ∷ puts) closes t l =
 put_turns-none shape c start (Full seen ∷ puts) closes t l =
     let stop : ℕ = start + put_long shape c (Full seen) in
     no_turns _ (put_turns shape c stop puts closes t)
-    (if_no (nat_le stop t) (put_turn c.number Fulls start stop ∷ []) (le_not stop t (omega (arith, l, put_some shape c seen))))
+    (if_no (nat_le stop t) (put_turn c.number Misses start stop ∷ []) (le_not stop t (omega (arith, l, put_some shape c seen))))
     (put_turns-none shape c stop puts closes t (omega (arith, l)))
 
 -- ---- their order
 
 -- what an operation of a batch is
-pub record IsEnqueueOf (n start stop : ℕ) (items : List ℕ) (x : PutOp) : Type 0 where
+pub record IsEnqueueOf (n start stop : ℕ) (items : List ℕ) (x : Op) : Type 0 where
   pub index : ℕ
   pub number : x.number ≡ n + index
   pub inside : index < length items
   pub starts : x.start ≡ start
   pub stops : x.stop ≡ stop
-  pub enqueues : IsEnqueue x.kind
+  pub enqueues : IsMove x.kind
 
-pub enqueue_of : (n start stop : ℕ) (items : List ℕ) (x : PutOp) → In x (enqueue_turns n start stop items) → IsEnqueueOf n start stop items x
+pub enqueue_of : (n start stop : ℕ) (items : List ℕ) (x : Op) → In x (enqueue_turns n start stop items) → IsEnqueueOf n start stop items x
 enqueue_of n start stop [] x i = absurd i
 enqueue_of n start stop (item ∷ items) x (inl e) = record {
   index = 0;
-  number = omega (arith, ap (λ (z : PutOp). z.number) e);
+  number = omega (arith, ap (λ (z : Op). z.number) e);
   inside = omega arith;
-  starts = ap (λ (z : PutOp). z.start) e;
-  stops = ap (λ (z : PutOp). z.stop) e;
-  enqueues = subst (λ (z : PutOp). IsEnqueue z.kind) (sym e) tt;
+  starts = ap (λ (z : Op). z.start) e;
+  stops = ap (λ (z : Op). z.stop) e;
+  enqueues = subst (λ (z : Op). IsMove z.kind) (sym e) tt;
 }
 enqueue_of n start stop (item ∷ items) x (inr i) =
     let r = enqueue_of (suc n) start stop items x i in
     record { index = suc r.index; number = omega (arith, r.number); inside = omega (arith, r.inside); starts = r.starts; stops = r.stops; enqueues = r.enqueues }
 
 -- an operation that comes behind so many events and items
-pub record IsFrom (start number : ℕ) (x : PutOp) : Type 0 where
+pub record IsFrom (start number : ℕ) (x : Op) : Type 0 where
   pub starts : start ≤ x.start
   pub some : x.start < x.stop
   pub behind : number ≤ x.number
 
-from_here : (n start stop : ℕ) (kind : Putting) (x : PutOp) → start < stop → x ≡ put_turn n kind start stop → IsFrom start n x
+from_here : (n start stop : ℕ) (kind : Kind) (x : Op) → start < stop → x ≡ put_turn n kind start stop → IsFrom start n x
 from_here n start stop kind x l e = record {
-  starts = omega (arith, ap (λ (z : PutOp). z.start) e);
-  some = omega (arith, l, ap (λ (z : PutOp). z.start) e, ap (λ (z : PutOp). z.stop) e);
-  behind = omega (arith, ap (λ (z : PutOp). z.number) e);
+  starts = omega (arith, ap (λ (z : Op). z.start) e);
+  some = omega (arith, l, ap (λ (z : Op). z.start) e, ap (λ (z : Op). z.stop) e);
+  behind = omega (arith, ap (λ (z : Op). z.number) e);
 }
 
-from_later : (start start' n n' : ℕ) (x : PutOp) → start ≤ start' → n ≤ n' → IsFrom start' n' x → IsFrom start n x
+from_later : (start start' n n' : ℕ) (x : Op) → start ≤ start' → n ≤ n' → IsFrom start' n' x → IsFrom start n x
 from_later start start' n n' x l m r = record { starts = omega (arith, l, r.starts); some = r.some; behind = omega (arith, m, r.behind) }
 
 pub put_turns-from :
-    (shape : Shape) (c : Count) (start : ℕ) (puts : List Put) (closes : Bool) (t : ℕ) (x : PutOp) →
+    (shape : Shape) (c : Count) (start : ℕ) (puts : List Put) (closes : Bool) (t : ℕ) (x : Op) →
     In x (put_turns shape c start puts closes t) → IsFrom start c.number x
 put_turns-from shape c start [] false t x i = absurd i
-put_turns-from shape c start [] true t x i = elim (in_if x (nat_lt start t) (put_turn c.number Closes start (start + 2) ∷ []) i).1 [
-  | inl e ↦ from_here c.number start (start + 2) Closes x (omega arith) e
+put_turns-from shape c start [] true t x i = elim (in_if x (nat_lt start t) (put_turn c.number Ends start (start + 2) ∷ []) i).1 [
+  | inl e ↦ from_here c.number start (start + 2) Ends x (omega arith) e
   | inr j ↦ absurd j
 ]
 put_turns-from shape c start (Stored seen items ∷ puts) closes t x i =
@@ -241,10 +241,10 @@ put_turns-from shape c start (Stored seen items ∷ puts) closes t x i =
     ]
 put_turns-from shape c start (Full seen ∷ puts) closes t x i =
     let stop : ℕ = start + put_long shape c (Full seen) in
-    elim (in_append x (if nat_le stop t then put_turn c.number Fulls start stop ∷ [] else []) (put_turns shape c stop puts closes t) i) [
+    elim (in_append x (if nat_le stop t then put_turn c.number Misses start stop ∷ [] else []) (put_turns shape c stop puts closes t) i) [
       | inl j ↦ (
-          elim (in_if x (nat_le stop t) (put_turn c.number Fulls start stop ∷ []) j).1 [
-            | inl e ↦ from_here c.number start stop Fulls x (omega (arith, put_some shape c seen)) e
+          elim (in_if x (nat_le stop t) (put_turn c.number Misses start stop ∷ []) j).1 [
+            | inl e ↦ from_here c.number start stop Misses x (omega (arith, put_some shape c seen)) e
             | inr k ↦ absurd k
           ])
       | inr j ↦ from_later start stop c.number c.number x (omega arith) (omega arith) (put_turns-from shape c stop puts closes t x j)
@@ -252,12 +252,12 @@ put_turns-from shape c start (Full seen ∷ puts) closes t x i =
 
 -- the operations of a batch stand before what comes behind it
 enqueue_before :
-    (n start stop : ℕ) (item : ℕ) (x : PutOp) → IsFrom stop (suc n) x → start ≤ stop → PutsTo (put_turn n (Enqueues item) start stop) x
+    (n start stop : ℕ) (item : ℕ) (x : Op) → IsFrom stop (suc n) x → start ≤ stop → GoesTo (put_turn n (Moves item) start stop) x
 enqueue_before n start stop item x r l =
-    record { start = omega (arith, r.starts, l); stop = omega (arith, r.starts, r.some); number = omega (arith, r.behind); full = λ a b. (omega (arith, r.behind), r.starts); close = λ a. absurd a }
+    record { start = omega (arith, r.starts, l); stop = omega (arith, r.starts, r.some); number = omega (arith, r.behind); miss = λ a b. (omega (arith, r.behind), r.starts); ends = λ a. absurd a }
 
 enqueues_sorted :
-    (n start stop : ℕ) (items : List ℕ) (xs : List PutOp) → start ≤ stop → ((x : PutOp) → In x xs → IsFrom stop (number_past n items) x) → PutsSorted xs →
+    (n start stop : ℕ) (items : List ℕ) (xs : List Op) → start ≤ stop → ((x : Op) → In x xs → IsFrom stop (number_past n items) x) → PutsSorted xs →
     PutsSorted (enqueue_turns n start stop items ++ xs)
 enqueues_sorted n start stop [] xs l from s = s
 enqueues_sorted n start stop (item ∷ items) xs l from s = (
@@ -269,8 +269,8 @@ enqueues_sorted n start stop (item ∷ items) xs l from s = (
             start = omega (arith, r.starts);
             stop = omega (arith, r.stops);
             number = omega (arith, r.number);
-            full = λ a b. absurd (enqueue_not_full x.kind r.enqueues b);
-            close = λ a. absurd a;
+            miss = λ a b. absurd (move_not_miss x.kind r.enqueues b);
+            ends = λ a. absurd a;
           })
       | inr j ↦ enqueue_before n start stop item x (from_later stop stop (suc n) (number_past (suc n) items) x (omega arith) (omega (arith, past_is (suc n) items)) (from x j)) l
     ]),
@@ -283,12 +283,12 @@ pub put_turns-sorted :
     (shape : Shape) (c : Count) (start : ℕ) (puts : List Put) (closes : Bool) (t : ℕ) → PutsSorted (put_turns shape c start puts closes t)
 put_turns-sorted shape c start [] false t = tt
 put_turns-sorted shape c start [] true t = by_test (nat_lt start t)
-    (λ e. subst PutsSorted (sym (if_yes (nat_lt start t) (put_turn c.number Closes start (start + 2) ∷ []) e)) ((λ x i. absurd i), tt))
-    (λ e. subst PutsSorted (sym (if_no (nat_lt start t) (put_turn c.number Closes start (start + 2) ∷ []) e)) tt)
+    (λ e. subst PutsSorted (sym (if_yes (nat_lt start t) (put_turn c.number Ends start (start + 2) ∷ []) e)) ((λ x i. absurd i), tt))
+    (λ e. subst PutsSorted (sym (if_no (nat_lt start t) (put_turn c.number Ends start (start + 2) ∷ []) e)) tt)
 put_turns-sorted shape c start (Stored seen items ∷ puts) closes t =
     let stop : ℕ = start + put_long shape c (Stored seen items) in
     let next : Count = stored_after shape c (Stored seen items) in
-    let rest : List PutOp = put_turns shape next stop puts closes t in
+    let rest : List Op = put_turns shape next stop puts closes t in
     let test : Bool = nat_lt (start + until_count shape c seen items) t in
     by_test test
     (λ e. subst (λ l. PutsSorted (l ++ rest)) (sym (if_yes test (enqueue_turns c.number start stop items) e))
@@ -296,12 +296,12 @@ put_turns-sorted shape c start (Stored seen items ∷ puts) closes t =
     (λ e. subst (λ l. PutsSorted (l ++ rest)) (sym (if_no test (enqueue_turns c.number start stop items) e)) (put_turns-sorted shape next stop puts closes t))
 put_turns-sorted shape c start (Full seen ∷ puts) closes t =
     let stop : ℕ = start + put_long shape c (Full seen) in
-    let rest : List PutOp = put_turns shape c stop puts closes t in
+    let rest : List Op = put_turns shape c stop puts closes t in
     let test : Bool = nat_le stop t in
     by_test test
-    (λ e. subst (λ l. PutsSorted (l ++ rest)) (sym (if_yes test (put_turn c.number Fulls start stop ∷ []) e)) (
+    (λ e. subst (λ l. PutsSorted (l ++ rest)) (sym (if_yes test (put_turn c.number Misses start stop ∷ []) e)) (
       (λ x i. (let r = put_turns-from shape c stop puts closes t x i in
-          (record { start = omega (arith, r.starts); stop = omega (arith, r.starts, r.some); number = r.behind; full = λ a b. absurd a; close = λ a. absurd a }, λ a. absurd a))),
+          (record { start = omega (arith, r.starts); stop = omega (arith, r.starts, r.some); number = r.behind; miss = λ a b. absurd a; ends = λ a. absurd a }, λ a. absurd a))),
       put_turns-sorted shape c stop puts closes t,
     ))
-    (λ e. subst (λ l. PutsSorted (l ++ rest)) (sym (if_no test (put_turn c.number Fulls start stop ∷ []) e)) (put_turns-sorted shape c stop puts closes t))
+    (λ e. subst (λ l. PutsSorted (l ++ rest)) (sym (if_no test (put_turn c.number Misses start stop ∷ []) e)) (put_turns-sorted shape c stop puts closes t))

@@ -22,7 +22,7 @@ use Rattle.ring_core.proofs.OverSpans.Timeline.{AllProper, ended_begun, begun_at
 use Rattle.ring_core.proofs.OverSpans.CallSpans.{stands_at, take_phrase-item, take_phrase-after, take_phrase-empty}
 use Rattle.ring_core.proofs.CallCounts.{ended_counts, phrase_some}
 use Rattle.ring_core.proofs.OwnEvents.{clock_end}
-use Rattle.ring_core.proofs.Linear.Turns.{In, Empties, Ends, IsEnd, TakeOp, TakeFact}
+use Rattle.ring_core.proofs.Linear.Turns.{In, Misses, Ends, IsEnd, TakeOp, TakeFact}
 use Rattle.ring_core.proofs.Linear.PutTurns.{in_append, in_if, le_says}
 use Rattle.ring_core.proofs.Linear.PutTurnFacts.{last_place}
 use Rattle.ring_core.proofs.Linear.TakeTurns.{take_turn, dequeue_turns, dequeue_of, take_long, end_long, take_turns, item_until, after_until, end_some, ItemIs}
@@ -188,9 +188,9 @@ module _ (shape : Shape) (h : List Event) (puts : Puts) (takes : Takes) (law : L
       let st = stand_first u us start k stand in
       let long = take_phrase-empty shape c seen in
       let some = phrase_some shape c x in
-      elim (in_append y (if nat_le stop t then take_turn h k Empties start stop ∷ [] else []) (take_turns h shape (count_after shape c x) stop rest end t) i) [
+      elim (in_append y (if nat_le stop t then take_turn h k Misses start stop ∷ [] else []) (take_turns h shape (count_after shape c x) stop rest end t) i) [
         | inl j ↦ (
-            let (over, m) = in_if y (nat_le stop t) (take_turn h k Empties start stop ∷ []) j in
+            let (over, m) = in_if y (nat_le stop t) (take_turn h k Misses start stop ∷ []) j in
             let q = first_at start (omega (arith, le_says stop t over, some)) in
             let (few, not_closed) = law.empty start k u st refl (omega (arith, le_says stop t over, long)) (place_of C h start) q in
             let early = (ended_begun (take_batch_of shape) (take_spans shape takes) proper_takes (clock C h (place_of C h start))).0 in

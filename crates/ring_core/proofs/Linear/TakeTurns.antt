@@ -20,22 +20,22 @@ use Rattle.ring_core.proofs.OverSpans.Spans.{Passes, Asks, before_count, whole}
 use Rattle.ring_core.proofs.OverSpans.LookSpans.{look, span_of}
 use Rattle.ring_core.proofs.OverSpans.CallSpans.{take_phrase-item, take_phrase-after}
 use Rattle.ring_core.proofs.CallCounts.{phrase_some}
-use Rattle.ring_core.proofs.Linear.Turns.{In, Taking, Dequeues, Empties, Ends, IsEmpty, TakeOp, take_op}
-use Rattle.ring_core.proofs.Linear.OneOrder.{take_ops, TakesSorted, TakesNumbered, next_take, item_taken, items_taken_by}
+use Rattle.ring_core.proofs.Linear.Turns.{In, Kind, Moves, Misses, Ends, IsMiss, TakeOp, take_op}
+use Rattle.ring_core.proofs.Linear.OneOrder.{take_ops, TakesSorted, TakesNumbered, next_number, with_item, items_taken_by}
 use Rattle.ring_core.proofs.Linear.PutTurns.{if_yes, if_no, by_test, in_append, in_if, lt_is, lt_not, le_says, le_denies, le_not}
 
-abbrev pub take_turn : List Event → ℕ → Taking → ℕ → ℕ → TakeOp
+abbrev pub take_turn : List Event → ℕ → Kind → ℕ → ℕ → TakeOp
 take_turn h k kind start stop = record { number = k; kind = kind; start = start; stop = stop; place = place_of C h start }
 
 -- the operations of a take of items, one by one
 abbrev pub dequeue_turns : List Event → ℕ → ℕ → ℕ → List ℕ → List TakeOp
 dequeue_turns h k start stop [] = []
-dequeue_turns h k start stop (item ∷ items) = take_turn h k (Dequeues item) start stop ∷ dequeue_turns h (suc k) start stop items
+dequeue_turns h k start stop (item ∷ items) = take_turn h k (Moves item) start stop ∷ dequeue_turns h (suc k) start stop items
 
 abbrev pub turns_of : List Event → ℕ → Take → ℕ → ℕ → List TakeOp
 turns_of h k (Item seen items) start stop = dequeue_turns h k start stop items
 turns_of h k (ItemAfterClose seen again items) start stop = dequeue_turns h k start stop items
-turns_of h k (Empty seen) start stop = take_turn h k Empties start stop ∷ []
+turns_of h k (Empty seen) start stop = take_turn h k Misses start stop ∷ []
 
 -- how many events a take has, and the one that is told the ring is closed
 abbrev pub take_long : Shape → Count → Take → ℕ
@@ -60,7 +60,7 @@ take_ops-append (x ∷ xs) ys = ap (λ l. take_op x ∷ l) (take_ops-append xs y
 
 dequeue_turns-ops : (h : List Event) (k start stop : ℕ) (items : List ℕ) → take_ops (dequeue_turns h k start stop items) ≡ operations C start stop (map Dequeue items)
 dequeue_turns-ops h k start stop [] = refl
-dequeue_turns-ops h k start stop (item ∷ items) = ap (λ l. take_op (take_turn h k (Dequeues item) start stop) ∷ l) (dequeue_turns-ops h (suc k) start stop items)
+dequeue_turns-ops h k start stop (item ∷ items) = ap (λ l. take_op (take_turn h k (Moves item) start stop) ∷ l) (dequeue_turns-ops h (suc k) start stop items)
 
 turns_of-ops : (h : List Event) (k : ℕ) (x : Take) (start stop : ℕ) → take_ops (turns_of h k x start stop) ≡ operations C start stop (linear.take_does x)
 turns_of-ops h k (Item seen items) start stop = dequeue_turns-ops h k start stop items
@@ -137,7 +137,7 @@ pub record IsFrom (start number : ℕ) (y : TakeOp) : Type 0 where
   pub some : y.start < y.stop
   pub behind : number ≤ y.number
 
-from_here : (h : List Event) (k start stop : ℕ) (kind : Taking) (y : TakeOp) → start < stop → y ≡ take_turn h k kind start stop → IsFrom start k y
+from_here : (h : List Event) (k start stop : ℕ) (kind : Kind) (y : TakeOp) → start < stop → y ≡ take_turn h k kind start stop → IsFrom start k y
 from_here h k start stop kind y l e = record {
   starts = omega (arith, ap (λ (z : TakeOp). z.start) e);
   some = omega (arith, l, ap (λ (z : TakeOp). z.start) e, ap (λ (z : TakeOp). z.stop) e);
@@ -148,7 +148,7 @@ from_here h k start stop kind y l e = record {
 pub record IsDequeueOf (h : List Event) (k start stop : ℕ) (items : List ℕ) (y : TakeOp) : Type 0 where
   pub index : ℕ
   pub item : ℕ
-  pub is_y : y ≡ take_turn h (k + index) (Dequeues item) start stop
+  pub is_y : y ≡ take_turn h (k + index) (Moves item) start stop
   pub listed : slice_get items index ≡ Some item
 
 pub dequeue_of : (h : List Event) (k start stop : ℕ) (items : List ℕ) (y : TakeOp) → In y (dequeue_turns h k start stop items) → IsDequeueOf h k start stop items y
@@ -156,22 +156,22 @@ dequeue_of h k start stop [] y i = absurd i
 dequeue_of h k start stop (item ∷ items) y (inl e) = record {
   index = 0;
   item = item;
-  is_y = e ∙ ap (λ n. take_turn h n (Dequeues item) start stop) (omega arith);
+  is_y = e ∙ ap (λ n. take_turn h n (Moves item) start stop) (omega arith);
   listed = refl;
 }
 dequeue_of h k start stop (item ∷ items) y (inr i) =
     let r = dequeue_of h (suc k) start stop items y i in
-    record { index = suc r.index; item = r.item; is_y = r.is_y ∙ ap (λ n. take_turn h n (Dequeues r.item) start stop) (omega arith); listed = r.listed }
+    record { index = suc r.index; item = r.item; is_y = r.is_y ∙ ap (λ n. take_turn h n (Moves r.item) start stop) (omega arith); listed = r.listed }
 
 from_dequeue : (h : List Event) (k start stop : ℕ) (items : List ℕ) (y : TakeOp) → start < stop → IsDequeueOf h k start stop items y → IsFrom start k y
 from_dequeue h k start stop items y l r =
-    let f = from_here h (k + r.index) start stop (Dequeues r.item) y l r.is_y in
+    let f = from_here h (k + r.index) start stop (Moves r.item) y l r.is_y in
     record { starts = f.starts; some = f.some; behind = omega (arith, f.behind) }
 
 from_turn : (h : List Event) (k : ℕ) (x : Take) (start stop : ℕ) (y : TakeOp) → start < stop → In y (turns_of h k x start stop) → IsFrom start k y
 from_turn h k (Item seen items) start stop y l i = from_dequeue h k start stop items y l (dequeue_of h k start stop items y i)
 from_turn h k (ItemAfterClose seen again items) start stop y l i = from_dequeue h k start stop items y l (dequeue_of h k start stop items y i)
-from_turn h k (Empty seen) start stop y l (inl e) = from_here h k start stop Empties y l e
+from_turn h k (Empty seen) start stop y l (inl e) = from_here h k start stop Misses y l e
 from_turn h k (Empty seen) start stop y l (inr i) = absurd i
 
 -- what a take takes
@@ -213,7 +213,7 @@ dequeues_sorted h k start stop (item ∷ items) ys l from s = (
           start = omega (arith, ap (λ (z : TakeOp). z.start) r.is_y);
           stop = omega (arith, ap (λ (z : TakeOp). z.stop) r.is_y);
           number = omega (arith, ap (λ (z : TakeOp). z.number) r.is_y);
-          empty = λ a b. absurd (subst (λ (z : TakeOp). IsEmpty z.kind) r.is_y b);
+          miss = λ a b. absurd (subst (λ (z : TakeOp). IsMiss z.kind) r.is_y b);
           ends = λ a. absurd a;
         })
     | inr j ↦ (
@@ -222,7 +222,7 @@ dequeues_sorted h k start stop (item ∷ items) ys l from s = (
           start = omega (arith, r.starts, l);
           stop = omega (arith, r.starts, r.some);
           number = omega (arith, r.behind, past_is (suc k) items);
-          empty = λ a b. (omega (arith, r.behind, past_is (suc k) items), r.starts);
+          miss = λ a b. (omega (arith, r.behind, past_is (suc k) items), r.starts);
           ends = λ a. absurd a;
         })
   ]),
@@ -236,7 +236,7 @@ turn_sorted h k (Item seen items) start stop ys l from s = dequeues_sorted h k s
 turn_sorted h k (ItemAfterClose seen again items) start stop ys l from s = dequeues_sorted h k start stop items ys l from s
 turn_sorted h k (Empty seen) start stop ys l from s = (
   (λ y i. (let r = from y i in
-      record { start = omega (arith, r.starts, l); stop = omega (arith, r.starts, r.some); number = omega (arith, r.behind); empty = λ a. absurd a; ends = λ a. absurd a })),
+      record { start = omega (arith, r.starts, l); stop = omega (arith, r.starts, r.some); number = omega (arith, r.behind); miss = λ a. absurd a; ends = λ a. absurd a })),
   s,
 )
 
@@ -348,7 +348,7 @@ take_turns-numbered h shape c start (Empty seen ∷ takes) end t last e =
     let long : ℕ = take_long shape c x in
     let next : Count = count_after shape c x in
     let rest : List TakeOp = take_turns h shape next (start + long) takes end t in
-    let y : TakeOp = take_turn h c.number Empties start (start + long) in
+    let y : TakeOp = take_turn h c.number Misses start (start + long) in
     let test : Bool = nat_le (start + long) t in
     let later : t - start - long ≡ t - (start + long) = omega arith in
     let e' : next.number + taken_begun shape next takes (t - (start + long)) ≡ last =
@@ -366,19 +366,19 @@ take_turns-numbered h shape c start (Empty seen ∷ takes) end t last e =
 -- ---- their items
 
 -- an operation that takes an item takes that of its number
-abbrev pub ItemIs : List ℕ → Taking → ℕ → Type 0
-ItemIs items (Dequeues item) k = slice_get items k ≡ Some item
-ItemIs items Empties k = Unit {0}
+abbrev pub ItemIs : List ℕ → Kind → ℕ → Type 0
+ItemIs items (Moves item) k = slice_get items k ≡ Some item
+ItemIs items Misses k = Unit {0}
 ItemIs items Ends k = Unit {0}
 
 -- the items of a list from number k on begin with those that are taken
 abbrev pub GoesOnWith : List ℕ → ℕ → List ℕ → Type 0
 GoesOnWith items k front = (rest : List ℕ) × (drop k items ≡ front ++ rest)
 
-goes_on_with : (items : List ℕ) (k : ℕ) (kind : Taking) (front : List ℕ) → ItemIs items kind k → GoesOnWith items (next_take k kind) front → GoesOnWith items k (item_taken kind front)
-goes_on_with items k (Dequeues item) front e (rest, f) =
+goes_on_with : (items : List ℕ) (k : ℕ) (kind : Kind) (front : List ℕ) → ItemIs items kind k → GoesOnWith items (next_number k kind) front → GoesOnWith items k (with_item kind front)
+goes_on_with items k (Moves item) front e (rest, f) =
     (rest, drop-cons items k 0 (slice_get_within items k item e) ∙ ap₂ (λ a b. a ∷ b) (get_or_from_slice_get items k item 0 e) f)
-goes_on_with items k Empties front e r = r
+goes_on_with items k Misses front e r = r
 goes_on_with items k Ends front e r = r
 
 pub taken_from :
@@ -386,4 +386,4 @@ pub taken_from :
     GoesOnWith items k (items_taken_by ys)
 taken_from items last k [] e f = (drop k items, refl)
 taken_from items last k (y ∷ ys) (e, r) f =
-    goes_on_with items k y.kind (items_taken_by ys) (subst (ItemIs items y.kind) e (f y (inl refl))) (taken_from items last (next_take k y.kind) ys r (λ z i. f z (inr i)))
+    goes_on_with items k y.kind (items_taken_by ys) (subst (ItemIs items y.kind) e (f y (inl refl))) (taken_from items last (next_number k y.kind) ys r (λ z i. f z (inr i)))

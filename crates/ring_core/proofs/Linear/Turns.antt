@@ -13,76 +13,59 @@ abbrev pub In : {A : Type 0} → A → List A → Type 0
 In x [] = ⊥
 In x (y ∷ ys) = (x ≡ y) ⊎ In x ys
 
--- what an operation of the producer does, and of the consumer
-pub data Putting : Type 0 where
-  Enqueues : (item : ℕ) → Putting
-  Fulls : Putting
-  Closes : Putting
+-- what an operation of a side does: it puts or takes an item, finds the queue full or empty, or closes it or is told that it is closed
+pub data Kind : Type 0 where
+  Moves : (item : ℕ) → Kind
+  Misses : Kind
+  Ends : Kind
 
-pub data Taking : Type 0 where
-  Dequeues : (item : ℕ) → Taking
-  Empties : Taking
-  Ends : Taking
+abbrev pub IsMove : Kind → Type 0
+IsMove (Moves item) = Unit {0}
+IsMove Misses = ⊥
+IsMove Ends = ⊥
 
-abbrev pub IsEnqueue : Putting → Type 0
-IsEnqueue (Enqueues item) = Unit {0}
-IsEnqueue Fulls = ⊥
-IsEnqueue Closes = ⊥
+abbrev pub IsMiss : Kind → Type 0
+IsMiss (Moves item) = ⊥
+IsMiss Misses = Unit {0}
+IsMiss Ends = ⊥
 
-abbrev pub IsFull : Putting → Type 0
-IsFull (Enqueues item) = ⊥
-IsFull Fulls = Unit {0}
-IsFull Closes = ⊥
-
-abbrev pub IsClose : Putting → Type 0
-IsClose (Enqueues item) = ⊥
-IsClose Fulls = ⊥
-IsClose Closes = Unit {0}
-
-abbrev pub IsDequeue : Taking → Type 0
-IsDequeue (Dequeues item) = Unit {0}
-IsDequeue Empties = ⊥
-IsDequeue Ends = ⊥
-
-abbrev pub IsEmpty : Taking → Type 0
-IsEmpty (Dequeues item) = ⊥
-IsEmpty Empties = Unit {0}
-IsEmpty Ends = ⊥
-
-abbrev pub IsEnd : Taking → Type 0
-IsEnd (Dequeues item) = ⊥
-IsEnd Empties = ⊥
+abbrev pub IsEnd : Kind → Type 0
+IsEnd (Moves item) = ⊥
+IsEnd Misses = ⊥
 IsEnd Ends = Unit {0}
 
-abbrev pub put_does : Putting → Operation
-put_does (Enqueues item) = Enqueue item
-put_does Fulls = FindFull
-put_does Closes = Close
+abbrev pub put_does : Kind → Operation
+put_does (Moves item) = Enqueue item
+put_does Misses = FindFull
+put_does Ends = Close
 
-abbrev pub take_does : Taking → Operation
-take_does (Dequeues item) = Dequeue item
-take_does Empties = FindEmpty
+abbrev pub take_does : Kind → Operation
+take_does (Moves item) = Dequeue item
+take_does Misses = FindEmpty
 take_does Ends = FindClosed
 
--- an operation of the producer, behind so many stored items
-pub record PutOp : Type 0 where
+-- an operation of a side, behind so many items that the side put or took
+pub record Op : Type 0 where
   pub number : ℕ
-  pub kind : Putting
+  pub kind : Kind
   pub start : ℕ
   pub stop : ℕ
 
--- one of the consumer, behind so many taken items, and the place where it begins
+-- one of the consumer, and the place where it begins
 pub record TakeOp : Type 0 where
   pub number : ℕ
-  pub kind : Taking
+  pub kind : Kind
   pub start : ℕ
   pub stop : ℕ
   pub place : ℕ
 
+abbrev pub but_place : TakeOp → Op
+but_place y = record { number = y.number; kind = y.kind; start = y.start; stop = y.stop }
+
 abbrev pub operation : Side → ℕ → ℕ → Operation → TimedOperation
 operation side start stop does = record { side = side; does = does; start = start; stop = stop }
 
-abbrev pub put_op : PutOp → TimedOperation
+abbrev pub put_op : Op → TimedOperation
 put_op x = operation P x.start x.stop (put_does x.kind)
 
 abbrev pub take_op : TakeOp → TimedOperation
@@ -99,13 +82,13 @@ pub record Tallies (h : List Event) (capacity : ℕ) (puts_begun puts_ended take
   pub up_c : (t u : ℕ) → t ≤ u → clock C h t ≤ clock C h u
 
 -- what holds of an operation of the producer, whose puts have so many events
-pub record PutFact (h : List Event) (capacity events : ℕ) (puts_begun puts_ended takes_ended : ℕ → ℕ) (x : PutOp) : Type 0 where
+pub record PutFact (h : List Event) (capacity events : ℕ) (puts_begun puts_ended takes_ended : ℕ → ℕ) (x : Op) : Type 0 where
   pub some : x.start < x.stop
   pub begins : x.start ≤ events
   pub not_begun : (i : ℕ) → i ≤ x.start → puts_begun i ≤ x.number
-  pub ended : IsEnqueue x.kind → (i : ℕ) → x.stop ≤ i → x.number < puts_ended i
-  pub full : IsFull x.kind → (t : ℕ) → clock P h t ≤ x.start → takes_ended (clock C h t) + capacity ≤ x.number
-  pub close : IsClose x.kind → events + 2 ≤ x.stop
+  pub ended : IsMove x.kind → (i : ℕ) → x.stop ≤ i → x.number < puts_ended i
+  pub full : IsMiss x.kind → (t : ℕ) → clock P h t ≤ x.start → takes_ended (clock C h t) + capacity ≤ x.number
+  pub close : IsEnd x.kind → events + 2 ≤ x.stop
 
 -- what holds of one of the consumer, where so many items were stored
 pub record TakeFact (h : List Event) (events stored : ℕ) (puts_ended takes_begun takes_ended : ℕ → ℕ) (y : TakeOp) : Type 0 where
@@ -113,82 +96,69 @@ pub record TakeFact (h : List Event) (events stored : ℕ) (puts_ended takes_beg
   pub at_place : clock C h y.place ≡ y.start
   pub last_place : (t : ℕ) → clock C h t ≤ y.start → t ≤ y.place
   pub not_begun : (i : ℕ) → i ≤ y.start → takes_begun i ≤ y.number
-  pub ended : IsDequeue y.kind → (i : ℕ) → y.stop ≤ i → y.number < takes_ended i
-  pub empty : IsEmpty y.kind → (puts_ended (clock P h y.place) ≤ y.number) × (clock P h y.place < events + 2)
+  pub ended : IsMove y.kind → (i : ℕ) → y.stop ≤ i → y.number < takes_ended i
+  pub empty : IsMiss y.kind → (puts_ended (clock P h y.place) ≤ y.number) × (clock P h y.place < events + 2)
   pub told : IsEnd y.kind → (t : ℕ) → y.stop ≤ clock C h t → events < clock P h t
   pub all : IsEnd y.kind → y.number ≡ stored
 
 -- one operation of a side is another, or stands before it
-pub record PutsTo (x x' : PutOp) : Type 0 where
+pub record GoesTo (x x' : Op) : Type 0 where
   pub start : x.start ≤ x'.start
   pub stop : x.stop ≤ x'.stop
   pub number : x.number ≤ x'.number
-  pub full : IsEnqueue x.kind → IsFull x'.kind → (x.number < x'.number) × (x.stop ≤ x'.start)
-  pub close : IsClose x.kind → IsClose x'.kind
+  pub miss : IsMove x.kind → IsMiss x'.kind → (x.number < x'.number) × (x.stop ≤ x'.start)
+  pub ends : IsEnd x.kind → IsEnd x'.kind
 
-pub record TakesTo (y y' : TakeOp) : Type 0 where
-  pub start : y.start ≤ y'.start
-  pub stop : y.stop ≤ y'.stop
-  pub number : y.number ≤ y'.number
-  pub empty : IsDequeue y.kind → IsEmpty y'.kind → (y.number < y'.number) × (y.stop ≤ y'.start)
-  pub ends : IsEnd y.kind → IsEnd y'.kind
+abbrev pub TakesTo : TakeOp → TakeOp → Type 0
+TakesTo y y' = GoesTo (but_place y) (but_place y')
 
-pub enqueue_not_full : (k : Putting) → IsEnqueue k → IsFull k → ⊥
-enqueue_not_full (Enqueues item) a b = absurd b
-enqueue_not_full Fulls a b = absurd a
-enqueue_not_full Closes a b = absurd a
+pub move_not_miss : (k : Kind) → IsMove k → IsMiss k → ⊥
+move_not_miss (Moves item) a b = absurd b
+move_not_miss Misses a b = absurd a
+move_not_miss Ends a b = absurd a
 
-pub enqueue_not_close : (k : Putting) → IsEnqueue k → IsClose k → ⊥
-enqueue_not_close (Enqueues item) a b = absurd b
-enqueue_not_close Fulls a b = absurd a
-enqueue_not_close Closes a b = absurd a
+pub move_not_end : (k : Kind) → IsMove k → IsEnd k → ⊥
+move_not_end (Moves item) a b = absurd b
+move_not_end Misses a b = absurd a
+move_not_end Ends a b = absurd a
 
-pub dequeue_not_empty : (k : Taking) → IsDequeue k → IsEmpty k → ⊥
-dequeue_not_empty (Dequeues item) a b = absurd b
-dequeue_not_empty Empties a b = absurd a
-dequeue_not_empty Ends a b = absurd a
+end_not_miss : (k : Kind) → IsEnd k → IsMiss k → ⊥
+end_not_miss (Moves item) a b = absurd a
+end_not_miss Misses a b = absurd a
+end_not_miss Ends a b = absurd b
 
-end_not_empty : (k : Taking) → IsEnd k → IsEmpty k → ⊥
-end_not_empty (Dequeues item) a b = absurd a
-end_not_empty Empties a b = absurd a
-end_not_empty Ends a b = absurd b
-
-pub puts_to_itself : (x : PutOp) → PutsTo x x
-puts_to_itself x =
-    record { start = omega arith; stop = omega arith; number = omega arith; full = λ a b. absurd (enqueue_not_full x.kind a b); close = λ a. a }
-
-pub takes_to_itself : (y : TakeOp) → TakesTo y y
-takes_to_itself y =
-    record { start = omega arith; stop = omega arith; number = omega arith; empty = λ a b. absurd (dequeue_not_empty y.kind a b); ends = λ a. a }
+pub goes_to_itself : (x : Op) → GoesTo x x
+goes_to_itself x =
+    record { start = omega arith; stop = omega arith; number = omega arith; miss = λ a b. absurd (move_not_miss x.kind a b); ends = λ a. a }
 
 -- What the queue needs: number k is dequeued behind its enqueueing, and behind each operation that finds the queue full with no
 -- more in it than is left without number k; that the queue is closed is found behind all of the producer.
-abbrev pub Needs : ℕ → Taking → ℕ → Putting → ℕ → Type 0
-Needs capacity (Dequeues item) k (Enqueues item') n = n ≤ k
-Needs capacity (Dequeues item) k Fulls n = n ≤ k + capacity
-Needs capacity (Dequeues item) k Closes n = ⊥
-Needs capacity Empties k x n = ⊥
+abbrev pub Needs : ℕ → Kind → ℕ → Kind → ℕ → Type 0
+Needs capacity (Moves item) k (Moves item') n = n ≤ k
+Needs capacity (Moves item) k Misses n = n ≤ k + capacity
+Needs capacity (Moves item) k Ends n = ⊥
+Needs capacity Misses k x n = ⊥
 Needs capacity Ends k x n = Unit {0}
 
 -- x has to stand before y: it ended before y began, or the queue needs it
-abbrev pub Must : List Event → ℕ → PutOp → TakeOp → Type 0
+abbrev pub Must : List Event → ℕ → Op → TakeOp → Type 0
 Must h capacity x y = (x.stop ≤ clock P h y.place) ⊎ Needs capacity y.kind y.number x.kind x.number
 
 -- x may stand before y
-pub record May (h : List Event) (capacity : ℕ) (x : PutOp) (y : TakeOp) : Type 0 where
+pub record May (h : List Event) (capacity : ℕ) (x : Op) (y : TakeOp) : Type 0 where
   pub time : (t : ℕ) → y.stop ≤ clock C h t → clock P h t ≤ x.start → ⊥
-  pub room : IsEnqueue x.kind → x.number < y.number + capacity
-  pub empty : IsEnqueue x.kind → IsEmpty y.kind → x.number < y.number
-  pub opened : IsClose x.kind → IsEmpty y.kind → ⊥
+  pub room : IsMove x.kind → x.number < y.number + capacity
+  pub empty : IsMove x.kind → IsMiss y.kind → x.number < y.number
+  pub opened : IsEnd x.kind → IsMiss y.kind → ⊥
 
-decide_needs : (capacity k n : ℕ) (y : Taking) (x : Putting) → Needs capacity y k x n ⊎ (Needs capacity y k x n → ⊥)
-decide_needs capacity k n (Dequeues item) (Enqueues item') = grind arith
-decide_needs capacity k n (Dequeues item) Fulls = grind arith
-decide_needs capacity k n (Dequeues item) Closes = inr (λ a. absurd a)
-decide_needs capacity k n Empties x = inr (λ a. absurd a)
+decide_needs : (capacity k n : ℕ) (y : Kind) (x : Kind) → Needs capacity y k x n ⊎ (Needs capacity y k x n → ⊥)
+decide_needs capacity k n (Moves item) (Moves item') = grind arith
+decide_needs capacity k n (Moves item) Misses = grind arith
+decide_needs capacity k n (Moves item) Ends = inr (λ a. absurd a)
+decide_needs capacity k n Misses x = inr (λ a. absurd a)
 decide_needs capacity k n Ends x = inl tt
 
-decide_must : (h : List Event) (capacity : ℕ) (x : PutOp) (y : TakeOp) → Must h capacity x y ⊎ (Must h capacity x y → ⊥)
+decide_must : (h : List Event) (capacity : ℕ) (x : Op) (y : TakeOp) → Must h capacity x y ⊎ (Must h capacity x y → ⊥)
 decide_must h capacity x y = elim (at_most_or_above x.stop (clock P h y.place)) [
   | inl l ↦ inl (inl l)
   | inr l ↦ elim (decide_needs capacity y.number x.number y.kind x.kind) [
@@ -198,13 +168,13 @@ decide_must h capacity x y = elim (at_most_or_above x.stop (clock P h y.place)) 
 ]
 
 -- one of some operations has to stand before y, or none has
-abbrev pub FindsMust : List Event → ℕ → List PutOp → TakeOp → Type 0
-FindsMust h capacity xs y = (x : PutOp) × In x xs × Must h capacity x y
+abbrev pub FindsMust : List Event → ℕ → List Op → TakeOp → Type 0
+FindsMust h capacity xs y = (x : Op) × In x xs × Must h capacity x y
 
-abbrev pub NoMust : List Event → ℕ → List PutOp → TakeOp → Type 0
-NoMust h capacity xs y = (x : PutOp) → In x xs → Must h capacity x y → ⊥
+abbrev pub NoMust : List Event → ℕ → List Op → TakeOp → Type 0
+NoMust h capacity xs y = (x : Op) → In x xs → Must h capacity x y → ⊥
 
-pub find_must : (h : List Event) (capacity : ℕ) (xs : List PutOp) (y : TakeOp) → FindsMust h capacity xs y ⊎ NoMust h capacity xs y
+pub find_must : (h : List Event) (capacity : ℕ) (xs : List Op) (y : TakeOp) → FindsMust h capacity xs y ⊎ NoMust h capacity xs y
 find_must h capacity [] y = inr (λ x i m. absurd i)
 find_must h capacity (x ∷ xs) y = elim (decide_must h capacity x y) [
   | inl m ↦ inl (x, inl refl, m)
@@ -218,9 +188,9 @@ module _ (h : List Event) (capacity events stored : ℕ) (puts_begun puts_ended 
     (tallies : Tallies h capacity puts_begun puts_ended takes_begun takes_ended) where
   -- what ended before an operation of the consumer began may stand before a later one
   may_by_time :
-      (x x' : PutOp) (y y' : TakeOp) → PutFact h capacity events puts_begun puts_ended takes_ended x →
+      (x x' : Op) (y y' : TakeOp) → PutFact h capacity events puts_begun puts_ended takes_ended x →
       TakeFact h events stored puts_ended takes_begun takes_ended y → TakeFact h events stored puts_ended takes_begun takes_ended y' →
-      PutsTo x x' → TakesTo y y' → x'.stop ≤ clock P h y.place → May h capacity x y'
+      GoesTo x x' → TakesTo y y' → x'.stop ≤ clock P h y.place → May h capacity x y'
   may_by_time x x' y y' px qy qy' xx yy l =
       let t : ℕ = y.place in
       let ended : x.stop ≤ clock P h t = omega (arith, xx.stop, l) in
@@ -239,47 +209,47 @@ module _ (h : List Event) (capacity events stored : ℕ) (puts_begun puts_ended 
 
   -- and so may what the queue needs before it
   may_by_need :
-      (x x' : PutOp) (y y' : TakeOp) → PutFact h capacity events puts_begun puts_ended takes_ended x → PutFact h capacity events puts_begun puts_ended takes_ended x' →
+      (x x' : Op) (y y' : TakeOp) → PutFact h capacity events puts_begun puts_ended takes_ended x → PutFact h capacity events puts_begun puts_ended takes_ended x' →
       TakeFact h events stored puts_ended takes_begun takes_ended y → TakeFact h events stored puts_ended takes_begun takes_ended y' →
-      PutsTo x x' → TakesTo y y' → (IsEnqueue x.kind → x.number < stored) →
-      (ky : Taking) (kx : Putting) → y.kind ≡ ky → x'.kind ≡ kx → Needs capacity ky y.number kx x'.number → May h capacity x y'
-  may_by_need x x' y y' px px' qy qy' xx yy below (Dequeues item) (Enqueues item') ey ex l =
-      let is : IsDequeue y.kind = subst IsDequeue (sym ey) tt in
+      GoesTo x x' → TakesTo y y' → (IsMove x.kind → x.number < stored) →
+      (ky : Kind) (kx : Kind) → y.kind ≡ ky → x'.kind ≡ kx → Needs capacity ky y.number kx x'.number → May h capacity x y'
+  may_by_need x x' y y' px px' qy qy' xx yy below (Moves item) (Moves item') ey ex l =
+      let is : IsMove y.kind = subst IsMove (sym ey) tt in
       record {
         time = λ t a b. absurd (omega (arith, qy.ended is (clock C h t) (omega (arith, yy.stop, a)), tallies.takes_end (clock C h t), tallies.few t, px.not_begun (clock P h t) b, xx.number, l));
         room = λ s. omega (arith, xx.number, l, yy.number, tallies.has_cell);
-        empty = λ s e. omega (arith, xx.number, l, (yy.empty is e).0);
-        opened = λ s e. absurd (subst IsClose ex (xx.close s));
+        empty = λ s e. omega (arith, xx.number, l, (yy.miss is e).0);
+        opened = λ s e. absurd (subst IsEnd ex (xx.ends s));
       }
-  may_by_need x x' y y' px px' qy qy' xx yy below (Dequeues item) Fulls ey ex l =
-      let is : IsDequeue y.kind = subst IsDequeue (sym ey) tt in
-      let is_full : IsFull x'.kind = subst IsFull (sym ex) tt in
+  may_by_need x x' y y' px px' qy qy' xx yy below (Moves item) Misses ey ex l =
+      let is : IsMove y.kind = subst IsMove (sym ey) tt in
+      let is_full : IsMiss x'.kind = subst IsMiss (sym ex) tt in
       record {
         time = λ t a b. absurd (omega (arith, qy.ended is (clock C h t) (omega (arith, yy.stop, a)), px'.full is_full t (omega (arith, b, xx.start)), l));
-        room = λ s. omega (arith, (xx.full s is_full).0, l, yy.number);
+        room = λ s. omega (arith, (xx.miss s is_full).0, l, yy.number);
         empty = λ s e. (
             let t : ℕ = y'.place in
             elim (at_most_or_above (clock P h t) x'.start) [
-              | inl m ↦ absurd (omega (arith, qy.ended is (clock C h t) (omega (arith, (yy.empty is e).1, qy'.at_place)), px'.full is_full t m, l))
-              | inr m ↦ omega (arith, px.ended s (clock P h t) (omega (arith, (xx.full s is_full).1, m)), (qy'.empty e).0)
+              | inl m ↦ absurd (omega (arith, qy.ended is (clock C h t) (omega (arith, (yy.miss is e).1, qy'.at_place)), px'.full is_full t m, l))
+              | inr m ↦ omega (arith, px.ended s (clock P h t) (omega (arith, (xx.miss s is_full).1, m)), (qy'.empty e).0)
             ]);
-        opened = λ s e. absurd (subst IsClose ex (xx.close s));
+        opened = λ s e. absurd (subst IsEnd ex (xx.ends s));
       }
-  may_by_need x x' y y' px px' qy qy' xx yy below (Dequeues item) Closes ey ex l = absurd l
-  may_by_need x x' y y' px px' qy qy' xx yy below Empties kx ey ex l = absurd l
+  may_by_need x x' y y' px px' qy qy' xx yy below (Moves item) Ends ey ex l = absurd l
+  may_by_need x x' y y' px px' qy qy' xx yy below Misses kx ey ex l = absurd l
   may_by_need x x' y y' px px' qy qy' xx yy below Ends kx ey ex l =
       let is : IsEnd y.kind = subst IsEnd (sym ey) tt in
       record {
         time = λ t a b. absurd (omega (arith, qy.told is t (omega (arith, yy.stop, a)), px.begins, b));
         room = λ s. omega (arith, below s, qy.all is, yy.number, tallies.has_cell);
-        empty = λ s e. absurd (end_not_empty y'.kind (yy.ends is) e);
-        opened = λ s e. absurd (end_not_empty y'.kind (yy.ends is) e);
+        empty = λ s e. absurd (end_not_miss y'.kind (yy.ends is) e);
+        opened = λ s e. absurd (end_not_miss y'.kind (yy.ends is) e);
       }
 
   -- what stands before one that has to stand before y may stand before each that does not stand before y
   pub may :
-      (x x' : PutOp) (y y' : TakeOp) → PutFact h capacity events puts_begun puts_ended takes_ended x → PutFact h capacity events puts_begun puts_ended takes_ended x' →
+      (x x' : Op) (y y' : TakeOp) → PutFact h capacity events puts_begun puts_ended takes_ended x → PutFact h capacity events puts_begun puts_ended takes_ended x' →
       TakeFact h events stored puts_ended takes_begun takes_ended y → TakeFact h events stored puts_ended takes_begun takes_ended y' →
-      PutsTo x x' → TakesTo y y' → (IsEnqueue x.kind → x.number < stored) → Must h capacity x' y → May h capacity x y'
+      GoesTo x x' → TakesTo y y' → (IsMove x.kind → x.number < stored) → Must h capacity x' y → May h capacity x y'
   may x x' y y' px px' qy qy' xx yy below (inl l) = may_by_time x x' y y' px qy qy' xx yy l
   may x x' y y' px px' qy qy' xx yy below (inr n) = may_by_need x x' y y' px px' qy qy' xx yy below y.kind x'.kind refl refl n

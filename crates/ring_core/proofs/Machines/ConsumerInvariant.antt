@@ -29,6 +29,15 @@ same_taking :
     IsTaking (record p { stage = st; scan = scan; word = word; row = row; items = items; most = most })
 same_taking p st scan word row items most is = record { not_told = is.not_told; not_answered = is.not_answered; some = is.some; few = is.few }
 
+-- a consumer whose row is that of its side stays one where its stage holds
+stays_one :
+    (p : ConsumerState) (st : Stage) (scan : ScanState) (word : ReaderState) (row : UnaryState) (items : List ℕ) (wanted most : ℕ) → IsConsumer p →
+    row.side ≡ p.row.side → row.modulus ≡ p.row.modulus →
+    ConsumerIsAt st (record p { stage = st; scan = scan; word = word; row = row; items = items; wanted = wanted; most = most }) →
+    IsConsumer (record p { stage = st; scan = scan; word = word; row = row; items = items; wanted = wanted; most = most })
+stays_one p st scan word row items wanted most is side modulus at =
+    record { count_below = is.count_below; cell_below = is.cell_below; row_side = side ∙ is.row_side; row_modulus = modulus ∙ is.row_modulus; at = at }
+
 still_scans :
     (p : ConsumerState) (st : Stage) (s : ScanState) (answer : Bool) → IsConsumer p → p.stage ≡ st → consumer_due_at st p ≡ due_scan p.scan → AtScan p →
     (AtScan (record p { stage = st; scan = s }) → ConsumerIsAt st (record p { stage = st; scan = s })) → (LastBitIsDue p.shape C (due_take p) → answer ≡ true) →
@@ -36,14 +45,9 @@ still_scans :
 still_scans p st s answer is e due (counted, taking, fresh, scans) at_scan one fed open_still =
     let due_scans : due_take p ≡ due_scan p.scan = ap (λ t. consumer_due_at t p) e ∙ due in
     let one' : LastBitIsDue p.shape C (due_scan p.scan) → answer ≡ true = subst (λ d. LastBitIsDue p.shape C d → answer ≡ true) due_scans one in
-    record {
-      count_below = is.count_below;
-      cell_below = is.cell_below;
-      row_side = is.row_side;
-      row_modulus = is.row_modulus;
-      at = subst (λ t. ConsumerIsAt t (record p { stage = t; scan = s })) (sym e)
-          (at_scan (counted, same_taking p st s p.word p.row p.items p.most taking, fresh, scanning p.shape C p.scan s answer scans one' fed open_still));
-    }
+    stays_one p p.stage s p.word p.row p.items p.wanted p.most is refl refl
+    (subst (λ t. ConsumerIsAt t (record p { stage = t; scan = s })) (sym e)
+    (at_scan (counted, same_taking p st s p.word p.row p.items p.most taking, fresh, scanning p.shape C p.scan s answer scans one' fed open_still)))
 
 -- a first scan that goes on
 pub scan_keeps :
@@ -63,14 +67,9 @@ loads_so :
     w.width ≡ width_of p.shape → w.cell ≡ (p.cell + length items) % capacity_of p.shape → w.read < w.width → IsConsumer (record p { word = w; items = items })
 loads_so p w items is e more width cell unread =
     let (counted, taking, loads, less, few, rest) = at_stage p Loading is e in
-    record {
-      count_below = is.count_below;
-      cell_below = is.cell_below;
-      row_side = is.row_side;
-      row_modulus = is.row_modulus;
-      at = subst (λ st. ConsumerIsAt st (record p { stage = st; word = w; items = items })) (sym e)
-          (counted, same_taking p Loading p.scan w p.row items p.most taking, record { width_is = width; cell_is = cell }, more, few, unread);
-    }
+    stays_one p p.stage p.scan w p.row items p.wanted p.most is refl refl
+    (subst (λ st. ConsumerIsAt st (record p { stage = st; word = w; items = items })) (sym e)
+    (counted, same_taking p Loading p.scan w p.row items p.most taking, record { width_is = width; cell_is = cell }, more, few, unread))
 
 -- a word read that goes on
 pub word_stays :
@@ -102,19 +101,13 @@ pub word_keeps :
     row ≡ record p.row { value = (p.count + p.most) % modulus_of p.shape } → IsConsumer (record p { stage = Counting; word = w; row = row; items = items })
 word_keeps p w row items is e size begun =
     let (counted, taking, loads, less, few, unread) = at_stage p Loading is e in
-    record {
-      count_below = is.count_below;
-      cell_below = is.cell_below;
-      row_side = ap (λ (r : UnaryState). r.side) begun ∙ is.row_side;
-      row_modulus = ap (λ (r : UnaryState). r.modulus) begun ∙ is.row_modulus;
-      at = (
-        counting_on p.shape p.row row p.count items p.most counted is.count_below (sym size) (omega (arith, size, less)) (omega (arith, size, few, taking.few, take_batch_below p.shape)) begun,
-        same_taking p Counting p.scan w row items p.most taking,
-        omega (arith, less),
-        size,
-        few,
-      );
-    }
+    stays_one p Counting p.scan w row items p.wanted p.most is (ap (λ (r : UnaryState). r.side) begun) (ap (λ (r : UnaryState). r.modulus) begun) (
+      counting_on p.shape p.row row p.count items p.most counted is.count_below (sym size) (omega (arith, size, less)) (omega (arith, size, few, taking.few, take_batch_below p.shape)) begun,
+      same_taking p Counting p.scan w row items p.most taking,
+      omega (arith, less),
+      size,
+      few,
+    )
 
 -- between words, the write of the count of those that are read begins
 pub now_keeps :
@@ -122,19 +115,13 @@ pub now_keeps :
     row ≡ record p.row { value = (p.count + m) % modulus_of p.shape } → IsConsumer (record p { stage = Counting; row = row; wanted = m; most = m })
 now_keeps p row m is between size begun =
     let (counted, taking, loads, less, few, unread) = at_stage p Loading is between.stage_is in
-    record {
-      count_below = is.count_below;
-      cell_below = is.cell_below;
-      row_side = ap (λ (r : UnaryState). r.side) begun ∙ is.row_side;
-      row_modulus = ap (λ (r : UnaryState). r.modulus) begun ∙ is.row_modulus;
-      at = (
-        counting_on p.shape p.row row p.count p.items m counted is.count_below (sym size) between.some (omega (arith, less, few, taking.few, take_batch_below p.shape)) begun,
-        record { not_told = taking.not_told; not_answered = taking.not_answered; some = omega (arith, size, between.some); few = omega (arith, size, less, few, taking.few) },
-        omega (arith, size, between.some),
-        size,
-        omega arith,
-      );
-    }
+    stays_one p Counting p.scan p.word row p.items m m is (ap (λ (r : UnaryState). r.side) begun) (ap (λ (r : UnaryState). r.modulus) begun) (
+      counting_on p.shape p.row row p.count p.items m counted is.count_below (sym size) between.some (omega (arith, less, few, taking.few, take_batch_below p.shape)) begun,
+      record { not_told = taking.not_told; not_answered = taking.not_answered; some = omega (arith, size, between.some); few = omega (arith, size, less, few, taking.few) },
+      omega (arith, size, between.some),
+      size,
+      omega arith,
+    )
 
 -- the write of the count is of a bit of it
 pub first_bit : (row : UnaryState) → row.side ≡ C → due_unary row ≢ None → (i : ℕ) × (v : Bool) × (due_unary row ≡ Some (begins.Write (R i) v))

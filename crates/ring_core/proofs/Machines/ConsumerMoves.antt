@@ -21,10 +21,11 @@ use Rattle.ring_core.specs.Counts.{ShowsItem, distance, number_past, Count, firs
 use Rattle.ring_core.specs.Takes.{Take, Takes, Empty, Open, count_after, words_read, take_phrase, take_phrases, SeesNone, IsTake, AreTakes}
 use Rattle.ring_core.specs.ConsumerState.{ConsumerState, IsBetweenWords, due_take, consumer_due_at, is_taking, takes_at}
 use Rattle.ring_core.specs.Items.{taken_of}
-use Rattle.ring_core.specs.ConsumerCalls.{ConsumerStands, ConsumerMadeAt, Finding, Finds, Once, Twice, finding_phrase, made_of_take, count_taken, values_taken, AreItemsOfTake, ConsumerHasMoved, items_reply, take_reply_to, and_take, and_end, HasTakeMore, IsTakeOf, IsOpenForTake, ends_closed, IsReplyToTake, IsAfterTake}
-use Rattle.ring_core.proofs.Machines.MachineParts.{ScanGoesOn, RowGoesOn, longer}
+use Rattle.ring_core.specs.ConsumerCalls.{ConsumerStands, ConsumerMadeAt, Finding, Finds, Once, Twice, finding_phrase, made_of_take, count_taken, values_taken, AreItemsOfTake, ConsumerHasMoved, ConsumerMoves, items_reply, take_reply_to, and_take, and_end, HasTakeMore, IsTakeOf, IsOpenForTake, ends_closed, IsReplyToTake, IsAfterTake}
+use Rattle.ring_core.proofs.Machines.MachineParts.{GoesOn, ScanGoesOn, RowGoesOn, row_more, and_more, longer}
+use Rattle.ring_core.proofs.CountRow.{values_writes-push}
 use Rattle.ring_core.proofs.Machines.Batches.{far_from, past_so}
-use Rattle.ring_core.proofs.Machines.TakeCalls.{count-push, are-push, are-end, reply-push, items-push, program-push, values_writes-push, values-empty, values-push, words_read-push, fit-push, take_of, take_of-is, take_of-items, take_of-takes, take_of-replies, take_of-phrase}
+use Rattle.ring_core.proofs.Machines.TakeCalls.{count-push, are-push, are-end, reply-push, items-push, program-push, values_hold, values-empty, values-push, words_read-push, fit-push, take_of, take_of-is, take_of-items, take_of-takes, take_of-replies, take_of-phrase}
 
 -- ---- what is known at a stage
 
@@ -79,6 +80,15 @@ take_goes_on p st now scan word row items most calls made more e before after st
       after_on p.shape p.wanted (is_taking p) (takes_at now) calls was after,
     )
 
+-- and at the stage that it is at
+take_stays :
+    (p : ConsumerState) (st : Stage) (scan : ScanState) (word : ReaderState) (row : UnaryState) (items : List ℕ) (calls : Takes) (made more : List Made) →
+    p.stage ≡ st → takes_at st ≡ true → ConsumerStands p calls made → ConsumerMadeAt st (at_stage p st scan word row items p.most) calls more →
+    ConsumerHasMoved p (at_stage p p.stage scan word row items p.most) calls more
+take_stays p st scan word row items calls made more e takes stands made_is =
+    subst (λ s. ConsumerHasMoved p (at_stage p s scan word row items p.most) calls more) (sym e)
+    (take_goes_on p st st scan word row items p.most calls made more e takes takes stands made_is)
+
 -- ---- a take is over
 
 still_open : (p : ConsumerState) (calls : Takes) → is_taking p ≡ true → IsOpenForTake (is_taking p) calls → calls.end ≡ Open
@@ -129,26 +139,18 @@ none_fit shape items e = subst (AllFit shape) (sym e) tt
 -- ---- the first scan
 
 -- it goes on
-pub scan_on :
-    (p : ConsumerState) (s : ScanState) (answer : Bool) → p.stage ≡ Scanning → ScanGoesOn p.scan s answer →
-    (calls : Takes) (made : List Made) (access : Access) → ConsumerStands p calls made → due_take p ≡ Some access →
-    ConsumerHasMoved p (record p { scan = s }) calls (made ++ answered access answer ∷ [])
+pub scan_on : (p : ConsumerState) (s : ScanState) (answer : Bool) → p.stage ≡ Scanning → ScanGoesOn p.scan s answer → ConsumerMoves p answer (record p { scan = s })
 scan_on p s answer e goes calls made access stands due =
     let (rests, reads, scans, made_is) = made_at Scanning p calls made e stands in
-    let x : List Made = answered access answer ∷ [] in
-    let front : List Made = take_phrases p.shape first_count calls.takes in
-    let moved : ConsumerHasMoved p (at_stage p Scanning s p.word p.row p.items p.most) calls (made ++ x) =
-    take_goes_on p Scanning Scanning s p.word p.row p.items p.most calls made (made ++ x) e refl refl stands
-    (rests, reads ++ x, goes reads access scans (due_is Scanning p access e due), ap (λ l. l ++ x) made_is ∙ append_assoc front reads x) in
-    subst (λ st. ConsumerHasMoved p (at_stage p st s p.word p.row p.items p.most) calls (made ++ x)) (sym e) moved
+    take_stays p Scanning s p.word p.row p.items calls made _ e refl stands
+    (rests, reads ++ answered access answer ∷ [], goes reads access scans (due_is Scanning p access e due), and_more _ _ _ _ made_is)
 
 -- it shows an item
 pub scan_item :
     (p : ConsumerState) (s : ScanState) (w : ReaderState) (answer : Bool) (seen most : ℕ) → p.items ≡ [] → most ≤ distance (modulus_of p.shape) seen p.count →
     most ≤ p.wanted → (most ≡ p.wanted) ⊎ (most ≡ distance (modulus_of p.shape) seen p.count) → p.stage ≡ Scanning → ScanGoesOn p.scan s answer →
     ((reads : List Made) → ScanStands s reads → IsScanOf (row_read_by C) (modulus_of p.shape) reads seen) → ReaderStands w [] → ShowsItem p.shape seen p.count →
-    (calls : Takes) (made : List Made) (access : Access) → ConsumerStands p calls made → due_take p ≡ Some access →
-    ConsumerHasMoved p (at_stage p Loading s w p.row p.items most) calls (made ++ answered access answer ∷ [])
+    ConsumerMoves p answer (at_stage p Loading s w p.row p.items most)
 scan_item p s w answer seen most fresh enough wants all e goes gives word_stands shows calls made access stands due =
     let (rests, reads, scans, made_is) = made_at Scanning p calls made e stands in
     let x : List Made = answered access answer ∷ [] in
@@ -170,8 +172,7 @@ scan_item p s w answer seen most fresh enough wants all e goes gives word_stands
 pub scan_none :
     (p : ConsumerState) (s : ScanState) (answer : Bool) (seen : ℕ) → p.stage ≡ Scanning → ScanGoesOn p.scan s answer →
     ((reads : List Made) → ScanStands s reads → IsScanOf (row_read_by C) (modulus_of p.shape) reads seen) → ¬ ShowsItem p.shape seen p.count →
-    (calls : Takes) (made : List Made) (access : Access) → ConsumerStands p calls made → due_take p ≡ Some access →
-    ConsumerHasMoved p (at_stage p Checking s p.word p.row p.items p.most) calls (made ++ answered access answer ∷ [])
+    ConsumerMoves p answer (at_stage p Checking s p.word p.row p.items p.most)
 scan_none p s answer seen e goes gives none calls made access stands due =
     let (rests, reads, scans, made_is) = made_at Scanning p calls made e stands in
     let x : List Made = answered access answer ∷ [] in
@@ -194,8 +195,7 @@ read_x access answer v due e =
 -- it is 1, and the second scan begins
 pub check_one :
     (p : ConsumerState) (s : ScanState) (answer : Bool) → p.stage ≡ Checking → ScanStands s [] → answer ≡ true →
-    (calls : Takes) (made : List Made) (access : Access) → ConsumerStands p calls made → due_take p ≡ Some access →
-    ConsumerHasMoved p (at_stage p Rescanning s p.word p.row p.items p.most) calls (made ++ answered access answer ∷ [])
+    ConsumerMoves p answer (at_stage p Rescanning s p.word p.row p.items p.most)
 check_one p s answer e scan_stands one calls made access stands due =
     let (rests, seen, sees, made_is) = made_at Checking p calls made e stands in
     let x : List Made = answered access answer ∷ [] in
@@ -215,8 +215,7 @@ check_one p s answer e scan_stands one calls made access stands due =
 -- it is 0, and the ring was empty
 pub check_zero :
     (p : ConsumerState) (answer : Bool) → p.items ≡ [] → p.stage ≡ Checking → answer ≡ false →
-    (calls : Takes) (made : List Made) (access : Access) → ConsumerStands p calls made → due_take p ≡ Some access →
-    ConsumerHasMoved p (ended_take p (Some replies.Empty) p.count p.cell p.scan p.word p.row) calls (made ++ answered access answer ∷ [])
+    ConsumerMoves p answer (ended_take p (Some replies.Empty) p.count p.cell p.scan p.word p.row)
 check_zero p answer fresh e none calls made access stands due =
     let (rests, seen, sees, made_is) = made_at Checking p calls made e stands in
     let x : List Made = answered access answer ∷ [] in
@@ -231,23 +230,18 @@ check_zero p answer fresh e none calls made access stands due =
 -- ---- the second scan
 
 -- it goes on
-pub rescan_on :
-    (p : ConsumerState) (s : ScanState) (answer : Bool) → p.stage ≡ Rescanning → ScanGoesOn p.scan s answer →
-    (calls : Takes) (made : List Made) (access : Access) → ConsumerStands p calls made → due_take p ≡ Some access →
-    ConsumerHasMoved p (record p { scan = s }) calls (made ++ answered access answer ∷ [])
+pub rescan_on : (p : ConsumerState) (s : ScanState) (answer : Bool) → p.stage ≡ Rescanning → ScanGoesOn p.scan s answer → ConsumerMoves p answer (record p { scan = s })
 rescan_on p s answer e goes calls made access stands due =
     let (rests, seen, sees, reads, scans, made_is) = made_at Rescanning p calls made e stands in
     let x : List Made = answered access answer ∷ [] in
-    let moved : ConsumerHasMoved p (at_stage p Rescanning s p.word p.row p.items p.most) calls (made ++ x) =
-    take_goes_on p Rescanning Rescanning s p.word p.row p.items p.most calls made (made ++ x) e refl refl stands (
+    take_stays p Rescanning s p.word p.row p.items calls made (made ++ x) e refl stands (
       rests,
       seen,
       sees,
       reads ++ x,
       goes reads access scans (due_is Rescanning p access e due),
       ap (λ l. l ++ x) made_is ∙ longer (take_phrases p.shape first_count calls.takes) (scan_phrase (row_read_by C) seen ++ Read X true ∷ []) reads x,
-    ) in
-    subst (λ st. ConsumerHasMoved p (at_stage p st s p.word p.row p.items p.most) calls (made ++ x)) (sym e) moved
+    )
 
 -- the accesses once it has ended
 two_scans :
@@ -265,8 +259,7 @@ pub rescan_item :
     most ≤ p.wanted → (most ≡ p.wanted) ⊎ (most ≡ distance (modulus_of p.shape) again p.count) → p.stage ≡ Rescanning → ScanGoesOn p.scan s answer →
     ((reads : List Made) → ScanStands s reads → IsScanOf (row_read_by C) (modulus_of p.shape) reads again) → ReaderStands w [] →
     ShowsItem p.shape again p.count →
-    (calls : Takes) (made : List Made) (access : Access) → ConsumerStands p calls made → due_take p ≡ Some access →
-    ConsumerHasMoved p (at_stage p Loading s w p.row p.items most) calls (made ++ answered access answer ∷ [])
+    ConsumerMoves p answer (at_stage p Loading s w p.row p.items most)
 rescan_item p s w answer again most fresh enough wants all e goes gives word_stands shows calls made access stands due =
     let (rests, seen, sees, reads, scans, made_is) = made_at Rescanning p calls made e stands in
     let x : List Made = answered access answer ∷ [] in
@@ -287,8 +280,7 @@ rescan_item p s w answer again most fresh enough wants all e goes gives word_sta
 pub rescan_none :
     (p : ConsumerState) (s : ScanState) (answer : Bool) (again : ℕ) → p.items ≡ [] → p.stage ≡ Rescanning → ScanGoesOn p.scan s answer →
     ((reads : List Made) → ScanStands s reads → IsScanOf (row_read_by C) (modulus_of p.shape) reads again) → ¬ ShowsItem p.shape again p.count →
-    (calls : Takes) (made : List Made) (access : Access) → ConsumerStands p calls made → due_take p ≡ Some access →
-    ConsumerHasMoved p (record p { stage = Idle; scan = s; told = true; reply = Some replies.Closed }) calls (made ++ answered access answer ∷ [])
+    ConsumerMoves p answer (record p { stage = Idle; scan = s; told = true; reply = Some replies.Closed })
 rescan_none p s answer again fresh e goes gives none calls made access stands due =
     let (rests, seen, sees, reads, scans, made_is) = made_at Rescanning p calls made e stands in
     let x : List Made = answered access answer ∷ [] in
@@ -317,19 +309,14 @@ rescan_none p s answer again fresh e goes gives none calls made access stands du
 
 -- what the word machine stands after once the due access was made
 abbrev pub WordGoesOn : ReaderState → ReaderState → Bool → Type 0
-WordGoesOn old new answer =
-    (reads : List Made) (access : Access) → ReaderStands old reads → due_read old ≡ Some access → ReaderStands new (reads ++ answered access answer ∷ [])
+WordGoesOn = GoesOn ReaderStands due_read
 
 -- it goes on
-pub word_on :
-    (p : ConsumerState) (w : ReaderState) (answer : Bool) → p.stage ≡ Loading → WordGoesOn p.word w answer →
-    (calls : Takes) (made : List Made) (access : Access) → ConsumerStands p calls made → due_take p ≡ Some access →
-    ConsumerHasMoved p (record p { word = w }) calls (made ++ answered access answer ∷ [])
+pub word_on : (p : ConsumerState) (w : ReaderState) (answer : Bool) → p.stage ≡ Loading → WordGoesOn p.word w answer → ConsumerMoves p answer (record p { word = w })
 word_on p w answer e goes calls made access stands due =
     let (rests, look, finds, fit, reads, words, made_is) = made_at Loading p calls made e stands in
     let x : List Made = answered access answer ∷ [] in
-    let moved : ConsumerHasMoved p (at_stage p Loading p.scan w p.row p.items p.most) calls (made ++ x) =
-    take_goes_on p Loading Loading p.scan w p.row p.items p.most calls made (made ++ x) e refl refl stands (
+    take_stays p Loading p.scan w p.row p.items calls made (made ++ x) e refl stands (
       rests,
       look,
       finds,
@@ -337,8 +324,7 @@ word_on p w answer e goes calls made access stands due =
       reads ++ x,
       goes reads access words (due_is Loading p access e due),
       ap (λ l. l ++ x) made_is ∙ longer (take_phrases p.shape first_count calls.takes) (made_of_take p.shape (count_taken p.shape calls).number look p.items) reads x,
-    ) in
-    subst (λ st. ConsumerHasMoved p (at_stage p st p.scan w p.row p.items p.most) calls (made ++ x)) (sym e) moved
+    )
 
 -- the accesses made, once the word under way is whole
 whole_words :
@@ -366,8 +352,7 @@ pub word_next :
     (p : ConsumerState) (w new : ReaderState) (answer : Bool) (item : ℕ) (items : List ℕ) → p.stage ≡ Loading → WordGoesOn p.word w answer →
     ((reads : List Made) → ReaderStands w reads → IsReadOf (width_of p.shape) ((p.cell + length p.items) % capacity_of p.shape) reads item) →
     items ≡ p.items ++ item ∷ [] → ReaderStands new [] →
-    (calls : Takes) (made : List Made) (access : Access) → ConsumerStands p calls made → due_take p ≡ Some access →
-    ConsumerHasMoved p (record p { word = new; items = items }) calls (made ++ answered access answer ∷ [])
+    ConsumerMoves p answer (record p { word = new; items = items })
 word_next p w new answer item items e goes whole items_are begins calls made access stands due =
     let (rests, look, finds, fit, reads, words, made_is) = made_at Loading p calls made e stands in
     let x : List Made = answered access answer ∷ [] in
@@ -392,8 +377,7 @@ pub word_over :
     ((reads : List Made) → ReaderStands w reads → IsReadOf (width_of p.shape) ((p.cell + length p.items) % capacity_of p.shape) reads item) →
     items ≡ p.items ++ item ∷ [] → length items ≡ p.most →
     ((values : List ℕ) (made : List Made) → UnaryStands p.row values made → UnaryStands row (values ++ (p.count + p.most) % modulus_of p.shape ∷ []) made) →
-    (calls : Takes) (made : List Made) (access : Access) → ConsumerStands p calls made → due_take p ≡ Some access →
-    ConsumerHasMoved p (at_stage p Counting p.scan w row items p.most) calls (made ++ answered access answer ∷ [])
+    ConsumerMoves p answer (at_stage p Counting p.scan w row items p.most)
 word_over p w row answer item items e goes whole items_are size begins_row calls made access stands due =
     let (rests, look, finds, fit, reads, words, made_is) = made_at Loading p calls made e stands in
     let x : List Made = answered access answer ∷ [] in
@@ -458,28 +442,22 @@ now_counts p row m between less size begins_row calls made stands =
 -- ---- the count
 
 -- its write goes on
-pub count_on :
-    (p : ConsumerState) (row : UnaryState) (answer : Bool) → p.stage ≡ Counting → RowGoesOn p.row row answer →
-    (calls : Takes) (made : List Made) (access : Access) → ConsumerStands p calls made → due_take p ≡ Some access →
-    ConsumerHasMoved p (record p { row = row }) calls (made ++ answered access answer ∷ [])
+pub count_on : (p : ConsumerState) (row : UnaryState) (answer : Bool) → p.stage ≡ Counting → RowGoesOn p.row row answer → ConsumerMoves p answer (record p { row = row })
 count_on p row answer e goes calls made access stands due =
     let (look, finds, fit, writes, rows, made_is) = made_at Counting p calls made e stands in
     let x : List Made = answered access answer ∷ [] in
     let n : ℕ = (count_taken p.shape calls).number in
     let values : List ℕ = values_taken p.shape calls ++ number_past n p.items % modulus_of p.shape ∷ [] in
     let old : List Made = count_writes C (values_taken p.shape calls) in
-    let rows' : UnaryStands row values (old ++ (writes ++ x)) =
-    subst (λ l. UnaryStands row values l) (append_assoc old writes x) (goes values (old ++ writes) access rows (due_is Counting p access e due)) in
-    let moved : ConsumerHasMoved p (at_stage p Counting p.scan p.word row p.items p.most) calls (made ++ x) =
-    take_goes_on p Counting Counting p.scan p.word row p.items p.most calls made (made ++ x) e refl refl stands (
+    let rows' : UnaryStands row values (old ++ (writes ++ x)) = row_more p.row row answer values old writes access goes rows (due_is Counting p access e due) in
+    take_stays p Counting p.scan p.word row p.items calls made (made ++ x) e refl stands (
       look,
       finds,
       fit,
       writes ++ x,
       rows',
       ap (λ l. l ++ x) made_is ∙ longer (take_phrases p.shape first_count calls.takes) (made_of_take p.shape n look p.items) writes x,
-    ) in
-    subst (λ st. ConsumerHasMoved p (at_stage p st p.scan p.word row p.items p.most) calls (made ++ x)) (sym e) moved
+    )
 
 -- its write is over, and so is the take
 pub count_over :
@@ -487,8 +465,7 @@ pub count_over :
     1 ≤ p.most → length p.items ≡ p.most → p.most ≤ take_batch_of p.shape →
     reply ≡ Some (items_reply p.items) → count ≡ (p.count + p.most) % modulus_of p.shape → cell ≡ (p.cell + p.most) % capacity_of p.shape →
     ((values : List ℕ) (made : List Made) → UnaryStands row values made → made ≡ count_writes C values) →
-    (calls : Takes) (made : List Made) (access : Access) → ConsumerStands p calls made → due_take p ≡ Some access →
-    ConsumerHasMoved p (ended_take p reply count cell p.scan p.word row) calls (made ++ answered access answer ∷ [])
+    ConsumerMoves p answer (ended_take p reply count cell p.scan p.word row)
 count_over p row answer reply count cell e goes some size few reply_is count_is cell_is whole calls made access stands due =
     let (look, finds, fit, writes, rows, made_is) = made_at Counting p calls made e stands in
     let x : List Made = answered access answer ∷ [] in
@@ -501,10 +478,9 @@ count_over p row answer reply count cell e goes some size few reply_is count_is 
     let scans : List Made = finding_phrase look in
     let words : List Made = words_read p.shape c.number p.items in
     let counting : List Made = batch_phrase p.shape C c p.items in
-    let rows' : UnaryStands row values (old ++ (writes ++ x)) =
-    subst (λ l. UnaryStands row values l) (append_assoc old writes x) (goes values (old ++ writes) access rows (due_is Counting p access e due)) in
+    let rows' : UnaryStands row values (old ++ (writes ++ x)) = row_more p.row row answer values old writes access goes rows (due_is Counting p access e due) in
     let all : old ++ (writes ++ x) ≡ count_writes C values = whole values (old ++ (writes ++ x)) rows' in
-    let all_counted : writes ++ x ≡ counting = append_cancel_left old (writes ++ x) counting (all ∙ values_writes-push p.shape calls p.items C) in
+    let all_counted : writes ++ x ≡ counting = append_cancel_left old (writes ++ x) counting (all ∙ values_writes-push p.shape C (values_taken p.shape calls) p.items c (values_hold p.shape first_count calls.takes)) in
     let rests : UnaryStands row values (count_writes C values) = subst (λ l. UnaryStands row values l) all rows' in
     take_over p Counting took reply count cell p.scan p.word row calls made (made ++ x) e refl stands
     (take_of-is p.shape c.number p.wanted look p.items (subst (λ m. Finds p.shape c.number p.wanted look m) (sym size) finds)

@@ -2,7 +2,6 @@
 use Rattle.std.proofs.Common.{◌≡◌, ◌⊎◌, inl, inr, ℕ, suc, ◌+◌, ◌-◌, ◌%◌, ◌<◌, ◌≤◌, Bool, true, false, IfSome, Option, Some, None, List, [], ◌∷◌, ◌++◌, length, refl, sym, ap, subst, ◌∙◌, arith, append_assoc, append-nil, length-append}
 use Rattle.std.proofs.Math.Nat.{mod-lt}
 use Rattle.std.proofs.lemmas.Bool.Decides.{nat_tests}
-use Rattle.std.proofs.lemmas.List.{append_cancel_left}
 use Rattle.bits_core.specs.declared.events.Side.TheVariants.{C}
 use Rattle.bits_core.specs.declared.events.Bit.TheVariants.{X, Cell}
 use Rattle.bits_core.specs.declared.events.Access.{Access}
@@ -12,25 +11,25 @@ use Rattle.bits_core.specs.Shape.{belongs, capacity_of, modulus_of, take_batch_o
 use Rattle.bits_core.specs.Open.{IsOpenRight}
 use Rattle.bits_core.specs.Made.{Made, Read, answered, IsPrefix}
 use Rattle.register_core.specs.Machine.{IsNext}
-use Rattle.register_core.specs.Row.{row_bit}
 use Rattle.register_core.specs.Word.{word_read}
 use Rattle.register_core.specs.WordState.{ReaderState, ReaderStands, IsNextRead, due_read}
 use Rattle.register_core.specs.ScanState.{scan_phrase, row_read_by, due_scan, LastIsDue}
 use Rattle.register_core.specs.Unary.{count_writes}
-use Rattle.register_core.specs.UnaryState.{UnaryStands, due_unary, due_writes}
+use Rattle.register_core.specs.UnaryState.{UnaryStands, due_unary}
 use Rattle.ring_core.specs.declared.consumers.Stage.TheVariants.{Scanning, Checking, Rescanning, Loading, Counting}
 use Rattle.ring_core.specs.Counts.{ShowsItem, distance, number_past, Count, first_count, batch_phrase}
 use Rattle.ring_core.specs.Calls.{IsScanning, EndsInZeros}
 use Rattle.ring_core.specs.Lengths.{longest_taking}
 use Rattle.ring_core.specs.Items.{taken_of}
 use Rattle.ring_core.specs.Takes.{Take, Takes, Item, ItemAfterClose, Empty, Open, Closed, words_read, items_phrase, take_phrase, take_phrases, end_phrase, take_program, IsTake, SeesItems, SeesNone, IsTakeBatch, AreTakes}
-use Rattle.ring_core.specs.ConsumerState.{ConsumerState, IsTaking, IsLoading, takes_at, is_taking}
+use Rattle.ring_core.specs.ConsumerState.{ConsumerState, IsTaking, IsLoading, due_take, takes_at, is_taking}
 use Rattle.ring_core.specs.ConsumerCalls.{ConsumerStands, Finding, Twice, finding_phrase, Finds, made_of_take, count_taken, values_taken, and_take, and_end, BeginsTake, TakeGoesOn, TakesAll, IsTakeOf}
+use Rattle.ring_core.proofs.CountRow.{values_writes-push}
 use Rattle.ring_core.proofs.Machines.Lengths.{takes-are_short, ends-are_short, longest_up}
 use Rattle.ring_core.proofs.Machines.MachineParts.{longer}
 use Rattle.ring_core.proofs.Machines.Batches.{far_from}
-use Rattle.ring_core.proofs.Machines.NextParts.{begins_more, begins_behind, length-part, scan_due, scan_reads, scan_goes_on, answered_write, first_writes}
-use Rattle.ring_core.proofs.Machines.TakeCalls.{are-push, are-last, are-end, end-sees_none, program_open, program-push, calls_are_count, values_writes-push, words_read-append, zeros, zeros-long, zeros-fit, fit-append, take_of, take_of-is, take_of-phrase}
+use Rattle.ring_core.proofs.Machines.NextParts.{begins_more, begins_behind, length-part, scan_due, scan_reads, scan_goes_on, next_write}
+use Rattle.ring_core.proofs.Machines.TakeCalls.{are-push, are-last, are-end, end-sees_none, program_open, program-push, calls_are_count, values_hold, words_read-append, zeros, zeros-long, zeros-fit, fit-append, take_of, take_of-is, take_of-phrase}
 use Rattle.ring_core.proofs.Machines.ConsumerMoves.{made_at, open_at}
 use Rattle.ring_core.proofs.Recorded.RecordedStates.{few_items as takes_few}
 
@@ -186,7 +185,7 @@ pub record Going (shape : Shape) (wanted : ℕ) (taking : Bool) (calls : Takes) 
   pub some : 1 ≤ wanted
   pub goes_on : TakeGoesOn shape wanted calls made access
 
-pub going_rests :
+going_rests :
     (shape : Shape) (wanted : ℕ) (taking : Bool) (calls : Takes) (made : List Made) (due : Option Access) → Going shape wanted taking calls made due → due ≡ None →
     (taking ≡ false) × (made ≡ take_program shape calls)
 going_rests shape wanted taking calls made due g none = absurd (let clash : Some g.access ≡ None = sym g.due_is ∙ none in cc)
@@ -203,6 +202,29 @@ pub going_bounded :
     (shape : Shape) (wanted : ℕ) (taking : Bool) (calls : Takes) (made : List Made) (due : Option Access) → Going shape wanted taking calls made due →
     length made < length (take_program shape calls) + longest_taking shape wanted
 going_bounded shape wanted taking calls made due g = begins_short shape wanted calls made (answered g.access true) g.some (g.goes_on true (λ l. refl))
+
+-- what is told of the due access of a consumer whose take goes on with it
+pub told_next :
+    (p : ConsumerState) (next : Option Access) → next ≡ due_take p → IfSome next (IsOpenRight p.shape C) → IsTaking p →
+    ((calls : Takes) (made : List Made) → ConsumerStands p calls made → Going p.shape p.wanted (is_taking p) calls made next) →
+    record {
+      due : next ≡ due_take p;
+      right : IfSome next (IsOpenRight p.shape C);
+      rest : (calls : Takes) (made : List Made) → ConsumerStands p calls made → next ≡ None → (is_taking p ≡ false) × (made ≡ take_program p.shape calls);
+      goes_on : (calls : Takes) (made : List Made) (access : Access) → ConsumerStands p calls made → next ≡ Some access →
+          (is_taking p ≡ true) × TakeGoesOn p.shape p.wanted calls made access;
+      few : is_taking p ≡ true → p.wanted ≤ take_batch_of p.shape;
+      bounded : (calls : Takes) (made : List Made) → ConsumerStands p calls made → is_taking p ≡ true →
+          length made < length (take_program p.shape calls) + longest_taking p.shape p.wanted;
+    }
+told_next p next is_due right taking going = record {
+  due = is_due;
+  right = right;
+  rest = λ calls made stands none. going_rests p.shape p.wanted (is_taking p) calls made next (going calls made stands) none;
+  goes_on = λ calls made access stands some. going_on p.shape p.wanted (is_taking p) calls made next (going calls made stands) access some;
+  few = λ under_way. taking.few;
+  bounded = λ calls made stands under_way. going_bounded p.shape p.wanted (is_taking p) calls made next (going calls made stands);
+}
 
 is_next : (shape : Shape) (wanted : ℕ) (taking : Bool) (calls : Takes) (made : List Made) (due : Option Access) (access : Access) → taking ≡ true → 1 ≤ wanted → due ≡ Some access →
     TakeGoesOn shape wanted calls made access → Going shape wanted taking calls made due
@@ -362,24 +384,18 @@ next_count_write p calls made due e stands taking least size few side some due_i
     let count : List Made = batch_phrase p.shape C c p.items in
     let scans : List Made = finding_phrase look in
     let words : List Made = words_read p.shape c.number p.items in
-    let (b, v, due_some) = first_writes (row_bit p.row.side) (due_writes p.row) due due_is (λ f. some (sym due_is ∙ f)) in
-    let access : Access = begins.Write b v in
-    let (x, rest, x_is, whole) =
-    subst (λ d. IsNext (count_writes C values) (old ++ writes) d) due_some
-    (subst (λ s. IsNext (count_writes s values) (old ++ writes) due) side (next values (old ++ writes) rows)) in
-    let count_is : writes ++ x ∷ rest ≡ count =
-    append_cancel_left old (writes ++ x ∷ rest) count (sym (append_assoc old writes (x ∷ rest)) ∙ sym whole ∙ values_writes-push p.shape calls p.items C) in
-    is_next p.shape p.wanted (is_taking p) calls made due access (ap takes_at e) taking.some due_some
+    let all : count_writes C values ≡ old ++ count =
+    values_writes-push p.shape C (values_taken p.shape calls) p.items c (values_hold p.shape first_count calls.takes) in
+    let r = next_write C p.row values old writes count due side some due_is (next values (old ++ writes) rows) all in
+    is_next p.shape p.wanted (is_taking p) calls made due r.access (ap takes_at e) taking.some r.due_is
     (λ answer one.
-    let y : List Made = answered access answer ∷ [] in
-    let y_is : answered access answer ≡ x = answered_write x access b v answer x_is refl in
-    let all : (writes ++ y) ++ rest ≡ count = append_assoc writes y rest ∙ ap (λ z. writes ++ z ∷ rest) y_is ∙ count_is in
+    let y : List Made = answered r.access answer ∷ [] in
     begins_found p.shape p.wanted calls (made ++ y) ((scans ++ words) ++ (writes ++ y)) look p.items stands.are o
     (subst (λ m. Finds p.shape c.number p.wanted look m) (sym size) finds)
     (record { some = omega (arith, size, least); few = omega (arith, size, few, taking.few); fit = fit })
     (ap (λ l. l ++ y) made_is ∙ longer front (scans ++ words) writes y)
     (subst (λ l. IsPrefix ((scans ++ words) ++ (writes ++ y)) l) (append_assoc scans words count)
-    (begins_behind (scans ++ words) (writes ++ y) count (rest, all))))
+    (begins_behind (scans ++ words) (writes ++ y) count (r.rest, r.goes_on answer))))
 
 -- ---- the last bit of the producer's count
 

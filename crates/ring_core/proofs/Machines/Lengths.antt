@@ -1,5 +1,5 @@
 -- How many accesses the phrases of a call have.
-use Rattle.std.proofs.Common.{◌≡◌, ℕ, zero, suc, ◌+◌, ◌*◌, ◌%◌, ◌≤◌, true, false, List, [], ◌∷◌, ◌++◌, length, arith, ◌∙◌, length-append}
+use Rattle.std.proofs.Common.{◌≡◌, ℕ, zero, suc, ◌+◌, ◌*◌, ◌%◌, ◌≤◌, true, false, List, [], ◌∷◌, ◌++◌, length, refl, ap, arith, ◌∙◌, length-append}
 use Rattle.std.proofs.lemmas.List.{length-map}
 use Rattle.std.proofs.Math.Nat.{suc-mul, mul-le-mul_right}
 use Rattle.bits_core.specs.declared.events.Side.TheVariants.{P, C}
@@ -39,17 +39,21 @@ longest_least shape n =
 
 -- ---- calls
 
+-- the words of items one after the other, each of so many accesses, whichever side makes them
+words-long :
+    (words : ℕ → List ℕ → List Made) (word : ℕ → ℕ → List Made) (w : ℕ) → ((n : ℕ) → words n [] ≡ []) →
+    ((n item : ℕ) (items : List ℕ) → words n (item ∷ items) ≡ word n item ++ words (suc n) items) → ((n item : ℕ) → length (word n item) ≡ w) →
+    (n : ℕ) (items : List ℕ) → length (words n items) ≡ length items * w
+words-long words word w none more each n [] = omega (arith, ap length (none n))
+words-long words word w none more each n (item ∷ items) =
+    let rest : length (words (suc n) items) ≡ length items * w = words-long words word w none more each (suc n) items in
+    omega (arith, ap length (more n item items), length-append (word n item) (words (suc n) items), each n item, rest, suc-mul (length items) w)
+
 -- words have an access for each digit
 pub length-words : (shape : Shape) (n : ℕ) (items : List ℕ) → length (words_phrase shape n items) ≡ length items * width_of shape
-length-words shape n [] = omega arith
-length-words shape n (item ∷ items) =
-    omega (
-      arith,
-      length-append (word_write (width_of shape) (n % capacity_of shape) item) (words_phrase shape (suc n) items),
-      length-word_write (width_of shape) (n % capacity_of shape) item,
-      length-words shape (suc n) items,
-      suc-mul (length items) (width_of shape),
-    )
+length-words shape =
+    words-long (words_phrase shape) (λ n item. word_write (width_of shape) (n % capacity_of shape) item) (width_of shape) (λ n. refl) (λ n item items. refl)
+    (λ n item. length-word_write (width_of shape) (n % capacity_of shape) item)
 
 -- the parts of a put that stores
 length-stored :
@@ -91,21 +95,15 @@ length-two_scans seen again =
     )
 
 -- words that are read have an access for each digit
-length-reads : (shape : Shape) (n : ℕ) (items : List ℕ) → length (words_read shape n items) ≡ length items * width_of shape
-length-reads shape n [] = omega arith
-length-reads shape n (item ∷ items) =
-    omega (
-      arith,
-      length-append (word_read (width_of shape) (n % capacity_of shape) item) (words_read shape (suc n) items),
-      length-word_read (width_of shape) (n % capacity_of shape) item,
-      length-reads shape (suc n) items,
-      suc-mul (length items) (width_of shape),
-    )
+pub length-words_read : (shape : Shape) (n : ℕ) (items : List ℕ) → length (words_read shape n items) ≡ length items * width_of shape
+length-words_read shape =
+    words-long (words_read shape) (λ n item. word_read (width_of shape) (n % capacity_of shape) item) (width_of shape) (λ n. refl) (λ n item items. refl)
+    (λ n item. length-word_read (width_of shape) (n % capacity_of shape) item)
 
 -- the accesses that take items
 length-items : (shape : Shape) (c : Count) (items : List ℕ) → length (items_phrase shape c items) ≡ length items * width_of shape + length (batch_phrase shape C c items)
 length-items shape c items =
-    omega (arith, length-append (words_read shape c.number items) (batch_phrase shape C c items), length-reads shape c.number items)
+    omega (arith, length-append (words_read shape c.number items) (batch_phrase shape C c items), length-words_read shape c.number items)
 
 -- what follows the scans of a take of items: of one its word and two writes of the count, of several a word each and a write
 items_short :

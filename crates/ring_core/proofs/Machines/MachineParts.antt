@@ -139,6 +139,11 @@ gives shape side old new answer value seen is fed some values reads stands =
     let read : IsValueRead (row_read_by new.side) new.modulus reads (Some seen) = subst (λ v. IsValueRead (row_read_by new.side) new.modulus reads v) some (values reads stands) in
     subst (λ s. IsScanOf (row_read_by s) (modulus_of shape) reads seen) of_side (subst (λ m. IsScanOf (row_read_by new.side) m reads seen) of_modulus read)
 
+-- what a test that failed would have told does not hold
+pub denied : {A : Type 0} (b : Bool) → (A → b ≡ true) → b ≡ false → A → ⊥
+denied true told e a = absurd (cc)
+denied false told e a = let clash : false ≡ true = told a in absurd (cc)
+
 -- ---- machines that are done
 
 pub none_next : {A : Type 0} (o : Option A) (b : Bool) → is_some o ≡ not b → b ≡ true → o ≡ None
@@ -154,14 +159,27 @@ row_whole side row new due is same none next values made stands =
 
 -- ---- an access more
 
--- what the machines stand after once the due access was made
+-- what a machine stands after once the due access was made
+abbrev pub GoesOn : {S : Type 0} → (S → List Made → Type 0) → (S → Option Access) → S → S → Bool → Type 0
+GoesOn Stands due old new answer = (made : List Made) (access : Access) → Stands old made → due old ≡ Some access → Stands new (made ++ answered access answer ∷ [])
+
 abbrev pub ScanGoesOn : ScanState → ScanState → Bool → Type 0
-ScanGoesOn old new answer =
-    (reads : List Made) (access : Access) → ScanStands old reads → due_scan old ≡ Some access → ScanStands new (reads ++ answered access answer ∷ [])
+ScanGoesOn = GoesOn ScanStands due_scan
 
 abbrev pub RowGoesOn : UnaryState → UnaryState → Bool → Type 0
 RowGoesOn old new answer =
     (values : List ℕ) (made : List Made) (access : Access) → UnaryStands old values made → due_unary old ≡ Some access → UnaryStands new values (made ++ answered access answer ∷ [])
+
+-- a row that has made writes behind others makes one more
+pub row_more :
+    (old new : UnaryState) (answer : Bool) (values : List ℕ) (front writes : List Made) (access : Access) → RowGoesOn old new answer →
+    UnaryStands old values (front ++ writes) → due_unary old ≡ Some access → UnaryStands new values (front ++ (writes ++ answered access answer ∷ []))
+row_more old new answer values front writes access goes stands due =
+    subst (λ l. UnaryStands new values l) (append_assoc front writes (answered access answer ∷ [])) (goes values (front ++ writes) access stands due)
+
+-- one access more behind a part of those made
+pub and_more : (made front part x : List Made) → made ≡ front ++ part → made ++ x ≡ front ++ (part ++ x)
+and_more made front part x e = ap (λ l. l ++ x) e ∙ append_assoc front part x
 
 -- a call under way, one access more
 pub longer : (front scan writes x : List Made) → (front ++ (scan ++ writes)) ++ x ≡ front ++ (scan ++ (writes ++ x))

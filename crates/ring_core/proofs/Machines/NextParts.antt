@@ -1,6 +1,7 @@
 -- What the machines that both sides are made of have due next.
 use Rattle.std.proofs.Common.{◌≡◌, ℕ, zero, suc, ◌%◌, ◌<◌, ◌≤◌, Bool, true, false, cond, IfSome, Option, Some, None, List, [], ◌∷◌, ◌++◌, length, if◌then◌else◌, refl, sym, ap, subst, ◌∙◌, arith, append_assoc, append-nil, length-append}
 use Rattle.std.proofs.Math.Nat.{mod-lt}
+use Rattle.std.proofs.lemmas.List.{append_cancel_left}
 use Rattle.std.proofs.lemmas.Bool.Decides.{nat_tests}
 use Rattle.bits_core.specs.declared.events.Side.{Side}
 use Rattle.bits_core.specs.declared.events.Side.TheVariants.{P, C}
@@ -11,9 +12,10 @@ use Rattle.bits_core.specs.declared.shapes.Shape.{Shape}
 use Rattle.bits_core.specs.Shape.{modulus_of}
 use Rattle.bits_core.specs.Open.{IsOpenRight}
 use Rattle.bits_core.specs.Made.{Made, Read, Write, access_of, answered, IsPrefix}
+use Rattle.register_core.specs.Machine.{IsNext}
 use Rattle.register_core.specs.Row.{RowWrite, row_bit}
 use Rattle.register_core.specs.ScanState.{ScanState, ScanStands, BeginsScan, zero_reads, scan_phrase, row_read_by, due_scan}
-use Rattle.register_core.specs.Unary.{clearing, unary_phrase}
+use Rattle.register_core.specs.Unary.{clearing, unary_phrase, count_writes}
 use Rattle.register_core.specs.UnaryState.{UnaryState, bit_in, due_writes, due_unary, first_access}
 use Rattle.ring_core.specs.Calls.{LastBitIsDue, IsScanning}
 
@@ -67,11 +69,36 @@ answered_write (Read c w) access b v answer e f = absurd (cc)
 answered_write (Write c w) access b v answer e f = ap (λ a. answered a answer) (sym e)
 
 -- what is due of writes to a row is a write
-pub first_writes :
+first_writes :
     (bit_of : ℕ → Bit) (writes : List RowWrite) (due : Option Access) → due ≡ first_access bit_of writes → (due ≡ None → ⊥) →
     (b : Bit) × (v : Bool) × (due ≡ Some (begins.Write b v))
 first_writes bit_of [] due e some = absurd (some e)
 first_writes bit_of (w ∷ writes) due e some = (bit_of w.bit, w.value, e)
+
+-- what is due of a count write under way is one of its writes; once that was made, the rest of them follows
+pub record NextWrite (due : Option Access) (writes count : List Made) : Type 0 where
+  pub access : Access
+  pub due_is : due ≡ Some access
+  pub rest : List Made
+  pub goes_on : (answer : Bool) → (writes ++ answered access answer ∷ []) ++ rest ≡ count
+
+pub next_write :
+    (side : Side) (row : UnaryState) (values : List ℕ) (old writes count : List Made) (due : Option Access) → row.side ≡ side → (due_unary row ≡ None → ⊥) →
+    due ≡ due_unary row → IsNext (count_writes row.side values) (old ++ writes) due → count_writes side values ≡ old ++ count → NextWrite due writes count
+next_write side row values old writes count due of_side some due_is next all =
+    let (b, v, due_some) = first_writes (row_bit row.side) (due_writes row) due due_is (λ f. some (sym due_is ∙ f)) in
+    let access : Access = begins.Write b v in
+    let (x, rest, x_is, whole) =
+    subst (λ d. IsNext (count_writes side values) (old ++ writes) d) due_some (subst (λ s. IsNext (count_writes s values) (old ++ writes) due) of_side next) in
+    let count_is : writes ++ x ∷ rest ≡ count =
+    append_cancel_left old (writes ++ x ∷ rest) count (sym (append_assoc old writes (x ∷ rest)) ∙ sym whole ∙ all) in
+    record {
+      access = access;
+      due_is = due_some;
+      rest = rest;
+      goes_on = λ answer.
+          append_assoc writes (answered access answer ∷ []) rest ∙ ap (λ z. writes ++ z ∷ rest) (answered_write x access b v answer x_is refl) ∙ count_is;
+    }
 
 -- ---- whose access is due
 

@@ -11,11 +11,12 @@ use Rattle.ring_core.specs.ConsumerCalls.{items_reply, reply_items}
 use Rattle.ring_core.specs.OneCallMore.{PutsByOneMore, ClosesByOneMore, TakesByOneMore, EndsByOneMore, TakesOfOne}
 use Rattle.ring_core.proofs.Machines.PutCalls as put
 use Rattle.ring_core.proofs.Machines.TakeCalls as take
+use Rattle.ring_core.proofs.Readings.Phrases.{state-push}
 
 pub puts-by_one : PutsByOneMore
 puts-by_one shape calls x are opened is = record {
   are = put.are-push shape first_count calls.puts x are is;
-  count_is = put.stored-push shape first_count calls.puts x;
+  count_is = state-push (put.puts_go_by_calls shape) first_count calls.puts x;
   program_is = put.program-push shape calls x ∙ ap (λ (l : List Made). l ++ put_phrase shape (count_of shape calls) x) (sym (put.program_open shape calls opened));
 }
 

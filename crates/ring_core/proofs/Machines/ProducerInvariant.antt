@@ -5,7 +5,7 @@ use Rattle.bits_core.specs.declared.events.Side.TheVariants.{P}
 use Rattle.bits_core.specs.declared.events.Access.{Access}
 use Rattle.bits_core.specs.Shape.{capacity_of, modulus_of, width_of}
 use Rattle.bits_core.specs.Made.{Made}
-use Rattle.register_core.specs.ScanState.{ScanState, scan_read, due_scan}
+use Rattle.register_core.specs.ScanState.{ScanState, ScanStands, IsScanOf, IsValueRead, row_read_by, scan_read, due_scan}
 use Rattle.register_core.specs.Machine.{IsNext}
 use Rattle.register_core.specs.Word.{word_write}
 use Rattle.register_core.specs.WordState.{WriterState, WriterStands}
@@ -15,7 +15,7 @@ use Rattle.ring_core.specs.declared.producers.Stage.TheVariants.{Scanning, Stori
 use Rattle.ring_core.specs.Calls.{LastBitIsDue}
 use Rattle.ring_core.specs.ProducerState.{ProducerState, IsProducer, ProducerIsAt, IsPutting, IsWritingWord, due_put, producer_due_at}
 use Rattle.ring_core.proofs.CountRow.{batch_below}
-use Rattle.ring_core.proofs.Machines.MachineParts.{scanning, counting_on}
+use Rattle.ring_core.proofs.Machines.MachineParts.{ScanGoesOn, scanning, gives, counting_on}
 use Rattle.ring_core.proofs.Machines.Batches.{taken_so, taken_batch}
 
 pub at_stage : (p : ProducerState) (st : Stage) → IsProducer p → p.stage ≡ st → ProducerIsAt st p
@@ -32,20 +32,39 @@ same_putting p st scan word row most is e f g = record {
   writes = record { width_is = e ∙ is.writes.width_is; cell_is = f ∙ is.writes.cell_is; item_is = is.writes.item_is ∙ ap Some (sym g) };
 }
 
+-- a producer whose row is that of its side stays one where its stage holds
+stays_one :
+    (p : ProducerState) (st : Stage) (scan : ScanState) (word : WriterState) (row : UnaryState) (index : ℕ) → IsProducer p → row.side ≡ p.row.side → row.modulus ≡ p.row.modulus →
+    ProducerIsAt st (record p { stage = st; scan = scan; word = word; row = row; index = index }) →
+    IsProducer (record p { stage = st; scan = scan; word = word; row = row; index = index })
+stays_one p st scan word row index is side modulus at =
+    record { count_below = is.count_below; cell_below = is.cell_below; row_side = side ∙ is.row_side; row_modulus = modulus ∙ is.row_modulus; at = at }
+
 pub scan_keeps :
     (p : ProducerState) (s : ScanState) (answer : Bool) → IsProducer p → p.stage ≡ Scanning → (LastBitIsDue p.shape P (due_put p) → answer ≡ true) →
     s ≡ scan_read p.scan answer → s.found ≡ false → IsProducer (record p { scan = s })
 scan_keeps p s answer is e one fed open_still =
     let (counted, putting, fresh, start, scans) = at_stage p Scanning is e in
     let one' : LastBitIsDue p.shape P (due_scan p.scan) → answer ≡ true = subst (λ st. LastBitIsDue p.shape P (producer_due_at st p) → answer ≡ true) e one in
-    record {
-      count_below = is.count_below;
-      cell_below = is.cell_below;
-      row_side = is.row_side;
-      row_modulus = is.row_modulus;
-      at = subst (λ st. ProducerIsAt st (record p { stage = st; scan = s })) (sym e)
-          (counted, same_putting p Scanning s p.word p.row p.most putting refl refl refl, fresh, start, scanning p.shape P p.scan s answer scans one' fed open_still);
-    }
+    stays_one p p.stage s p.word p.row p.index is refl refl
+    (subst (λ st. ProducerIsAt st (record p { stage = st; scan = s })) (sym e)
+    (counted, same_putting p Scanning s p.word p.row p.most putting refl refl refl, fresh, start, scanning p.shape P p.scan s answer scans one' fed open_still))
+
+-- what is known of the scan of a put once it has given a value: it is one of the consumer's count
+pub record HasGiven (p : ProducerState) (s : ScanState) (answer : Bool) (seen : ℕ) : Type 0 where
+  pub stage_is : p.stage ≡ Scanning
+  pub fresh : p.word.written ≡ 0
+  pub start : p.index ≡ 0
+  pub goes : ScanGoesOn p.scan s answer
+  pub is_scan : (reads : List Made) → ScanStands s reads → IsScanOf (row_read_by P) (modulus_of p.shape) reads seen
+
+pub has_given :
+    (p : ProducerState) (s : ScanState) (answer : Bool) (value : Option ℕ) (seen : ℕ) → p.stage ≡ Scanning → IsProducer p →
+    record { state : s ≡ scan_read p.scan answer; stands : ScanGoesOn p.scan s answer } → value ≡ Some seen →
+    ((reads : List Made) → ScanStands s reads → IsValueRead (row_read_by s.side) s.modulus reads value) → HasGiven p s answer seen
+has_given p s answer value seen e is fed some values =
+    let (counted, putting, fresh, start, scans) = at_stage p Scanning is e in
+    record { stage_is = e; fresh = fresh; start = start; goes = fed.stands; is_scan = gives p.shape P p.scan s answer value seen scans fed.state some values }
 
 -- a word that is written
 stores_so :
@@ -53,13 +72,8 @@ stores_so :
     w.written < w.width → IsProducer (record p { word = w; index = index })
 stores_so p w index is e putting less more =
     let (counted, was, keeping, unwritten) = at_stage p Storing is e in
-    record {
-      count_below = is.count_below;
-      cell_below = is.cell_below;
-      row_side = is.row_side;
-      row_modulus = is.row_modulus;
-      at = subst (λ st. ProducerIsAt st (record p { stage = st; word = w; index = index })) (sym e) (counted, putting, (less, keeping.1), more);
-    }
+    stays_one p p.stage p.scan w p.row index is refl refl
+    (subst (λ st. ProducerIsAt st (record p { stage = st; word = w; index = index })) (sym e) (counted, putting, (less, keeping.1), more))
 
 -- a word write that goes on
 pub word_stays :
@@ -108,17 +122,11 @@ word_keeps p w row is e fed begun =
     let (counted, putting, keeping, more) = at_stage p Storing is e in
     let size : length (take p.most p.items) ≡ p.most = taken_so p.items p.most keeping.1 in
     let batch = taken_batch p.shape p.items p.most (omega (arith, keeping.0)) putting.offers in
-    record {
-      count_below = is.count_below;
-      cell_below = is.cell_below;
-      row_side = ap (λ (r : UnaryState). r.side) begun ∙ is.row_side;
-      row_modulus = ap (λ (r : UnaryState). r.modulus) begun ∙ is.row_modulus;
-      at = (
-        counting_on p.shape p.row row p.count (take p.most p.items) p.most counted is.count_below (sym size) batch.some (omega (arith, batch.few, batch_below p.shape)) begun,
-        same_putting p Counting p.scan w row p.most putting (ap (λ (x : WriterState). x.width) fed) (ap (λ (x : WriterState). x.cell) fed) (ap (λ (x : WriterState). x.item) fed),
-        keeping,
-      );
-    }
+    stays_one p Counting p.scan w row p.index is (ap (λ (r : UnaryState). r.side) begun) (ap (λ (r : UnaryState). r.modulus) begun) (
+      counting_on p.shape p.row row p.count (take p.most p.items) p.most counted is.count_below (sym size) batch.some (omega (arith, batch.few, batch_below p.shape)) begun,
+      same_putting p Counting p.scan w row p.most putting (ap (λ (x : WriterState). x.width) fed) (ap (λ (x : WriterState). x.cell) fed) (ap (λ (x : WriterState). x.item) fed),
+      keeping,
+    )
 
 pub word_whole :
     (p : ProducerState) (w : WriterState) (due : Option Access) → IsWritingWord p → w ≡ record p.word { written = suc p.word.written } → due ≡ None →

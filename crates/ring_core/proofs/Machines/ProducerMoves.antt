@@ -20,13 +20,15 @@ use Rattle.ring_core.specs.declared.replies.BatchReply.TheVariants as reply
 use Rattle.ring_core.specs.declared.producers.Stage.{Stage}
 use Rattle.ring_core.specs.declared.producers.Stage.TheVariants.{Idle, Scanning, Storing, Counting, Closing}
 use Rattle.ring_core.specs.Counts.{LeavesRoom, LeavesRoomFor, distance, number_past, Count, first_count, batch_phrase}
-use Rattle.ring_core.specs.Puts.{Puts, Stored, Full, number_after, stored_after, words_phrase, put_phrase, put_phrases, put_program, IsBatch, IsPut, ArePuts}
+use Rattle.ring_core.specs.Puts.{Puts, Stored, Full, number_after, words_phrase, put_phrase, put_phrases, IsBatch, IsPut, ArePuts}
 use Rattle.ring_core.specs.Puts as puts
 use Rattle.ring_core.specs.ProducerState.{ProducerState, Call, Put, Close, call_of, call_at, due_put, producer_due_at}
-use Rattle.ring_core.specs.ProducerCalls.{count_of, values_of, ProducerStands, ProducerMadeAt, ProducerHasMoved, IsPutOf, put_reply_to, and_put, and_close, HasCallMore, IsOpenForCall, closes_with, IsReplyToCall, IsAfterCall}
-use Rattle.ring_core.proofs.Machines.MachineParts.{ScanGoesOn, RowGoesOn, longer}
+use Rattle.ring_core.specs.ProducerCalls.{count_of, values_of, ProducerStands, ProducerMadeAt, ProducerHasMoved, ProducerMoves, IsPutOf, put_reply_to, and_put, and_close, HasCallMore, IsOpenForCall, closes_with, IsReplyToCall, IsAfterCall}
+use Rattle.ring_core.proofs.Machines.MachineParts.{GoesOn, ScanGoesOn, RowGoesOn, row_more, and_more, longer}
 use Rattle.ring_core.proofs.Machines.Batches.{taken_so, taken_batch, has_seen, words-take, far_from, past_so}
-use Rattle.ring_core.proofs.Machines.PutCalls.{stored-push, are-push, reply-push, program-push, values-push, values-full, values_writes-push}
+use Rattle.ring_core.proofs.Machines.PutCalls.{puts_go_by_calls, are-push, reply-push, program-push, values_hold, values-push, values-full}
+use Rattle.ring_core.proofs.CountRow.{values_writes-push}
+use Rattle.ring_core.proofs.Readings.Phrases.{state-push}
 
 -- ---- what is known at a stage
 
@@ -79,6 +81,15 @@ put_goes_on p st now scan word row most index calls made more e before after sta
       after_on p.shape (call_of p) (call_at now p.items) (Put p.items) calls p.reply was after,
     )
 
+-- and at the stage that it is at
+put_stays :
+    (p : ProducerState) (st : Stage) (scan : ScanState) (word : WriterState) (row : UnaryState) (index : ℕ) (calls : Puts) (made more : List Made) →
+    p.stage ≡ st → call_at st p.items ≡ Some (Put p.items) → ProducerStands p calls made → ProducerMadeAt st (at_stage p st scan word row p.most index) calls more →
+    ProducerHasMoved p (at_stage p p.stage scan word row p.most index) calls more
+put_stays p st scan word row index calls made more e puts stands made_is =
+    subst (λ s. ProducerHasMoved p (at_stage p s scan word row p.most index) calls more) (sym e)
+    (put_goes_on p st st scan word row p.most index calls made more e puts puts stands made_is)
+
 -- ---- a put is over
 
 put_open : (p : ProducerState) (calls : Puts) (items : List ℕ) → IsOpenForCall (call_of p) calls → call_of p ≡ Some (Put items) → calls.closes ≡ false
@@ -102,7 +113,7 @@ pub put_over :
 put_over p st x count cell scan word row calls made more e before stands of_items is count_is cell_is rests made_is =
     let was : call_of p ≡ Some (Put p.items) = subst (λ s. call_at s p.items ≡ Some (Put p.items)) (sym e) before in
     let n : (count_of p.shape (and_put calls x)).number ≡ number_after (count_of p.shape calls).number x =
-    ap (λ (c : Count). c.number) (stored-push p.shape first_count calls.puts x) in
+    ap (λ (c : Count). c.number) (state-push (puts_go_by_calls p.shape) first_count calls.puts x) in
     let are : ArePuts p.shape 0 (calls.puts ++ x ∷ []) = are-push p.shape first_count calls.puts x stands.are is in (
       and_put calls x,
       record {
@@ -120,18 +131,11 @@ put_over p st x count cell scan word row calls made more e before stands of_item
 
 -- ---- the scan
 
-pub scan_on :
-    (p : ProducerState) (s : ScanState) (answer : Bool) → p.stage ≡ Scanning → ScanGoesOn p.scan s answer →
-    (calls : Puts) (made : List Made) (access : Access) → ProducerStands p calls made → due_put p ≡ Some access →
-    ProducerHasMoved p (record p { scan = s }) calls (made ++ answered access answer ∷ [])
+pub scan_on : (p : ProducerState) (s : ScanState) (answer : Bool) → p.stage ≡ Scanning → ScanGoesOn p.scan s answer → ProducerMoves p answer (record p { scan = s })
 scan_on p s answer e goes calls made access stands due =
     let (rests, reads, scans, made_is) = made_at Scanning p calls made e stands in
-    let x : List Made = answered access answer ∷ [] in
-    let front : List Made = put_phrases p.shape first_count calls.puts in
-    let moved : ProducerHasMoved p (at_stage p Scanning s p.word p.row p.most p.index) calls (made ++ x) =
-    put_goes_on p Scanning Scanning s p.word p.row p.most p.index calls made (made ++ x) e refl refl stands
-    (rests, reads ++ x, goes reads access scans (due_is Scanning p access e due), ap (λ l. l ++ x) made_is ∙ append_assoc front reads x) in
-    subst (λ st. ProducerHasMoved p (at_stage p st s p.word p.row p.most p.index) calls (made ++ x)) (sym e) moved
+    put_stays p Scanning s p.word p.row p.index calls made _ e refl stands
+    (rests, reads ++ answered access answer ∷ [], goes reads access scans (due_is Scanning p access e due), and_more _ _ _ _ made_is)
 
 no_writes : (w : WriterState) → w.written ≡ 0 → WriterStands w []
 no_writes w e = sym (ap (λ n. writes_in (Cell w.cell) (digit_writes w.item n)) e)
@@ -140,8 +144,7 @@ pub scan_room :
     (p : ProducerState) (s : ScanState) (answer : Bool) (seen most : ℕ) → p.stage ≡ Scanning → ScanGoesOn p.scan s answer → p.word.written ≡ 0 → p.index ≡ 0 →
     ((reads : List Made) → ScanStands s reads → IsScanOf (row_read_by P) (modulus_of p.shape) reads seen) → LeavesRoomFor p.shape p.count seen most →
     (most ≡ length p.items) ⊎ (distance (modulus_of p.shape) p.count seen + most ≡ capacity_of p.shape) →
-    (calls : Puts) (made : List Made) (access : Access) → ProducerStands p calls made → due_put p ≡ Some access →
-    ProducerHasMoved p (at_stage p Storing s p.word p.row most p.index) calls (made ++ answered access answer ∷ [])
+    ProducerMoves p answer (at_stage p Storing s p.word p.row most p.index)
 scan_room p s answer seen most e goes fresh start gives room all calls made access stands due =
     let (rests, reads, scans, made_is) = made_at Scanning p calls made e stands in
     let x : List Made = answered access answer ∷ [] in
@@ -168,8 +171,7 @@ scan_room p s answer seen most e goes fresh start gives room all calls made acce
 pub scan_full :
     (p : ProducerState) (s : ScanState) (answer : Bool) (seen : ℕ) → p.stage ≡ Scanning → ScanGoesOn p.scan s answer →
     ((reads : List Made) → ScanStands s reads → IsScanOf (row_read_by P) (modulus_of p.shape) reads seen) → ¬ LeavesRoom p.shape p.count seen →
-    (calls : Puts) (made : List Made) (access : Access) → ProducerStands p calls made → due_put p ≡ Some access →
-    ProducerHasMoved p (ended_put p (Full seen) p.count p.cell s p.word p.row) calls (made ++ answered access answer ∷ [])
+    ProducerMoves p answer (ended_put p (Full seen) p.count p.cell s p.word p.row)
 scan_full p s answer seen e goes gives none calls made access stands due =
     let (rests, reads, scans, made_is) = made_at Scanning p calls made e stands in
     let x : List Made = answered access answer ∷ [] in
@@ -183,27 +185,21 @@ scan_full p s answer seen e goes gives none calls made access stands due =
 -- ---- the words
 
 abbrev pub WordGoesOn : WriterState → WriterState → Bool → Type 0
-WordGoesOn old new answer =
-    (writes : List Made) (access : Access) → WriterStands old writes → due_write old ≡ Some access → WriterStands new (writes ++ answered access answer ∷ [])
+WordGoesOn = GoesOn WriterStands due_write
 
-pub word_on :
-    (p : ProducerState) (w : WriterState) (answer : Bool) → p.stage ≡ Storing → WordGoesOn p.word w answer →
-    (calls : Puts) (made : List Made) (access : Access) → ProducerStands p calls made → due_put p ≡ Some access →
-    ProducerHasMoved p (record p { word = w }) calls (made ++ answered access answer ∷ [])
+pub word_on : (p : ProducerState) (w : WriterState) (answer : Bool) → p.stage ≡ Storing → WordGoesOn p.word w answer → ProducerMoves p answer (record p { word = w })
 word_on p w answer e goes calls made access stands due =
     let (rests, seen, has, writes, words, made_is) = made_at Storing p calls made e stands in
     let x : List Made = answered access answer ∷ [] in
     let scan_words : List Made = scan_phrase (row_read_by P) seen ++ words_phrase p.shape (count_of p.shape calls).number (take p.index p.items) in
-    let moved : ProducerHasMoved p (at_stage p Storing p.scan w p.row p.most p.index) calls (made ++ x) =
-    put_goes_on p Storing Storing p.scan w p.row p.most p.index calls made (made ++ x) e refl refl stands (
+    put_stays p Storing p.scan w p.row p.index calls made (made ++ x) e refl stands (
       rests,
       seen,
       has,
       writes ++ x,
       goes writes access words (due_is Storing p access e due),
       ap (λ l. l ++ x) made_is ∙ longer (put_phrases p.shape first_count calls.puts) scan_words writes x,
-    ) in
-    subst (λ st. ProducerHasMoved p (at_stage p st p.scan w p.row p.most p.index) calls (made ++ x)) (sym e) moved
+    )
 
 -- the words made, once the one under way is whole
 whole_words :
@@ -226,13 +222,11 @@ pub word_next :
     (p : ProducerState) (w new : WriterState) (answer : Bool) → p.stage ≡ Storing → WordGoesOn p.word w answer →
     ((writes : List Made) → WriterStands w writes → writes ≡ word_write (width_of p.shape) ((p.cell + p.index) % capacity_of p.shape) p.word.item) →
     slice_get p.items p.index ≡ Some p.word.item → WriterStands new [] →
-    (calls : Puts) (made : List Made) (access : Access) → ProducerStands p calls made → due_put p ≡ Some access →
-    ProducerHasMoved p (record p { word = new; index = suc p.index }) calls (made ++ answered access answer ∷ [])
+    ProducerMoves p answer (record p { word = new; index = suc p.index })
 word_next p w new answer e goes whole item_is fresh calls made access stands due =
     let (rests, seen, has, writes, words, made_is) = made_at Storing p calls made e stands in
     let x : List Made = answered access answer ∷ [] in
-    let moved : ProducerHasMoved p (at_stage p Storing p.scan new p.row p.most (suc p.index)) calls (made ++ x) =
-    put_goes_on p Storing Storing p.scan new p.row p.most (suc p.index) calls made (made ++ x) e refl refl stands (
+    put_stays p Storing p.scan new p.row (suc p.index) calls made (made ++ x) e refl stands (
       rests,
       seen,
       has,
@@ -240,15 +234,13 @@ word_next p w new answer e goes whole item_is fresh calls made access stands due
       fresh,
       whole_words p calls (put_phrases p.shape first_count calls.puts) (scan_phrase (row_read_by P) seen) writes x made stands.cell_is item_is made_is
           (whole (writes ++ x) (goes writes access words (due_is Storing p access e due))),
-    ) in
-    subst (λ st. ProducerHasMoved p (at_stage p st p.scan new p.row p.most (suc p.index)) calls (made ++ x)) (sym e) moved
+    )
 
 pub word_so :
     (p : ProducerState) (w new : WriterState) (answer : Bool) (i : ℕ) → i ≡ suc p.index → p.stage ≡ Storing → WordGoesOn p.word w answer →
     ((writes : List Made) → WriterStands w writes → writes ≡ word_write (width_of p.shape) ((p.cell + p.index) % capacity_of p.shape) p.word.item) →
     slice_get p.items p.index ≡ Some p.word.item → WriterStands new [] →
-    (calls : Puts) (made : List Made) (access : Access) → ProducerStands p calls made → due_put p ≡ Some access →
-    ProducerHasMoved p (record p { word = new; index = i }) calls (made ++ answered access answer ∷ [])
+    ProducerMoves p answer (record p { word = new; index = i })
 word_so p w new answer i so e goes whole item_is fresh calls made access stands due =
     subst (λ k. ProducerHasMoved p (record p { word = new; index = k }) calls (made ++ answered access answer ∷ [])) (sym so)
     (word_next p w new answer e goes whole item_is fresh calls made access stands due)
@@ -258,8 +250,7 @@ pub word_over :
     ((writes : List Made) → WriterStands w writes → writes ≡ word_write (width_of p.shape) ((p.cell + p.index) % capacity_of p.shape) p.word.item) →
     slice_get p.items p.index ≡ Some p.word.item → suc p.index ≡ p.most → p.most ≤ length p.items →
     ((values : List ℕ) (made : List Made) → UnaryStands p.row values made → UnaryStands row (values ++ (p.count + p.most) % modulus_of p.shape ∷ []) made) →
-    (calls : Puts) (made : List Made) (access : Access) → ProducerStands p calls made → due_put p ≡ Some access →
-    ProducerHasMoved p (at_stage p Counting p.scan w row p.most p.index) calls (made ++ answered access answer ∷ [])
+    ProducerMoves p answer (at_stage p Counting p.scan w row p.most p.index)
 word_over p w row answer e goes whole item_is last few begins calls made access stands due =
     let (rests, seen, has, writes, words, made_is) = made_at Storing p calls made e stands in
     let x : List Made = answered access answer ∷ [] in
@@ -282,35 +273,28 @@ word_over p w row answer e goes whole item_is last few begins calls made access 
 
 -- ---- the count
 
-pub count_on :
-    (p : ProducerState) (row : UnaryState) (answer : Bool) → p.stage ≡ Counting → RowGoesOn p.row row answer →
-    (calls : Puts) (made : List Made) (access : Access) → ProducerStands p calls made → due_put p ≡ Some access →
-    ProducerHasMoved p (record p { row = row }) calls (made ++ answered access answer ∷ [])
+pub count_on : (p : ProducerState) (row : UnaryState) (answer : Bool) → p.stage ≡ Counting → RowGoesOn p.row row answer → ProducerMoves p answer (record p { row = row })
 count_on p row answer e goes calls made access stands due =
     let (seen, has, writes, rows, made_is) = made_at Counting p calls made e stands in
     let x : List Made = answered access answer ∷ [] in
     let n : ℕ = (count_of p.shape calls).number in
     let values : List ℕ = values_of p.shape calls ++ number_past n (take p.most p.items) % modulus_of p.shape ∷ [] in
     let old : List Made = count_writes P (values_of p.shape calls) in
-    let rows' : UnaryStands row values (old ++ (writes ++ x)) =
-    subst (λ l. UnaryStands row values l) (append_assoc old writes x) (goes values (old ++ writes) access rows (due_is Counting p access e due)) in
-    let moved : ProducerHasMoved p (at_stage p Counting p.scan p.word row p.most p.index) calls (made ++ x) =
-    put_goes_on p Counting Counting p.scan p.word row p.most p.index calls made (made ++ x) e refl refl stands (
+    let rows' : UnaryStands row values (old ++ (writes ++ x)) = row_more p.row row answer values old writes access goes rows (due_is Counting p access e due) in
+    put_stays p Counting p.scan p.word row p.index calls made (made ++ x) e refl stands (
       seen,
       has,
       writes ++ x,
       rows',
       ap (λ l. l ++ x) made_is ∙ longer (put_phrases p.shape first_count calls.puts) (scan_phrase (row_read_by P) seen ++ words_phrase p.shape n (take p.most p.items)) writes x,
-    ) in
-    subst (λ st. ProducerHasMoved p (at_stage p st p.scan p.word row p.most p.index) calls (made ++ x)) (sym e) moved
+    )
 
 pub count_over :
     (p : ProducerState) (row : UnaryState) (answer : Bool) (count cell : ℕ) → p.stage ≡ Counting → RowGoesOn p.row row answer → IsBatch p.shape p.items →
     1 ≤ p.most → p.most ≤ length p.items →
     count ≡ (p.count + p.most) % modulus_of p.shape → cell ≡ (p.cell + p.most) % capacity_of p.shape →
     ((values : List ℕ) (made : List Made) → UnaryStands row values made → made ≡ count_writes P values) →
-    (calls : Puts) (made : List Made) (access : Access) → ProducerStands p calls made → due_put p ≡ Some access →
-    ProducerHasMoved p (record p { count = count; cell = cell; stage = Idle; row = row; reply = Some (reply.Stored p.most) }) calls (made ++ answered access answer ∷ [])
+    ProducerMoves p answer (record p { count = count; cell = cell; stage = Idle; row = row; reply = Some (reply.Stored p.most) })
 count_over p row answer count cell e goes batch some few count_is cell_is whole calls made access stands due =
     let (seen, has, writes, rows, made_is) = made_at Counting p calls made e stands in
     let x : List Made = answered access answer ∷ [] in
@@ -321,11 +305,10 @@ count_over p row answer count cell e goes batch some few count_is cell_is whole 
     let old : List Made = count_writes P (values_of p.shape calls) in
     let front : List Made = put_phrases p.shape first_count calls.puts in
     let scan_words : List Made = scan_phrase (row_read_by P) seen ++ words_phrase p.shape c.number stored in
-    let rows' : UnaryStands row values (old ++ (writes ++ x)) =
-    subst (λ l. UnaryStands row values l) (append_assoc old writes x) (goes values (old ++ writes) access rows (due_is Counting p access e due)) in
+    let rows' : UnaryStands row values (old ++ (writes ++ x)) = row_more p.row row answer values old writes access goes rows (due_is Counting p access e due) in
     let all : old ++ (writes ++ x) ≡ count_writes P values = whole values (old ++ (writes ++ x)) rows' in
     let all_counted : writes ++ x ≡ batch_phrase p.shape P c stored =
-    append_cancel_left old (writes ++ x) (batch_phrase p.shape P c stored) (all ∙ values_writes-push p.shape calls stored P) in
+    append_cancel_left old (writes ++ x) (batch_phrase p.shape P c stored) (all ∙ values_writes-push p.shape P (values_of p.shape calls) stored c (values_hold p.shape first_count calls.puts)) in
     let rests : UnaryStands row values (count_writes P values) = subst (λ l. UnaryStands row values l) all rows' in
     let moved : ProducerHasMoved p (ended_put p (Stored seen stored) count cell p.scan p.word row) calls (made ++ x) =
     put_over p Counting (Stored seen stored) count cell p.scan p.word row calls made (made ++ x) e refl stands has.kept

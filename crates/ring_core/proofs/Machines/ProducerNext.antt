@@ -2,7 +2,6 @@
 use Rattle.std.proofs.Common.{◌≡◌, ◌⊎◌, inl, inr, ℕ, zero, suc, ◌+◌, ◌*◌, ◌%◌, ◌<◌, ◌≤◌, true, false, IfSome, Option, Some, None, List, [], ◌∷◌, ◌++◌, length, take, refl, sym, ap, subst, ◌∙◌, arith, append_assoc, length-append}
 use Rattle.std.proofs.Math.Nat.{mod-lt}
 use Rattle.std.proofs.lemmas.Bool.Decides.{nat_tests}
-use Rattle.std.proofs.lemmas.List.{append_cancel_left}
 use Rattle.bits_core.specs.declared.events.Side.TheVariants.{P}
 use Rattle.bits_core.specs.declared.events.Bit.TheVariants.{X, Cell}
 use Rattle.bits_core.specs.declared.events.Access.{Access}
@@ -12,25 +11,25 @@ use Rattle.bits_core.specs.Shape.{belongs, capacity_of, modulus_of, width_of}
 use Rattle.bits_core.specs.Open.{IsOpenRight}
 use Rattle.bits_core.specs.Made.{Made, Write, answered, IsPrefix}
 use Rattle.register_core.specs.Machine.{IsNext}
-use Rattle.register_core.specs.Row.{row_bit}
 use Rattle.register_core.specs.Word.{digit, word_write}
 use Rattle.register_core.specs.WordState.{WriterState, WriterStands, due_write}
 use Rattle.register_core.specs.ScanState.{scan_phrase, row_read_by, due_scan}
 use Rattle.register_core.specs.Unary.{count_writes}
-use Rattle.register_core.specs.UnaryState.{UnaryStands, due_unary, due_writes}
+use Rattle.register_core.specs.UnaryState.{UnaryStands, due_unary}
 use Rattle.ring_core.specs.declared.producers.Stage.TheVariants.{Scanning, Storing, Counting}
 use Rattle.ring_core.specs.Counts.{LeavesRoom, LeavesRoomFor, distance, number_past, Count, first_count, batch_phrase, IsCount}
 use Rattle.ring_core.specs.Calls.{IsScanning}
 use Rattle.ring_core.specs.Puts.{Puts, Stored, Full, words_phrase, put_phrase, put_phrases, put_program, IsBatch, IsPut, ArePuts}
 use Rattle.ring_core.specs.Puts as puts
-use Rattle.ring_core.specs.ProducerState.{ProducerState, Call, Put, Close, call_at, call_of, IsWritingWord, IsKeeping}
+use Rattle.ring_core.specs.ProducerState.{ProducerState, Call, Put, Close, call_at, call_of, due_put, IsWritingWord, IsKeeping}
 use Rattle.ring_core.specs.ProducerCalls.{count_of, values_of, room_in, ProducerStands, IsPutOf, and_put, BeginsCall, PutGoesOn, longest_of, longest}
+use Rattle.ring_core.proofs.CountRow.{values_writes-push}
 use Rattle.ring_core.proofs.Machines.Lengths.{item_puts-are_short, full_puts-are_short, puts-are_short}
 use Rattle.ring_core.proofs.Machines.Batches.{taken_few, taken_so, taken_batch, words-split, far_from}
 use Rattle.ring_core.proofs.Cells.CellPlaces.{multiple_up}
 use Rattle.ring_core.proofs.Machines.MachineParts.{longer}
-use Rattle.ring_core.proofs.Machines.NextParts.{length-part, scan_due, scan_goes_on, answered_write, first_writes}
-use Rattle.ring_core.proofs.Machines.PutCalls.{are-push, are-last, calls_are_count, values_writes-push, program_open, program-push}
+use Rattle.ring_core.proofs.Machines.NextParts.{length-part, scan_due, scan_goes_on, answered_write, next_write}
+use Rattle.ring_core.proofs.Machines.PutCalls.{are-push, are-last, calls_are_count, values_hold, program_open, program-push}
 use Rattle.ring_core.proofs.Machines.ProducerMoves.{made_at, open_at}
 
 -- ---- beginnings of one call more
@@ -140,7 +139,7 @@ pub record Going (shape : Shape) (call : Option Call) (calls : Puts) (made : Lis
   pub due_is : due ≡ Some access
   pub goes_on : PutGoesOn shape calls under_way made access
 
-pub going_rests :
+going_rests :
     (shape : Shape) (call : Option Call) (calls : Puts) (made : List Made) (due : Option Access) → Going shape call calls made due → due ≡ None →
     (call ≡ None) × (made ≡ put_program shape calls)
 going_rests shape call calls made due g none = absurd (let clash : Some g.access ≡ None = sym g.due_is ∙ none in cc)
@@ -162,6 +161,27 @@ going_bounded shape call calls made due g c e =
   where
     some_same : (a b : Call) → Some a ≡ Some b → a ≡ b
     some_same a b e = cc
+
+-- what is told of the due access of a producer whose call goes on with it
+pub told_next :
+    (p : ProducerState) (next : Option Access) → next ≡ due_put p → IfSome next (IsOpenRight p.shape P) →
+    ((calls : Puts) (made : List Made) → ProducerStands p calls made → Going p.shape (call_of p) calls made next) →
+    record {
+      due : next ≡ due_put p;
+      right : IfSome next (IsOpenRight p.shape P);
+      rest : (calls : Puts) (made : List Made) → ProducerStands p calls made → next ≡ None → (call_of p ≡ None) × (made ≡ put_program p.shape calls);
+      goes_on : (calls : Puts) (made : List Made) (access : Access) → ProducerStands p calls made → next ≡ Some access →
+          (c : Call) × (call_of p ≡ Some c) × PutGoesOn p.shape calls c made access;
+      bounded : (calls : Puts) (made : List Made) (c : Call) → ProducerStands p calls made → call_of p ≡ Some c →
+          length made < length (put_program p.shape calls) + longest p.shape c;
+    }
+told_next p next is_due right going = record {
+  due = is_due;
+  right = right;
+  rest = λ calls made stands none. going_rests p.shape (call_of p) calls made next (going calls made stands) none;
+  goes_on = λ calls made access stands some. going_on p.shape (call_of p) calls made next (going calls made stands) access some;
+  bounded = λ calls made c stands call. going_bounded p.shape (call_of p) calls made next (going calls made stands) c call;
+}
 
 is_next : (shape : Shape) (call : Option Call) (c : Call) (calls : Puts) (made : List Made) (due : Option Access) (access : Access) → call ≡ Some c → due ≡ Some access →
     PutGoesOn shape calls c made access → Going shape call calls made due
@@ -255,21 +275,14 @@ next_count_write p calls made due e stands batch keeping side some due_is next =
     let old : List Made = count_writes P (values_of p.shape calls) in
     let count : List Made = batch_phrase p.shape P c kept in
     let scan_words : List Made = scan_phrase (row_read_by P) seen ++ words_phrase p.shape n kept in
-    let (b, v, due_some) = first_writes (row_bit p.row.side) (due_writes p.row) due due_is (λ f. some (sym due_is ∙ f)) in
-    let access : Access = begins.Write b v in
-    let (x, rest, x_is, whole) =
-    subst (λ d. IsNext (count_writes P values) (old ++ writes) d) due_some
-    (subst (λ s. IsNext (count_writes s values) (old ++ writes) due) side (next values (old ++ writes) rows)) in
-    let count_is : writes ++ x ∷ rest ≡ count =
-    append_cancel_left old (writes ++ x ∷ rest) count (sym (append_assoc old writes (x ∷ rest)) ∙ sym whole ∙ values_writes-push p.shape calls kept P) in
-    is_next p.shape (call_of p) (Put p.items) calls made due access (ap (λ st. call_at st p.items) e) due_some
+    let all : count_writes P values ≡ old ++ count = values_writes-push p.shape P (values_of p.shape calls) kept c (values_hold p.shape first_count calls.puts) in
+    let r = next_write P p.row values old writes count due side some due_is (next values (old ++ writes) rows) all in
+    is_next p.shape (call_of p) (Put p.items) calls made due r.access (ap (λ st. call_at st p.items) e) r.due_is
     (λ answer one.
-    let y : List Made = answered access answer ∷ [] in
-    let y_is : answered access answer ≡ x = answered_write x access b v answer x_is refl in
-    let all : (writes ++ y) ++ rest ≡ count = append_assoc writes y rest ∙ ap (λ z. writes ++ z ∷ rest) y_is ∙ count_is in
+    let y : List Made = answered r.access answer ∷ [] in
     begins_put p.shape p.items calls (made ++ y) (scan_words ++ (writes ++ y)) (Stored seen kept) stands.are o has.kept (
       has.below,
       subst (λ m. LeavesRoomFor p.shape (n % modulus_of p.shape) seen m) (sym (taken_so p.items p.most keeping.1)) has.room,
       taken_batch p.shape p.items p.most (omega (arith, keeping.0)) batch,
     )
-    (ap (λ l. l ++ y) made_is ∙ longer front scan_words writes y) (rest, append_assoc scan_words (writes ++ y) rest ∙ ap (λ l. scan_words ++ l) all))
+    (ap (λ l. l ++ y) made_is ∙ longer front scan_words writes y) (r.rest, append_assoc scan_words (writes ++ y) r.rest ∙ ap (λ l. scan_words ++ l) (r.goes_on answer)))

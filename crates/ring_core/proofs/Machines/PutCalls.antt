@@ -1,30 +1,18 @@
 -- A program of puts with one put more.
-use Rattle.std.proofs.Common.{◌≡◌, ℕ, ◌%◌, false, Option, Some, List, [], ◌∷◌, ◌++◌, refl, sym, ap, ◌∙◌, append_assoc, append-nil}
-use Rattle.std.proofs.lemmas.List.{map-append}
-use Rattle.bits_core.specs.declared.events.Side.{Side}
+use Rattle.std.proofs.Common.{◌≡◌, ℕ, ◌%◌, false, Option, Some, List, [], ◌∷◌, ◌++◌, refl, ap, ◌∙◌, append-nil}
 use Rattle.bits_core.specs.declared.shapes.Shape.{Shape}
 use Rattle.bits_core.specs.Shape.{modulus_of}
-use Rattle.bits_core.specs.Made.{Write}
-use Rattle.register_core.specs.Row.{RowWrite, row_bit, bits_after, first_bits, writes_in}
-use Rattle.register_core.specs.Unary.{unary_phrase, unary_writes, row_writes, writes_of, count_writes}
+use Rattle.register_core.specs.Row.{bits_after}
+use Rattle.register_core.specs.Unary.{unary_writes, row_writes}
 use Rattle.ring_core.specs.declared.replies.BatchReply.{BatchReply}
-use Rattle.ring_core.specs.Counts.{number_past, Count, first_count, count_bits, batch_phrase, IsCount}
+use Rattle.ring_core.specs.Counts.{number_past, Count, first_count, IsCount}
 use Rattle.ring_core.specs.Puts.{Put, Puts, Stored, Full, stored_after, stored_count, put_values, put_phrase, put_phrases, close_phrase, put_program, IsPut, ArePuts}
-use Rattle.ring_core.specs.ProducerCalls.{count_of, values_of, and_put, put_reply_to, last_put_reply}
-use Rattle.ring_core.proofs.CountRow.{bits_after-append, row_writes-push, first_is_count, counted_is_count}
+use Rattle.ring_core.specs.ProducerCalls.{count_of, and_put, put_reply_to, last_put_reply}
+use Rattle.ring_core.proofs.CountRow.{value_held, first_is_count, counted_is_count}
+use Rattle.ring_core.proofs.Readings.Phrases.{GoByCalls, calls-push}
 
-pub phrases-push :
-    (shape : Shape) (c : Count) (xs : List Put) (x : Put) →
-    put_phrases shape c (xs ++ x ∷ []) ≡ put_phrases shape c xs ++ put_phrase shape (stored_count shape c xs) x
-phrases-push shape c [] x = append-nil (put_phrase shape c x)
-phrases-push shape c (y ∷ xs) x =
-    let next : Count = stored_after shape c y in
-    ap (λ l. put_phrase shape c y ++ l) (phrases-push shape next xs x) ∙
-    sym (append_assoc (put_phrase shape c y) (put_phrases shape next xs) (put_phrase shape (stored_count shape next xs) x))
-
-pub stored-push : (shape : Shape) (c : Count) (xs : List Put) (x : Put) → stored_count shape c (xs ++ x ∷ []) ≡ stored_after shape (stored_count shape c xs) x
-stored-push shape c [] x = refl
-stored-push shape c (y ∷ xs) x = stored-push shape (stored_after shape c y) xs x
+pub puts_go_by_calls : (shape : Shape) → GoByCalls (put_phrase shape) (put_phrases shape) (stored_after shape) (stored_count shape)
+puts_go_by_calls shape = record { none = λ c. refl; more = λ c y xs. refl; same = λ c. refl; next = λ c y xs. refl }
 
 pub are-push :
     (shape : Shape) (c : Count) (xs : List Put) (x : Put) → ArePuts shape c.number xs → IsPut shape (stored_count shape c xs).number x →
@@ -46,26 +34,12 @@ pub calls_are_count : (shape : Shape) (calls : Puts) → IsCount shape (count_of
 calls_are_count shape calls = stored_is_count shape first_count calls.puts (first_is_count shape)
 
 -- and those that the values' writes leave
-values_hold :
+pub values_hold :
     (shape : Shape) (c : Count) (xs : List Put) →
     bits_after c.bits (row_writes (unary_writes c.bits (put_values shape c.number xs))) ≡ (stored_count shape c xs).bits
 values_hold shape c [] = refl
-values_hold shape c (Stored seen items ∷ xs) =
-    let next : Count = stored_after shape c (Stored seen items) in
-    bits_after-append (count_bits shape c items) (row_writes (unary_writes next.bits (put_values shape next.number xs))) c.bits ∙ values_hold shape next xs
+values_hold shape c (Stored seen items ∷ xs) = value_held shape c items _ _ (values_hold shape (stored_after shape c (Stored seen items)) xs)
 values_hold shape c (Full seen ∷ xs) = values_hold shape c xs
-
--- the writes of one put more
-pub values_writes-push :
-    (shape : Shape) (calls : Puts) (items : List ℕ) (s : Side) →
-    count_writes s (values_of shape calls ++ number_past (count_of shape calls).number items % modulus_of shape ∷ []) ≡
-    count_writes s (values_of shape calls) ++ batch_phrase shape s (count_of shape calls) items
-values_writes-push shape calls items s =
-    let v : ℕ = number_past (count_of shape calls).number items % modulus_of shape in
-    let old : List RowWrite = writes_of (values_of shape calls) in
-    ap (writes_in (row_bit s))
-    (row_writes-push (values_of shape calls) v first_bits ∙ ap (λ b. old ++ unary_phrase b v) (values_hold shape first_count calls.puts)) ∙
-    map-append (λ (w : RowWrite). Write (row_bit s w.bit) w.value) old (count_bits shape (count_of shape calls) items)
 
 pub values-push :
     (shape : Shape) (c : Count) (xs : List Put) (seen : ℕ) (items : List ℕ) →
@@ -93,4 +67,4 @@ program_open shape calls e = ap (λ c. put_phrases shape first_count calls.puts 
 pub program-push :
     (shape : Shape) (calls : Puts) (x : Put) →
     put_program shape (and_put calls x) ≡ put_phrases shape first_count calls.puts ++ put_phrase shape (count_of shape calls) x
-program-push shape calls x = append-nil (put_phrases shape first_count (calls.puts ++ x ∷ [])) ∙ phrases-push shape first_count calls.puts x
+program-push shape calls x = append-nil (put_phrases shape first_count (calls.puts ++ x ∷ [])) ∙ calls-push (puts_go_by_calls shape) first_count calls.puts x

@@ -1,36 +1,33 @@
 -- A program of takes with one take more, or with the take that is told the ring is closed.
 use Rattle.std.proofs.Common.{Bool, true, false, ◌≡◌, ℕ, zero, suc, ◌+◌, ◌-◌, ◌%◌, Option, Some, List, [], ◌∷◌, ◌++◌, length, refl, sym, ap, ◌∙◌, arith, append_assoc, append-nil, length-append}
-use Rattle.std.proofs.lemmas.List.{map-append}
 use Rattle.std.proofs.lemmas.Nat.{pow_pos}
-use Rattle.bits_core.specs.declared.events.Side.{Side}
 use Rattle.bits_core.specs.declared.shapes.Shape.{Shape}
 use Rattle.bits_core.specs.Shape.{AllFit, capacity_of, modulus_of, width_of}
-use Rattle.bits_core.specs.Made.{Made, Write}
-use Rattle.register_core.specs.Row.{RowWrite, row_bit, bits_after, first_bits, writes_in}
-use Rattle.register_core.specs.Unary.{unary_phrase, unary_writes, row_writes, writes_of, count_writes}
+use Rattle.bits_core.specs.Made.{Made}
+use Rattle.register_core.specs.Row.{bits_after}
+use Rattle.register_core.specs.Unary.{unary_writes, row_writes}
 use Rattle.register_core.specs.Phrases.{word_read}
 use Rattle.ring_core.specs.declared.replies.TakeReply.{TakeReply}
-use Rattle.ring_core.specs.Counts.{number_past, Count, first_count, count_bits, batch_phrase, IsCount}
+use Rattle.ring_core.specs.Counts.{number_past, Count, first_count, IsCount}
 use Rattle.ring_core.specs.Takes.{Take, Takes, Item, ItemAfterClose, Empty, Open, Closed, count_after, taken_count, words_read, items_phrase, take_phrase, take_phrases, end_phrase, take_program, IsTake, SeesNone, IsTakeBatch, AreTakes}
 use Rattle.ring_core.specs.Items.{taken_of}
 use Rattle.ring_core.proofs.Machines.OneWordMore.{WordsGoOn}
-use Rattle.ring_core.specs.ConsumerCalls.{Finding, Once, Twice, finding_phrase, Finds, IsTakeOf, count_taken, take_values, values_taken, and_take, items_reply, take_reply_to, last_take_reply, last_items, reply_at_end, take_batch_reply, IsReplyToTake, AreItemsOfTake, IsBatchReplyToTake}
-use Rattle.ring_core.proofs.CountRow.{bits_after-append, row_writes-push, first_is_count, counted_is_count}
+use Rattle.ring_core.specs.ConsumerCalls.{Finding, Once, Twice, finding_phrase, Finds, IsTakeOf, count_taken, take_values, and_take, items_reply, take_reply_to, last_take_reply, last_items, reply_at_end, take_batch_reply, IsReplyToTake, AreItemsOfTake, IsBatchReplyToTake}
+use Rattle.ring_core.proofs.CountRow.{value_held, first_is_count, counted_is_count}
+use Rattle.ring_core.proofs.Readings.Phrases.{GoByCalls, calls-push, state-push}
+
+takes_go_by_calls : (shape : Shape) → GoByCalls (take_phrase shape) (take_phrases shape) (count_after shape) (taken_count shape)
+takes_go_by_calls shape = record { none = λ c. refl; more = λ c y xs. refl; same = λ c. refl; next = λ c y xs. refl }
 
 -- the accesses of takes and one more
 pub phrases-push :
     (shape : Shape) (c : Count) (xs : List Take) (x : Take) →
     take_phrases shape c (xs ++ x ∷ []) ≡ take_phrases shape c xs ++ take_phrase shape (taken_count shape c xs) x
-phrases-push shape c [] x = append-nil (take_phrase shape c x)
-phrases-push shape c (y ∷ xs) x =
-    let next : Count = count_after shape c y in
-    ap (λ l. take_phrase shape c y ++ l) (phrases-push shape next xs x) ∙
-    sym (append_assoc (take_phrase shape c y) (take_phrases shape next xs) (take_phrase shape (taken_count shape next xs) x))
+phrases-push shape = calls-push (takes_go_by_calls shape)
 
 -- their count
 pub count-push : (shape : Shape) (c : Count) (xs : List Take) (x : Take) → taken_count shape c (xs ++ x ∷ []) ≡ count_after shape (taken_count shape c xs) x
-count-push shape c [] x = refl
-count-push shape c (y ∷ xs) x = count-push shape (count_after shape c y) xs x
+count-push shape = state-push (takes_go_by_calls shape)
 
 -- they are takes if the last one is
 pub are-push :
@@ -70,29 +67,13 @@ items-push first (y ∷ xs) x = items-push (taken_of y) xs x
 -- ---- the count's writes
 
 -- the bits after takes are those that the values' writes leave
-values_hold :
+pub values_hold :
     (shape : Shape) (c : Count) (xs : List Take) →
     bits_after c.bits (row_writes (unary_writes c.bits (take_values shape c.number xs))) ≡ (taken_count shape c xs).bits
 values_hold shape c [] = refl
-values_hold shape c (Item seen items ∷ xs) =
-    let next : Count = count_after shape c (Item seen items) in
-    bits_after-append (count_bits shape c items) (row_writes (unary_writes next.bits (take_values shape next.number xs))) c.bits ∙ values_hold shape next xs
-values_hold shape c (ItemAfterClose seen again items ∷ xs) =
-    let next : Count = count_after shape c (ItemAfterClose seen again items) in
-    bits_after-append (count_bits shape c items) (row_writes (unary_writes next.bits (take_values shape next.number xs))) c.bits ∙ values_hold shape next xs
+values_hold shape c (Item seen items ∷ xs) = value_held shape c items _ _ (values_hold shape (count_after shape c (Item seen items)) xs)
+values_hold shape c (ItemAfterClose seen again items ∷ xs) = value_held shape c items _ _ (values_hold shape (count_after shape c (ItemAfterClose seen again items)) xs)
 values_hold shape c (Empty seen ∷ xs) = values_hold shape c xs
-
--- the writes of one take of items more
-pub values_writes-push :
-    (shape : Shape) (calls : Takes) (items : List ℕ) (s : Side) →
-    count_writes s (values_taken shape calls ++ number_past (count_taken shape calls).number items % modulus_of shape ∷ []) ≡
-    count_writes s (values_taken shape calls) ++ batch_phrase shape s (count_taken shape calls) items
-values_writes-push shape calls items s =
-    let v : ℕ = number_past (count_taken shape calls).number items % modulus_of shape in
-    let old : List RowWrite = writes_of (values_taken shape calls) in
-    ap (writes_in (row_bit s))
-    (row_writes-push (values_taken shape calls) v first_bits ∙ ap (λ b. old ++ unary_phrase b v) (values_hold shape first_count calls.takes)) ∙
-    map-append (λ (w : RowWrite). Write (row_bit s w.bit) w.value) old (count_bits shape (count_taken shape calls) items)
 
 pub values-empty : (shape : Shape) (c : Count) (xs : List Take) (seen : ℕ) → take_values shape c.number (xs ++ Empty seen ∷ []) ≡ take_values shape c.number xs
 values-empty shape c [] seen = refl

@@ -1,5 +1,5 @@
 -- Each call has the spans of its looks, and they stand at its own events.
-use Rattle.std.proofs.Common.{◌≡◌, inl, inr, ℕ, ◌+◌, true, false, List, [], ◌∷◌, ◌++◌, length, refl, subst, arith, length-append}
+use Rattle.std.proofs.Common.{◌≡◌, inl, inr, ℕ, ◌+◌, true, false, List, [], ◌∷◌, ◌++◌, length, refl, ap, subst, ◌∙◌, arith, length-append}
 use Rattle.bits_core.specs.declared.events.Side.{Side}
 use Rattle.bits_core.specs.declared.events.Side.TheVariants.{P, C}
 use Rattle.bits_core.specs.declared.events.Bit.TheVariants.{X}
@@ -11,9 +11,12 @@ use Rattle.ring_core.specs.Puts.{Put, Stored, Full, Puts, stored_in, stored_afte
 use Rattle.ring_core.specs.Takes.{Take, Item, ItemAfterClose, Empty, End, Takes, taken_in, count_after, taken_count, words_read, take_phrase, take_phrases}
 use Rattle.ring_core.specs.Items.{events_in}
 use Rattle.ring_core.proofs.OverSpans.Spans.{Span, Outcome, Passes, Stops, Asks, counts, whole, IsSpanAt}
-use Rattle.ring_core.proofs.OverSpans.LookSpans.{look, put_looks, take_looks, span_of, spans, put_spans, take_spans}
+use Rattle.ring_core.proofs.OverSpans.LookSpans.{Look, look, put_looks, take_looks, span_of, spans, put_spans, take_spans}
 use Rattle.ring_core.specs.CallsAt.{IsPutAt, IsTakeAt, scan_events}
 use Rattle.ring_core.proofs.CountRow.{past_is}
+use Rattle.ring_core.proofs.Machines.PutCalls.{puts_go_by_calls}
+use Rattle.ring_core.proofs.Machines.TakeCalls.{phrases-push}
+use Rattle.ring_core.proofs.Readings.Phrases.{calls-push}
 
 -- the same, by equal numbers
 pub stands_at : (xs : List Span) (s s' n n' : ℕ) (x : Span) → s ≡ s' → n ≡ n' → IsSpanAt xs s n x → IsSpanAt xs s' n' x
@@ -44,6 +47,11 @@ stored_is n [] = omega arith
 stored_is n (Stored seen items ∷ puts) = omega (arith, stored_is (number_past n items) puts, past_is n items)
 stored_is n (Full seen ∷ puts) = stored_is n puts
 
+-- the accesses of a put that stores, by its span
+pub put_phrase-stored :
+    (shape : Shape) (c : Count) (seen : ℕ) (items : List ℕ) → events_in (put_phrase shape c (Stored seen items)) ≡ whole (span_of P shape c (look seen (Passes items)))
+put_phrase-stored shape c seen items = omega (arith, three (scan_phrase (row_read_by P) seen) (words_phrase shape c.number items) (batch_phrase shape P c items))
+
 -- what stands in the spans of puts stands in those of more puts, behind the events and the items of the ones before
 pub behind_puts :
     (shape : Shape) (c : Count) (before rest : List Put) (s n : ℕ) (x : Span) →
@@ -52,12 +60,9 @@ pub behind_puts :
 behind_puts shape c [] rest s n x st = stands_at (spans P shape c (put_looks rest)) s (0 + s) n (0 + n) x (omega arith) (omega arith) st
 behind_puts shape c (Stored seen items ∷ before) rest s n x st =
     let next : Count = stored_after shape c (Stored seen items) in
-    let a : List Made = scan_phrase (row_read_by P) seen in
-    let b : List Made = words_phrase shape c.number items in
-    let d : List Made = batch_phrase shape P c items in
     stands_behind (span_of P shape c (look seen (Passes items))) (spans P shape next (put_looks (before ++ rest)))
     (events_in (put_phrases shape next before) + s) (put_counts before + n) _ _ x
-    (omega (arith, length-append ((a ++ b) ++ d) (put_phrases shape next before), three a b d)) (omega arith)
+    (omega (arith, length-append (put_phrase shape c (Stored seen items)) (put_phrases shape next before), put_phrase-stored shape c seen items)) (omega arith)
     (behind_puts shape next before rest s n x st)
 behind_puts shape c (Full seen ∷ before) rest s n x st =
     let a : List Made = scan_phrase (row_read_by P) seen in
@@ -75,19 +80,18 @@ pub record HasSpan (s : Side) (xs : List Span) (n start stop seen : ℕ) (outcom
   pub scan_is : span.scan ≡ scan_events s seen
   pub stop_is : stop ≡ start + whole span
 
+-- that of a look which stands there
+has_span :
+    (s : Side) (shape : Shape) (c : Count) (l : Look) (xs : List Span) (n start stop : ℕ) → IsSpanAt xs start n (span_of s shape c l) →
+    stop ≡ start + whole (span_of s shape c l) → HasSpan s xs n start stop l.seen l.outcome
+has_span s shape c l xs n start stop st e =
+    record { span = span_of s shape c l; stands = st; seen_is = refl; outcome_is = refl; scan_is = refl; stop_is = e }
+
 -- the events of puts and of one more
 put_phrases-push :
     (shape : Shape) (c : Count) (before : List Put) (x : Put) →
     length (put_phrases shape c (before ++ x ∷ [])) ≡ length (put_phrases shape c before) + length (put_phrase shape (stored_count shape c before) x)
-put_phrases-push shape c [] x = omega (arith, length-append (put_phrase shape c x) [])
-put_phrases-push shape c (y ∷ before) x =
-    let next : Count = stored_after shape c y in
-    omega (
-      arith,
-      length-append (put_phrase shape c y) (put_phrases shape next (before ++ x ∷ [])),
-      length-append (put_phrase shape c y) (put_phrases shape next before),
-      put_phrases-push shape next before x,
-    )
+put_phrases-push shape c before x = ap length (calls-push (puts_go_by_calls shape) c before x) ∙ length-append (put_phrases shape c before) (put_phrase shape (stored_count shape c before) x)
 
 abbrev pub put_outcome : Put → Outcome
 put_outcome (Stored seen items) = Passes items
@@ -105,33 +109,17 @@ put_has_span shape calls (Stored seen items) n start stop r =
     let y : Span = span_of P shape c (look seen (Passes items)) in
     let ys : List Span = spans P shape (stored_after shape c (Stored seen items)) (put_looks r.after) in
     let st = behind_puts shape first_count r.before (Stored seen items ∷ r.after) 0 0 y (first_stands y ys) in
-    record {
-      span = y;
-      stands = rw r.among (stands_at _ _ start _ n y (omega (arith, r.starts)) (omega (arith, r.number, stored_is 0 r.before)) st);
-      seen_is = refl;
-      outcome_is = refl;
-      scan_is = refl;
-      stop_is = omega (
-        arith,
-        r.starts,
-        r.stops,
-        put_phrases-push shape first_count r.before (Stored seen items),
-        three (scan_phrase (row_read_by P) seen) (words_phrase shape c.number items) (batch_phrase shape P c items),
-      );
-    }
+    has_span P shape c (look seen (Passes items)) (put_spans shape calls) n start stop
+    (rw r.among (stands_at _ _ start _ n y (omega (arith, r.starts)) (omega (arith, r.number, stored_is 0 r.before)) st))
+    (omega (arith, r.starts, r.stops, put_phrases-push shape first_count r.before (Stored seen items), put_phrase-stored shape c seen items))
 put_has_span shape calls (Full seen) n start stop r =
     let c : Count = stored_count shape first_count r.before in
     let y : Span = span_of P shape c (look seen Stops) in
     let ys : List Span = spans P shape c (put_looks r.after) in
     let st = behind_puts shape first_count r.before (Full seen ∷ r.after) 0 0 y (first_stands y ys) in
-    record {
-      span = y;
-      stands = rw r.among (stands_at _ _ start _ n y (omega (arith, r.starts)) (omega (arith, r.number, stored_is 0 r.before)) st);
-      seen_is = refl;
-      outcome_is = refl;
-      scan_is = refl;
-      stop_is = omega (arith, r.starts, r.stops, put_phrases-push shape first_count r.before (Full seen));
-    }
+    has_span P shape c (look seen Stops) (put_spans shape calls) n start stop
+    (rw r.among (stands_at _ _ start _ n y (omega (arith, r.starts)) (omega (arith, r.number, stored_is 0 r.before)) st))
+    (omega (arith, r.starts, r.stops, put_phrases-push shape first_count r.before (Full seen)))
 
 -- ---- takes
 
@@ -207,15 +195,7 @@ behind_takes shape c (Empty seen ∷ before) rest end s n x st =
 take_phrases-push :
     (shape : Shape) (c : Count) (before : List Take) (x : Take) →
     length (take_phrases shape c (before ++ x ∷ [])) ≡ length (take_phrases shape c before) + length (take_phrase shape (taken_count shape c before) x)
-take_phrases-push shape c [] x = omega (arith, length-append (take_phrase shape c x) [])
-take_phrases-push shape c (y ∷ before) x =
-    let next : Count = count_after shape c y in
-    omega (
-      arith,
-      length-append (take_phrase shape c y) (take_phrases shape next (before ++ x ∷ [])),
-      length-append (take_phrase shape c y) (take_phrases shape next before),
-      take_phrases-push shape next before x,
-    )
+take_phrases-push shape c before x = ap length (phrases-push shape c before x) ∙ length-append (take_phrases shape c before) (take_phrase shape (taken_count shape c before) x)
 
 -- where the second scan of a take begins: behind its first scan, which gave seen, and the read of the close bit
 abbrev pub second_scan : ℕ → ℕ → ℕ
@@ -234,14 +214,9 @@ item_has_span shape calls seen items k start stop r =
     let y : Span = span_of C shape c (look seen (Passes items)) in
     let ys : List Span = spans C shape (count_after shape c (Item seen items)) (take_looks r.after calls.end) in
     let st = behind_takes shape first_count r.before (Item seen items ∷ r.after) calls.end 0 0 y (first_stands y ys) in
-    record {
-      span = y;
-      stands = rw r.among (stands_at _ _ start _ k y (omega (arith, r.starts)) (omega (arith, r.number, taken_is 0 r.before)) st);
-      seen_is = refl;
-      outcome_is = refl;
-      scan_is = refl;
-      stop_is = omega (arith, r.starts, r.stops, take_phrases-push shape first_count r.before (Item seen items), take_phrase-item shape c seen items);
-    }
+    has_span C shape c (look seen (Passes items)) (take_spans shape calls) k start stop
+    (rw r.among (stands_at _ _ start _ k y (omega (arith, r.starts)) (omega (arith, r.number, taken_is 0 r.before)) st))
+    (omega (arith, r.starts, r.stops, take_phrases-push shape first_count r.before (Item seen items), take_phrase-item shape c seen items))
 
 -- one that finds the ring empty
 pub empty_has_span :
@@ -252,14 +227,9 @@ empty_has_span shape calls seen k start stop r =
     let y : Span = span_of C shape c (look seen (Asks false)) in
     let ys : List Span = spans C shape c (take_looks r.after calls.end) in
     let st = behind_takes shape first_count r.before (Empty seen ∷ r.after) calls.end 0 0 y (first_stands y ys) in
-    record {
-      span = y;
-      stands = rw r.among (stands_at _ _ start _ k y (omega (arith, r.starts)) (omega (arith, r.number, taken_is 0 r.before)) st);
-      seen_is = refl;
-      outcome_is = refl;
-      scan_is = refl;
-      stop_is = omega (arith, r.starts, r.stops, take_phrases-push shape first_count r.before (Empty seen), take_phrase-empty shape c seen);
-    }
+    has_span C shape c (look seen (Asks false)) (take_spans shape calls) k start stop
+    (rw r.among (stands_at _ _ start _ k y (omega (arith, r.starts)) (omega (arith, r.number, taken_is 0 r.before)) st))
+    (omega (arith, r.starts, r.stops, take_phrases-push shape first_count r.before (Empty seen), take_phrase-empty shape c seen))
 
 -- one that takes items by a second scan
 pub after_has_second :
@@ -272,19 +242,7 @@ after_has_second shape calls seen again items k start stop r =
     let zs : List Span = spans C shape (count_after shape c (ItemAfterClose seen again items)) (take_looks r.after calls.end) in
     let st = behind_takes shape first_count r.before (ItemAfterClose seen again items ∷ r.after) calls.end (whole y) 0 z
     (stands_behind y (z ∷ zs) 0 0 (whole y) 0 z (omega arith) (omega arith) (first_stands z zs)) in
-    record {
-      span = z;
-      stands = rw r.among
-          (stands_at _ _ (second_scan start seen) _ k z (omega (arith, r.starts, second_is shape c seen start)) (omega (arith, r.number, taken_is 0 r.before)) st);
-      seen_is = refl;
-      outcome_is = refl;
-      scan_is = refl;
-      stop_is = omega (
-        arith,
-        r.starts,
-        r.stops,
-        take_phrases-push shape first_count r.before (ItemAfterClose seen again items),
-        take_phrase-after shape c seen again items,
-        second_is shape c seen start,
-      );
-    }
+    let second = second_is shape c seen start in
+    has_span C shape c (look again (Passes items)) (take_spans shape calls) k (second_scan start seen) stop
+    (rw r.among (stands_at _ _ (second_scan start seen) _ k z (omega (arith, r.starts, second)) (omega (arith, r.number, taken_is 0 r.before)) st))
+    (omega (arith, r.starts, r.stops, take_phrases-push shape first_count r.before (ItemAfterClose seen again items), take_phrase-after shape c seen again items, second))

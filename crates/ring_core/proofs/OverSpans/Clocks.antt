@@ -40,29 +40,30 @@ pub record IsTakeSpan (modulus capacity k : ℕ) (x : Span) : Type 0 where
   pub item : 1 ≤ counts x.outcome → (counts x.outcome ≤ distance modulus x.seen (k % modulus)) × (distance modulus x.seen (k % modulus) ≤ capacity)
   pub none : counts x.outcome ≡ 0 → (distance modulus x.seen (k % modulus) ≡ 0) ⊎ (capacity < distance modulus x.seen (k % modulus))
 
--- A word write of a put is of the cell, and neither the put's word writes nor the read of the cell end before the other begins.
--- The read begins at position first, and ends at position last or is open there.
-pub record CellOverlap (capacity : ℕ) (p : ℕ → ℕ) (puts : List Span) (cell first last : ℕ) : Type 0 where
+-- a word write of a put is of the cell
+pub record WritesCell (capacity : ℕ) (puts : List Span) (cell : ℕ) : Type 0 where
   pub start : ℕ
   pub number : ℕ
   pub put : Span
   pub index : ℕ
   pub stands : IsSpanAt puts start number put
-  pub stored : index < counts put.outcome
   pub same_cell : (number + index) % capacity ≡ cell
+
+-- A word write of a put is of the cell, and neither the put's word writes nor the read of the cell end before the other begins.
+-- The read begins at position first, and ends at position last or is open there.
+pub record CellOverlap (capacity : ℕ) (p : ℕ → ℕ) (puts : List Span) (cell first last : ℕ) : Type 0 where
+  pub write : WritesCell capacity puts cell
+  pub open write use *
+  pub stored : index < counts put.outcome
   pub begun_before : start + put.scan < p last
   pub not_ended : p first < start + before_count put
 
 -- The last word write of the cell whose put had ended its word writes before position first, and its item: no put with a later
 -- one had begun them.
 pub record IsLastWrite (capacity : ℕ) (p : ℕ → ℕ) (puts : List Span) (cell first item : ℕ) : Type 0 where
-  pub start : ℕ
-  pub number : ℕ
-  pub put : Span
-  pub index : ℕ
-  pub stands : IsSpanAt puts start number put
+  pub write : WritesCell capacity puts cell
+  pub open write use *
   pub stored : slice_get (items_of put.outcome) index ≡ Some item
-  pub same_cell : (number + index) % capacity ≡ cell
   pub had_ended : start + before_count put ≤ p first
   pub no_later :
       (s n i : ℕ) (y : Span) → IsSpanAt puts s n y → i < counts y.outcome → (n + i) % capacity ≡ cell → number + index < n + i → s + y.scan ≤ p first → ⊥

@@ -145,6 +145,19 @@ proper_at most [] h s n x st = elim st [ ]
 proper_at most (y ∷ ys) h s n x (inl st) = rw st.2 h.0
 proper_at most (y ∷ ys) h s n x (inr st) = proper_at most ys h.1 st.0 st.1 x st.4
 
+-- a scan that has ended has read a number between bounds that hold of what the counts were where it began and where it ended
+reads_between :
+    (modulus : ℕ) (own other : ℕ → ℕ) → Clock own → Clock other → (most most' : ℕ) (scans writes : List Span) → AllProper most scans → AllProper most' writes →
+    AreRegular modulus own other scans writes → (Low High : ℕ → Type 0) (t s n : ℕ) (x : Span) → IsSpanAt scans s n x → s + x.scan ≤ own t →
+    ((first number : ℕ) → first ≤ t → counts_begun scans (own first) ≡ n → counts_begun writes (other first) ≤ number + most' → Low number) →
+    ((last number : ℕ) → last ≤ t → counts_begun scans (own last) ≡ n → number ≤ counts_begun writes (other last) → High number) →
+    Reads modulus own other writes Low High t s x
+reads_between modulus own other ho hw most most' scans writes ps pw regular Low High t s n x st l low high =
+    let r = read_of modulus own other ho hw most most' scans writes ps pw regular t s n x (proper_at most scans ps s n x st) st l in
+    let ended = ended_begun most' writes pw (other r.first) in
+    reads_so modulus own other ho scans writes Low High t s n x r
+    (low r.first r.number (omega (arith, r.in_order, r.by_now)) r.at_first (omega (arith, ended, r.not_older))) (high r.last r.number r.by_now r.at_last r.not_newer)
+
 module _ (modulus capacity batch more word : ℕ) (p c : ℕ → ℕ) (puts takes : List Span) (ring : Ring modulus capacity batch more word p c puts takes)
     (proper_puts : AllProper batch puts) (proper_takes : AllProper more takes) where
   hp : Clock p
@@ -164,11 +177,8 @@ module _ (modulus capacity batch more word : ℕ) (p c : ℕ → ℕ) (puts take
   -- each scan of the consumer that has ended has read so, where the counts were right up to now
   shown : (t : ℕ) → ((u : ℕ) → u ≤ t → Within u) → (s k : ℕ) (x : Span) → IsSpanAt takes s k x → s + x.scan ≤ c t → Shown t s k x
   shown t within s k x st l =
-      let r = read_of modulus c p hc hp more batch takes puts proper_takes proper_puts ring.takes_regular t s k x (proper_at more takes proper_takes s k x st) st l in
-      let a = within r.first (omega (arith, r.in_order, r.by_now)) in
-      let z = within r.last r.by_now in
-      let o = ended_begun batch puts proper_puts (p r.first) in
-      reads_so modulus c p hc takes puts _ _ t s k x r (omega (arith, a, o, r.at_first, r.not_older)) (omega (arith, z, r.at_last, r.not_newer))
+      reads_between modulus c p hc hp more batch takes puts proper_takes proper_puts ring.takes_regular _ _ t s k x st l
+      (λ first number by here older. omega (arith, within first by, here, older)) (λ last number by here newer. omega (arith, within last by, here, newer))
 
   -- what a scan of the producer reads
   abbrev pub Left : (t s n : ℕ) → Span → Type 0
@@ -177,11 +187,8 @@ module _ (modulus capacity batch more word : ℕ) (p c : ℕ → ℕ) (puts take
   -- the same of a scan of the producer
   left : (t : ℕ) → ((u : ℕ) → u ≤ t → Within u) → (s n : ℕ) (x : Span) → IsSpanAt puts s n x → s + x.scan ≤ p t → Left t s n x
   left t within s n x st l =
-      let r = read_of modulus p c hp hc batch more puts takes proper_puts proper_takes ring.puts_regular t s n x (proper_at batch puts proper_puts s n x st) st l in
-      let a = within r.first (omega (arith, r.in_order, r.by_now)) in
-      let z = within r.last r.by_now in
-      let o = ended_begun more takes proper_takes (c r.first) in
-      reads_so modulus p c hp puts takes _ _ t s n x r (omega (arith, a, o, r.at_first, r.not_older)) (omega (arith, z, r.at_last, r.not_newer))
+      reads_between modulus p c hp hc batch more puts takes proper_puts proper_takes ring.puts_regular _ _ t s n x st l
+      (λ first number by here older. omega (arith, within first by, here, older)) (λ last number by here newer. omega (arith, within last by, here, newer))
 
   -- a take that takes items has read a count that shows them
   shows_items : (t s k : ℕ) (x : Span) → IsSpanAt takes s k x → (r : Shown t s k x) → 1 ≤ counts x.outcome → k + counts x.outcome ≤ r.number

@@ -1,14 +1,12 @@
 -- The calls of each side as looks: their accesses, their items and their rules by spans.
 use Rattle.std.proofs.Common.{◌≡◌, ◌⊎◌, inl, inr, ℕ, zero, suc, ◌+◌, ◌-◌, ◌*◌, ◌%◌, ◌<◌, ◌≤◌, Bool, true, false, nat_lt, nat_le, if◌then◌else◌, List, [], ◌∷◌, ◌++◌, length, refl, sym, ap, subst, ◌∙◌, arith, append_assoc, length-append}
 use Rattle.std.proofs.lemmas.Bool.Decides.{nat_tests}
-use Rattle.std.proofs.Math.Nat.{suc-mul}
 use Rattle.bits_core.specs.declared.events.Side.{Side}
 use Rattle.bits_core.specs.declared.events.Side.TheVariants.{P, C}
 use Rattle.bits_core.specs.declared.events.Bit.TheVariants.{X}
 use Rattle.bits_core.specs.declared.shapes.Shape.{Shape}
 use Rattle.bits_core.specs.Shape.{AllFit, batch_of, capacity_of, modulus_of, take_batch_of, width_of}
 use Rattle.bits_core.specs.Made.{Made, Read}
-use Rattle.register_core.specs.Word.{word_read}
 use Rattle.register_core.specs.ScanState.{scan_phrase, row_read_by}
 use Rattle.ring_core.specs.Counts.{distance, number_past, Count, first_count, batch_phrase, IsCount}
 use Rattle.ring_core.specs.Puts.{Put, Stored, Full, Puts, stored_after, words_phrase, put_phrases, close_phrase, ArePuts}
@@ -21,7 +19,7 @@ use Rattle.ring_core.proofs.OverSpans.Timeline.{AllProper}
 use Rattle.ring_core.proofs.Readings.Cuts.{at_most_or_above}
 use Rattle.ring_core.proofs.OverSpans.SpanLaw.{LastTwo, two_last, two_after}
 use Rattle.ring_core.proofs.CountRow.{past_is, first_is_count, counted_is_count, batch_below, take_batch_below, batch_long}
-use Rattle.ring_core.proofs.Machines.Lengths.{length-scan, length-words, length-word_read}
+use Rattle.ring_core.proofs.Machines.Lengths.{length-scan, length-words, length-words_read}
 use Rattle.ring_core.proofs.Readings.PutsRead.{puts_stored, puts_full}
 use Rattle.ring_core.proofs.Readings.TakesFirst.{item_first, after_first, empty_first, closed_first}
 
@@ -200,18 +198,6 @@ pub scan_is :
 scan_is s shape looks start m x st =
     let r : LookAt s shape (look_accesses s shape first_count looks []) m start x = look_from_first s shape looks [] start m x st in
     rw r.is_x (omega (arith, length-scan (row_read_by s) r.look.seen))
-
--- words that are read have an access for each digit
-pub length-words_read : (shape : Shape) (n : ℕ) (items : List ℕ) → length (words_read shape n items) ≡ length items * width_of shape
-length-words_read shape n [] = omega arith
-length-words_read shape n (item ∷ items) =
-    omega (
-      arith,
-      length-append (word_read (width_of shape) (n % capacity_of shape) item) (words_read shape (suc n) items),
-      length-word_read (width_of shape) (n % capacity_of shape) item,
-      length-words_read shape (suc n) items,
-      suc-mul (length items) (width_of shape),
-    )
 
 pub word_length : (s : Side) (shape : Shape) (n : ℕ) (o : Outcome) → 1 ≤ counts o → length (word_part s shape n o) ≡ counts o * width_of shape
 word_length P shape n (Passes items) e = length-words shape n items

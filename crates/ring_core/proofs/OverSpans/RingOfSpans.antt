@@ -1,20 +1,20 @@
 -- The law of the ring over spans, as it is proved: the law over calls is read off it.
-use Rattle.std.specs.Prelude.{◌≡◌, ℕ, suc, ◌+◌, ◌-◌, ◌*◌, ◌<◌, ◌≤◌, ◌%◌, true, false, Some, List, length, slice_get}
+use Rattle.std.specs.Prelude.{◌≡◌, ℕ, suc, ◌+◌, ◌-◌, ◌*◌, ◌<◌, ◌≤◌, ◌%◌, false, Some, List, length, slice_get}
 use Rattle.bits_core.specs.declared.events.Side.{Side}
 use Rattle.bits_core.specs.declared.events.Side.TheVariants.{P, C}
 use Rattle.bits_core.specs.declared.events.Event.{Event}
 use Rattle.bits_core.specs.declared.shapes.Shape.{Shape}
 use Rattle.bits_core.specs.Shape.{batch_of, capacity_of, modulus_of, take_batch_of, width_of}
 use Rattle.bits_core.specs.Intervals as intervals
-use Rattle.bits_core.specs.Made.{subhistory, clock, IsPlaceOf, IsPrefix}
+use Rattle.bits_core.specs.Made.{subhistory, clock, IsPlaceOf}
 use Rattle.ring_core.specs.Counts.{distance, first_count}
 use Rattle.ring_core.specs.Puts.{Puts, put_phrases}
 use Rattle.ring_core.specs.Takes.{Takes}
-use Rattle.ring_core.specs.Items.{events_in, items_put, items_taken, all_put, IsTold}
+use Rattle.ring_core.specs.Items.{events_in, items_put}
 use Rattle.ring_core.proofs.OverSpans.Spans.{Span, Asks, counts, items_of, before_count, counts_begun, counts_ended, IsSpanAt, sizes, tally}
 use Rattle.ring_core.proofs.OverSpans.Clocks.{IsPlace}
 use Rattle.ring_core.proofs.OverSpans.LookSpans.{put_spans, take_spans}
-use Rattle.ring_core.specs.RingLaw.{IsInterval}
+use Rattle.ring_core.specs.RingLaw.{IsInterval, TakenArePrefix, ClosedIsTrue}
 
 -- the items of the puts whose count write has begun before a place, of those that have ended before it, and the same of takes
 abbrev pub puts_begun : Shape → List Event → Puts → ℕ → ℕ
@@ -47,11 +47,6 @@ abbrev pub IsWordAccess : Side → Shape → List Event → ℕ → Span → ℕ
 IsWordAccess side shape h s x i start stop =
     IsInterval side h (s + x.scan + 2 * (i * width_of shape)) (s + x.scan + 2 * (suc i * width_of shape) - 1) start stop
 
--- at every moment no more items are taken than put, and at most as many are put and not taken as the ring has cells
-abbrev pub IsWithin : Shape → List Event → Puts → Takes → Type 0
-IsWithin shape h puts takes =
-    (t : ℕ) → (takes_begun shape h takes t ≤ puts_begun shape h puts t) × (puts_begun shape h puts t ≤ takes_begun shape h takes t + capacity_of shape)
-
 -- a put behind n items reads a count from n - capacity - 1 to n
 abbrev pub PutsAreInRange : Shape → List Event → Puts → Takes → Type 0
 PutsAreInRange shape h puts takes =
@@ -72,11 +67,6 @@ CellsAreQuiet shape h puts takes =
     (start stop start' stop' : ℕ) → IsWordAccess P shape h s x i start stop → IsWordAccess C shape h s' y i' start' stop' →
     ¬ intervals.Overlap start stop start' stop'
 
--- at every moment the items taken are a prefix of the items put
-abbrev pub TakenArePrefix : Shape → List Event → Puts → Takes → Type 0
-TakenArePrefix shape h puts takes =
-    (t : ℕ) → IsPrefix (items_taken shape first_count takes.takes (clock C h t)) (items_put shape first_count puts.puts (clock P h t))
-
 -- word read i of a take behind k items, once it has ended, has item number k + i of those put
 abbrev pub TakesMatchPuts : Shape → List Event → Puts → Takes → Type 0
 TakesMatchPuts shape h puts takes =
@@ -91,46 +81,31 @@ EmptyIsFresh shape h puts takes =
     (first : ℕ) → IsPlaceOf C h s first →
     (puts_ended shape h puts first ≤ takes_ended shape h takes first) × (clock P h first < events_in (put_phrases shape first_count puts.puts) + 2)
 
--- a put that finds the ring full: the items stored before it, less the takes of an item that had ended where it began, are at
--- least the capacity
-abbrev pub FullIsFresh : Shape → List Event → Puts → Takes → Type 0
-FullIsFresh shape h puts takes =
-    (s n : ℕ) (x : Span) → IsSpanAt (put_spans shape puts) s n x → counts x.outcome ≡ 0 → s + x.scan ≤ length (subhistory P h) →
-    (first : ℕ) → IsPlaceOf P h s first → takes_ended shape h takes first + capacity_of shape ≤ n
-
--- a put whose items fill all the room that its scan left: the items stored up to and with it, less the takes of an item that had
--- ended where it began, are at least the capacity
-abbrev pub FillIsFresh : Shape → List Event → Puts → Takes → Type 0
-FillIsFresh shape h puts takes =
-    (s n : ℕ) (x : Span) → IsSpanAt (put_spans shape puts) s n x →
-    distance (modulus_of shape) (n % modulus_of shape) x.seen + counts x.outcome ≡ capacity_of shape → s + x.scan ≤ length (subhistory P h) →
-    (first : ℕ) → IsPlaceOf P h s first → takes_ended shape h takes first + capacity_of shape ≤ n + counts x.outcome
-
--- a take that takes all the items that its scan showed
-abbrev pub DrainIsFresh : Shape → List Event → Puts → Takes → Type 0
-DrainIsFresh shape h puts takes =
-    (s k : ℕ) (x : Span) → IsSpanAt (take_spans shape takes) s k x → 1 ≤ counts x.outcome →
-    distance (modulus_of shape) x.seen (k % modulus_of shape) ≡ counts x.outcome → s + x.scan ≤ length (subhistory C h) →
-    (first : ℕ) → IsPlaceOf C h s first → puts_ended shape h puts first ≤ k + counts x.outcome
-
--- once the consumer was told that the ring is closed, at every later moment all items of the calls were put and taken, and the
--- close has begun, behind all puts
-abbrev pub ClosedIsTrue : Shape → List Event → Puts → Takes → Type 0
-ClosedIsTrue shape h puts takes =
-    (t u : ℕ) → IsTold shape takes (clock C h t) → t ≤ u →
-    (items_put shape first_count puts.puts (clock P h u) ≡ all_put puts.puts) × (items_taken shape first_count takes.takes (clock C h u) ≡ all_put puts.puts) ×
-    (puts.closes ≡ true) × (events_in (put_phrases shape first_count puts.puts) < clock P h u)
-
--- all of these
+-- what holds of a run
 pub record LawOfSpans (shape : Shape) (h : List Event) (puts : Puts) (takes : Takes) : Type 0 where
-  pub within : IsWithin shape h puts takes
+  -- at every moment no more items are taken than put, and at most as many are put and not taken as the ring has cells
+  pub within :
+      (t : ℕ) → (takes_begun shape h takes t ≤ puts_begun shape h puts t) × (puts_begun shape h puts t ≤ takes_begun shape h takes t + capacity_of shape)
   pub put_range : PutsAreInRange shape h puts takes
   pub take_range : TakesAreInRange shape h puts takes
   pub quiet : CellsAreQuiet shape h puts takes
   pub prefix : TakenArePrefix shape h puts takes
   pub items : TakesMatchPuts shape h puts takes
   pub empty : EmptyIsFresh shape h puts takes
-  pub full : FullIsFresh shape h puts takes
-  pub fill : FillIsFresh shape h puts takes
-  pub drain : DrainIsFresh shape h puts takes
   pub closed : ClosedIsTrue shape h puts takes
+  -- a put that finds the ring full: the items stored before it, less the takes of an item that had ended where it began, are at
+  -- least the capacity
+  pub full :
+      (s n : ℕ) (x : Span) → IsSpanAt (put_spans shape puts) s n x → counts x.outcome ≡ 0 → s + x.scan ≤ length (subhistory P h) →
+      (first : ℕ) → IsPlaceOf P h s first → takes_ended shape h takes first + capacity_of shape ≤ n
+  -- a put whose items fill all the room that its scan left: the items stored up to and with it, less the takes of an item that had
+  -- ended where it began, are at least the capacity
+  pub fill :
+      (s n : ℕ) (x : Span) → IsSpanAt (put_spans shape puts) s n x →
+      distance (modulus_of shape) (n % modulus_of shape) x.seen + counts x.outcome ≡ capacity_of shape → s + x.scan ≤ length (subhistory P h) →
+      (first : ℕ) → IsPlaceOf P h s first → takes_ended shape h takes first + capacity_of shape ≤ n + counts x.outcome
+  -- a take that takes all the items that its scan showed
+  pub drain :
+      (s k : ℕ) (x : Span) → IsSpanAt (take_spans shape takes) s k x → 1 ≤ counts x.outcome →
+      distance (modulus_of shape) x.seen (k % modulus_of shape) ≡ counts x.outcome → s + x.scan ≤ length (subhistory C h) →
+      (first : ℕ) → IsPlaceOf C h s first → puts_ended shape h puts first ≤ k + counts x.outcome

@@ -103,13 +103,15 @@ module _ (modulus capacity batch more word : ℕ) (p c : ℕ → ℕ) (puts take
       (λ v. quiet s k i x st has first.place last.place order (omega (arith, first.is)) (omega (arith, last.is, w, whole_words, size, some)) v)
       g.item
       (record {
-        start = g.start;
-        number = g.number;
-        put = g.span;
-        index = g.index;
-        stands = g.stands;
+        write = record {
+          start = g.start;
+          number = g.number;
+          put = g.span;
+          index = g.index;
+          stands = g.stands;
+          same_cell = ap (λ (n : ℕ). n % capacity) (sym g.is_k);
+        };
         stored = g.stored;
-        same_cell = ap (λ (n : ℕ). n % capacity) (sym g.is_k);
         had_ended = elim (at_most_or_above (g.start + before_count g.span) (p first.place)) [
           | inl m ↦ m
           | inr m ↦ (

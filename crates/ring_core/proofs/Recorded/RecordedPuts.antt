@@ -149,7 +149,7 @@ module _ (shape : Shape) (offers : ℕ → List ℕ) (wants : ℕ → ℕ) (h : 
           left = now.left;
           taken = now.taken;
           moment = past_p h t p q e rest by now.moment;
-          put = inr (inr (inl (record { count = c; start = p; behind = b; place_is = omega arith; left_is = none; closes = closes; again = k.shut; put_is = refl })));
+          put = inr (inr (inl (record { past = record { count = c; start = p; behind = b; place_is = omega arith; left_is = none }; closes = closes; again = k.shut; put_is = refl })));
           take = now.take;
           items = now.items;
           shut = λ s. absurd (omega (arith, now.shut s, b.all));
@@ -174,7 +174,7 @@ module _ (shape : Shape) (offers : ℕ → List ℕ) (wants : ℕ → ℕ) (h : 
           left = now.left;
           taken = now.taken;
           moment = past_p h t p q e rest by now.moment;
-          put = inr (inr (inr (record { count = r.count; start = r.start; behind = b; place_is = omega (arith, r.place_is); left_is = r.left_is; put_is = refl })));
+          put = inr (inr (inr (record { past = record { count = r.count; start = r.start; behind = b; place_is = omega (arith, r.place_is); left_is = r.left_is }; put_is = refl })));
           take = now.take;
           items = now.items;
           shut = λ s. (omega (arith, r.place_is, b.all), inl (omega (arith, r.place_is, b.all)));

@@ -54,24 +54,26 @@ pub record PutRuns (shape : Shape) (offers : ℕ → List ℕ) (h : List Event) 
   pub no_room :
       start + put_long shape count call ≤ length (subhistory P h) → length (put_items call) < length left → capacity_of shape ≤ before + length (put_items call)
 
--- it is in its close
-pub record PutCloses (shape : Shape) (offers : ℕ → List ℕ) (puts : Puts) (p : ℕ) (stored left : List ℕ) (put : PutTurn) : Type 0 where
+-- it is past all puts, with so many own events of its close
+pub record PastPuts (shape : Shape) (offers : ℕ → List ℕ) (puts : Puts) (p made : ℕ) (stored left : List ℕ) : Type 0 where
   pub count : Count
   pub start : ℕ
   pub behind : PutsBehind shape offers puts count start stored []
-  pub place_is : p ≡ start + 1
+  pub place_is : p ≡ start + made
   pub left_is : left ≡ []
+
+-- it is in its close
+pub record PutCloses (shape : Shape) (offers : ℕ → List ℕ) (puts : Puts) (p : ℕ) (stored left : List ℕ) (put : PutTurn) : Type 0 where
+  pub past : PastPuts shape offers puts p 1 stored left
+  pub open past use *
   pub closes : puts.closes ≡ true
   pub again : Bool
   pub put_is : put ≡ Closes again
 
 -- its close has ended
 pub record PutClosed (shape : Shape) (offers : ℕ → List ℕ) (puts : Puts) (p : ℕ) (stored left : List ℕ) (put : PutTurn) : Type 0 where
-  pub count : Count
-  pub start : ℕ
-  pub behind : PutsBehind shape offers puts count start stored []
-  pub place_is : p ≡ start + 2
-  pub left_is : left ≡ []
+  pub past : PastPuts shape offers puts p 2 stored left
+  pub open past use *
   pub put_is : put ≡ Free
 
 abbrev pub PutAt : Shape → (ℕ → List ℕ) → List Event → Puts → ℕ → (stored left : List ℕ) → PutTurn → Type 0

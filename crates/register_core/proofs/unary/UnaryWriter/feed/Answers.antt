@@ -38,14 +38,10 @@ returns-else-not-self-clause-stands c = feed-stands c.args.self.now _ (returns-e
 
 pub returns-then-not-self-clause-left : goal.returns-then-not-self-clause-left
 returns-then-not-self-clause-left c =
-    let w : UnaryState = record { side = c.self.inside.side; modulus = c.self.inside.modulus; bits = c.self.inside.bits; value = c.self.inside.value } in
-    let within : w.value < length w.bits = omega (arith, c.self.invariant.below, c.self.invariant.fits, c.self.told) in
-    let within' = subst (λ (u : UnaryState). u.value < length u.bits) c.self.view_is within in
-    feed-left c.args.self.now _ within' (returns-then-not-self-clause-state c)
+    let within : c.self.inside.value < length c.self.inside.bits = omega (arith, c.self.invariant.below, c.self.invariant.fits, c.self.told) in
+    feed-left c.args.self.now _ (subst (λ (u : UnaryState). u.value < length u.bits) c.self.view_is within) (returns-then-not-self-clause-state c)
 
 pub returns-else-not-self-clause-left : goal.returns-else-not-self-clause-left
 returns-else-not-self-clause-left c =
-    let w : UnaryState = record { side = c.self.inside.side; modulus = c.self.inside.modulus; bits = c.self.inside.bits; value = c.self.inside.value } in
-    let within : w.value < length w.bits = omega (arith, c.self.invariant.below, c.self.invariant.fits, c.self.told) in
-    let within' = subst (λ (u : UnaryState). u.value < length u.bits) c.self.view_is within in
-    feed-left c.args.self.now _ within' (returns-else-not-self-clause-state c)
+    let within : c.self.inside.value < length c.self.inside.bits = omega (arith, c.self.invariant.below, c.self.invariant.fits, c.self.told) in
+    feed-left c.args.self.now _ (subst (λ (u : UnaryState). u.value < length u.bits) c.self.view_is within) (returns-else-not-self-clause-state c)

@@ -1,5 +1,6 @@
+use Rattle.std.proofs.Common.{false}
 use Rattle.ring_core.specs.contracts.consumer_parts.TakeScan.{the_view}
-use Rattle.ring_core.proofs.TakeScans.{zero_keeps, zero_on}
+use Rattle.ring_core.proofs.TakeScans.{zero_keeps, open_on}
 use Rattle.ring_core.proofs.consumer_parts.TakeScan.zero.Goals as goal
 
 pub invariant_of-self : goal.invariant_of-self
@@ -9,4 +10,4 @@ invariant_of-self c = (
 )
 
 pub returns-clause-stands : goal.returns-clause-stands
-returns-clause-stands c = rw (← c.self.view_is) (zero_on (the_view c.self.inside) c.feed.new.self c.self.invariant.0 c.feed.ensures.stands)
+returns-clause-stands c = rw (← c.self.view_is) (open_on (the_view c.self.inside) c.feed.new.self false c.self.invariant.0 c.feed.ensures.stands)
