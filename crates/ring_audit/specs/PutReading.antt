@@ -40,6 +40,10 @@ pub record PutReading : Type 0 where
   pub row : UnaryState
   pub open_access : Option Access
 
+-- the reader is at the stage, with this access open
+abbrev pub IsAtStage : PutReading → Stage → Option Access → Type 0
+IsAtStage r stage open_access = (r.stage ≡ stage) × (r.open_access ≡ open_access)
+
 -- what holds at each stage
 abbrev pub IsReaderAt : Stage → PutReading → Type 0
 IsReaderAt Resting r = (r.open_access ≡ None) × (due_unary r.row ≡ None)

@@ -7,7 +7,7 @@ ghost use Rattle.bits_core.specs.Shape.{modulus_of, batch_of};
 ghost use Rattle.ring_core.specs.Counts.{LeavesRoom, LeavesRoomFor};
 ghost use Rattle.ring_audit.specs.Sides.{AreOfPuts};
 ghost use Rattle.ring_audit.specs.Dues.{AreInOrder, IsNoneOf};
-ghost use Rattle.ring_audit.specs.PutReading.{PutsStand, HasReadPut, WerePut};
+ghost use Rattle.ring_audit.specs.PutReading.{IsAtStage, PutsStand, HasReadPut, WerePut};
 
 use crate::choices::{Dues, ends, only, opening, writes};
 use crate::sides::{answer_to, begun_by, is_same, told_by, writes_next};
@@ -101,7 +101,7 @@ fn most_items(shape: &Shape, count: u64, seen: u64) -> u64
 }
 
 impl PutReader {
-    ghost use Rattle.ring_audit.specs.declared.puts.Stage.TheVariants.{Resting, Scanning, Choosing, Storing, Counting, Closing};
+    ghost use Rattle.ring_audit.specs.declared.puts.Stage.TheVariants.{Resting, Scanning, Choosing, Storing, Counting};
 
     /// A reader that has read no event.
     pub fn new(shape: &Shape) -> Self
@@ -163,8 +163,7 @@ impl PutReader {
 
     // Between calls: a scan begins, or the close.
     fn begin_call(&mut self, access: Access) -> PutStep
-        requires none { self.old.open_access ≡ None }
-        requires stage { self.old.stage ≡ Resting }
+        requires at { IsAtStage self.old Resting None }
         ensures shape { self.new.shape ≡ self.old.shape }
         ensures read { HasReadPut self.old.shape self.old self.new (opening_event P access) result }
     {
@@ -206,8 +205,7 @@ impl PutReader {
 
     // Behind a scan that found room, or a whole word: the next word begins, or the count write.
     fn begin_word(&mut self, access: Access) -> PutStep
-        requires none { self.old.open_access ≡ None }
-        requires stage { self.old.stage ≡ Choosing }
+        requires at { IsAtStage self.old Choosing None }
         ensures shape { self.new.shape ≡ self.old.shape }
         ensures read { HasReadPut self.old.shape self.old self.new (opening_event P access) result }
     {
@@ -225,8 +223,7 @@ impl PutReader {
 
     // Behind a whole word: the count write begins, where the access is no write of the next word.
     fn begin_count(&mut self, access: Access) -> PutStep
-        requires none { self.old.open_access ≡ None }
-        requires stage { self.old.stage ≡ Choosing }
+        requires at { IsAtStage self.old Choosing None }
         requires some { self.old.some ≡ true }
         requires no_word { (v : Bool) → 0 < self.old.room → access ≢ Access.Write (Cell self.old.cell 0) v }
         ensures shape { self.new.shape ≡ self.old.shape }
@@ -254,15 +251,18 @@ impl PutReader {
             Stage::Scanning => self.finish_read(access, answer),
             Stage::Storing => self.finish_digit(access, answer),
             Stage::Counting => self.finish_bit(access, answer),
-            Stage::Closing => self.finish_close(access, answer),
+            Stage::Closing => {
+                self.open_access = None;
+                self.stage = Stage::Closed;
+                PutStep::GoesOn
+            }
             Stage::Resting | Stage::Choosing | Stage::Closed => PutStep::Stops,
         }
     }
 
     // A read of a scan ends.
     fn finish_read(&mut self, access: Access, answer: bool) -> PutStep
-        requires open_access { self.old.open_access ≡ Some access }
-        requires stage { self.old.stage ≡ Scanning }
+        requires at { IsAtStage self.old Scanning (Some access) }
         ensures shape { self.new.shape ≡ self.old.shape }
         ensures read { HasReadPut self.old.shape self.old self.new (end_event P (answered access answer)) result }
     {
@@ -289,8 +289,7 @@ impl PutReader {
 
     // A write of a digit ends.
     fn finish_digit(&mut self, access: Access, answer: bool) -> PutStep
-        requires open_access { self.old.open_access ≡ Some access }
-        requires stage { self.old.stage ≡ Storing }
+        requires at { IsAtStage self.old Storing (Some access) }
         ensures shape { self.new.shape ≡ self.old.shape }
         ensures read { HasReadPut self.old.shape self.old self.new (end_event P (answered access answer)) result }
     {
@@ -311,8 +310,7 @@ impl PutReader {
 
     // A bit write of the count ends.
     fn finish_bit(&mut self, access: Access, answer: bool) -> PutStep
-        requires open_access { self.old.open_access ≡ Some access }
-        requires stage { self.old.stage ≡ Counting }
+        requires at { IsAtStage self.old Counting (Some access) }
         ensures shape { self.new.shape ≡ self.old.shape }
         ensures read { HasReadPut self.old.shape self.old self.new (end_event P (answered access answer)) result }
     {
@@ -322,18 +320,6 @@ impl PutReader {
             self.count = self.next;
             self.stage = Stage::Resting;
         }
-        PutStep::GoesOn
-    }
-
-    // The close ends.
-    fn finish_close(&mut self, access: Access, answer: bool) -> PutStep
-        requires open_access { self.old.open_access ≡ Some access }
-        requires stage { self.old.stage ≡ Closing }
-        ensures shape { self.new.shape ≡ self.old.shape }
-        ensures read { HasReadPut self.old.shape self.old self.new (end_event P (answered access answer)) result }
-    {
-        self.open_access = None;
-        self.stage = Stage::Closed;
         PutStep::GoesOn
     }
 
@@ -375,8 +361,7 @@ impl PutReader {
 
     // Behind a scan that found room, or a whole word: the begins of the next word, and of the count write.
     fn word_or_count(&mut self) -> Dues
-        requires none { self.old.open_access ≡ None }
-        requires stage { self.old.stage ≡ Choosing }
+        requires at { IsAtStage self.old Choosing None }
         ensures only { (es : List Event) (items stored : List ℕ) (access : Access) →
             PutsStand self.old.shape self.old es items stored → IsNoneOf result (opening_event P access) →
             ¬ AreOfPuts self.old.shape (es ++ opening_event P access ∷ []) }

@@ -468,18 +468,27 @@ pub first_each : HasSeats (λ _. 0) (joint [] [] [] [] ∷ [])
 first_each P = (joint [] [] [] [], refl, refl)
 first_each C = (joint [] [] [] [], refl, refl)
 
-pub opens : (shape : Shape) → KeepsFlickerRule shape (opening (first_words shape) [] (joint [] [] [] []))
-opens shape = record {
+-- a ring of any kind keeps its rule where its first words show nothing
+pub opens_so :
+    (count : Shape → ℕ) (IsShown : Shape → List ℕ → List Event → Type 0) (shape : Shape) (words : List ℕ) → length words ≡ count shape → IsShown shape words [] →
+    KeptBy count IsShown shape (opening words [] (joint [] [] [] []))
+opens_so count IsShown shape words wide shows = record {
   history = [];
   known = [];
   owner = λ _. 0;
   ring = ring_empty shape;
-  wide = length-set (set (replicate (word_count shape) 0) FIRST_S 1) (first_r shape) 1 ∙ (length-set (replicate (word_count shape) 0) FIRST_S 1 ∙ length-replicate (word_count shape) 0);
-  shows = shows_first shape;
+  wide = wide;
+  shows = shows;
   begins = ([], refl);
   each = first_each;
   seats = first_seat;
 }
+
+pub opens : (shape : Shape) → KeepsFlickerRule shape (opening (first_words shape) [] (joint [] [] [] []))
+opens shape =
+    opens_so word_count Shows shape (first_words shape)
+    (length-set (set (replicate (word_count shape) 0) FIRST_S 1) (first_r shape) 1 ∙ (length-set (replicate (word_count shape) 0) FIRST_S 1 ∙ length-replicate (word_count shape) 0))
+    (shows_first shape)
 
 -- a load by no end
 
