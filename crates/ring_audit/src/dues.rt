@@ -69,8 +69,8 @@ impl Followers {
         ensures { result ≡ self.now }
     {
         Followers {
-            puts: self.puts.clone().unwrap(),
-            takes: self.takes.clone().unwrap(),
+            puts: self.puts.again(),
+            takes: self.takes.again(),
         }
     }
 

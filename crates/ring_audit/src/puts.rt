@@ -1,5 +1,5 @@
 //! The producer's events, read as its puts.
-ghost use Rattle.std.specs.Prelude.{◌≡◌, ◌≢◌, ◌≤◌, ◌<◌, ◌↔◌, ◌⊎◌, ◌++◌, ◌∷◌, [], ℕ, List, None, Some, Bool, true, false, IsTrue, ⊤};
+ghost use Rattle.std.specs.Prelude.{◌≡◌, ◌≢◌, ◌≤◌, ◌<◌, ◌↔◌, ◌⊎◌, ◌++◌, ◌∷◌, [], ℕ, List, None, Some, Bool, true, false, IsTrue};
 ghost use Rattle.bits_core.specs.declared.events.Side.TheVariants.{P};
 ghost use Rattle.bits_core.specs.declared.events.Bit.TheVariants.{Cell};
 ghost use Rattle.bits_core.specs.Made.{answered, end_event, opening_event};
@@ -14,7 +14,6 @@ use crate::sides::{answer_to, begun_by, is_same, told_by, writes_next};
 use bits_core::{Access, Bit, Event, Shape, Side};
 use register_core::{UnaryScan, UnaryWriter, WordReader};
 use ring_core::{distance, has_room};
-use std::alloc::AllocError;
 use std::marker::Model;
 
 /// What an event of the producer came to.
@@ -71,20 +70,6 @@ impl Model for PutReader {
     ghost invariant = { λ r. IsPutReading (put_reading_of r) };
 }
 
-// By hand, as a derived one clones each field, which costs the proof ten times as much.
-impl Clone for PutReader {
-    ghost is_clone = { λ x y. y ≡ x };
-
-    ghost is_infallible = { λ _. ⊤ };
-
-    fn clone(&self) -> Result<Self, AllocError> {
-        Ok(PutReader {
-            row: self.row.clone()?,
-            ..*self
-        })
-    }
-}
-
 // The most items that may be stored behind a scan of this value, where one may.
 fn most_items(shape: &Shape, count: u64, seen: u64) -> u64
     requires count { count < modulus_of shape.now }
@@ -120,6 +105,16 @@ impl PutReader {
             some: false,
             row: UnaryWriter::new(shape, Side::P),
             open_access: None,
+        }
+    }
+
+    /// The same reader once more.
+    pub fn again(&self) -> Self
+        ensures { result ≡ self.now }
+    {
+        PutReader {
+            row: self.row.clone().unwrap(),
+            ..*self
         }
     }
 
