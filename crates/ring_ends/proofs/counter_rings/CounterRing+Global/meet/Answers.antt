@@ -4,7 +4,7 @@ use Rattle.ring_ends.proofs.counter_rings.CounterRing+Global.meet.Goals as goal
 
 pub meet_steppers-p-requires-clause-idle : goal.meet_steppers-p-requires-clause-idle
 meet_steppers-p-requires-clause-idle c =
-    both_idle c.putter.inside.stepper c.putter.inside.count c.putter.inside.cell c.putter.inside.closed c.taker.inside.stepper c.taker.inside.count c.taker.inside.cell c.taker.inside.told c.putter.invariant c.taker.invariant
+    both_idle c.putter.inside.stepper c.putter.inside.counted.count c.putter.inside.counted.cell c.putter.inside.closed c.taker.inside.stepper c.taker.inside.counted.count c.taker.inside.counted.cell c.taker.inside.told c.putter.invariant c.taker.invariant
 
 pub returns-clause-linearizable : goal.returns-clause-linearizable
 returns-clause-linearizable c = ring_is_linearizable _ _
