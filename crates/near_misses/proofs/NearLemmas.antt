@@ -24,7 +24,7 @@ use Rattle.bits_core.specs.declared.events.Side.TheVariants.{P, C}
 use Rattle.bits_core.specs.Bits.{begun_access, begun_by, other}
 use Rattle.bits_core.specs.History.{open_access}
 use Rattle.bits_core.specs.Laws.{OpenChanges}
-use Rattle.near_misses.specs.NearPlays.{IsNearPlay, NearAsked, NearBegins, NearEnds, NearMakes, NearStand, NearStands, NearStep, NearStops, asked_by_script, items_told, near_stand_of, near_start, near_stopped, with_digit, with_digit_read, with_near_stand, with_read}
+use Rattle.near_misses.specs.NearPlays.{IsNearPlay, NearAsked, NearBegins, NearEnds, NearMakes, NearStand, NearStands, NearStep, NearStops, asked_by_script, items_told, near_stand_of, near_start, near_starts, near_stopped, with_digit, with_digit_read, with_near_stand, with_read}
 use Rattle.near_misses.specs.NearSides.{IsAskedToPut, IsAskedToTake, IsInOpenCall, IsNearReady, IsOpenDue, NearHas, NearMoves, items_untold, put_stand, take_stand, with_ended}
 use Rattle.ring_player.specs.Tellings.{listed}
 use Rattle.queue_calls.specs.declared.events.CallEvent.{CallEvent}
@@ -185,6 +185,39 @@ pub moves_other : OpenChanges → (asked : NearAsked) (s : Side) (h : List Event
 moves_other changes asked s h before t after next stand (inl (e, is, side, goes, step)) was access opened =
     was access (sym (changes (other s) h e ∙ ap (λ (b : Bool). if b then begun_by e else open_access (other s) h) (not_by s e side)) ∙ ap (open_access (other s)) (sym is) ∙ opened)
 moves_other changes asked s h before t after next stand (inr (is, untold, none, stops, next_is)) was access opened = was access (ap (open_access (other s)) (sym is) ∙ opened)
+
+-- where both sides stand, and that one side's step has left the other where it was
+abbrev pub stands_of : {E T I : Type 0} → NearWorld E T I → NearStands
+stands_of w = record { putting = put_stand w.putter; taking = take_stand w.taker }
+
+abbrev pub IsStepOf : Side → (before after : NearStands) → Type 0
+IsStepOf s before after = with_near_stand s (near_stand_of s after) before ≡ after
+
+-- an access that either side has open behind one side's step is one of its call under way
+pub both_open : OpenChanges → (asked : NearAsked) (s : Side) (h : List Event) (before : NearStands) (t : Option (CallEvent ℕ ℕ)) (h' : List Event) (after : NearStands) → IsStepOf s before after
+    → NearMoves asked s h (near_stand_of s before) t h' (near_stand_of s after) → IsInOpenCall P h before.putting → IsInOpenCall C h before.taking
+    → IsInOpenCall P h' after.putting × IsInOpenCall C h' after.taking
+both_open changes asked P h before t h' after same moves put take = (
+  moves_open changes asked P h before.putting t h' after.putting moves,
+  subst (IsInOpenCall C h') (ap (λ (n : NearStands). n.taking) same) (moves_other changes asked P h before.putting t h' after.putting before.taking moves take),
+)
+both_open changes asked C h before t h' after same moves put take = (
+  subst (IsInOpenCall P h') (ap (λ (n : NearStands). n.putting) same) (moves_other changes asked C h before.taking t h' after.taking before.putting moves put),
+  moves_open changes asked C h before.taking t h' after.taking moves,
+)
+
+-- what the letters have made, with one side's step
+pub has_more : {E T I : Type 0} (told : T → List (CallEvent ℕ ℕ)) (items : I → List ℕ) (asked : NearAsked) (letters : List Side) (oracle : List Bool) (s : Side) (w w' : NearWorld E T I) (t : Option (CallEvent ℕ ℕ))
+    → IsStepOf s (stands_of w) (stands_of w') → told w'.told ≡ told w.told ++ listed t → items w'.taken ≡ items w.taken ++ items_told t (near_stand_of s (stands_of w')).read
+    → NearMoves asked s w.memory.events (near_stand_of s (stands_of w)) t w'.memory.events (near_stand_of s (stands_of w')) → IsAskedToPut w'.putter asked → IsAskedToTake w'.taker asked
+    → IsAtTurn (turn oracle) w'.memory.events (tape_answer w'.oracle) → NearHas told items asked letters oracle w → NearHas told items asked (letters ++ s ∷ []) oracle w'
+has_more told items asked letters oracle s w w' t same told_is items_is moves to_put to_take turns has = record {
+  asked_put = to_put;
+  asked_take = to_take;
+  made = subst (NearMakes asked near_starts (letters ++ s ∷ []) w'.memory.events (told w'.told) (items w'.taken)) same
+      (makes_more asked near_starts letters s w.memory.events w'.memory.events (told w.told) (told w'.told) (items w.taken) (items w'.taken) t (stands_of w) (near_stand_of s (stands_of w')) told_is items_is moves has.made);
+  turns = turns;
+}
 
 -- where a side has nothing open, all that it has open is due
 pub none_due : (due : Access → Type 0) → (s : Side) (h : List Event) → open_access s h ≡ None → IsOpenDue s h due

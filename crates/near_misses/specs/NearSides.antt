@@ -10,7 +10,7 @@ use Rattle.bits_core.specs.declared.events.Side.TheVariants.{P, C}
 use Rattle.bits_core.specs.History.{open_access}
 use Rattle.bits_core.specs.Oracle.{tape_answer, turn}
 use Rattle.bits_core.specs.Shape.{take_batch_of}
-use Rattle.near_misses.specs.NearPlays.{NearAsked, NearMakes, NearStand, NearStep, NearStops, near_starts, near_stopped, with_read}
+use Rattle.near_misses.specs.NearPlays.{NearAsked, NearEnds, NearMakes, NearStand, NearStep, NearStops, near_starts, near_stopped, with_read}
 use Rattle.near_misses.specs.declared.plays.NearWorld.{NearWorld}
 use Rattle.near_misses.specs.declared.putting.NearPutter.{NearPutter}
 use Rattle.near_misses.specs.declared.putting.Stage as put
@@ -50,6 +50,17 @@ IsAskedToPut p asked = (asked.items ≡ length p.items.now) × (asked.closes ≡
 
 abbrev pub IsAskedToTake : NearTaker → NearAsked → Type 0
 IsAskedToTake t asked = (asked.takes ≡ t.takes) × (asked.shape ≡ t.shape)
+
+-- behind the end of an access of its call a side is asked what it was, and has told the end of the call, where it is one
+abbrev pub PutterEnds : NearPutter → Option (CallEvent ℕ ℕ) → NearPutter → Type 0
+PutterEnds old told new =
+    (new.shape ≡ old.shape) × ((asked : NearAsked) → IsAskedToPut old asked → IsAskedToPut new asked) ×
+    ((asked : NearAsked) → IsAskedToPut old asked → NearEnds asked P (put_stand old) told (put_stand new))
+
+abbrev pub TakerEnds : NearTaker → Option (CallEvent ℕ ℕ) → NearTaker → Type 0
+TakerEnds old told new =
+    (new.shape ≡ old.shape) × ((asked : NearAsked) → IsAskedToTake old asked → IsAskedToTake new asked) ×
+    ((asked : NearAsked) → IsAskedToTake old asked → NearEnds asked C (take_stand old) told (take_stand new))
 
 -- how many items the consumer's next take wants, or that under way
 abbrev pub taker_wants : NearTaker → ℕ

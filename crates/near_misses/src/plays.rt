@@ -103,40 +103,8 @@ fn end<E: Store<Event>, O: Oracle>(
     }
 }
 
-// Begins the next access of a side, or has it stop.
+// One step of a side, and what its event tells, if any: it begins the next access, or ends the one that is open, or stops.
 #[tactic(auto, using(bits_core::proofs::LawLemmas::open_changes, ring_player::proofs::LawLemmas::turns_go_on))]
-fn go_on<E: Store<Event>, S: NearSide>(
-    memory: &mut Memory<E>,
-    machine: &mut S,
-    side: Side,
-) -> Result<Option<NearCall>, NearFault>
-    requires none_open { open_access side memory.old.events ≡ None }
-    requires side { (S.side machine.old ≡ side) × (S.shape machine.old ≡ memory.old.shape) }
-    ensures shape { memory.new.shape ≡ memory.old.shape }
-    ensures side { (S.side machine.new ≡ side) × (S.shape machine.new ≡ memory.new.shape) }
-    ensures due { OnOk result (IsOpenDue side memory.new.events (S.due machine.new)) }
-    ensures asked { (a : NearAsked) → S.asked machine.old a → S.asked machine.new a }
-    ensures moves { IfOk result (λ told. (a : NearAsked) → S.asked machine.old a →
-        NearMoves a side memory.old.events (S.stand machine.old) told memory.new.events (S.stand machine.new)) }
-    ensures turns { OnOk result ((turns answers : ℕ → Bool) → IsAtTurn turns memory.old.events answers →
-        IsAtTurn turns memory.new.events answers) }
-    ensures room { memory.new.room ≡ memory.old.room }
-    ensures few { length memory.new.events ≤ length memory.old.events + 1 }
-    ensures full { OnErr result (memory.old.room ≤ length memory.old.events) }
-{
-    let Some((access, told)) = machine.next() else {
-        machine.stop();
-        return Ok(None);
-    };
-    if begin(memory, side, access)? {
-        return Ok(told);
-    }
-    machine.stop();
-    Ok(None)
-}
-
-// One step of a side, and what its event tells, if any.
-#[tactic(auto, using(bits_core::proofs::LawLemmas::open_changes))]
 fn step<E: Store<Event>, S: NearSide, O: Oracle>(
     memory: &mut Memory<E>,
     machine: &mut S,
@@ -159,7 +127,15 @@ fn step<E: Store<Event>, S: NearSide, O: Oracle>(
     ensures full { OnErr result (memory.old.room ≤ length memory.old.events) }
 {
     let Some(access) = memory.pending(side) else {
-        return go_on(memory, machine, side);
+        let Some((access, told)) = machine.next() else {
+            machine.stop();
+            return Ok(None);
+        };
+        if begin(memory, side, access)? {
+            return Ok(told);
+        }
+        machine.stop();
+        return Ok(None);
     };
     let answer = end(memory, side, access, oracle)?;
     Ok(machine.end(access, answer))
@@ -231,57 +207,23 @@ impl<E: Store<Event>, T: Store<NearCall>, I: Store<u64>> NearWorld<'_, E, T, I> 
             (I.room self.old.taken ≤ items_held I.items self.old))) }
     {
         match side {
-            Side::P => self.step_putter(),
-            Side::C => self.step_taker(),
+            Side::P => {
+                let event = step(
+                    &mut self.memory,
+                    &mut self.putter,
+                    &mut self.oracle,
+                    Side::P,
+                )?;
+                tell(&mut self.told, event)?;
+                Ok(())
+            }
+            Side::C => {
+                let event = step(&mut self.memory, &mut self.taker, &mut self.oracle, Side::C)?;
+                tell(&mut self.told, event)?;
+                keep(&mut self.taken, event, self.taker.items())?;
+                Ok(())
+            }
         }
-    }
-
-    fn step_putter(&mut self) -> Result<(), NearFault>
-        requires { IsNearReady self.old }
-        ensures ready { OnOk result (IsNearReady self.new) }
-        ensures shape { self.new.memory.shape ≡ self.old.memory.shape }
-        ensures has { OnOk result ((a : NearAsked) (letters : List Side) (oracle : List Bool) →
-            NearHas T.items I.items a letters oracle self.old →
-            NearHas T.items I.items a (letters ++ P ∷ []) oracle self.new) }
-        ensures rooms { (self.new.memory.room ≡ self.old.memory.room) × (T.room self.new.told ≡ T.room self.old.told) ×
-            (I.room self.new.taken ≡ I.room self.old.taken) }
-        ensures few { OnOk result ((length self.new.memory.events ≤ length self.old.memory.events + 1) ×
-            (length (T.items self.new.told) ≤ length (T.items self.old.told) + 1) ×
-            (items_held I.items self.new ≤ items_held I.items self.old + 1)) }
-        ensures full { OnErr result ((self.old.memory.room ≤ length self.old.memory.events) ⊎
-            ((T.room self.old.told ≤ length (T.items self.old.told)) ⊎
-            (I.room self.old.taken ≤ items_held I.items self.old))) }
-    {
-        let event = step(
-            &mut self.memory,
-            &mut self.putter,
-            &mut self.oracle,
-            Side::P,
-        )?;
-        tell(&mut self.told, event)?;
-        Ok(())
-    }
-
-    fn step_taker(&mut self) -> Result<(), NearFault>
-        requires { IsNearReady self.old }
-        ensures ready { OnOk result (IsNearReady self.new) }
-        ensures shape { self.new.memory.shape ≡ self.old.memory.shape }
-        ensures has { OnOk result ((a : NearAsked) (letters : List Side) (oracle : List Bool) →
-            NearHas T.items I.items a letters oracle self.old →
-            NearHas T.items I.items a (letters ++ C ∷ []) oracle self.new) }
-        ensures rooms { (self.new.memory.room ≡ self.old.memory.room) × (T.room self.new.told ≡ T.room self.old.told) ×
-            (I.room self.new.taken ≡ I.room self.old.taken) }
-        ensures few { OnOk result ((length self.new.memory.events ≤ length self.old.memory.events + 1) ×
-            (length (T.items self.new.told) ≤ length (T.items self.old.told) + 1) ×
-            (items_held I.items self.new ≤ items_held I.items self.old + 1)) }
-        ensures full { OnErr result ((self.old.memory.room ≤ length self.old.memory.events) ⊎
-            ((T.room self.old.told ≤ length (T.items self.old.told)) ⊎
-            (I.room self.old.taken ≤ items_held I.items self.old))) }
-    {
-        let event = step(&mut self.memory, &mut self.taker, &mut self.oracle, Side::C)?;
-        tell(&mut self.told, event)?;
-        keep(&mut self.taken, event, self.taker.items())?;
-        Ok(())
     }
 
     // Makes so many steps of one side.

@@ -1,9 +1,10 @@
 //! The producer of a near miss.
-ghost use Rattle.std.specs.Prelude.{◌≡◌, ℕ, ◌+◌, ◌-◌, ◌≤◌, None, IfSome, IsSome, true, false, length};
+ghost use Rattle.std.specs.Prelude.{◌≡◌, ℕ, ◌+◌, ◌-◌, ◌≤◌, true, length};
 
 use crate::misses::NearMiss;
 use crate::plays::NearCall;
 use crate::rows::{NearRow, Order, read_bit};
+use crate::sides::NearSide;
 use bits_core::{Access, Bit, Shape, Side};
 use ring_core::distance;
 
@@ -41,11 +42,8 @@ pub(crate) struct NearPutter<'a> {
 }
 
 impl<'a> NearPutter<'a> {
-    ghost use Rattle.bits_core.specs.Open.{IsOpenRight};
-    ghost use Rattle.near_misses.specs.declared.putting.Stage.TheVariants.{Between};
-    ghost use Rattle.bits_core.specs.declared.events.Side.TheVariants.{P};
-    ghost use Rattle.near_misses.specs.NearPlays.{NearAsked, NearBegins, NearEnds, NearStops, near_start, near_stopped};
-    ghost use Rattle.near_misses.specs.NearSides.{IsAskedToPut, is_in_put, put_stand};
+    ghost use Rattle.near_misses.specs.NearPlays.{NearAsked, near_start};
+    ghost use Rattle.near_misses.specs.NearSides.{IsAskedToPut, PutterEnds, is_in_put, put_stand};
 
     pub fn new(miss: NearMiss, shape: Shape, items: &'a [u64], closes: bool) -> Self
         ensures starts { put_stand result ≡ near_start }
@@ -67,65 +65,6 @@ impl<'a> NearPutter<'a> {
         }
     }
 
-    // Begins the next call. Tells it, with its first access.
-    fn begin(&mut self) -> Option<(Access, Option<NearCall>)>
-        requires { (self.old.stage ≡ Between) × (self.old.stopped ≡ false) }
-        ensures asked { (asked : NearAsked) → IsAskedToPut self.old asked → IsAskedToPut self.new asked }
-        ensures shape { self.new.shape ≡ self.old.shape }
-        ensures begins { IfSome result (λ r. (asked : NearAsked) → IsAskedToPut self.old asked →
-            NearBegins asked P (put_stand self.old) r.1 (put_stand self.new)) }
-        ensures right { IfSome result (λ r. IsOpenRight self.old.shape P r.0) }
-        ensures stops { result ≡ None → (asked : NearAsked) → IsAskedToPut self.old asked →
-            NearStops asked P (put_stand self.old) × (put_stand self.new ≡ put_stand self.old) }
-    {
-        if self.stored < self.items.len() {
-            self.stage = Stage::Scanning(0);
-            let _modulus = self.shape.modulus();
-            let access = Access::Read(Bit::R(0));
-            Some((access, Some(NearCall::PutBegins(self.stored))))
-        } else if self.closes {
-            self.stage = Stage::Closing;
-            let access = Access::Write(Bit::X, true);
-            Some((access, Some(NearCall::CloseBegins)))
-        } else {
-            None
-        }
-    }
-
-    /// The access that is due, and what it tells where a call begins with it; none where the side stops.
-    pub fn next(&mut self) -> Option<(Access, Option<NearCall>)>
-        ensures shape { self.new.shape ≡ self.old.shape }
-        ensures asked { (asked : NearAsked) → IsAskedToPut self.old asked → IsAskedToPut self.new asked }
-        ensures begins { IfSome result (λ r. (asked : NearAsked) → IsAskedToPut self.old asked →
-            NearBegins asked P (put_stand self.old) r.1 (put_stand self.new)) }
-        ensures goes { IsSome result → self.old.stopped ≡ false }
-        ensures right { IfSome result (λ r. IsSome r.1 → IsOpenRight self.old.shape P r.0) }
-        ensures stops { result ≡ None → (asked : NearAsked) → IsAskedToPut self.old asked →
-            NearStops asked P (put_stand self.old) × (put_stand self.new ≡ put_stand self.old) }
-    {
-        if self.stopped {
-            return None;
-        }
-        let access = match self.stage {
-            Stage::Between => return self.begin(),
-            Stage::Over | Stage::Stuck => return None,
-            Stage::Scanning(zeros) => Access::Read(read_bit(Side::P, zeros)),
-            Stage::Storing(done, digit) => self.digit_write(done, digit),
-            Stage::Counting => self.row.next()?,
-            Stage::Closing => Access::Write(Bit::X, true),
-        };
-        Some((access, None))
-    }
-
-    /// The side stops: in a call for good.
-    pub fn stop(&mut self)
-        ensures shape { self.new.shape ≡ self.old.shape }
-        ensures asked { (asked : NearAsked) → IsAskedToPut self.old asked → IsAskedToPut self.new asked }
-        ensures stopped { put_stand self.new ≡ near_stopped (put_stand self.old) }
-    {
-        self.stopped = self.stopped || !matches!(self.stage, Stage::Between | Stage::Over);
-    }
-
     // The write of a digit of an item to its cell, behind so many of the put.
     fn digit_write(&self, done: usize, digit: u8) -> Access {
         let number = self.stored.saturating_add(done);
@@ -135,13 +74,10 @@ impl<'a> NearPutter<'a> {
         Access::Write(Bit::Cell(cell as u8, digit), value)
     }
 
-    /// This access, which was due, has ended with this answer. Tells the end of a call, where it is one.
-    pub fn end(&mut self, _access: Access, answer: bool) -> Option<NearCall>
+    // The access that was due has ended with this answer. Tells the end of a call, where it is one.
+    fn ended(&mut self, answer: bool) -> Option<NearCall>
         requires { is_in_put self.old.stage ≡ true }
-        ensures shape { self.new.shape ≡ self.old.shape }
-        ensures asked { (asked : NearAsked) → IsAskedToPut self.old asked → IsAskedToPut self.new asked }
-        ensures ends { (asked : NearAsked) → IsAskedToPut self.old asked →
-            NearEnds asked P (put_stand self.old) result (put_stand self.new) }
+        ensures { PutterEnds self.old result self.new }
     {
         match self.stage {
             Stage::Between | Stage::Over | Stage::Stuck => None,
@@ -164,10 +100,7 @@ impl<'a> NearPutter<'a> {
     // A bit of the consumer's count answered 0: the next one is read. (One that answers 0 to the last gives no count, and the side stops.)
     fn scan_on(&mut self, zeros: u8) -> Option<NearCall>
         requires { is_in_put self.old.stage ≡ true }
-        ensures shape { self.new.shape ≡ self.old.shape }
-        ensures asked { (asked : NearAsked) → IsAskedToPut self.old asked → IsAskedToPut self.new asked }
-        ensures ends { (asked : NearAsked) → IsAskedToPut self.old asked →
-            NearEnds asked P (put_stand self.old) result (put_stand self.new) }
+        ensures { PutterEnds self.old result self.new }
     {
         self.stage = if u64::from(zeros) + 1 < self.shape.modulus() {
             Stage::Scanning(zeros + 1)
@@ -197,10 +130,7 @@ impl<'a> NearPutter<'a> {
     // The scan gave this count: a put that finds room goes on, with its items or with its count.
     fn scanned(&mut self, seen: u64) -> Option<NearCall>
         requires { is_in_put self.old.stage ≡ true }
-        ensures shape { self.new.shape ≡ self.old.shape }
-        ensures asked { (asked : NearAsked) → IsAskedToPut self.old asked → IsAskedToPut self.new asked }
-        ensures ends { (asked : NearAsked) → IsAskedToPut self.old asked →
-            NearEnds asked P (put_stand self.old) result (put_stand self.new) }
+        ensures { PutterEnds self.old result self.new }
     {
         let most = self.room_behind(seen);
         if most == 0 {
@@ -221,10 +151,7 @@ impl<'a> NearPutter<'a> {
     // A digit was written.
     fn stored_digit(&mut self, done: usize, digit: u8) -> Option<NearCall>
         requires { is_in_put self.old.stage ≡ true }
-        ensures shape { self.new.shape ≡ self.old.shape }
-        ensures asked { (asked : NearAsked) → IsAskedToPut self.old asked → IsAskedToPut self.new asked }
-        ensures ends { (asked : NearAsked) → IsAskedToPut self.old asked →
-            NearEnds asked P (put_stand self.old) result (put_stand self.new) }
+        ensures { PutterEnds self.old result self.new }
     {
         if u64::from(digit) + 1 < self.shape.width() {
             self.stage = Stage::Storing(done, digit + 1);
@@ -243,10 +170,7 @@ impl<'a> NearPutter<'a> {
     // A bit of the count was written.
     fn counted(&mut self) -> Option<NearCall>
         requires { is_in_put self.old.stage ≡ true }
-        ensures shape { self.new.shape ≡ self.old.shape }
-        ensures asked { (asked : NearAsked) → IsAskedToPut self.old asked → IsAskedToPut self.new asked }
-        ensures ends { (asked : NearAsked) → IsAskedToPut self.old asked →
-            NearEnds asked P (put_stand self.old) result (put_stand self.new) }
+        ensures { PutterEnds self.old result self.new }
     {
         self.row.feed();
         if self.row.next().is_some() {
@@ -261,10 +185,7 @@ impl<'a> NearPutter<'a> {
 
     fn put_is_over(&mut self) -> Option<NearCall>
         requires { is_in_put self.old.stage ≡ true }
-        ensures shape { self.new.shape ≡ self.old.shape }
-        ensures asked { (asked : NearAsked) → IsAskedToPut self.old asked → IsAskedToPut self.new asked }
-        ensures ends { (asked : NearAsked) → IsAskedToPut self.old asked →
-            NearEnds asked P (put_stand self.old) result (put_stand self.new) }
+        ensures { PutterEnds self.old result self.new }
     {
         let stored = self.storing;
         self.count = self.row.value();
@@ -272,5 +193,62 @@ impl<'a> NearPutter<'a> {
         self.storing = 0;
         self.stage = Stage::Between;
         Some(NearCall::PutStored(stored))
+    }
+}
+
+impl NearSide for NearPutter<'_> {
+    ghost use Rattle.std.specs.Prelude.{◌≡◌};
+    ghost use Rattle.bits_core.specs.declared.events.Side.TheVariants.{P};
+    ghost use Rattle.near_misses.specs.declared.putting.Stage.TheVariants.{Between};
+    ghost use Rattle.near_misses.specs.NearSides.{IsAskedToPut, put_stand};
+
+    ghost side = { λ _. P };
+
+    ghost shape = { λ p. p.shape };
+
+    ghost stand = { put_stand };
+
+    ghost asked = { IsAskedToPut };
+
+    ghost due = { λ _ _. Unit {0} };
+
+    ghost between = { λ p. p.stage ≡ Between };
+
+    fn begin(&mut self) -> Option<(Access, Option<NearCall>)> {
+        if self.stored < self.items.len() {
+            self.stage = Stage::Scanning(0);
+            let _modulus = self.shape.modulus();
+            let access = Access::Read(Bit::R(0));
+            Some((access, Some(NearCall::PutBegins(self.stored))))
+        } else if self.closes {
+            self.stage = Stage::Closing;
+            let access = Access::Write(Bit::X, true);
+            Some((access, Some(NearCall::CloseBegins)))
+        } else {
+            None
+        }
+    }
+
+    fn next(&mut self) -> Option<(Access, Option<NearCall>)> {
+        if self.stopped {
+            return None;
+        }
+        let access = match self.stage {
+            Stage::Between => return self.begin(),
+            Stage::Over | Stage::Stuck => return None,
+            Stage::Scanning(zeros) => Access::Read(read_bit(Side::P, zeros)),
+            Stage::Storing(done, digit) => self.digit_write(done, digit),
+            Stage::Counting => self.row.next()?,
+            Stage::Closing => Access::Write(Bit::X, true),
+        };
+        Some((access, None))
+    }
+
+    fn stop(&mut self) {
+        self.stopped = self.stopped || !matches!(self.stage, Stage::Between | Stage::Over);
+    }
+
+    fn end(&mut self, _access: Access, answer: bool) -> Option<NearCall> {
+        self.ended(answer)
     }
 }

@@ -1,7 +1,5 @@
 //! One side of a near miss at work.
 use crate::plays::NearCall;
-use crate::putting::NearPutter;
-use crate::taking::NearTaker;
 use bits_core::Access;
 
 /// One side at work.
@@ -24,6 +22,21 @@ pub(crate) trait NearSide {
 
     // The access is one that is due.
     ghost due: { Self → Access → Type 0 };
+
+    // No call is under way, and one may begin.
+    ghost between: { Self → Type 0 };
+
+    /// Begins the next call. Tells it, with its first access; none where the side stops.
+    fn begin(&mut self) -> Option<(Access, Option<NearCall>)>
+        requires { between self.old × ((stand self.old).stopped ≡ false) }
+        ensures side { (side self.new ≡ side self.old) × (shape self.new ≡ shape self.old) }
+        ensures asked { (a : NearAsked) → asked self.old a → asked self.new a }
+        ensures begins { IfSome result (λ r. (a : NearAsked) → asked self.old a →
+            NearBegins a (side self.old) (stand self.old) r.1 (stand self.new)) }
+        ensures right { IfSome result (λ r. IsOpenRight (shape self.old) (side self.old) r.0) }
+        ensures due { IfSome result (λ r. due self.new r.0) }
+        ensures stops { result ≡ None → (a : NearAsked) → asked self.old a →
+            NearStops a (side self.old) (stand self.old) × (stand self.new ≡ stand self.old) };
 
     /// The access that is due, and what it tells where a call begins with it; none where the side stops.
     fn next(&mut self) -> Option<(Access, Option<NearCall>)>
@@ -52,58 +65,4 @@ pub(crate) trait NearSide {
         ensures ends { (a : NearAsked) → asked self.old a →
             NearEnds a (side self.old) (with_ended a (side self.old) access answer (stand self.old)) result
             (stand self.new) };
-}
-
-impl NearSide for NearPutter<'_> {
-    ghost use Rattle.bits_core.specs.declared.events.Side.TheVariants.{P};
-    ghost use Rattle.near_misses.specs.NearSides.{IsAskedToPut, put_stand};
-
-    ghost side = { λ _. P };
-
-    ghost shape = { λ p. p.shape };
-
-    ghost stand = { put_stand };
-
-    ghost asked = { IsAskedToPut };
-
-    ghost due = { λ _ _. Unit {0} };
-
-    fn next(&mut self) -> Option<(Access, Option<NearCall>)> {
-        NearPutter::next(self)
-    }
-
-    fn stop(&mut self) {
-        NearPutter::stop(self)
-    }
-
-    fn end(&mut self, access: Access, answer: bool) -> Option<NearCall> {
-        NearPutter::end(self, access, answer)
-    }
-}
-
-impl NearSide for NearTaker {
-    ghost use Rattle.bits_core.specs.declared.events.Side.TheVariants.{C};
-    ghost use Rattle.near_misses.specs.NearSides.{IsAskedToTake, IsDueToTake, take_stand};
-
-    ghost side = { λ _. C };
-
-    ghost shape = { λ t. t.shape };
-
-    ghost stand = { take_stand };
-
-    ghost asked = { IsAskedToTake };
-
-    ghost due = { IsDueToTake };
-
-    fn next(&mut self) -> Option<(Access, Option<NearCall>)> {
-        NearTaker::next(self)
-    }
-
-    fn stop(&mut self) {
-        NearTaker::stop(self)
-    }
-
-    fn end(&mut self, access: Access, answer: bool) -> Option<NearCall> {
-        NearTaker::end(self, access, answer)
-    }
 }

@@ -1,5 +1,5 @@
 //! The consumer of a near miss.
-ghost use Rattle.std.specs.Prelude.{◌≡◌, ◌≤◌, ◌<◌, ◌+◌, ◌-◌, ◌++◌, ◌∷◌, [], ℕ, List, None, IfSome, IsSome, true, false, length, min, take};
+ghost use Rattle.std.specs.Prelude.{◌≡◌, ◌≤◌, ◌<◌, ◌+◌, ◌-◌, ◌++◌, ◌∷◌, [], ℕ, List, true, length, min, take};
 ghost use Rattle.bits_core.specs.Shape.{take_batch_of};
 ghost use Rattle.near_misses.specs.NearPlays.{with_digit};
 ghost use Rattle.near_misses.specs.TakeStages.{IsTakeWithin};
@@ -7,6 +7,7 @@ ghost use Rattle.near_misses.specs.TakeStages.{IsTakeWithin};
 use crate::misses::NearMiss;
 use crate::plays::NearCall;
 use crate::rows::{NearRow, Order, read_bit};
+use crate::sides::NearSide;
 use bits_core::{Access, Bit, Shape, Side};
 use ring_core::distance;
 
@@ -73,12 +74,10 @@ pub(crate) struct NearTaker {
 }
 
 impl NearTaker {
-    ghost use Rattle.bits_core.specs.Open.{IsOpenRight};
     ghost use Rattle.bits_core.specs.Shape.{width_of};
-    ghost use Rattle.bits_core.specs.declared.events.Side.TheVariants.{C};
-    ghost use Rattle.near_misses.specs.declared.taking.Stage.TheVariants.{Between, Counting, Reading};
-    ghost use Rattle.near_misses.specs.NearPlays.{NearAsked, NearBegins, NearEnds, NearStops, near_start, near_stopped, with_digit_read};
-    ghost use Rattle.near_misses.specs.NearSides.{IsAskedToTake, IsDueToTake, is_in_take, take_stand, taker_wants, with_ended};
+    ghost use Rattle.near_misses.specs.declared.taking.Stage.TheVariants.{Counting, Reading};
+    ghost use Rattle.near_misses.specs.NearPlays.{NearAsked, near_start, with_digit_read};
+    ghost use Rattle.near_misses.specs.NearSides.{IsAskedToTake, TakerEnds, is_in_take, take_stand, taker_wants};
 
     pub fn new(miss: NearMiss, shape: Shape, takes: u64) -> Self
         ensures starts { take_stand result ≡ near_start }
@@ -120,101 +119,11 @@ impl NearTaker {
             .min(self.takes.saturating_sub(self.used))
     }
 
-    // Begins the next take. Tells it, with its first access.
-    fn begin(&mut self) -> Option<(Access, Option<NearCall>)>
-        requires { (self.old.stage ≡ Between) × (self.old.stopped ≡ false) }
-        ensures asked { (asked : NearAsked) → IsAskedToTake self.old asked → IsAskedToTake self.new asked }
-        ensures shape { self.new.shape ≡ self.old.shape }
-        ensures begins { IfSome result (λ r. (asked : NearAsked) → IsAskedToTake self.old asked →
-            NearBegins asked C (take_stand self.old) r.1 (take_stand self.new)) }
-        ensures right { IfSome result (λ r. IsOpenRight self.old.shape C r.0) }
-        ensures due { IfSome result (λ r. IsDueToTake self.new r.0) }
-        ensures stops { result ≡ None → (asked : NearAsked) → IsAskedToTake self.old asked →
-            NearStops asked C (take_stand self.old) × (take_stand self.new ≡ take_stand self.old) }
-    {
-        let wanted = self.wanted();
-        if wanted > 0 {
-            self.whole = 0;
-            self.item = 0;
-            self.stage = Stage::Scanning(0);
-            let _modulus = self.shape.modulus();
-            let access = Access::Read(Bit::S(0));
-            Some((access, Some(NearCall::TakeBegins(wanted as usize))))
-        } else {
-            None
-        }
-    }
-
-    /// The access that is due, and what it tells where a take begins with it; none where the side stops.
-    pub fn next(&mut self) -> Option<(Access, Option<NearCall>)>
-        ensures shape { self.new.shape ≡ self.old.shape }
-        ensures asked { (asked : NearAsked) → IsAskedToTake self.old asked → IsAskedToTake self.new asked }
-        ensures begins { IfSome result (λ r. (asked : NearAsked) → IsAskedToTake self.old asked →
-            NearBegins asked C (take_stand self.old) r.1 (take_stand self.new)) }
-        ensures goes { IsSome result → self.old.stopped ≡ false }
-        ensures right { IfSome result (λ r. IsSome r.1 → IsOpenRight self.old.shape C r.0) }
-        ensures due { IfSome result (λ r. IsDueToTake self.new r.0) }
-        ensures stops { result ≡ None → (asked : NearAsked) → IsAskedToTake self.old asked →
-            NearStops asked C (take_stand self.old) × (take_stand self.new ≡ take_stand self.old) }
-    {
-        if self.stopped {
-            return None;
-        }
-        let access = match self.stage {
-            Stage::Between => return self.begin(),
-            Stage::Over | Stage::Stuck => return None,
-            Stage::Scanning(zeros) | Stage::ScanningAgain(zeros) => {
-                Access::Read(read_bit(Side::C, zeros))
-            }
-            Stage::Looking => Access::Read(Bit::X),
-            Stage::Reading(digit) => {
-                let cell = self.taken.saturating_add(self.whole as u64) % self.shape.capacity();
-                Access::Read(Bit::Cell(cell as u8, digit))
-            }
-            Stage::Counting => self.row.next()?,
-        };
-        Some((access, None))
-    }
-
-    /// The side stops: in a take for good.
-    pub fn stop(&mut self)
-        ensures shape { self.new.shape ≡ self.old.shape }
-        ensures asked { (asked : NearAsked) → IsAskedToTake self.old asked → IsAskedToTake self.new asked }
-        ensures stopped { take_stand self.new ≡ near_stopped (take_stand self.old) }
-    {
-        self.stopped = self.stopped || !matches!(self.stage, Stage::Between | Stage::Over);
-    }
-
-    /// This access, which was due, has ended with this answer. Tells the end of a take, where it is one.
-    pub fn end(&mut self, access: Access, answer: bool) -> Option<NearCall>
-        requires in_take { is_in_take self.old.stage ≡ true }
-        requires due { IsDueToTake self.old access }
-        ensures shape { self.new.shape ≡ self.old.shape }
-        ensures asked { (asked : NearAsked) → IsAskedToTake self.old asked → IsAskedToTake self.new asked }
-        ensures ends { (asked : NearAsked) → IsAskedToTake self.old asked →
-            NearEnds asked C (with_ended asked C access answer (take_stand self.old)) result (take_stand self.new) }
-    {
-        match self.stage {
-            Stage::Between | Stage::Over | Stage::Stuck => None,
-            Stage::Scanning(zeros) => self.scan_ends(zeros, answer, false),
-            Stage::ScanningAgain(zeros) => self.scan_ends(zeros, answer, true),
-            Stage::Looking => self.looked(answer),
-            Stage::Reading(digit) => {
-                self.read_digit(digit, answer);
-                None
-            }
-            Stage::Counting => self.counted(),
-        }
-    }
-
     // A bit of the producer's count was read. (A scan that reads 0 to the last bit gives no count, and the side stops.)
     fn scan_ends(&mut self, zeros: u8, answer: bool, again: bool) -> Option<NearCall>
         requires in_take { is_in_take self.old.stage ≡ true }
         requires none { (self.old.whole ≡ 0) × (1 ≤ taker_wants self.old) }
-        ensures shape { self.new.shape ≡ self.old.shape }
-        ensures asked { (asked : NearAsked) → IsAskedToTake self.old asked → IsAskedToTake self.new asked }
-        ensures ends { (asked : NearAsked) → IsAskedToTake self.old asked →
-            NearEnds asked C (take_stand self.old) result (take_stand self.new) }
+        ensures { TakerEnds self.old result self.new }
     {
         if answer {
             return self.scanned(u64::from(zeros), again);
@@ -250,10 +159,7 @@ impl NearTaker {
     fn scanned(&mut self, seen: u64, again: bool) -> Option<NearCall>
         requires in_take { is_in_take self.old.stage ≡ true }
         requires none { (self.old.whole ≡ 0) × (1 ≤ taker_wants self.old) }
-        ensures shape { self.new.shape ≡ self.old.shape }
-        ensures asked { (asked : NearAsked) → IsAskedToTake self.old asked → IsAskedToTake self.new asked }
-        ensures ends { (asked : NearAsked) → IsAskedToTake self.old asked →
-            NearEnds asked C (take_stand self.old) result (take_stand self.new) }
+        ensures { TakerEnds self.old result self.new }
     {
         let most = self.shown(seen);
         if most > 0 {
@@ -275,10 +181,7 @@ impl NearTaker {
     fn looked(&mut self, closed: bool) -> Option<NearCall>
         requires in_take { is_in_take self.old.stage ≡ true }
         requires none { (self.old.whole ≡ 0) × (1 ≤ taker_wants self.old) }
-        ensures shape { self.new.shape ≡ self.old.shape }
-        ensures asked { (asked : NearAsked) → IsAskedToTake self.old asked → IsAskedToTake self.new asked }
-        ensures ends { (asked : NearAsked) → IsAskedToTake self.old asked →
-            NearEnds asked C (take_stand self.old) result (take_stand self.new) }
+        ensures { TakerEnds self.old result self.new }
     {
         if !closed {
             self.used += 1;
@@ -321,10 +224,7 @@ impl NearTaker {
     // A bit of the count was written.
     fn counted(&mut self) -> Option<NearCall>
         requires { self.old.stage ≡ Counting }
-        ensures shape { self.new.shape ≡ self.old.shape }
-        ensures asked { (asked : NearAsked) → IsAskedToTake self.old asked → IsAskedToTake self.new asked }
-        ensures ends { (asked : NearAsked) → IsAskedToTake self.old asked →
-            NearEnds asked C (take_stand self.old) result (take_stand self.new) }
+        ensures { TakerEnds self.old result self.new }
     {
         self.row.feed();
         if self.row.next().is_some() {
@@ -337,5 +237,76 @@ impl NearTaker {
         self.used += taken as u64;
         self.stage = Stage::Between;
         Some(NearCall::TakeItems(taken))
+    }
+}
+
+impl NearSide for NearTaker {
+    ghost use Rattle.std.specs.Prelude.{◌≡◌};
+    ghost use Rattle.bits_core.specs.declared.events.Side.TheVariants.{C};
+    ghost use Rattle.near_misses.specs.declared.taking.Stage.TheVariants.{Between};
+    ghost use Rattle.near_misses.specs.NearSides.{IsAskedToTake, IsDueToTake, take_stand};
+
+    ghost side = { λ _. C };
+
+    ghost shape = { λ t. t.shape };
+
+    ghost stand = { take_stand };
+
+    ghost asked = { IsAskedToTake };
+
+    ghost due = { IsDueToTake };
+
+    ghost between = { λ t. t.stage ≡ Between };
+
+    fn begin(&mut self) -> Option<(Access, Option<NearCall>)> {
+        let wanted = self.wanted();
+        if wanted > 0 {
+            self.whole = 0;
+            self.item = 0;
+            self.stage = Stage::Scanning(0);
+            let _modulus = self.shape.modulus();
+            let access = Access::Read(Bit::S(0));
+            Some((access, Some(NearCall::TakeBegins(wanted as usize))))
+        } else {
+            None
+        }
+    }
+
+    fn next(&mut self) -> Option<(Access, Option<NearCall>)> {
+        if self.stopped {
+            return None;
+        }
+        let access = match self.stage {
+            Stage::Between => return self.begin(),
+            Stage::Over | Stage::Stuck => return None,
+            Stage::Scanning(zeros) | Stage::ScanningAgain(zeros) => {
+                Access::Read(read_bit(Side::C, zeros))
+            }
+            Stage::Looking => Access::Read(Bit::X),
+            Stage::Reading(digit) => {
+                let cell = self.taken.saturating_add(self.whole as u64) % self.shape.capacity();
+                Access::Read(Bit::Cell(cell as u8, digit))
+            }
+            Stage::Counting => self.row.next()?,
+        };
+        Some((access, None))
+    }
+
+    fn stop(&mut self) {
+        self.stopped = self.stopped || !matches!(self.stage, Stage::Between | Stage::Over);
+    }
+
+    fn end(&mut self, _access: Access, answer: bool) -> Option<NearCall> {
+        match self.stage {
+            Stage::Between | Stage::Over | Stage::Stuck => None,
+            Stage::Scanning(zeros) => self.scan_ends(zeros, answer, false),
+            Stage::ScanningAgain(zeros) => self.scan_ends(zeros, answer, true),
+            Stage::Looking => self.looked(answer),
+            Stage::Reading(digit) => {
+                self.read_digit(digit, answer);
+                None
+            }
+            Stage::Counting => self.counted(),
+        }
     }
 }

@@ -23,7 +23,7 @@ use Rattle.ring_audit.specs.declared.puts.Stage.TheVariants.{Resting, Choosing, 
 use Rattle.ring_audit.specs.PutReading.{PutReading, RowHolds, IsMost, has_items, InPut, InCount, PutsStand}
 use Rattle.ring_core.proofs.Machines.PutCalls.{phrases-push, stored-push, are-push}
 use Rattle.ring_audit.proofs.PutReads.{made_at}
-use Rattle.ring_audit.proofs.PutSteps.{put-push, stores_on, counts_on, ended_so}
+use Rattle.ring_audit.proofs.PutSteps.{put-push, counts_on, ended_so}
 pub use Rattle.ring_core.proofs.Machines.ConsumerMoves.{item_fits as fit-push}
 
 -- ---- words
@@ -80,7 +80,7 @@ written :
     (shape : Shape) (r : PutReading) (es : List Event) (items stored : List ℕ) (st : PutsStand shape r es items stored) (word : ReaderState) (a : Access) (v w : Bool) →
     a ≡ begins.Write (Cell r.word.cell r.word.read) w → r.word.cell ≡ r.cell → r.stage ≡ Storing → word ≡ read_digit r.word w →
     ((made : List Made) → ReaderStands r.word made → ReaderStands word (made ++ Read (Cell r.word.cell r.word.read) w ∷ [])) →
-    (s : InPut shape r st.puts items stored) × (reads : List Made) × ReaderStands word reads ×
+    (s : InPut shape r.next r.cell r.room r.some r.row st.puts items stored) × (reads : List Made) × ReaderStands word reads ×
     (st.made ++ answered a v ∷ [] ≡
     put_phrases shape first_count st.puts ++
     (scan_phrase (row_read_by P) s.seen ++ (words_phrase shape (count_behind shape st.puts).number stored ++ writes_in (Cell r.cell) (digit_writes word.value word.read))))
@@ -114,7 +114,7 @@ pub ends_digit :
     PutsStand shape (record r { word = word; open_access = None }) (es ++ end_event P (answered a v) ∷ []) items stored
 ends_digit shape r es items stored word a v w st some is cell stage fed goes =
     let (s, reads, stands, made_so) = written shape r es items stored st word a v w is cell stage fed goes in
-    ended_so st a v Storing st.puts some st.are st.count_is refl refl stage (stores_on s, reads, stands, made_so)
+    ended_so st a v Storing st.puts some st.are st.count_is refl refl stage (s, reads, stands, made_so)
 
 past-push : (n : ℕ) (l : List ℕ) (x : ℕ) → number_past n (l ++ x ∷ []) ≡ suc (number_past n l)
 past-push n [] x = refl

@@ -20,7 +20,7 @@ use Rattle.ring_core.specs.PutParts.{count_behind}
 use Rattle.ring_audit.specs.declared.puts.Stage.{Stage}
 use Rattle.ring_audit.specs.declared.puts.Stage.TheVariants.{Resting, Scanning, Choosing, Storing, Counting, Closing, Closed}
 use Rattle.ring_audit.specs.Sides.{open_events}
-use Rattle.ring_audit.specs.PutReading.{PutReading, RowHolds, IsMost, has_items, AtRest, InPut, InCount, MadeWhile, PutsStand}
+use Rattle.ring_audit.specs.PutReading.{PutReading, RowHolds, IsMost, has_items, AtRest, InCount, MadeWhile, PutsStand}
 use Rattle.ring_core.proofs.Machines.PutCalls.{phrases-push, stored-push, are-push}
 use Rattle.ring_audit.proofs.Readers.{opened, ended}
 use Rattle.ring_audit.proofs.PutReads.{made_at, count_due}
@@ -54,12 +54,6 @@ begun {shape = shape} {r = r} {new = new} {es = es} {items_on = items_on} {store
   made_is = subst (λ z. MadeWhile z shape new st.puts items_on stored_on st.made) (sym stage_is) made_is;
 }
 
--- a put that stores goes on with another word, or with more of it
-abbrev pub stores_on :
-    {shape : Shape} {r : PutReading} {puts : List Put} {items stored : List ℕ} {stage : Stage} {word : ReaderState} {open_access : Option Access} → InPut shape r puts items stored →
-    InPut shape (record r { stage = stage; word = word; open_access = open_access }) puts items stored
-stores_on s = record { seen = s.seen; may = s.may; fit = s.fit; next_is = s.next_is; cell_is = s.cell_is; some_is = s.some_is; holds = s.holds; items_are = s.items_are }
-
 pub begins_word :
     (shape : Shape) (r : PutReading) (es : List Event) (items stored : List ℕ) (word : ReaderState) (a : Access) → PutsStand shape r es items stored → r.open_access ≡ None →
     r.stage ≡ Choosing → word.read ≡ 0 → ReaderStands word [] →
@@ -70,7 +64,7 @@ begins_word shape r es items stored word a st none stage new stands =
     let scan : List Made = scan_phrase (row_read_by P) s.seen in
     let words : List Made = words_phrase shape (count_behind shape st.puts).number stored in
     begun st a Storing none refl refl refl refl (
-      stores_on s,
+      s,
       [],
       stands,
       made_is ∙ ap (λ l. front ++ (scan ++ l)) (sym (append-nil words)) ∙ ap (λ n. front ++ (scan ++ (words ++ writes_in (Cell r.cell) (digit_writes word.value n)))) (sym new),
@@ -146,7 +140,7 @@ begins_next shape r es items stored a st none (inl stage) =
     begun st a Scanning none refl refl refl stage (record { holds = rests.holds; cell_is = rests.cell_is; items_are = rests.items_are; none_stored = rests.none_stored }, made_is)
 begins_next shape r es items stored a st none (inr (inl stage)) =
     let (s, reads, stands, made_is) = made_at shape r es items stored st Storing stage in
-    begun st a Storing none refl refl refl stage (stores_on s, reads, stands, made_is)
+    begun st a Storing none refl refl refl stage (s, reads, stands, made_is)
 begins_next shape r es items stored a st none (inr (inr stage)) =
     let (s, made_is) = made_at shape r es items stored st Counting stage in
     begun st a Counting none refl refl refl stage (counts_on r.row (Some a) s s.writes s.holds s.parts (λ e. absurd (cc)), made_is)

@@ -40,6 +40,10 @@ pub record PutReading : Type 0 where
   pub row : UnaryState
   pub open_access : Option Access
 
+-- the reader is at the stage, with this access open
+abbrev pub IsAtStage : PutReading → Stage → Option Access → Type 0
+IsAtStage r stage open_access = (r.stage ≡ stage) × (r.open_access ≡ open_access)
+
 -- what holds at each stage
 abbrev pub IsReaderAt : Stage → PutReading → Type 0
 IsReaderAt Resting r = (r.open_access ≡ None) × (due_unary r.row ≡ None)
@@ -89,15 +93,15 @@ pub record AtRest (shape : Shape) (r : PutReading) (puts : List Put) (items stor
   pub items_are : items ≡ all_put puts
   pub none_stored : stored ≡ []
 
--- while a put stores: it has stored these items, which are not counted yet
-pub record InPut (shape : Shape) (r : PutReading) (puts : List Put) (items stored : List ℕ) : Type 0 where
+-- while a put stores: it has stored these items, which are not counted yet; with these fields of its reader
+pub record InPut (shape : Shape) (next cell room : ℕ) (some : Bool) (row : UnaryState) (puts : List Put) (items stored : List ℕ) : Type 0 where
   pub seen : ℕ
-  pub may : IsMost shape (count_behind shape puts).number seen (length stored + r.room)
+  pub may : IsMost shape (count_behind shape puts).number seen (length stored + room)
   pub fit : AllFit shape stored
-  pub next_is : r.next ≡ number_past (count_behind shape puts).number stored % modulus_of shape
-  pub cell_is : r.cell ≡ number_past (count_behind shape puts).number stored % capacity_of shape
-  pub some_is : r.some ≡ has_items stored
-  pub holds : RowHolds r.row (count_behind shape puts).bits
+  pub next_is : next ≡ number_past (count_behind shape puts).number stored % modulus_of shape
+  pub cell_is : cell ≡ number_past (count_behind shape puts).number stored % capacity_of shape
+  pub some_is : some ≡ has_items stored
+  pub holds : RowHolds row (count_behind shape puts).bits
   pub items_are : items ≡ all_put puts
 
 -- while it counts them: these bit writes of the count were made
@@ -120,10 +124,10 @@ MadeWhile Resting shape r puts items stored made = AtRest shape r puts items sto
 MadeWhile Scanning shape r puts items stored made =
     AtRest shape r puts items stored × (made ≡ put_phrases shape first_count puts ++ zero_reads (row_read_by P) r.scan.zeros)
 MadeWhile Choosing shape r puts items stored made =
-    (s : InPut shape r puts items stored) ×
+    (s : InPut shape r.next r.cell r.room r.some r.row puts items stored) ×
     (made ≡ put_phrases shape first_count puts ++ (scan_phrase (row_read_by P) s.seen ++ words_phrase shape (count_behind shape puts).number stored))
 MadeWhile Storing shape r puts items stored made =
-    (s : InPut shape r puts items stored) × (reads : List Made) × ReaderStands r.word reads ×
+    (s : InPut shape r.next r.cell r.room r.some r.row puts items stored) × (reads : List Made) × ReaderStands r.word reads ×
     (made ≡
     put_phrases shape first_count puts ++
     (scan_phrase (row_read_by P) s.seen ++ (words_phrase shape (count_behind shape puts).number stored ++ writes_in (Cell r.cell) (digit_writes r.word.value r.word.read))))

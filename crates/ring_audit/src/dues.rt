@@ -18,8 +18,7 @@ struct Followers {
 
 impl Followers {
     fn new(shape: &Shape) -> Followers
-        ensures put_shape { result.puts.shape ≡ shape.now }
-        ensures take_shape { result.takes.consumer.shape ≡ shape.now }
+        ensures shapes { (result.puts.shape ≡ shape.now) × (result.takes.consumer.shape ≡ shape.now) }
         ensures stands { BothStand shape.now result.puts result.takes [] }
     {
         Followers {
@@ -70,8 +69,8 @@ impl Followers {
         ensures { result ≡ self.now }
     {
         Followers {
-            puts: self.puts.clone().unwrap(),
-            takes: self.takes.clone().unwrap(),
+            puts: self.puts.again(),
+            takes: self.takes.again(),
         }
     }
 

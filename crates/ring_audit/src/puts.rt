@@ -1,5 +1,5 @@
 //! The producer's events, read as its puts.
-ghost use Rattle.std.specs.Prelude.{◌≡◌, ◌≢◌, ◌≤◌, ◌<◌, ◌↔◌, ◌⊎◌, ◌++◌, ◌∷◌, [], ℕ, List, None, Some, Bool, true, false, IsTrue, ⊤};
+ghost use Rattle.std.specs.Prelude.{◌≡◌, ◌≢◌, ◌≤◌, ◌<◌, ◌↔◌, ◌⊎◌, ◌++◌, ◌∷◌, [], ℕ, List, None, Some, Bool, true, false, IsTrue};
 ghost use Rattle.bits_core.specs.declared.events.Side.TheVariants.{P};
 ghost use Rattle.bits_core.specs.declared.events.Bit.TheVariants.{Cell};
 ghost use Rattle.bits_core.specs.Made.{answered, end_event, opening_event};
@@ -7,14 +7,13 @@ ghost use Rattle.bits_core.specs.Shape.{modulus_of, batch_of};
 ghost use Rattle.ring_core.specs.Counts.{LeavesRoom, LeavesRoomFor};
 ghost use Rattle.ring_audit.specs.Sides.{AreOfPuts};
 ghost use Rattle.ring_audit.specs.Dues.{AreInOrder, IsNoneOf};
-ghost use Rattle.ring_audit.specs.PutReading.{PutsStand, HasReadPut, WerePut};
+ghost use Rattle.ring_audit.specs.PutReading.{IsAtStage, PutsStand, HasReadPut, WerePut};
 
 use crate::choices::{Dues, ends, only, opening, writes};
 use crate::sides::{answer_to, begun_by, is_same, told_by, writes_next};
 use bits_core::{Access, Bit, Event, Shape, Side};
 use register_core::{UnaryScan, UnaryWriter, WordReader};
 use ring_core::{distance, has_room};
-use std::alloc::AllocError;
 use std::marker::Model;
 
 /// What an event of the producer came to.
@@ -71,20 +70,6 @@ impl Model for PutReader {
     ghost invariant = { λ r. IsPutReading (put_reading_of r) };
 }
 
-// By hand, as a derived one clones each field, which costs the proof ten times as much.
-impl Clone for PutReader {
-    ghost is_clone = { λ x y. y ≡ x };
-
-    ghost is_infallible = { λ _. ⊤ };
-
-    fn clone(&self) -> Result<Self, AllocError> {
-        Ok(PutReader {
-            row: self.row.clone()?,
-            ..*self
-        })
-    }
-}
-
 // The most items that may be stored behind a scan of this value, where one may.
 fn most_items(shape: &Shape, count: u64, seen: u64) -> u64
     requires count { count < modulus_of shape.now }
@@ -101,7 +86,7 @@ fn most_items(shape: &Shape, count: u64, seen: u64) -> u64
 }
 
 impl PutReader {
-    ghost use Rattle.ring_audit.specs.declared.puts.Stage.TheVariants.{Resting, Scanning, Choosing, Storing, Counting, Closing};
+    ghost use Rattle.ring_audit.specs.declared.puts.Stage.TheVariants.{Resting, Scanning, Choosing, Storing, Counting};
 
     /// A reader that has read no event.
     pub fn new(shape: &Shape) -> Self
@@ -120,6 +105,16 @@ impl PutReader {
             some: false,
             row: UnaryWriter::new(shape, Side::P),
             open_access: None,
+        }
+    }
+
+    /// The same reader once more.
+    pub fn again(&self) -> Self
+        ensures { result ≡ self.now }
+    {
+        PutReader {
+            row: self.row.clone().unwrap(),
+            ..*self
         }
     }
 
@@ -163,8 +158,7 @@ impl PutReader {
 
     // Between calls: a scan begins, or the close.
     fn begin_call(&mut self, access: Access) -> PutStep
-        requires none { self.old.open_access ≡ None }
-        requires stage { self.old.stage ≡ Resting }
+        requires at { IsAtStage self.old Resting None }
         ensures shape { self.new.shape ≡ self.old.shape }
         ensures read { HasReadPut self.old.shape self.old self.new (opening_event P access) result }
     {
@@ -206,8 +200,7 @@ impl PutReader {
 
     // Behind a scan that found room, or a whole word: the next word begins, or the count write.
     fn begin_word(&mut self, access: Access) -> PutStep
-        requires none { self.old.open_access ≡ None }
-        requires stage { self.old.stage ≡ Choosing }
+        requires at { IsAtStage self.old Choosing None }
         ensures shape { self.new.shape ≡ self.old.shape }
         ensures read { HasReadPut self.old.shape self.old self.new (opening_event P access) result }
     {
@@ -225,8 +218,7 @@ impl PutReader {
 
     // Behind a whole word: the count write begins, where the access is no write of the next word.
     fn begin_count(&mut self, access: Access) -> PutStep
-        requires none { self.old.open_access ≡ None }
-        requires stage { self.old.stage ≡ Choosing }
+        requires at { IsAtStage self.old Choosing None }
         requires some { self.old.some ≡ true }
         requires no_word { (v : Bool) → 0 < self.old.room → access ≢ Access.Write (Cell self.old.cell 0) v }
         ensures shape { self.new.shape ≡ self.old.shape }
@@ -254,15 +246,18 @@ impl PutReader {
             Stage::Scanning => self.finish_read(access, answer),
             Stage::Storing => self.finish_digit(access, answer),
             Stage::Counting => self.finish_bit(access, answer),
-            Stage::Closing => self.finish_close(access, answer),
+            Stage::Closing => {
+                self.open_access = None;
+                self.stage = Stage::Closed;
+                PutStep::GoesOn
+            }
             Stage::Resting | Stage::Choosing | Stage::Closed => PutStep::Stops,
         }
     }
 
     // A read of a scan ends.
     fn finish_read(&mut self, access: Access, answer: bool) -> PutStep
-        requires open_access { self.old.open_access ≡ Some access }
-        requires stage { self.old.stage ≡ Scanning }
+        requires at { IsAtStage self.old Scanning (Some access) }
         ensures shape { self.new.shape ≡ self.old.shape }
         ensures read { HasReadPut self.old.shape self.old self.new (end_event P (answered access answer)) result }
     {
@@ -289,8 +284,7 @@ impl PutReader {
 
     // A write of a digit ends.
     fn finish_digit(&mut self, access: Access, answer: bool) -> PutStep
-        requires open_access { self.old.open_access ≡ Some access }
-        requires stage { self.old.stage ≡ Storing }
+        requires at { IsAtStage self.old Storing (Some access) }
         ensures shape { self.new.shape ≡ self.old.shape }
         ensures read { HasReadPut self.old.shape self.old self.new (end_event P (answered access answer)) result }
     {
@@ -311,8 +305,7 @@ impl PutReader {
 
     // A bit write of the count ends.
     fn finish_bit(&mut self, access: Access, answer: bool) -> PutStep
-        requires open_access { self.old.open_access ≡ Some access }
-        requires stage { self.old.stage ≡ Counting }
+        requires at { IsAtStage self.old Counting (Some access) }
         ensures shape { self.new.shape ≡ self.old.shape }
         ensures read { HasReadPut self.old.shape self.old self.new (end_event P (answered access answer)) result }
     {
@@ -322,18 +315,6 @@ impl PutReader {
             self.count = self.next;
             self.stage = Stage::Resting;
         }
-        PutStep::GoesOn
-    }
-
-    // The close ends.
-    fn finish_close(&mut self, access: Access, answer: bool) -> PutStep
-        requires open_access { self.old.open_access ≡ Some access }
-        requires stage { self.old.stage ≡ Closing }
-        ensures shape { self.new.shape ≡ self.old.shape }
-        ensures read { HasReadPut self.old.shape self.old self.new (end_event P (answered access answer)) result }
-    {
-        self.open_access = None;
-        self.stage = Stage::Closed;
         PutStep::GoesOn
     }
 
@@ -375,8 +356,7 @@ impl PutReader {
 
     // Behind a scan that found room, or a whole word: the begins of the next word, and of the count write.
     fn word_or_count(&mut self) -> Dues
-        requires none { self.old.open_access ≡ None }
-        requires stage { self.old.stage ≡ Choosing }
+        requires at { IsAtStage self.old Choosing None }
         ensures only { (es : List Event) (items stored : List ℕ) (access : Access) →
             PutsStand self.old.shape self.old es items stored → IsNoneOf result (opening_event P access) →
             ¬ AreOfPuts self.old.shape (es ++ opening_event P access ∷ []) }

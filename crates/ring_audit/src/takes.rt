@@ -1,5 +1,5 @@
 //! The consumer's events, read as its takes.
-ghost use Rattle.std.specs.Prelude.{◌≡◌, ◌≢◌, ◌≤◌, ◌++◌, ◌∷◌, [], ℕ, List, None, Some, Bool, true, false, ⊤};
+ghost use Rattle.std.specs.Prelude.{◌≡◌, ◌≢◌, ◌≤◌, ◌++◌, ◌∷◌, [], ℕ, List, None, Some, Bool, true, false};
 ghost use Rattle.bits_core.specs.declared.events.Bit.TheVariants.{R};
 ghost use Rattle.bits_core.specs.declared.events.Side.TheVariants.{C};
 ghost use Rattle.bits_core.specs.Made.{answered, end_event, opening_event};
@@ -14,7 +14,6 @@ use crate::choices::{Dues, ends, only, opening};
 use crate::sides::{answer_to, begun_by, is_same};
 use bits_core::{Access, Event, Shape, Side};
 use ring_core::{Consumer, TakeReply};
-use std::alloc::AllocError;
 use std::marker::Model;
 
 /// What an event of the consumer came to.
@@ -50,20 +49,6 @@ impl Model for TakeReader {
         (r.most ≡ take_batch_of r.consumer.shape) × (1 ≤ r.most) };
 }
 
-// By hand, as a derived one clones each field, which costs the proof ten times as much.
-impl Clone for TakeReader {
-    ghost is_clone = { λ x y. y ≡ x };
-
-    ghost is_infallible = { λ _. ⊤ };
-
-    fn clone(&self) -> Result<Self, AllocError> {
-        Ok(TakeReader {
-            consumer: self.consumer.clone()?,
-            ..*self
-        })
-    }
-}
-
 impl TakeReader {
     /// A reader that has read no event.
     pub fn new(shape: &Shape) -> Self
@@ -74,6 +59,16 @@ impl TakeReader {
             consumer: Consumer::new(*shape),
             most: shape.take_batch(),
             open_access: None,
+        }
+    }
+
+    /// The same reader once more.
+    pub fn again(&self) -> Self
+        ensures { result ≡ self.now }
+    {
+        TakeReader {
+            consumer: self.consumer.clone().unwrap(),
+            ..*self
         }
     }
 

@@ -42,3 +42,7 @@ putter_idle e count cell closed (calls, at, same) = ap (open_access P) at.has.li
 
 pub taker_idle : (e : RingEnd) (count cell : ℕ) (told : Bool) → IsTakerList e count cell told → IsIdle C e.list
 taker_idle e count cell told (calls, at, same) = ap (open_access C) at.has.list_is ∙ made_leave_none_open C (take_program e.ring.shape calls)
+
+pub both_idle :
+    (a : RingEnd) (put cell : ℕ) (closed : Bool) (b : RingEnd) (taken cell' : ℕ) (told : Bool) → IsPutterList a put cell closed → IsTakerList b taken cell' told → IsIdle P a.list × IsIdle C b.list
+both_idle a put cell closed b taken cell' told p t = (putter_idle a put cell closed p, taker_idle b taken cell' told t)

@@ -1,5 +1,5 @@
 -- A step of an end by its machine, whichever side it is of.
-use Rattle.std.proofs.Common.{◌≡◌, inl, inr, ◌+◌, ◌*◌, ◌<◌, Bool, true, false, Some, None, List, [], ◌∷◌, ◌++◌, length, refl, ap, sym, subst, ◌∙◌, arith}
+use Rattle.std.proofs.Common.{◌≡◌, inl, inr, ◌+◌, ◌*◌, ◌<◌, Bool, true, false, Option, Some, None, List, [], ◌∷◌, ◌++◌, length, refl, ap, sym, subst, ◌∙◌, arith}
 use Rattle.std.proofs.lemmas.List.{length-append}
 use Rattle.bits_core.specs.declared.events.Side.{Side}
 use Rattle.bits_core.specs.declared.events.Access.{Access}
@@ -15,7 +15,7 @@ use Rattle.ring_seats.specs.Ring.{Ring, RingEnd}
 use Rattle.ring_seats.specs.Programs.{Follows, IsRing, GoesOn, begin_of, ending_event}
 use Rattle.ring_seats.specs.Steppers.{Grows, IsSameEnd, StandsAs, CanMake, CanStep, HasStepped}
 use Rattle.ring_ends.specs.Machines.{ListIs, Machine, MachineAt, MachineStep}
-use Rattle.ring_ends.specs.Moves.{Due, Fed, MachineLaws, Next}
+use Rattle.ring_ends.specs.Moves.{Due, Fed, MachineLaws, Next, TellsNext}
 use Rattle.ring_seats.proofs.Histories.{own-mine, own-theirs}
 use Rattle.ring_ends.proofs.Lists.{ring_follows, events_begin, events_more, begun_open, shorter, no_zero, length-events_of}
 use Rattle.ring_ends.proofs.Steps.{by_end, not_by_end, list_closed, list_open, CanMakeAt, CanStepAt, last_false}
@@ -24,6 +24,13 @@ use Rattle.bits_core.proofs.LawLemmas.{made_leave_none_open}
 -- the due access is one that the end may make
 pub right_there : (k : Machine) (e : RingEnd) (m : k.State) (calls : k.Calls) (made : List Made) → MachineAt k e m calls made → (a : Access) → Due k m a → IsOpenRight e.ring.shape e.side a
 right_there k e m calls made at a d = subst (λ (z : Shape × Side). IsOpenRight z.0 z.1 a) (λ i. (at.shape_is i, sym at.side_is i)) d.right
+
+-- what a machine tells, by what holds where no access is due, and where one is
+pub tells :
+    (k : Machine) (m : k.State) (due : Option Access) → (due ≡ None → (calls : k.Calls) (made : List Made) → k.Stands m calls made → k.Rests m) →
+    ((a : Access) → due ≡ Some a → Due k m a) → TellsNext k m due
+tells k m None rests is_due = rests refl
+tells k m (Some a) rests is_due = is_due a refl
 
 module _ (k : Machine) (ks : MachineLaws k) (m : k.State) (calls : k.Calls) (made : List Made) (a : Access) (next : Next k m calls made a) where
   begins : (answer : Bool) → (LastBitIsDue (k.shape_of m) k.side (Some a) → answer ≡ true) → (more : k.Calls) × k.More (k.shape_of m) next.one calls more × IsPrefix (events_of k.side (made ++ answered a answer ∷ [])) (events_of k.side (k.program (k.shape_of m) more))

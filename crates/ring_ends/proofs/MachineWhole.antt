@@ -81,6 +81,14 @@ went_then k w v = record {
   answered = answered_then _ _ _ _ _ _ w.answered v.answered;
 }
 
+-- some accesses of a part of the call, its scan or its word: the words are the end's, and the part is of the machine
+abbrev pub PartWent : (k : Machine) (ring : Ring) (a : RingEnd) (m : k.State) (b : RingEnd) (m' : k.State) (old now : ℕ → Bool) (IsOf : Type 0) → Type 0
+PartWent k ring a m b m' old now IsOf = (ring ≡ b.ring) × MachineWent k a m b m' old now × IsOf
+
+pub part_begins :
+    (k : Machine) (ring : Ring) (e : RingEnd) (m m' : k.State) (said : ℕ → Bool) (IsOf : Type 0) → ring ≡ e.ring → (m' ≡ m) × IsOf → PartWent k ring e m e m' said said IsOf
+part_begins k ring e m m' said IsOf is of = (is, went_same k e m said of.0, of.1)
+
 module _ (k : Machine) (ks : MachineLaws k) {e0 : RingEnd} {m0 : k.State} {e : RingEnd} {m : k.State} {old now : ℕ → Bool} (w : MachineWent k e0 m0 e m old now) where
   -- a call that is under way behind them was before
   pub went_busy : MachineBusy k e0 m0 → MachineBusy k e m

@@ -22,9 +22,9 @@ use Rattle.ring_core.specs.ProducerCalls.{ProducerStands, PutGoesOn, longest_of,
 use Rattle.ring_seats.specs.Ring.{RingEnd}
 use Rattle.ring_seats.specs.Steppers.{Grows}
 use Rattle.ring_ends.specs.Ends.{HasPuts, HasPut, HasPutAll, HasPutPart, HasClosed, PutAdds, CloseAdds, PutterState, whole_put, puts_whole}
-use Rattle.ring_ends.specs.Machines.{IsMarked, IsMachine, CallBegins, producing, without_last, longest_at}
+use Rattle.ring_ends.specs.Machines.{IsMarked, IsMachine, CallBegins, MachineStepped, producing, without_last, longest_at}
 use Rattle.ring_ends.specs.Moves.{Due, MachineLaws}
-use Rattle.ring_ends.proofs.MachineCalls.{Begun, begun_seen, Step, Outcome, Refused, Goes, Over, one_step, out, shape_there, stays, whole_there}
+use Rattle.ring_ends.proofs.MachineCalls.{Begun, begun_seen, Step, step_of, Outcome, Refused, Goes, Over, one_step, out, shape_there, stays, whole_there}
 use Rattle.ring_ends.proofs.Steps.{none-some}
 
 -- ---- the machine
@@ -173,6 +173,14 @@ abbrev pub put_begun :
     IsMachine producing e m (whole_put (call_of m) e.list (without_last n e.list)) × IsMarked n e.list (longest_at m.shape (call_of m)) → (c : Call) (now : ProducerState) →
     ((calls : Puts) (made : List Made) → ProducerStands m calls made → CallBegins producing m now calls made c) → Begun producing c
 put_begun {O} o e m n s view = begun_seen producing e m n s.end (puts_whole s) (ap (λ (z : PutterState O). z.end) view) (ap (λ (z : PutterState O). puts_whole z) view)
+
+-- and what a step makes of it
+abbrev pub put_step :
+    {O : Type 0} (o : O) (e : RingEnd) (m : ProducerState) (n : ℕ) (s : PutterState O) → record { end = e; call = call_of m; batched = m.batched; start = without_last n e.list; oracle = o } ≡ s →
+    IsMachine producing e m (whole_put (call_of m) e.list (without_last n e.list)) × IsMarked n e.list (longest_at m.shape (call_of m)) → (c : Call) (now : ProducerState) →
+    ((calls : Puts) (made : List Made) → ProducerStands m calls made → CallBegins producing m now calls made c) →
+    (e' : RingEnd) (m' : ProducerState) {old said : ℕ → Bool} → MachineStepped producing e now e' m' old said → Step producing c
+put_step o e m n s view was c now begins e' m' stepped = step_of producing (put_begun o e m n s view was c now begins) e' m' stepped
 
 -- ---- the clauses of a step
 

@@ -16,6 +16,13 @@ use bits_core::Shape;
 use ring_core::{TakeBatchReply, TakeReply, distance, has_item, items_shown, past_in};
 use ring_seats::{Counting, Stepper};
 
+/// What an end of a counter ring has counted: its own counter, and the number of the cell that is next.
+#[derive(Drop)]
+pub(crate) struct Counted {
+    pub(crate) count: u64,
+    pub(crate) cell: u64,
+}
+
 // How many of so many items a producer that has put `n` stores, where it read the consumer's count `seen`.
 fn fitting(shape: &Shape, n: u64, seen: u64, offered: usize) -> usize
     requires n { n < modulus_of shape.now }

@@ -1,6 +1,6 @@
 //! The producer's end of a counter ring.
 
-use crate::counter_calls::{close_open, put_open};
+use crate::counter_calls::{Counted, close_open, put_open};
 use crate::ends::PutEnd;
 use crate::rings::Pad;
 use bits_core::Shape;
@@ -16,8 +16,7 @@ use std::marker::Model;
 pub struct CounterPutter<'a> {
     pub(crate) before: Pad,
     pub(crate) stepper: Stepper<'a, Counting>,
-    pub(crate) count: u64,
-    pub(crate) cell: u64,
+    pub(crate) counted: Counted,
     pub(crate) closed: bool,
     pub(crate) after: Pad,
 }
@@ -30,7 +29,7 @@ impl<'a> Model for CounterPutter<'a> {
 
     ghost view = { λ p. p.stepper };
 
-    ghost invariant = { λ p. IsPutterList p.stepper p.count p.cell p.closed };
+    ghost invariant = { λ p. IsPutterList p.stepper p.counted.count p.counted.cell p.closed };
 }
 
 impl<'a> PutEnd for CounterPutter<'a> {
@@ -56,7 +55,12 @@ impl<'a> PutEnd for CounterPutter<'a> {
         if self.closed {
             return BatchReply::Closed;
         }
-        match put_open(&mut self.stepper, items, &mut self.count, &mut self.cell) {
+        match put_open(
+            &mut self.stepper,
+            items,
+            &mut self.counted.count,
+            &mut self.counted.cell,
+        ) {
             0 => BatchReply::Full,
             stored => BatchReply::Stored(stored as u64),
         }

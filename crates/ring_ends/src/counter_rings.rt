@@ -7,6 +7,7 @@ ghost use Rattle.ring_core.specs.Linear.{EachReadingIsLinearizable};
 ghost use Rattle.ring_seats.specs.Steppers.{StandsAs};
 ghost use Rattle.ring_ends.specs.Meetings.{KeepsEnd, Meets, ClosesAre, TellsAre};
 
+use crate::counter_calls::Counted;
 use crate::counter_putters::CounterPutter;
 use crate::counter_takers::CounterTaker;
 use crate::ends::RingOf;
@@ -75,16 +76,14 @@ impl<A: Allocator> CounterRing<A> {
             CounterPutter {
                 before: Pad::new(),
                 stepper: p,
-                count: 0,
-                cell: 0,
+                counted: Counted { count: 0, cell: 0 },
                 closed: false,
                 after: Pad::new(),
             },
             CounterTaker {
                 before: Pad::new(),
                 stepper: c,
-                count: 0,
-                cell: 0,
+                counted: Counted { count: 0, cell: 0 },
                 told: false,
                 after: Pad::new(),
             },

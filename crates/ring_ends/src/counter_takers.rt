@@ -1,6 +1,6 @@
 //! The consumer's end of a counter ring.
 
-use crate::counter_calls::{take_all_open, take_open};
+use crate::counter_calls::{Counted, take_all_open, take_open};
 use crate::ends::TakeEnd;
 use crate::meetings::is_closed_reply;
 use crate::rings::Pad;
@@ -17,8 +17,7 @@ use std::marker::Model;
 pub struct CounterTaker<'a> {
     pub(crate) before: Pad,
     pub(crate) stepper: Stepper<'a, Counting>,
-    pub(crate) count: u64,
-    pub(crate) cell: u64,
+    pub(crate) counted: Counted,
     pub(crate) told: bool,
     pub(crate) after: Pad,
 }
@@ -31,7 +30,7 @@ impl<'a> Model for CounterTaker<'a> {
 
     ghost view = { λ t. t.stepper };
 
-    ghost invariant = { λ t. IsTakerList t.stepper t.count t.cell t.told };
+    ghost invariant = { λ t. IsTakerList t.stepper t.counted.count t.counted.cell t.told };
 }
 
 impl<'a> TakeEnd for CounterTaker<'a> {
@@ -49,7 +48,11 @@ impl<'a> TakeEnd for CounterTaker<'a> {
         if self.told {
             return TakeReply::Closed;
         }
-        let reply = take_open(&mut self.stepper, &mut self.count, &mut self.cell);
+        let reply = take_open(
+            &mut self.stepper,
+            &mut self.counted.count,
+            &mut self.counted.cell,
+        );
         self.told = is_closed_reply(Some(reply));
         reply
     }
@@ -58,7 +61,12 @@ impl<'a> TakeEnd for CounterTaker<'a> {
         if self.told {
             return TakeBatchReply::Closed;
         }
-        let reply = take_all_open(&mut self.stepper, into, &mut self.count, &mut self.cell);
+        let reply = take_all_open(
+            &mut self.stepper,
+            into,
+            &mut self.counted.count,
+            &mut self.counted.cell,
+        );
         self.told = matches!(reply, TakeBatchReply::Closed);
         reply
     }

@@ -2,6 +2,7 @@
 use Rattle.std.proofs.Common.{◌≡◌, ℕ, ◌-◌, ◌*◌, ◌<◌, ◌≤◌, Bool, true, false, cond, List, [], ◌∷◌, ◌++◌, length, refl, ap, ap₂, arith, nat_le}
 use Rattle.std.proofs.lemmas.Bool.{le-leb, leb-true, lt-leb}
 use Rattle.bits_core.specs.declared.shapes.Shape.{Shape}
+use Rattle.bits_core.specs.Made.{Made}
 use Rattle.ring_core.specs.Counts.{Count}
 use Rattle.ring_core.specs.Items.{events_in}
 use Rattle.ring_core.specs.Over.{over, puts_over, takes_over}
@@ -29,25 +30,16 @@ over_front {X = X} events after s (x ∷ xs) t = by_test (over_front events afte
     by_test (rest, e) true = (rest, ap (λ l. x ∷ l) e)
     by_test z false = (x ∷ xs, refl)
 
-pub puts_all_over :
-    (shape : Shape) (c : Count) (xs : List Put) (t : ℕ) → 2 * length (put_phrases shape c xs) ≤ t → over (λ c x. events_in (put_phrase shape c x)) (stored_after shape) c xs t ≡ xs
-puts_all_over shape c xs t l = all_over (λ c x. events_in (put_phrase shape c x)) (stored_after shape) c xs t (omega (arith, l, puts_total shape c xs))
+-- by the accesses of the calls, of which each has two events
+module _ {X : Type 0} (phrase : Count → X → List Made) (next : Count → X → Count) (phrases : Count → List X → List Made)
+    (total_is : (c : Count) (xs : List X) → total (λ c x. events_in (phrase c x)) next c xs ≡ 2 * length (phrases c xs)) where
+  pub calls_all_over : (c : Count) (xs : List X) (t : ℕ) → 2 * length (phrases c xs) ≤ t → over (λ c x. events_in (phrase c x)) next c xs t ≡ xs
+  calls_all_over c xs t l = all_over (λ c x. events_in (phrase c x)) next c xs t (omega (arith, l, total_is c xs))
 
-pub puts_cut_over :
-    (shape : Shape) (c : Count) (xs : List Put) (x : Put) (t : ℕ) → 2 * length (put_phrases shape c xs) ≤ t → t < 2 * length (put_phrases shape c (xs ++ x ∷ [])) →
-    over (λ c x. events_in (put_phrase shape c x)) (stored_after shape) c (xs ++ x ∷ []) t ≡ xs
-puts_cut_over shape c xs x t l m =
-    cut_over (λ c x. events_in (put_phrase shape c x)) (stored_after shape) c xs x t (omega (arith, l, puts_total shape c xs)) (omega (arith, m, puts_total shape c (xs ++ x ∷ [])))
-
-pub takes_all_over :
-    (shape : Shape) (c : Count) (xs : List Take) (t : ℕ) → 2 * length (take_phrases shape c xs) ≤ t → over (λ c x. events_in (take_phrase shape c x)) (count_after shape) c xs t ≡ xs
-takes_all_over shape c xs t l = all_over (λ c x. events_in (take_phrase shape c x)) (count_after shape) c xs t (omega (arith, l, takes_total shape c xs))
-
-pub takes_cut_over :
-    (shape : Shape) (c : Count) (xs : List Take) (x : Take) (t : ℕ) → 2 * length (take_phrases shape c xs) ≤ t → t < 2 * length (take_phrases shape c (xs ++ x ∷ [])) →
-    over (λ c x. events_in (take_phrase shape c x)) (count_after shape) c (xs ++ x ∷ []) t ≡ xs
-takes_cut_over shape c xs x t l m =
-    cut_over (λ c x. events_in (take_phrase shape c x)) (count_after shape) c xs x t (omega (arith, l, takes_total shape c xs)) (omega (arith, m, takes_total shape c (xs ++ x ∷ [])))
+  pub calls_cut_over :
+      (c : Count) (xs : List X) (x : X) (t : ℕ) → 2 * length (phrases c xs) ≤ t → t < 2 * length (phrases c (xs ++ x ∷ [])) →
+      over (λ c x. events_in (phrase c x)) next c (xs ++ x ∷ []) t ≡ xs
+  calls_cut_over c xs x t l m = cut_over (λ c x. events_in (phrase c x)) next c xs x t (omega (arith, l, total_is c xs)) (omega (arith, m, total_is c (xs ++ x ∷ [])))
 
 -- none is over before the first event
 over_within : {S X : Type 0} (events : S → X → ℕ) (after : S → X → S) (s : S) (xs : List X) (t : ℕ) → total events after s (over events after s xs t) ≤ t

@@ -121,6 +121,25 @@ ended script p p' taken told empty list due a v s next due_is is one moved shape
         was_open : told ≡ false
         was_open = s.told_is ∙ ap ends_closed has.not_over
 
+        -- the take is over, by what was counted with it
+        stands_over :
+            taken ++ kept_of (reply_of p') p'.items ≡ all_taken more.takes → empty + empty_in (reply_of p') ≡ empties more.takes → told_by (reply_of p') told ≡ ends_closed more.end → taken_in 0 more.takes ≤ script.takes →
+            TakeActorStands script p' (taken ++ kept_of (reply_of p') p'.items) (told_by (reply_of p') told) (empty + empty_in (reply_of p')) (list ++ answered a v ∷ []) None
+        stands_over taken_is empty_is told_is few = record {
+          calls = more;
+          there = there;
+          same_shape = shape ∙ s.same_shape;
+          taken_is = taken_is;
+          empty_is = empty_is;
+          told_is = told_is;
+          takes_are = one_more script s.calls more s.takes_are left has;
+          wants = λ e. absurd (clash e);
+          few = few;
+          long = whole_long more there;
+          asked = λ e. absurd (clash e);
+          program = goes;
+        }
+
         by_more : ((x : Take) × IsTakeOf script.shape (count_taken script.shape s.calls).number (wanted_at script (taken_in 0 s.calls.takes)) x × (more ≡ and_take s.calls x)) ⊎ ((seen again : ℕ) × (more ≡ and_end s.calls seen again)) → p'.reply ≡ reply_at_end more.end more.takes →
             p'.items ≡ items_at_end more.end more.takes → Ended script p' taken told empty (list ++ answered a v ∷ []) (reply_of p')
         by_more (inl (x, of, more_is)) reply_is items_is =
@@ -131,37 +150,19 @@ ended script p p' taken told empty list due a v s next due_is is one moved shape
             take_of_calls script.shape (wanted_at script (taken_in 0 s.calls.takes)) s.calls x of in
             let within : length (taken_of x) ≤ wanted_at script (taken_in 0 s.calls.takes) = take_within script.shape (taken_in 0 s.calls.takes) (wanted_at script (taken_in 0 s.calls.takes)) x is_of in
             let kept_here : kept_of (reply_of p') p'.items ≡ taken_of x = ap₂ kept_of answer items_are ∙ kept_is x in (
-              record {
-                calls = more;
-                there = there;
-                same_shape = shape ∙ s.same_shape;
-                taken_is = ap (λ l. taken ++ l) kept_here ∙ ap (λ l. l ++ taken_of x) s.taken_is ∙ sym (all-more s.calls.takes x) ∙ ap (λ (t : Takes). all_taken t.takes) (sym more_is);
-                empty_is = ap (λ t. empty + empty_in t) answer ∙ ap (λ t. t + empty_in (answer_of x)) s.empty_is ∙ empties-more s.calls.takes x ∙ ap (λ (t : Takes). empties t.takes) (sym more_is);
-                told_is = ap (λ t. told_by t told) answer ∙ told_so x told ∙ was_open ∙ ap (λ (t : Takes). ends_closed t.end) (sym more_is);
-                takes_are = one_more script s.calls more s.takes_are left has;
-                wants = λ e. absurd (clash e);
-                few = omega (arith, left, within, ap (λ (t : Takes). taken_in 0 t.takes) more_is, taken-more 0 s.calls.takes x, after_is (taken_in 0 s.calls.takes) x);
-                long = whole_long more there;
-                asked = λ e. absurd (clash e);
-                program = goes;
-              },
+              stands_over
+                  (ap (λ l. taken ++ l) kept_here ∙ ap (λ l. l ++ taken_of x) s.taken_is ∙ sym (all-more s.calls.takes x) ∙ ap (λ (t : Takes). all_taken t.takes) (sym more_is))
+                  (ap (λ t. empty + empty_in t) answer ∙ ap (λ t. t + empty_in (answer_of x)) s.empty_is ∙ empties-more s.calls.takes x ∙ ap (λ (t : Takes). empties t.takes) (sym more_is))
+                  (ap (λ t. told_by t told) answer ∙ told_so x told ∙ was_open ∙ ap (λ (t : Takes). ends_closed t.end) (sym more_is))
+                  (omega (arith, left, within, ap (λ (t : Takes). taken_in 0 t.takes) more_is, taken-more 0 s.calls.takes x, after_is (taken_in 0 s.calls.takes) x)),
               omega (arith, ap length kept_here, within, ap (wanted_at script) same_count),
             )
         by_more (inr (seen, again, more_is)) reply_is items_is =
             let answer : reply_of p' ≡ Some batch.Closed = ap (λ t. take_batch_reply t p'.items) (reply_is ∙ ap (λ (t : Takes). reply_at_end t.end t.takes) more_is) in (
-              record {
-                calls = more;
-                there = there;
-                same_shape = shape ∙ s.same_shape;
-                taken_is = ap (λ t. taken ++ kept_of t p'.items) answer ∙ append-nil taken ∙ s.taken_is ∙ ap (λ (t : Takes). all_taken t.takes) (sym more_is);
-                empty_is = let nothing : empty + 0 ≡ empty = omega arith in ap (λ t. empty + empty_in t) answer ∙ nothing ∙ s.empty_is ∙ ap (λ (t : Takes). empties t.takes) (sym more_is);
-                told_is = ap (λ t. told_by t told) answer ∙ ap (λ (t : Takes). ends_closed t.end) (sym more_is);
-                takes_are = one_more script s.calls more s.takes_are left has;
-                wants = λ e. absurd (clash e);
-                few = omega (arith, s.few, ap (λ (t : Takes). taken_in 0 t.takes) more_is);
-                long = whole_long more there;
-                asked = λ e. absurd (clash e);
-                program = goes;
-              },
+              stands_over
+                  (ap (λ t. taken ++ kept_of t p'.items) answer ∙ append-nil taken ∙ s.taken_is ∙ ap (λ (t : Takes). all_taken t.takes) (sym more_is))
+                  (let nothing : empty + 0 ≡ empty = omega arith in ap (λ t. empty + empty_in t) answer ∙ nothing ∙ s.empty_is ∙ ap (λ (t : Takes). empties t.takes) (sym more_is))
+                  (ap (λ t. told_by t told) answer ∙ ap (λ (t : Takes). ends_closed t.end) (sym more_is))
+                  (omega (arith, s.few, ap (λ (t : Takes). taken_in 0 t.takes) more_is)),
               omega (arith, ap (λ t. length (kept_of t p'.items)) answer),
             )

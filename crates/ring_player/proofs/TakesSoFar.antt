@@ -10,17 +10,18 @@ use Rattle.ring_core.specs.ConsumerState.{ConsumerState, is_taking}
 use Rattle.ring_core.specs.Counts.{first_count}
 use Rattle.ring_core.specs.Items.{all_taken, items_taken, Tells}
 use Rattle.ring_core.specs.Over.{empties, takes_over}
-use Rattle.ring_core.specs.Takes.{AreTakes, Closed, End, Open, Take, end_phrase, take_phrase, take_phrases, take_program, taken_count, taken_in, Takes}
+use Rattle.ring_core.specs.Takes.{AreTakes, Closed, count_after, End, Open, Take, end_phrase, take_phrase, take_phrases, take_program, taken_count, taken_in, Takes}
 use Rattle.ring_player.specs.Actors.{TakeActorStands, so_far}
 use Rattle.ring_player.specs.Wants.{wanted_at}
 use Rattle.ring_player.specs.SoFar.{TakenSoFar}
 use Rattle.ring_script.specs.Content.{Content}
 use Rattle.ring_core.proofs.Machines.Following.{events_of-append, length-events}
 use Rattle.ring_core.proofs.Machines.TakeCalls.{phrases-push}
+use Rattle.ring_core.proofs.Readings.Over.{takes_total}
 use Rattle.ring_audit.proofs.TakeReads.{told-tells}
 use Rattle.ring_player.proofs.Moves.{begins-trans, no_open, so_far_begins, so_far_length}
 use Rattle.ring_player.proofs.Nexts.{IsNextTake, NextTake as NextOf}
-use Rattle.ring_player.proofs.Overs.{takes_all_over, takes_cut_over}
+use Rattle.ring_player.proofs.Overs.{calls_all_over, calls_cut_over}
 use Rattle.ring_player.proofs.TakeLists.{all_are, empties_few, taken-append, taken_all, taken_none}
 use Rattle.ring_player.proofs.Takings.{next_in}
 
@@ -55,8 +56,8 @@ taken_so_far script p taken told empty list o due s next is_due = by_due due is_
           are = calls_are;
           begins = ([], append-nil (so_far C list o) ∙ es);
           items = taken_all shape first_count calls.takes (length (so_far C list o)) (omega (arith, size, program-parts calls)) ∙ sym s.taken_is;
-          over = ap empties (takes_all_over shape first_count calls.takes (length (so_far C list o)) (omega (arith, size, program-parts calls))) ∙ sym s.empty_is;
-          ended = ap all_taken (takes_all_over shape first_count calls.takes (length (so_far C list o)) (omega (arith, size, program-parts calls))) ∙ sym s.taken_is;
+          over = ap empties (calls_all_over (take_phrase shape) (count_after shape) (take_phrases shape) (takes_total shape) first_count calls.takes (length (so_far C list o)) (omega (arith, size, program-parts calls))) ∙ sym s.empty_is;
+          ended = ap all_taken (calls_all_over (take_phrase shape) (count_after shape) (take_phrases shape) (takes_total shape) first_count calls.takes (length (so_far C list o)) (omega (arith, size, program-parts calls))) ∙ sym s.taken_is;
           tells = (λ t. (told-tells calls.end (sym s.told_is ∙ t), omega (arith, size)), λ t. s.told_is ∙ tells_if calls.end t.0);
         }
     by_due None f true next = absurd next
@@ -89,11 +90,11 @@ taken_so_far script p taken told empty list o due s next is_due = by_due due is_
             let t : ℕ = length (so_far C list o) in
             let bounds = so_far_length C list o in
             ap (λ (m : Takes). takes_over shape first_count m.takes t) more_is
-            ∙ takes_cut_over shape first_count calls.takes x t (omega (arith, s.long, program-parts calls, bounds)) (omega (arith, longer, sizes more x more_is, bounds))
+            ∙ calls_cut_over (take_phrase shape) (count_after shape) (take_phrases shape) (takes_total shape) first_count calls.takes x t (omega (arith, s.long, program-parts calls, bounds)) (omega (arith, longer, sizes more x more_is, bounds))
         over_more more (inr (seen, again, more_is)) longer =
             let t : ℕ = length (so_far C list o) in
             let bounds = so_far_length C list o in
-            ap (λ (m : Takes). takes_over shape first_count m.takes t) more_is ∙ takes_all_over shape first_count calls.takes t (omega (arith, s.long, program-parts calls, bounds))
+            ap (λ (m : Takes). takes_over shape first_count m.takes t) more_is ∙ calls_all_over (take_phrase shape) (count_after shape) (take_phrases shape) (takes_total shape) first_count calls.takes t (omega (arith, s.long, program-parts calls, bounds))
 
         by_more : (more : Takes) → ((x : Take) × IsTakeOf shape (count_taken shape calls).number (wanted_at script (taken_in 0 calls.takes)) x × (more ≡ and_take calls x)) ⊎ ((seen again : ℕ) × (more ≡ and_end calls seen again)) → length list < length (take_program shape more) →
             items_taken shape first_count more.takes (length (so_far C list o)) ≡ all_taken calls.takes

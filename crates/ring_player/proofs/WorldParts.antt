@@ -9,7 +9,7 @@ use Rattle.bits_core.specs.Bits.{begun_by, other}
 use Rattle.bits_core.specs.History.{open_access}
 use Rattle.bits_core.specs.Lawful.{IsLawful}
 use Rattle.bits_core.proofs.LawLemmas.{open_changes}
-use Rattle.bits_core.specs.Made.{clock, IsPrefix, subhistory}
+use Rattle.bits_core.specs.Made.{clock, IsPrefix, Made, subhistory}
 use Rattle.bits_core.specs.Memory.{MemoryState}
 use Rattle.bits_core.specs.Oracle.{turn}
 use Rattle.ring_player.specs.Actors.{IsAtTurn, IsMove, IsPlaying, PutTally, so_far}
@@ -26,7 +26,7 @@ use Rattle.ring_core.specs.Over.{takes_over_in}
 use Rattle.ring_core.specs.Takes.{FollowsTakes, Takes}
 use Rattle.ring_player.specs.Headline.{EveryPlayFills, EveryPlayHolds, HoldsHeadline, IsPlayOf}
 use Rattle.ring_player.specs.SoFar.{PutSoFar, TakenSoFar}
-use Rattle.ring_player.specs.Worlds.{IsWorld}
+use Rattle.ring_player.specs.Worlds.{IsWorld, Played}
 use Rattle.ring_core.proofs.OwnEvents.{clock_end}
 use Rattle.ring_player.proofs.Flickers.{in_turn}
 use Rattle.ring_player.proofs.Moves.{moves-more, moves_step, not_by, own_other, sides-more}
@@ -68,11 +68,11 @@ moves_grown script s h h' (inl (e, is, by, not)) m =
 moves_grown script s h h' (inr is) m = subst (λ (t : List Event). AreMoves script (event_sides t) [] t) (sym is) m
 
 pub producer_steps :
-    (script : Content) (m m' : MemoryState) (ps ps' cs : Content) (pd pd' cd : Option Access) (pt pt' ct : Stands) (a a' : ℕ → Bool) → IsWorld script m ps cs pd cd pt ct a →
-    m'.shape ≡ m.shape → ps' ≡ ps → IsPlaying P m'.events pd' pt' → Grown ps P m.events m'.events → ((turns : ℕ → Bool) → IsAtTurn turns m.events a → IsAtTurn turns m'.events a') →
+    {E : Type 0} (script : Content) (m m' : MemoryState) (ps ps' cs : Content) (pd pd' cd : Option Access) (pt pt' ct : Stands) (a a' : ℕ → Bool) (r : Result Bool E) → IsWorld script m ps cs pd cd pt ct a →
+    m'.shape ≡ m.shape → ps' ≡ ps → IsPlaying P m'.events pd' pt' → IfOk r (λ moved. IsMove ps P moved m.events m'.events) → OnErr r (m'.events ≡ m.events) → ((turns : ℕ → Bool) → IsAtTurn turns m.events a → IsAtTurn turns m'.events a') →
     IsWorld script m' ps' cs pd' cd pt' ct a'
-producer_steps script m m' ps ps' cs pd pd' cd pt pt' ct a a' w shape same playing g turns =
-    let g' : Grown script P m.events m'.events = subst (λ (t : Content). Grown t P m.events m'.events) w.put_script_is g in
+producer_steps script m m' ps ps' cs pd pd' cd pt pt' ct a a' r w shape same playing ok err turns =
+    let g' : Grown script P m.events m'.events = subst (λ (t : Content). Grown t P m.events m'.events) w.put_script_is (grown ps P m.events m'.events r ok err) in
     record {
       shape = shape ∙ w.shape;
       put_script_is = same ∙ w.put_script_is;
@@ -84,11 +84,11 @@ producer_steps script m m' ps ps' cs pd pd' cd pt pt' ct a a' w shape same playi
     }
 
 pub consumer_steps :
-    (script : Content) (m m' : MemoryState) (ps cs cs' : Content) (pd cd cd' : Option Access) (pt ct ct' : Stands) (a a' : ℕ → Bool) → IsWorld script m ps cs pd cd pt ct a →
-    m'.shape ≡ m.shape → cs' ≡ cs → IsPlaying C m'.events cd' ct' → Grown cs C m.events m'.events → ((turns : ℕ → Bool) → IsAtTurn turns m.events a → IsAtTurn turns m'.events a') →
+    {E : Type 0} (script : Content) (m m' : MemoryState) (ps cs cs' : Content) (pd cd cd' : Option Access) (pt ct ct' : Stands) (a a' : ℕ → Bool) (r : Result Bool E) → IsWorld script m ps cs pd cd pt ct a →
+    m'.shape ≡ m.shape → cs' ≡ cs → IsPlaying C m'.events cd' ct' → IfOk r (λ moved. IsMove cs C moved m.events m'.events) → OnErr r (m'.events ≡ m.events) → ((turns : ℕ → Bool) → IsAtTurn turns m.events a → IsAtTurn turns m'.events a') →
     IsWorld script m' ps cs' pd cd' pt ct' a'
-consumer_steps script m m' ps cs cs' pd cd cd' pt ct ct' a a' w shape same playing g turns =
-    let g' : Grown script C m.events m'.events = subst (λ (t : Content). Grown t C m.events m'.events) w.take_script_is g in
+consumer_steps script m m' ps cs cs' pd cd cd' pt ct ct' a a' r w shape same playing ok err turns =
+    let g' : Grown script C m.events m'.events = subst (λ (t : Content). Grown t C m.events m'.events) w.take_script_is (grown cs C m.events m'.events r ok err) in
     record {
       shape = shape ∙ w.shape;
       put_script_is = w.put_script_is;
@@ -180,7 +180,7 @@ ended_of script cs h due stands taken told empty same p t takes follows =
 -- ---- the items taken are the script's first ones
 
 -- the items taken are the first of those put
-pub front_of :
+front_of :
     (script ps cs : Content) (h : List Event) (pd cd : Option Access) (pt ct : Stands) (put taken : List ℕ) (kept : PutTally) (told : Bool) (empty : ℕ) → ps ≡ script → cs ≡ script →
     (p : IsPlaying P h pd pt) → (t : IsPlaying C h cd ct) → PutSoFar ps.shape (so_far P p.list (open_access P h)) put kept →
     TakenSoFar cs.shape (so_far C t.list (open_access C h)) taken told empty → HoldsHeadline script h → IsPrefix taken put
@@ -194,9 +194,25 @@ front_of script ps cs h pd cd pt ct put taken kept told empty same_p same_c p t 
     (rest, ap (λ l. l ++ rest) (sym taken_so) ∙ is ∙ put_so)
 
 -- so they are the first of all items, where those put are
-pub first_of : (taken items : List ℕ) (n : ℕ) → IsPrefix taken (take n items) → IsPrefix taken items
+first_of : (taken items : List ℕ) (n : ℕ) → IsPrefix taken (take n items) → IsPrefix taken items
 first_of taken items n (rest, e) =
     (rest ++ drop n items, sym (append_assoc taken rest (drop n items)) ∙ ap (λ l. l ++ drop n items) e ∙ take-append-drop n items)
+
+-- by what both sides tell of what they came to
+pub taken_first :
+    (a b : Played) (ps cs : Content) (pd cd : Option Access) (A B : Stands) (ct : Stands) (n : ℕ) (taken : List ℕ) (kept : PutTally) (told : Bool) (empty : ℕ) → a ≡ b → ps ≡ a.script → cs ≡ a.script →
+    IsPlaying P a.history pd (λ list opened. A list opened × B list opened) → IsPlaying C a.history cd ct →
+    ((list : List Made) (opened : Option Access) → A list opened → B list opened → ((access : Access) → opened ≡ Some access → pd ≡ Some access) →
+    PutSoFar ps.shape (so_far P list opened) (take n ps.items) kept) →
+    ((list : List Made) (opened : Option Access) → ct list opened → ((access : Access) → opened ≡ Some access → cd ≡ Some access) → TakenSoFar cs.shape (so_far C list opened) taken told empty) →
+    HoldsHeadline b.script b.history → IsPrefix taken a.script.items
+taken_first a b ps cs pd cd A B ct n taken kept told empty same same_p same_c p t look look' holds =
+    let h : List Event = a.history in
+    let puts = look p.list (open_access P h) p.there.0 p.there.1 p.is_due in
+    let takes = look' t.list (open_access C h) t.there t.is_due in
+    let holds' = subst (λ (x : Played). HoldsHeadline x.script x.history) (sym same) holds in
+    let front = front_of a.script ps cs h pd cd _ ct (take n ps.items) taken kept told empty same_p same_c p t puts takes holds' in
+    subst (λ (x : Content). IsPrefix taken x.items) same_p (first_of taken ps.items n front)
 
 pub first_few : (taken items : List ℕ) → IsPrefix taken items → length taken ≤ length items
 first_few taken items (rest, e) = omega (arith, ap length e, length-append taken rest)

@@ -23,10 +23,11 @@ use Rattle.ring_player.specs.Plays.{AreAttempts, ArePutsOf, offered}
 use Rattle.ring_player.specs.SoFar.{PutSoFar}
 use Rattle.ring_core.proofs.Machines.Following.{events_of-append, length-events}
 use Rattle.ring_core.proofs.CountRow.{past_is}
+use Rattle.ring_core.proofs.Readings.Over.{puts_total}
 use Rattle.ring_player.proofs.Headlines.{drop-drop, parts}
 use Rattle.ring_player.proofs.Moves.{begins-trans, no_open, so_far_begins, so_far_length}
 use Rattle.ring_player.proofs.Nexts.{IsNextPut, NextPut}
-use Rattle.ring_player.proofs.Overs.{puts_all_over, puts_cut_over}
+use Rattle.ring_player.proofs.Overs.{calls_all_over, calls_cut_over}
 use Rattle.ring_player.proofs.Puttings.{calls_asked, next_in}
 use Rattle.ring_player.proofs.Written.{begun-append, digits-append, put_begun, put_nothing}
 use Rattle.ring_core.proofs.LawLemmas.{counts_are_written_numbers}
@@ -226,10 +227,10 @@ put_so_far script p kept digits put list o due s h next is_due = by_due due is_d
         let t : ℕ = length (so_far P list o) in
         let size : length (put_program shape more) ≡ length (put_phrases shape first_count (calls.puts ++ x ∷ [])) =
         omega (arith, ap (λ (m : Puts). length (put_program shape m)) more_is, ap length (append-nil (put_phrases shape first_count (calls.puts ++ x ∷ [])))) in
-        ap (λ (m : Puts). puts_over shape first_count m.puts t) more_is ∙ puts_cut_over shape first_count calls.puts x t come (omega (arith, longer, size, so_far_length P list o))
+        ap (λ (m : Puts). puts_over shape first_count m.puts t) more_is ∙ calls_cut_over (put_phrase shape) (stored_after shape) (put_phrases shape) (puts_total shape) first_count calls.puts x t come (omega (arith, longer, size, so_far_length P list o))
     over_more Close more (more_is, are, still) longer =
         let t : ℕ = length (so_far P list o) in
-        ap (λ (m : Puts). puts_over shape first_count m.puts t) more_is ∙ puts_all_over shape first_count calls.puts t come
+        ap (λ (m : Puts). puts_over shape first_count m.puts t) more_is ∙ calls_all_over (put_phrase shape) (stored_after shape) (put_phrases shape) (puts_total shape) first_count calls.puts t come
 
     by_due :
         (due : Option Access) → ((a : Access) → o ≡ Some a → due ≡ Some a) → (c : Option Call) → IsAsked script calls c → IsNextPut shape calls c list due →
@@ -239,7 +240,7 @@ put_so_far script p kept digits put list o due s h next is_due = by_due due is_d
         let made : with_open list o ≡ put_program shape calls = ap (with_open list) none ∙ whole in
         let es : so_far P list o ≡ events_of P (put_program shape calls) = ap (so_far P list) none ∙ ap (events_of P) whole in
         reading_so_far script digits put kept list o h calls (of_calls asked) ([], append-nil (with_open list o) ∙ made) ([], append-nil (so_far P list o) ∙ es)
-        calls.puts (puts_all_over shape first_count calls.puts (length (so_far P list o)) come) s.filled s.counted
+        calls.puts (calls_all_over (put_phrase shape) (stored_after shape) (put_phrases shape) (puts_total shape) first_count calls.puts (length (so_far P list o)) come) s.filled s.counted
     by_due None f (Some c) asked next = absurd next
     by_due (Some a) f None asked next = absurd next
     by_due (Some a) f (Some c) asked next =

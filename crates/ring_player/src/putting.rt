@@ -74,8 +74,9 @@ fn put_by(access: Option<Access>, written: u64, put: u64) -> u64
 pub(crate) struct PutActor<'a> {
     script: ScriptRef<'a>,
     producer: Producer,
-    stored: usize,
-    full: u64,
+    // how many items the puts that are over stored, and how many puts found the ring full
+    pub(crate) stored: usize,
+    pub(crate) full: u64,
     digits: u64,
     put: u64,
     pub ghost same_shape: { producer.shape ≡ (content_of script).shape },
@@ -109,20 +110,6 @@ impl<'a> PutActor<'a> {
         } else {
             items
         }
-    }
-
-    /// How many items the puts that are over stored.
-    pub fn stored(&self) -> usize
-        ensures { result ≡ self.now.stored }
-    {
-        self.stored
-    }
-
-    /// How many puts found the ring full.
-    pub fn full(&self) -> u64
-        ensures { result ≡ self.now.full }
-    {
-        self.full
     }
 
     /// What the accesses so far have put.

@@ -34,8 +34,9 @@ pub(crate) struct TakeActor<'a, T: Store<u64>> {
     script: ScriptRef<'a>,
     consumer: Consumer,
     taken: T,
-    told: bool,
-    empty: u64,
+    // whether it was told that the ring is closed, and how many takes found the ring empty
+    pub(crate) told: bool,
+    pub(crate) empty: u64,
     pub ghost same_shape: { consumer.shape ≡ (content_of script).shape },
 }
 
@@ -76,20 +77,6 @@ impl<'a, T: Store<u64>> TakeActor<'a, T> {
             empty: _,
         } = self;
         taken
-    }
-
-    /// Whether it was told that the ring is closed.
-    pub fn told(&self) -> bool
-        ensures { result ≡ self.now.told }
-    {
-        self.told
-    }
-
-    /// How many takes found the ring empty.
-    pub fn empty(&self) -> u64
-        ensures { result ≡ self.now.empty }
-    {
-        self.empty
     }
 
     /// What the accesses so far took and told.

@@ -130,7 +130,7 @@ impl<'a, E: Store<Event>, T: Store<u64>> World<'a, E, T> {
             ToldIn self.now.script.shape self.now.history takes }
     {
         self.consumer.look();
-        self.consumer.told()
+        self.consumer.told
     }
 
     /// How many reads have ended that a write overlapped.
@@ -147,7 +147,7 @@ impl<'a, E: Store<Event>, T: Store<u64>> World<'a, E, T> {
             result ≡ stored_in 0 (puts_over_in self.now.script.shape self.now.history puts) }
     {
         self.producer.look();
-        self.producer.stored()
+        self.producer.stored
     }
 
     /// The items that the takes which have ended took: the first ones of the script.
@@ -169,7 +169,7 @@ impl<'a, E: Store<Event>, T: Store<u64>> World<'a, E, T> {
             result ≡ fulls (puts_over_in self.now.script.shape self.now.history puts) }
     {
         self.producer.look();
-        self.producer.full()
+        self.producer.full
     }
 
     /// How many takes have ended that found the ring empty.
@@ -179,7 +179,7 @@ impl<'a, E: Store<Event>, T: Store<u64>> World<'a, E, T> {
             result ≡ empties (takes_over_in self.now.script.shape self.now.history takes) }
     {
         self.consumer.look();
-        self.consumer.empty()
+        self.consumer.empty
     }
 
     /// How many items the next take wants: as many as one count write may count, or as are left to take.
@@ -222,7 +222,7 @@ impl<'a, E: Store<Event>, T: Store<u64>> World<'a, E, T> {
         self.history();
         self.consumer.look();
         let put = self.put_items();
-        let told = self.consumer.told();
+        let told = self.told();
         let full = self.full();
         let empty = self.empty();
         let flicker = self.memory.flickers();

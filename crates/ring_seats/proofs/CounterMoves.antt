@@ -28,7 +28,7 @@ use Rattle.ring_seats.specs.Rule.{joint, may_step, list_of, SeatKnows, SeatsKnow
 use Rattle.ring_seats.specs.Counters.{count_place, their_place, cell_place, words_of, first_counts, value_left, unary_over, IsLastCount, IsLastItem, ShowsWords, KeptWords, and_events, AddedAll, TellsNothing, IsBelow}
 use Rattle.ring_seats.proofs.Histories.{either_side}
 use Rattle.ring_seats.proofs.Rights.{AllRight, scan_right, unary_right, word_write_right, reads_right}
-use Rattle.ring_seats.proofs.Moves.{set-same, ring_empty, first_seat, first_each, each_stays, no_load}
+use Rattle.ring_seats.proofs.Moves.{set-same, opens_so, each_stays, no_load}
 use Rattle.ring_seats.proofs.Blocks.{wrote, Answers, Blocked, block}
 use Rattle.ring_seats.proofs.LastWrites.{Spares, spares_writes, spared, spared_bits, IsLast, stays_last, is_last_now, Lowest, count_shows, item_shows, held_left}
 use Rattle.register_core.proofs.Counts.{row_writer}
@@ -469,14 +469,4 @@ shows_first shape = record {
     first_none C i = refl
 
 pub opens : (shape : Shape) → KeptWords shape (opening (first_counts shape) [] (joint [] [] [] []))
-opens shape = record {
-  history = [];
-  known = [];
-  owner = λ _. 0;
-  ring = ring_empty shape;
-  wide = length-replicate (words_of shape) 0;
-  shows = shows_first shape;
-  begins = ([], refl);
-  each = first_each;
-  seats = first_seat;
-}
+opens shape = opens_so words_of ShowsWords shape (first_counts shape) (length-replicate (words_of shape) 0) (shows_first shape)

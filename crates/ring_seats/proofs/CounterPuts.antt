@@ -124,6 +124,29 @@ row_spared x bits made f s is i = spared_bits (row_bit x) made bits s i ∙ is i
 pub row_both : (x : Side) (bits : Bit → Bool) (xs ys : List Made) (f : ℕ → Bool) → RowIs x (after (after bits xs) ys) f → RowIs x (after bits (xs ++ ys)) f
 row_both x bits xs ys f is i = after-append xs ys bits (row_bit x i) ∙ is i
 
+-- so are they behind several calls, each of which leaves its count's
+pub row_calls :
+    {A : Type 0} (x : Side) (phrase : Count → A → List Made) (next : Count → A → Count) (phrases : Count → List A → List Made) (last : Count → List A → Count) →
+    ((c : Count) → phrases c [] ≡ []) → ((c : Count) (y : A) (ys : List A) → phrases c (y ∷ ys) ≡ phrase c y ++ phrases (next c y) ys) →
+    ((c : Count) → last c [] ≡ c) → ((c : Count) (y : A) (ys : List A) → last c (y ∷ ys) ≡ last (next c y) ys) →
+    ((bits : Bit → Bool) (c : Count) (y : A) → RowIs x bits c.bits → RowIs x (after bits (phrase c y)) (next c y).bits) →
+    (calls : List A) (bits : Bit → Bool) (c : Count) → RowIs x bits c.bits → RowIs x (after bits (phrases c calls)) (last c calls).bits
+row_calls x phrase next phrases last nil more stays goes each [] bits c is i =
+    ap (λ (l : List Made). after bits l (row_bit x i)) (nil c) ∙ is i ∙ sym (ap (λ (k : Count). k.bits i) (stays c))
+row_calls x phrase next phrases last nil more stays goes each (y ∷ ys) bits c is i =
+    ap (λ (l : List Made). after bits l (row_bit x i)) (more c y ys) ∙
+    row_both x bits (phrase c y) (phrases (next c y) ys) (last (next c y) ys).bits
+    (row_calls x phrase next phrases last nil more stays goes each ys (after bits (phrase c y)) (next c y) (each bits c y is)) i ∙
+    sym (ap (λ (k : Count). k.bits i) (goes c y ys))
+
+-- and in the list of a side, whose program ends with what spares the row
+pub row_left :
+    (x : Side) (list : List Event) (made end : List Made) (c : Count) → list ≡ events_of x (made ++ end) → Spares (row_bit x) end → RowIs x (after first_value made) c.bits →
+    RowIs x (value_left list) c.bits
+row_left x list made end c list_is spares is i =
+    ap (λ (l : List Event). value_left l (row_bit x i)) list_is ∙
+    (left_by-made x (made ++ end) [] (row_bit x i) ∙ row_both x first_value made end c.bits (row_spared x (after first_value made) end c.bits spares is) i)
+
 -- ---- a side's list goes on
 
 module _ (x : Side) (list : List Event) (prog : List Made) (list_is : list ≡ events_of x prog) where
@@ -163,20 +186,10 @@ module _ (shape : Shape) where
       (row_spared P bits before c.bits (spares-append (row_bit P) scan words (scan_spares (row_bit P) (row_read_by P) seen) (words_spare shape c.number items)) is))
   row_put bits c (Full seen) is = row_spared P bits (scan_phrase (row_read_by P) seen) c.bits (scan_spares (row_bit P) (row_read_by P) seen) is
 
-  row_puts : (puts : List Put) (bits : Bit → Bool) (c : Count) → RowIs P bits c.bits → RowIs P (after bits (put_phrases shape c puts)) (stored_count shape c puts).bits
-  row_puts [] bits c is = is
-  row_puts (x ∷ puts) bits c is =
-      row_both P bits (put_phrase shape c x) (put_phrases shape (stored_after shape c x) puts) (stored_count shape (stored_after shape c x) puts).bits
-      (row_puts puts (after bits (put_phrase shape c x)) (stored_after shape c x) (row_put bits c x is))
-
   pub putter_row : (list : List Event) (calls : Puts) → HasPuts shape list calls → RowIs P (value_left list) (count_of shape calls).bits
-  putter_row list calls has i =
-      let puts : List Made = put_phrases shape first_count calls.puts in
-      ap (λ (l : List Event). value_left l (row_bit P i)) has.list_is ∙
-      (left_by-made P (put_program shape calls) [] (row_bit P i) ∙
-      row_both P first_value puts (close_phrase calls.closes) (count_of shape calls).bits
-      (row_spared P (after first_value puts) (close_phrase calls.closes) (count_of shape calls).bits (close_spares calls.closes)
-      (row_puts calls.puts first_value first_count (first_row P))) i)
+  putter_row list calls has =
+      row_left P list (put_phrases shape first_count calls.puts) (close_phrase calls.closes) (count_of shape calls) has.list_is (close_spares calls.closes)
+      (row_calls P (put_phrase shape) (stored_after shape) (put_phrases shape) (stored_count shape) (λ c. refl) (λ c y ys. refl) (λ c. refl) (λ c y ys. refl) row_put calls.puts first_value first_count (first_row P))
 
 -- ---- the list of an open putter
 

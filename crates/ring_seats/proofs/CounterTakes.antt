@@ -22,9 +22,9 @@ use Rattle.ring_core.proofs.Machines.TakeCalls.{take_of, take_of-is, take_of-phr
 use Rattle.ring_seats.specs.Programs.{Follows}
 use Rattle.ring_seats.specs.Calls.{HasTakes}
 use Rattle.ring_seats.specs.Counters.{value_left, unary_over}
-use Rattle.ring_seats.proofs.Blocks.{after, left_by-made}
+use Rattle.ring_seats.proofs.Blocks.{after}
 use Rattle.ring_seats.proofs.LastWrites.{Spares, spares-append, row_written, row_tells}
-use Rattle.ring_seats.proofs.CounterPuts.{RowIs, begins, counted, makes, scan_spares, first_row, row_spared, row_both}
+use Rattle.ring_seats.proofs.CounterPuts.{RowIs, begins, counted, makes, scan_spares, first_row, row_spared, row_both, row_calls, row_left}
 use Rattle.ring_core.proofs.LawLemmas.{programs_by_one_call_ends, programs_by_one_call_takes}
 
 -- the items taken behind a take that found items
@@ -83,20 +83,10 @@ module _ (shape : Shape) where
       row_spared C bits (scan_phrase (row_read_by C) seen ++ Read X false ∷ []) c.bits
       (spares-append (row_bit C) (scan_phrase (row_read_by C) seen) (Read X false ∷ []) (scan_spares (row_bit C) (row_read_by C) seen) tt) is
 
-  row_takes : (takes : List Take) (bits : Bit → Bool) (c : Count) → RowIs C bits c.bits → RowIs C (after bits (take_phrases shape c takes)) (taken_count shape c takes).bits
-  row_takes [] bits c is = is
-  row_takes (x ∷ takes) bits c is =
-      row_both C bits (take_phrase shape c x) (take_phrases shape (count_after shape c x) takes) (taken_count shape (count_after shape c x) takes).bits
-      (row_takes takes (after bits (take_phrase shape c x)) (count_after shape c x) (row_take bits c x is))
-
   pub taker_row : (list : List Event) (calls : Takes) → HasTakes shape list calls → RowIs C (value_left list) (count_taken shape calls).bits
-  taker_row list calls has i =
-      let takes : List Made = take_phrases shape first_count calls.takes in
-      ap (λ (l : List Event). value_left l (row_bit C i)) has.list_is ∙
-      (left_by-made C (take_program shape calls) [] (row_bit C i) ∙
-      row_both C first_value takes (end_phrase calls.end) (count_taken shape calls).bits
-      (row_spared C (after first_value takes) (end_phrase calls.end) (count_taken shape calls).bits (end_spares calls.end)
-      (row_takes calls.takes first_value first_count (first_row C))) i)
+  taker_row list calls has =
+      row_left C list (take_phrases shape first_count calls.takes) (end_phrase calls.end) (count_taken shape calls) has.list_is (end_spares calls.end)
+      (row_calls C (take_phrase shape) (count_after shape) (take_phrases shape) (taken_count shape) (λ c. refl) (λ c y ys. refl) (λ c. refl) (λ c y ys. refl) row_take calls.takes first_value first_count (first_row C))
 
 shows_or_not : (shape : Shape) (c k : ℕ) → Dec (ShowsItem shape c k)
 shows_or_not shape c k = go (dec_lt 0 (distance (modulus_of shape) c k)) (dec_lt (capacity_of shape) (distance (modulus_of shape) c k))

@@ -13,3 +13,4 @@ pub mod LawLemmas
 pub mod Moves
 pub mod Places
 pub mod Rights
+pub mod TheTable

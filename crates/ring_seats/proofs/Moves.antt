@@ -4,7 +4,7 @@ use Rattle.std.specs.Prelude.{if◌then◌else◌}
 use Rattle.std.proofs.lemmas.List.{length-replicate}
 use mathlib.Core.Option.{some, some-injective, some-ne-none}
 use lib.ListN.{get_elem?}
-use Rattle.atomic_table.specs.Table.{Me, keeps, opening, Allows, Enters, Splits, Joins}
+use Rattle.atomic_table.specs.Table.{Me, State, keeps, opening, Allows, Enters, Splits, Joins}
 use Rattle.atomic_table.proofs.Lists.{at_set, at_snoc, at_last, at_longer, set_else}
 use Rattle.bits_core.specs.declared.shapes.Shape.{Shape}
 use Rattle.bits_core.specs.declared.events.Side.{Side}
@@ -306,18 +306,25 @@ unfolding two_seats
 split_each views id v at P = (putter_of v, at_longer (set views id (putter_of v)) (taker_of v ∷ []) id (putter_of v) (set_there views id v (putter_of v) at), refl)
 split_each views id v at C = (taker_of v, at_last (set views id (putter_of v)) (taker_of v) (length views) (length-set views id (putter_of v)), refl)
 
-pub splits : (count : Shape → ℕ) (IsShown : Shape → List ℕ → List Event → Type 0) (shape : Shape) (id : ℕ) (v : View) → v.puts ≡ true → v.takes ≡ true → Splits (KeptBy count IsShown shape) id v (putter_of v) (taker_of v)
-splits count IsShown shape id v puts takes s k at = record {
+-- other seats keep the same words and the same history
+reseated :
+    (count : Shape → ℕ) (IsShown : Shape → List ℕ → List Event → Type 0) (shape : Shape) (s s' : State (Unit {0}) View) (k : KeptBy count IsShown shape s) (owner : Side → ℕ) → s.words ≡ s'.words →
+    HasSeats owner s'.views → SeatsKnow k.history k.known owner s'.views → KeptBy count IsShown shape s'
+reseated count IsShown shape s s' k owner same each seats = record {
   history = k.history;
   known = k.known;
-  owner = two_seats id (length s.views);
+  owner = owner;
   ring = k.ring;
-  wide = k.wide;
-  shows = k.shows;
+  wide = subst (λ (words : List ℕ). length words ≡ count shape) same k.wide;
+  shows = subst (λ (words : List ℕ). IsShown shape words k.history) same k.shows;
   begins = k.begins;
-  each = split_each s.views id v at;
-  seats = split_seats k.history k.known k.owner s.views id v at puts takes k.seats;
+  each = each;
+  seats = seats;
 }
+
+pub splits : (count : Shape → ℕ) (IsShown : Shape → List ℕ → List Event → Type 0) (shape : Shape) (id : ℕ) (v : View) → v.puts ≡ true → v.takes ≡ true → Splits (KeptBy count IsShown shape) id v (putter_of v) (taker_of v)
+splits count IsShown shape id v puts takes s k at =
+    reseated count IsShown shape s _ k (two_seats id (length s.views)) refl (split_each s.views id v at) (split_seats k.history k.known k.owner s.views id v at puts takes k.seats)
 
 pub no_load : (x : Side) (h : List Event) (load : ℕ) → open_access x h ≡ None → FirstLoad x h load
 no_load x h load none b some_read = absurd (cc)
@@ -370,19 +377,11 @@ module _ (shape : Shape) where
 
   pub joins : (count : Shape → ℕ) (IsShown : Shape → List ℕ → List Event → Type 0) (id : ℕ) (v : View) (there : ℕ) (w : View) → v.puts ≡ true → w.takes ≡ true → IsIdle P v.put → IsIdle C w.taken
       → Joins (KeptBy count IsShown shape) id v there w (joined v w) spent
-  joins count IsShown id v there w puts takes idle idle' s k at apart at' = record {
-    history = k.history;
-    known = k.known;
-    owner = two_seats id id;
-    ring = k.ring;
-    wide = k.wide;
-    shows = k.shows;
-    begins = k.begins;
-    each = join_each s.views id v there w at apart;
-    seats = join_seats k.history k.known k.owner s.views id v there w at apart
-        (⊎_elim (λ (same : (there ≡ id) × (joined v w ≡ w)). absurd (apart same.0)) (λ (t : (there ≢ id) × (get_elem? s.views there ≡ some w)). t.1) (at_set s.views id there (joined v w) w at'))
-        puts takes idle idle' k.seats;
-  }
+  joins count IsShown id v there w puts takes idle idle' s k at apart at' =
+      reseated count IsShown shape s _ k (two_seats id id) refl (join_each s.views id v there w at apart)
+      (join_seats k.history k.known k.owner s.views id v there w at apart
+      (⊎_elim (λ (same : (there ≡ id) × (joined v w ≡ w)). absurd (apart same.0)) (λ (t : (there ≢ id) × (get_elem? s.views there ≡ some w)). t.1) (at_set s.views id there (joined v w) w at'))
+      puts takes idle idle' k.seats)
 
 -- the joint seat learns
 
@@ -468,18 +467,27 @@ pub first_each : HasSeats (λ _. 0) (joint [] [] [] [] ∷ [])
 first_each P = (joint [] [] [] [], refl, refl)
 first_each C = (joint [] [] [] [], refl, refl)
 
-pub opens : (shape : Shape) → KeepsFlickerRule shape (opening (first_words shape) [] (joint [] [] [] []))
-opens shape = record {
+-- a ring of any kind keeps its rule where its first words show nothing
+pub opens_so :
+    (count : Shape → ℕ) (IsShown : Shape → List ℕ → List Event → Type 0) (shape : Shape) (words : List ℕ) → length words ≡ count shape → IsShown shape words [] →
+    KeptBy count IsShown shape (opening words [] (joint [] [] [] []))
+opens_so count IsShown shape words wide shows = record {
   history = [];
   known = [];
   owner = λ _. 0;
   ring = ring_empty shape;
-  wide = length-set (set (replicate (word_count shape) 0) FIRST_S 1) (first_r shape) 1 ∙ (length-set (replicate (word_count shape) 0) FIRST_S 1 ∙ length-replicate (word_count shape) 0);
-  shows = shows_first shape;
+  wide = wide;
+  shows = shows;
   begins = ([], refl);
   each = first_each;
   seats = first_seat;
 }
+
+pub opens : (shape : Shape) → KeepsFlickerRule shape (opening (first_words shape) [] (joint [] [] [] []))
+opens shape =
+    opens_so word_count Shows shape (first_words shape)
+    (length-set (set (replicate (word_count shape) 0) FIRST_S 1) (first_r shape) 1 ∙ (length-set (replicate (word_count shape) 0) FIRST_S 1 ∙ length-replicate (word_count shape) 0))
+    (shows_first shape)
 
 -- a load by no end
 
@@ -491,16 +499,7 @@ never_steps C u same may = true≢false (sym may ∙ ap (λ (w : View). w.takes)
 pub finds : (count : Shape → ℕ) (IsShown : Shape → List ℕ → List Event → Type 0) (shape : Shape) (slots place : ℕ) → Enters (KeptBy count IsShown shape) slots place (λ n _. IsWordFound (KeptBy count IsShown shape) place n)
 finds count IsShown shape slots place s k homes small = (
   spent,
-  record {
-    history = k.history;
-    known = k.known;
-    owner = k.owner;
-    ring = k.ring;
-    wide = k.wide;
-    shows = k.shows;
-    begins = k.begins;
-    each = λ x. (let (v, at, may) = k.each x in (v, at_longer s.views (spent ∷ []) (k.owner x) v at, may));
-    seats = λ seat v at x may. ⊎_elim (λ was. k.seats seat v was x may) (λ same. absurd (never_steps x v same may)) (at_snoc s.views spent v seat at);
-  },
+  reseated count IsShown shape s _ k k.owner refl (λ x. (let (v, at, may) = k.each x in (v, at_longer s.views (spent ∷ []) (k.owner x) v at, may)))
+      (λ seat v at x may. ⊎_elim (λ was. k.seats seat v was x may) (λ same. absurd (never_steps x v same may)) (at_snoc s.views spent v seat at)),
   (s, k, refl),
 )

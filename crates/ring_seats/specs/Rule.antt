@@ -1,8 +1,9 @@
 -- The rule of the ring over its words and views, and what its steps tell.
-use Rattle.std.specs.Prelude.{◌≡◌, ℕ, Bool, true, false, List, [], ◌∷◌, ◌++◌, length, slice_index, Some, None}
+use Rattle.std.specs.Prelude.{◌≡◌, ℕ, ◌<◌, Bool, true, false, List, [], ◌∷◌, ◌++◌, length, slice_index, Some, None}
 use mathlib.Core.Option.{some}
 use lib.ListN.{get_elem?}
 use Rattle.atomic_table.specs.Table.{State, Me}
+use Rattle.atomic_table.specs.Seated.{TableId}
 use Rattle.bits_core.specs.declared.shapes.Shape.{Shape}
 use Rattle.bits_core.specs.declared.events.Side.{Side}
 use Rattle.bits_core.specs.declared.events.Side.TheVariants.{P, C}
@@ -69,6 +70,12 @@ grown false e list = list
 -- the view after a step of its seat that adds e, which found or wrote a number
 abbrev pub and_event : Side → Event → ℕ → View → View
 and_event x e found v = record { puts = v.puts; takes = v.takes; put = grown (same_side x P) e v.put; taken = grown (same_side x C) e v.taken; known = v.known; known_by_taker = v.known_by_taker; first = kept_load e.act found v.first; loads = kept_loads e.act v.first found v.loads }
+
+-- A table is new: its key is the shape, it has so many words, at least one, and no slots. Its one seat steps for both sides, which
+-- have made no event
+abbrev pub IsNewTable : Shape → ℕ → Shape → TableId → TableId → Me (Unit {0}) View → Type 0
+IsNewTable shape words key table seat me =
+    (key ≡ shape) × (table.words ≡ words) × (table.slots ≡ 0) × (0 < words) × (seat ≡ table) × (me ≡ (joint [] [] [] [], []))
 
 -- the rule
 

@@ -1,7 +1,7 @@
 //! How the table of a ring's words is made, with the seat that steps for both its sides.
-ghost use Rattle.std.specs.Prelude.{◌≡◌, ◌<◌, [], IfOk};
+ghost use Rattle.std.specs.Prelude.{◌≡◌, IfOk};
 ghost use Rattle.ring_seats.specs.Counters.{first_counts, words_of};
-ghost use Rattle.ring_seats.specs.Rule.{joint};
+ghost use Rattle.ring_seats.specs.Rule.{IsNewTable};
 ghost use Rattle.ring_seats.specs.Words.{first_words, word_count as count_of_words};
 
 use crate::counter_words::Counting;
@@ -21,9 +21,8 @@ pub type NewTable<K, A> = Result<
 /// for 16 words behind the close bit, each count and each cell, which keep these apart. An error is answered only where the
 /// allocator refused that. For example, a new `FlickerRing` is this table.
 pub fn flicker_table<A: Allocator + Copy>(alloc: A, shape: Shape) -> NewTable<Flickering, A>
-    ensures { IfOk result (λ t. (t.0.shared.key ≡ shape) × (t.0.shared.table_id.words ≡ count_of_words shape) ×
-        (t.0.shared.table_id.slots ≡ 0) × (0 < count_of_words shape) × (t.1.table_id ≡ t.0.shared.table_id) ×
-        (t.1.me ≡ (joint [] [] [] [], []))) }
+    ensures { IfOk result (λ t. IsNewTable shape (count_of_words shape) t.0.shared.key t.0.shared.table_id
+        t.1.table_id t.1.me) }
 {
     let words = starting_words(alloc, shape)?;
     Table::of_words(alloc, words.as_slice(), &shape)
@@ -32,9 +31,8 @@ pub fn flicker_table<A: Allocator + Copy>(alloc: A, shape: Shape) -> NewTable<Fl
 /// The table of a counter ring's words, and its one seat, with nothing put. It takes memory for one word for each cell and three
 /// more. An error is answered only where the allocator refused that. For example, a new `CounterRing` is this table.
 pub fn counter_table<A: Allocator + Copy>(alloc: A, shape: Shape) -> NewTable<Counting, A>
-    ensures { IfOk result (λ t. (t.0.shared.key ≡ shape) × (t.0.shared.table_id.words ≡ words_of shape) ×
-        (t.0.shared.table_id.slots ≡ 0) × (0 < words_of shape) × (t.1.table_id ≡ t.0.shared.table_id) ×
-        (t.1.me ≡ (joint [] [] [] [], []))) }
+    ensures { IfOk result (λ t. IsNewTable shape (words_of shape) t.0.shared.key t.0.shared.table_id t.1.table_id
+        t.1.me) }
 {
     let words = starting_counts(alloc, shape)?;
     Table::of_words(alloc, words.as_slice(), &shape)

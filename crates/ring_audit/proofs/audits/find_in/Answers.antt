@@ -37,10 +37,8 @@ pub returns-in-Some-clause-found : goal.returns-in-Some-clause-found
 returns-in-Some-clause-found g c =
     let shape = c.args.shape.now in
     let h : List Event = c.args.events.now in
-    let i : ℕ = c.loop-i.i in
     let l = c.loop-i.invariant in
-    let fault = fault_is_first shape h i _ c.in-Some.kind (slice_get-get_or h i _ c.loop-i-test.true) l.heard.marks.lawful (c.in-Some.ensures.kind shape (take i h) l.heard) in
-    break_of_bits shape h i c.in-Some.kind fault l.follow
+    break_of_bits shape h c.loop-i.i c.in-Some.kind (fault_is_first shape h c.loop-i.i _ c.in-Some.kind (slice_get-get_or h c.loop-i.i _ c.loop-i-test.true) l.heard.marks.lawful (c.in-Some.ensures.kind shape (take c.loop-i.i h) l.heard)) l.follow
 
 pub returns-in_err-on-clause-refused : goal.returns-in_err-on-clause-refused
 returns-in_err-on-clause-refused g c =

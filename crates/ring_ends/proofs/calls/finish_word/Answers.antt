@@ -1,6 +1,6 @@
 use Rattle.std.proofs.Common.{sym, ◌∙◌}
 use Rattle.ring_ends.proofs.Accesses.{same}
-use Rattle.ring_ends.proofs.MachineWhole.{access_can, access_right, access_went, went_nowhere, went_same}
+use Rattle.ring_ends.proofs.MachineWhole.{access_can, access_right, access_went, part_begins, went_nowhere}
 use Rattle.ring_ends.proofs.calls.finish_word.Goals as goal
 
 pub make-answer-requires-clause-right : goal.make-answer-requires-clause-right
@@ -24,8 +24,4 @@ digits-preserved g c = (
 )
 
 pub digits-init : goal.digits-init
-digits-init g c = (
-  c.words-ring.ensures,
-  went_same g.M.SideMachine.kind c.args.stepper.now (g.M.SideMachine.state c.args.machine.now) (g.O.Oracle.answers c.args.oracle.now) c.in-Some.ensures.0,
-  c.in-Some.ensures.1,
-)
+digits-init g c = part_begins g.M.SideMachine.kind _ c.args.stepper.now (g.M.SideMachine.state c.args.machine.now) _ (g.O.Oracle.answers c.args.oracle.now) _ c.words-ring.ensures c.in-Some.ensures

@@ -1,13 +1,8 @@
-use Rattle.std.proofs.Common.{◌≡◌}
-use Rattle.ring_ends.specs.Machines.{MachineWent}
+use Rattle.ring_ends.proofs.MachineWhole.{PartWent}
 use Rattle.ring_ends.proofs.calls.finish_word.Given as goal
 
 abbrev pub invariant-digits : goal.invariant-digits
-invariant-digits g l =
-    let k = g.M.SideMachine in
-    (l.ring ≡ l.stepper.ring) ×
-    MachineWent k.kind l.fn.stepper (k.state l.fn.machine) l.stepper (k.worded l.word) (g.O.Oracle.answers l.fn.oracle) (g.O.Oracle.answers l.oracle) ×
-    k.IsWordOf l.machine l.word
+invariant-digits g l = let k = g.M.SideMachine in PartWent k.kind l.ring l.fn.stepper (k.state l.fn.machine) l.stepper (k.worded l.word) (g.O.Oracle.answers l.fn.oracle) (g.O.Oracle.answers l.oracle) (k.IsWordOf l.machine l.word)
 
 abbrev pub decreases-digits : goal.decreases-digits
 decreases-digits g l = g.M.SideMachine.digits_left l.word

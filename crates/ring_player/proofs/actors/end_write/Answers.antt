@@ -22,11 +22,8 @@ pub returns-clause-ok : goal.returns-clause-ok
 returns-clause-ok g c =
     let s = c.args.side in
     let h = c.args.memory.now.events in
-    let b = bit_of (open_access s h) in
     let (v, o) = writing (open_access s h) c.requires.open in
-    let e : Event = record { side = s; bit = b; act = WriteEnd } in
-    end_move (g.A.Actor.script c.args.actor.now) s h c.end_write.new.self.events (g.A.Actor.due c.args.actor.now) (g.A.Actor.stands c.args.actor.now) (access.Write b v) e c.requires.playing
-    o (ap (λ (m : MemoryState). m.events) c.in_ok-end_write.ensures.ok) refl
+    end_move (g.A.Actor.script c.args.actor.now) s h c.end_write.new.self.events (g.A.Actor.due c.args.actor.now) (g.A.Actor.stands c.args.actor.now) _ _ c.requires.playing o (ap (λ (m : MemoryState). m.events) c.in_ok-end_write.ensures.ok) refl
 
 pub returns-clause-turns : goal.returns-clause-turns
 returns-clause-turns g c turns answers t =

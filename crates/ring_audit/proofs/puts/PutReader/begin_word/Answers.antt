@@ -19,7 +19,7 @@ pub returns-then-writes_next-clause-read : goal.returns-then-writes_next-clause-
 returns-then-writes_next-clause-read c =
     let r : PutReading = the_view c.self.inside in
     let a : Access = c.args.access in
-    read_at r c.args.self.now (record r { stage = Storing; word = c.new-self-inside.result; open_access = Some a }) (opening_event P a) GoesOn Choosing None c.self.view_is c.self.invariant c.requires.stage c.requires.none
+    read_at r c.args.self.now (record r { stage = Storing; word = c.new-self-inside.result; open_access = Some a }) (opening_event P a) GoesOn Choosing None c.self.view_is c.self.invariant c.requires.at.0 c.requires.at.1
     (λ stage none at es items stored st. begins_word r.shape r es items stored c.new-self-inside.result a st none stage
     (ap (λ (z : ReaderState). z.read) c.new-self-inside.ensures.state) c.new-self-inside.ensures.stands)
 
@@ -36,6 +36,6 @@ returns-else-self-clause-read c =
           absurd (cc)
       | else-self-gt0-via-else-self-gt0 w ↦ absurd (omega (arith, room, w.if-self-gt0.false))
     ]) in
-    read_at r c.args.self.now r (opening_event P a) Stops Choosing None c.self.view_is c.self.invariant c.requires.stage c.requires.none
+    read_at r c.args.self.now r (opening_event P a) Stops Choosing None c.self.view_is c.self.invariant c.requires.at.0 c.requires.at.1
     (λ stage none at es items stored st of_puts. no_word_nor_count r.shape r es items stored a st none stage c.self.invariant.row_side no_word
     (λ some due. (let clash : true ≡ false = sym some ∙ c.if-self.false in absurd (cc))) of_puts)

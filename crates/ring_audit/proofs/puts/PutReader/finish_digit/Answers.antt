@@ -16,7 +16,7 @@ pub returns-in-None-clause-read : goal.returns-in-None-clause-read
 returns-in-None-clause-read c =
     let r : PutReading = the_view c.self.inside in
     let a : Access = c.args.access in
-    read_at r c.args.self.now (record r { word = c.feed.new.self; open_access = None }) (end_event P (answered a c.args.answer)) GoesOn Storing (Some a) c.self.view_is c.self.invariant c.requires.stage c.requires.open_access
+    read_at r c.args.self.now (record r { word = c.feed.new.self; open_access = None }) (end_event P (answered a c.args.answer)) GoesOn Storing (Some a) c.self.view_is c.self.invariant c.requires.at.0 c.requires.at.1
     (λ stage some at.
     let (w, writes) = at.6 a some in
     let (fed, goes) = fed_by_write r.word c.feed.new.self a c.args.answer c.told_by.result w writes at.3 c.told_by.ensures c.feed.ensures.state c.feed.ensures.stands in
@@ -26,7 +26,7 @@ pub returns-in-Some-clause-read : goal.returns-in-Some-clause-read
 returns-in-Some-clause-read c =
     let r : PutReading = the_view c.self.inside in
     let a : Access = c.args.access in
-    read_at r c.args.self.now (record r { word = c.feed.new.self; cell = (r.cell + 1) % c.capacity.result; next = (r.next + 1) % c.modulus.result; room = r.room - 1; some = true; stage = Choosing; open_access = None }) (end_event P (answered a c.args.answer)) (Stores c.in-Some.item) Storing (Some a) c.self.view_is c.self.invariant c.requires.stage c.requires.open_access
+    read_at r c.args.self.now (record r { word = c.feed.new.self; cell = (r.cell + 1) % c.capacity.result; next = (r.next + 1) % c.modulus.result; room = r.room - 1; some = true; stage = Choosing; open_access = None }) (end_event P (answered a c.args.answer)) (Stores c.in-Some.item) Storing (Some a) c.self.view_is c.self.invariant c.requires.at.0 c.requires.at.1
     (λ stage some at.
     let (w, writes) = at.6 a some in
     let (fed, goes) = fed_by_write r.word c.feed.new.self a c.args.answer c.told_by.result w writes at.3 c.told_by.ensures c.feed.ensures.state c.feed.ensures.stands in

@@ -16,8 +16,8 @@ use Rattle.ring_audit.proofs.puts.PutReader.word_or_count.Goals as goal
 pub returns-clause-only : goal.returns-clause-only
 returns-clause-only c =
     let r : PutReading = the_view c.self.inside in
-    let stage : r.stage ≡ Choosing = ap (λ (z : PutReading). z.stage) c.self.view_is ∙ c.requires.stage in
-    let none : r.open_access ≡ None = ap (λ (z : PutReading). z.open_access) c.self.view_is ∙ c.requires.none in
+    let stage : r.stage ≡ Choosing = ap (λ (z : PutReading). z.stage) c.self.view_is ∙ c.requires.at.0 in
+    let none : r.open_access ≡ None = ap (λ (z : PutReading). z.open_access) c.self.view_is ∙ c.requires.at.1 in
     let word : ReaderState = record { width = width_of r.shape; cell = r.cell; read = 0; value = 0 } in
     let due : c.next-word.result ≡ Some (begins.Read (Cell r.cell 0)) = c.next-word.ensures.due ∙ ap due_read c.new.ensures.state ∙ read_due word r.shape.has_digits in
     begins_by r c.args.self.now _ c.self.view_is

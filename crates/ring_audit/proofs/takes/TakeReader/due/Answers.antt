@@ -1,4 +1,4 @@
-use Rattle.std.proofs.Common.{ℕ, List, inl, refl, Some, subst, sym, ap, ◌∙◌}
+use Rattle.std.proofs.Common.{◌≡◌, ℕ, List, inl, refl, Some, subst, sym, ap, ◌∙◌}
 use Rattle.ring_core.specs.declared.replies.TakeReply.TheVariants.{Closed}
 use Rattle.bits_core.specs.Shape.{take_batch_of}
 use Rattle.ring_core.specs.GoingOn.{WritesTakeCount}
@@ -9,12 +9,17 @@ use Rattle.ring_audit.specs.TakeReading.{TakeReading, TakesStand}
 use Rattle.ring_audit.proofs.TakeReads.{not_due, due_takes, taking_or_told, wants_most, begun_stands}
 use Rattle.ring_audit.proofs.takes.TakeReader.due.Goals as goal
 
+-- of the consumer that is kept, what is seen of it: that it is the same, and stands behind the takes
+kept : (inside seen : TakeReading) (es : List Event) (items : List ℕ) → inside ≡ seen → (st : TakesStand seen.consumer.shape seen es items) → (inside.consumer ≡ seen.consumer) × ConsumerStands inside.consumer st.calls st.made
+kept inside seen es items is st =
+    let same = ap (λ (z : TakeReading). z.consumer) is in
+    (same, subst (λ (p : ConsumerState). ConsumerStands p st.calls st.made) (sym same) st.stands)
+
 pub returns-in-Some-clause-only : goal.returns-in-Some-clause-only
 returns-in-Some-clause-only c es items access st wrong of_takes =
     let r = c.args.self.now in
     let p = c.self.inside.consumer in
-    let consumer_is = ap (λ (z : TakeReading). z.consumer) c.self.view_is in
-    let stands = subst (λ p. ConsumerStands p st.calls st.made) (sym consumer_is) st.stands in
+    let (consumer_is, stands) = kept _ r es items c.self.view_is st in
     let takes = due_takes p c.in-Some.access (sym c.in-Some.ensures.due) in
     subst (λ q. IsBetweenWords q × WritesTakeCount access) consumer_is
     (not_due r.consumer.shape r es items p (Some c.in-Some.access) access st c.requires
@@ -26,8 +31,7 @@ pub returns-in-None-clause-only : goal.returns-in-None-clause-only
 returns-in-None-clause-only c es items access st wrong of_takes =
     let r = c.args.self.now in
     let p = c.self.inside.consumer in
-    let consumer_is = ap (λ (z : TakeReading). z.consumer) c.self.view_is in
-    let before = subst (λ p. ConsumerStands p st.calls st.made) (sym consumer_is) st.stands in
+    let (consumer_is, before) = kept _ r es items c.self.view_is st in
     let stands = c.take_all.ensures.stands st.calls st.made before in
     let idle = (c.in-None.ensures.rest st.calls st.made before refl).0 in
     let most = c.self.invariant.1 ∙ ap (λ (q : ConsumerState). take_batch_of q.shape) consumer_is in

@@ -2,16 +2,15 @@ use Rattle.std.proofs.Common.{◌∷◌, [], ◌∙◌}
 use Rattle.ring_core.specs.ProducerState.{Put}
 use Rattle.ring_ends.specs.Machines.{producing}
 use Rattle.ring_seats.specs.Steppers.{AreAnswered, IsAskedOnce}
-use Rattle.ring_ends.proofs.MachineCalls.{Step, same_step, step_few, step_invariant, step_lawful, step_of}
-use Rattle.ring_ends.proofs.PutterCalls.{item_none, item_one, item_some, put_laws, put_seen, put_begun}
+use Rattle.ring_ends.proofs.MachineCalls.{Step, same_step, step_few, step_invariant, step_lawful}
+use Rattle.ring_ends.proofs.PutterCalls.{item_none, item_one, item_some, put_laws, put_seen, put_step}
 use Rattle.ring_ends.proofs.putters.Putter.step_put.Given.{Over}
 use Rattle.ring_ends.proofs.putters.Putter.step_put.Goals.{After-step}
 use Rattle.ring_ends.proofs.putters.Putter.step_put.Goals as goal
 
 -- the call and the step
 abbrev step : (g : Over) (c : After-step g) → Step producing (Put (c.args.item ∷ []))
-step g c = step_of producing (put_begun c.self.inside.oracle c.self.inside.stepper c.self.inside.machine c.self.inside.steps c.args.self.now c.self.view_is c.self.invariant (Put (c.args.item ∷ [])) c.begin_put.new.machine c.begin_put.ensures.begins)
-    c.step.new.stepper c.step.new.machine c.step.ensures.stepped
+step g c = put_step c.self.inside.oracle c.self.inside.stepper c.self.inside.machine c.self.inside.steps c.args.self.now c.self.view_is c.self.invariant (Put (c.args.item ∷ [])) c.begin_put.new.machine c.begin_put.ensures.begins c.step.new.stepper c.step.new.machine c.step.ensures.stepped
 
 pub invariant_of-self : goal.invariant_of-self
 invariant_of-self g c = step_invariant producing put_laws (step g (goal.at.invariant_of-self g c).After-step) c.step.new.steps c.step.ensures.none c.step.ensures.more

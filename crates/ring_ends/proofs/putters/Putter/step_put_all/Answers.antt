@@ -4,16 +4,15 @@ use Rattle.ring_core.specs.Puts.{IsBatch}
 use Rattle.ring_core.specs.ProducerState.{Put, call_of}
 use Rattle.ring_ends.specs.Machines.{producing}
 use Rattle.ring_seats.specs.Steppers.{AreAnswered, IsAskedOnce}
-use Rattle.ring_ends.proofs.MachineCalls.{Step, same_step, step_few, step_invariant, step_lawful, step_of}
-use Rattle.ring_ends.proofs.PutterCalls.{batch_none, batch_one, batch_some, call_seen, few_accesses, few_marked, put_laws, put_seen, put_shape, put_begun}
+use Rattle.ring_ends.proofs.MachineCalls.{Step, same_step, step_few, step_invariant, step_lawful}
+use Rattle.ring_ends.proofs.PutterCalls.{batch_none, batch_one, batch_some, call_seen, few_accesses, few_marked, put_laws, put_seen, put_shape, put_step}
 use Rattle.ring_ends.proofs.putters.Putter.step_put_all.Given.{Over}
 use Rattle.ring_ends.proofs.putters.Putter.step_put_all.Goals.{After-step}
 use Rattle.ring_ends.proofs.putters.Putter.step_put_all.Goals as goal
 
 -- the call and the step
 abbrev step : (g : Over) (c : After-step g) → Step producing (Put c.args.items.now)
-step g c = step_of producing (put_begun c.self.inside.oracle c.self.inside.stepper c.self.inside.machine c.self.inside.steps c.args.self.now c.self.view_is c.self.invariant (Put c.args.items.now) c.begin_put_all.new.machine c.begin_put_all.ensures.begins)
-    c.step.new.stepper c.step.new.machine c.step.ensures.stepped
+step g c = put_step c.self.inside.oracle c.self.inside.stepper c.self.inside.machine c.self.inside.steps c.args.self.now c.self.view_is c.self.invariant (Put c.args.items.now) c.begin_put_all.new.machine c.begin_put_all.ensures.begins c.step.new.stepper c.step.new.machine c.step.ensures.stepped
 
 pub step-requires-clause-few : goal.step-requires-clause-few
 step-requires-clause-few g c =

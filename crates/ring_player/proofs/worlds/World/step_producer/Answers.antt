@@ -1,5 +1,4 @@
-use Rattle.bits_core.specs.declared.events.Side.TheVariants.{P}
-use Rattle.ring_player.proofs.WorldParts.{producer_steps, grown}
+use Rattle.ring_player.proofs.WorldParts.{producer_steps}
 use Rattle.ring_script.specs.Borrowed.{content_of}
 use Rattle.ring_player.proofs.worlds.World.step_producer.Goals as goal
 
@@ -7,5 +6,4 @@ pub invariant_of-self : goal.invariant_of-self
 invariant_of-self g c =
     let w = c.self.inside in
     let e = c.advance.ensures in
-    producer_steps (content_of w.script) w.memory c.advance.new.memory _ _ _ _ _ _ _ _ _ _ _ c.self.invariant e.shape e.script e.playing
-    (grown (content_of w.producer.script) P w.memory.events c.advance.new.memory.events c.advance.result e.ok e.err) e.turns
+    producer_steps (content_of w.script) w.memory c.advance.new.memory _ _ _ _ _ _ _ _ _ _ _ c.advance.result c.self.invariant e.shape e.script e.playing e.ok e.err e.turns

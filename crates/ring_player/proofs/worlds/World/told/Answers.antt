@@ -1,4 +1,4 @@
-use Rattle.std.proofs.Common.{◌≡◌, true, subst, sym}
+use Rattle.std.proofs.Common.{◌≡◌, true, subst}
 use Rattle.std.specs.Prelude.{◌↔◌}
 use Rattle.bits_core.specs.declared.events.Side.TheVariants.{C}
 use Rattle.bits_core.specs.History.{open_access}
@@ -15,6 +15,6 @@ pub returns : goal.returns
 returns g c takes =
     let w = c.self.inside in
     let i = c.self.invariant in
-    subst (λ (t : Played). FollowsTakes t.script.shape t.history takes → (c.told.result ≡ true) ↔ ToldIn t.script.shape t.history takes) c.self.view_is
-    (λ f. subst (λ b. (b ≡ true) ↔ ToldIn (content_of w.script).shape w.memory.events takes) (sym c.told.ensures) ((taken_of (content_of w.script) (content_of w.consumer.script) w.memory.events (due_take w.consumer.consumer) (TakeActorStands (content_of w.consumer.script) w.consumer.consumer (g.T.Store.items w.consumer.taken) w.consumer.told w.consumer.empty)
-    (g.T.Store.items w.consumer.taken) w.consumer.told w.consumer.empty i.take_script_is i.takes (c.look.ensures i.takes.list (open_access C w.memory.events) i.takes.there i.takes.is_due) takes f).1))
+    subst (λ (t : Played). FollowsTakes t.script.shape t.history takes → (w.consumer.told ≡ true) ↔ ToldIn t.script.shape t.history takes) c.self.view_is
+    (λ f. (taken_of (content_of w.script) (content_of w.consumer.script) w.memory.events (due_take w.consumer.consumer) (TakeActorStands (content_of w.consumer.script) w.consumer.consumer (g.T.Store.items w.consumer.taken) w.consumer.told w.consumer.empty)
+    (g.T.Store.items w.consumer.taken) w.consumer.told w.consumer.empty i.take_script_is i.takes (c.look.ensures i.takes.list (open_access C w.memory.events) i.takes.there i.takes.is_due) takes f).1)

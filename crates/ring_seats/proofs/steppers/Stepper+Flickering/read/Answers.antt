@@ -1,5 +1,6 @@
 use Rattle.std.proofs.Common.{◌≡◌, ℕ, true, false, List, refl, ap, sym, subst, ◌∙◌}
 use Rattle.atomic_table.specs.Table.{Allows}
+use Rattle.bits_core.specs.declared.events.Bit.{Bit}
 use Rattle.bits_core.specs.declared.events.Act.TheVariants.{ReadBegin, ReadEnd}
 use Rattle.bits_core.specs.declared.events.Access.TheVariants.{Read}
 use Rattle.bits_core.specs.declared.events.Event.{Event}
@@ -16,40 +17,51 @@ use Rattle.ring_seats.proofs.Moves.{begins_read, ends_read, opened_by}
 use Rattle.ring_seats.proofs.Answered.{answered_then, asked_so, quiet_step, read_step}
 use Rattle.ring_seats.proofs.steppers.Stepper+Flickering.read.Goals as goal
 
+-- what may be read of an end that is seen, may be read of what stands behind it
+record MayRead (inside : RingEnd) (b : Bit) (ring : Ring) (word : ℕ) : Type 0 where
+  ring_is : inside.ring ≡ ring
+  word_is : word_place inside.ring.shape b ≡ word
+  bit : belongs inside.ring.shape b ≡ true
+  side : inside.side ≡ reader b
+  can : CanMake inside (Read b)
+
+may_read :
+    (inside now : RingEnd) (b : Bit) (ring : Ring) (word : ℕ) → inside ≡ now → ring ≡ now.ring → word ≡ word_place ring.shape b →
+    (belongs now.ring.shape b ≡ true) × (now.side ≡ reader b) → CanMake now (Read b) → MayRead inside b ring word
+may_read inside now b ring word is ring_is word_is bit can =
+    let back : inside.ring ≡ ring = ap (λ (e : RingEnd). e.ring) is ∙ sym ring_is in
+    record {
+      ring_is = back;
+      word_is = ap (λ (r : Ring). word_place r.shape b) back ∙ sym word_is;
+      bit = subst (λ (e : RingEnd). belongs e.ring.shape b ≡ true) (sym is) bit.0;
+      side = subst (λ (e : RingEnd). e.side ≡ reader b) (sym is) bit.1;
+      can = subst (λ (e : RingEnd). CanMake e (Read b)) (sym is) can;
+    }
+
 pub load-first-requires-clause-rule : goal.load-first-requires-clause-rule
 load-first-requires-clause-rule g c =
     let h = c.self.inside in
-    let ring_is = subst (λ (e : RingEnd). c.args.ring.now ≡ e.ring) (sym c.self.view_is) c.requires.ring in
-    let is = sym c.self.view_is in
     let b = c.args.bit in
-    let can = subst (λ (e : RingEnd). CanMake e (Read b)) is c.requires.can in
-    let word : word_place h.ring.shape b ≡ c.word_of-word.result = ap (λ (r : Ring). word_place r.shape b) (sym ring_is) ∙ sym c.word_of-word.ensures.place in
-    subst (λ (z : Ring × ℕ). Allows (KeepsFlickerRule z.0.shape) z.0.id.slots h.seat.id h.seat.me z.1 (λ n. n) (Added z.0.shape (λ _. event h.side b ReadBegin) h.seat.me)) (λ i. (sym ring_is i, word i))
-    (begins_read h.ring.shape h.side b h.ring.id.slots h.seat.id h.seat.me c.self.invariant.2 c.self.invariant.3
-    (subst (λ (e : RingEnd). belongs e.ring.shape b ≡ true) is c.requires.bit.0)
-    (subst (λ (e : RingEnd). e.side ≡ reader b) is c.requires.bit.1)
-    can.0 can.1)
+    let may = may_read _ _ b c.args.ring.now c.word_of-word.result c.self.view_is c.requires.ring c.word_of-word.ensures.place c.requires.bit c.requires.can in
+    subst (λ (z : Ring × ℕ). Allows (KeepsFlickerRule z.0.shape) z.0.id.slots h.seat.id h.seat.me z.1 (λ n. n) (Added z.0.shape (λ _. event h.side b ReadBegin) h.seat.me)) (λ i. (may.ring_is i, may.word_is i))
+    (begins_read h.ring.shape h.side b h.ring.id.slots h.seat.id h.seat.me c.self.invariant.2 c.self.invariant.3 may.bit may.side may.can.0 may.can.1)
 
 pub load-again-requires-clause-rule : goal.load-again-requires-clause-rule
 load-again-requires-clause-rule g c =
     let h = c.self.inside in
-    let ring_is = subst (λ (e : RingEnd). c.args.ring.now ≡ e.ring) (sym c.self.view_is) c.requires.ring in
-    let is = sym c.self.view_is in
     let b = c.args.bit in
-    let can = subst (λ (e : RingEnd). CanMake e (Read b)) is c.requires.can in
+    let may = may_read _ _ b c.args.ring.now c.word_of-word.result c.self.view_is c.requires.ring c.word_of-word.ensures.place c.requires.bit c.requires.can in
     let first = c.load-first.result in
     let seat = c.load-first.new.seat in
     let view = c.load-first.ensures.told.view in
     let said = g.O.Oracle.answers c.args.oracle.now 0 in
-    let word : word_place h.ring.shape b ≡ c.word_of-word.result = ap (λ (r : Ring). word_place r.shape b) (sym ring_is) ∙ sym c.word_of-word.ensures.place in
-    subst (λ (z : Ring × ℕ). Allows (KeepsFlickerRule z.0.shape) z.0.id.slots seat.id seat.me z.1 (λ n. n) (Added z.0.shape (λ n. event h.side b (ReadEnd (answer_of seat.me.0.first n said))) seat.me)) (λ i. (sym ring_is i, word i))
+    subst (λ (z : Ring × ℕ). Allows (KeepsFlickerRule z.0.shape) z.0.id.slots seat.id seat.me z.1 (λ n. n) (Added z.0.shape (λ n. event h.side b (ReadEnd (answer_of seat.me.0.first n said))) seat.me)) (λ i. (may.ring_is i, may.word_is i))
     (ends_read h.ring.shape h.side b h.ring.id.slots seat.id seat.me
     (may_still h.side b ReadBegin first h.seat.me.0 seat.me.0 view h.side true c.self.invariant.2)
     (may_still h.side b ReadBegin first h.seat.me.0 seat.me.0 view (other h.side) false c.self.invariant.3)
-    (subst (λ (e : RingEnd). belongs e.ring.shape b ≡ true) is c.requires.bit.0)
-    (subst (λ (e : RingEnd). e.side ≡ reader b) is c.requires.bit.1)
+    may.bit may.side
     (opened_by h.side b ReadBegin first h.seat.me.0 seat.me.0 view)
-    (subst (λ (l : List Event). GoesOn h.ring.shape h.side (Read b) l) (sym (list_more h.side b ReadBegin first h.seat.me.0 seat.me.0 view)) can.2)
+    (subst (λ (l : List Event). GoesOn h.ring.shape h.side (Read b) l) (sym (list_more h.side b ReadBegin first h.seat.me.0 seat.me.0 view)) may.can.2)
     said)
 
 pub invariant_of-self : goal.invariant_of-self
