@@ -1,6 +1,5 @@
-mod first_cases;
+mod cases;
 mod growths;
 mod histories;
-mod more_cases;
 mod recordings;
 mod slots;

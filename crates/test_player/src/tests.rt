@@ -3,6 +3,7 @@ mod play_growths;
 mod play_scripts;
 mod play_stores;
 mod plays;
+mod refusals;
 mod script_growths;
 mod script_words;
 mod scripts;

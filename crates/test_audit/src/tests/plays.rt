@@ -18,6 +18,24 @@ struct Play<'a> {
     told: bool,
 }
 
+// A play, with what each of its parts is.
+macro_rules! play {
+    ($shape:expr, $items:literal, takes $takes:literal, close $close:literal, by $schedule:literal, $oracle:literal;
+     put $put:expr, taken $taken:expr, told $told:literal) => {
+        Play {
+            shape: $shape,
+            items: $items,
+            takes: $takes,
+            close: $close,
+            schedule: $schedule,
+            oracle: $oracle,
+            put: &$put,
+            taken: &$taken,
+            told: $told,
+        }
+    };
+}
+
 const SMALL: &str = "\"capacity\":1,\"modulus\":3,\"width\":1";
 
 // The history of the play is audited.
@@ -45,89 +63,21 @@ fn expect_plays(rt: &(impl Abort + AllocGlobal), rows: &[Play]) -> Result<(), Fa
 
 const PLAIN: [Play<'static>; 7] = [
     // plain path
-    Play {
-        shape: SMALL,
-        items: "1",
-        takes: 1,
-        close: false,
-        schedule: "P8C10",
-        oracle: "",
-        put: &[1],
-        taken: &[1],
-        told: false,
-    },
+    play!(SMALL, "1", takes 1, close false, by "P8C10", ""; put [1], taken [1], told false),
     // nothing
-    Play {
-        shape: SMALL,
-        items: "1",
-        takes: 1,
-        close: false,
-        schedule: "",
-        oracle: "",
-        put: &[],
-        taken: &[],
-        told: false,
-    },
+    play!(SMALL, "1", takes 1, close false, by "", ""; put [], taken [], told false),
     // count write open, then seen old
-    Play {
-        shape: SMALL,
-        items: "1",
-        takes: 2,
-        close: false,
-        schedule: "P7C14",
-        oracle: "01",
-        put: &[1],
-        taken: &[1],
-        told: false,
-    },
+    play!(SMALL, "1", takes 2, close false, by "P7C14", "01"; put [1], taken [1], told false),
     // take's count write open
-    Play {
-        shape: SMALL,
-        items: "1,0,1",
-        takes: 2,
-        close: false,
-        schedule: "P8C9P12",
-        oracle: "01",
-        put: &[1, 0],
-        taken: &[],
-        told: false,
-    },
+    play!(SMALL, "1,0,1", takes 2, close false, by "P8C9P12", "01"; put [1, 0], taken [], told false),
     // full at capacity one
-    Play {
-        shape: SMALL,
-        items: "1,1",
-        takes: 0,
-        close: false,
-        schedule: "P10",
-        oracle: "",
-        put: &[1],
-        taken: &[],
-        told: false,
-    },
+    play!(SMALL, "1,1", takes 0, close false, by "P10", ""; put [1], taken [], told false),
     // wrap under an open count write
-    Play {
-        shape: SMALL,
-        items: "1,0,1",
-        takes: 3,
-        close: false,
-        schedule: "P8C10P10C12P9C14",
-        oracle: "01",
-        put: &[1, 0, 1],
-        taken: &[1, 0, 1],
-        told: false,
-    },
+    play!(SMALL, "1,0,1", takes 3, close false, by "P8C10P10C12P9C14", "01";
+        put [1, 0, 1], taken [1, 0, 1], told false),
     // five items
-    Play {
-        shape: SMALL,
-        items: "1,0,0,1,1",
-        takes: 5,
-        close: false,
-        schedule: "P8C10P10C12P10C6P8C10P8C10",
-        oracle: "",
-        put: &[1, 0, 0, 1, 1],
-        taken: &[1, 0, 0, 1, 1],
-        told: false,
-    },
+    play!(SMALL, "1,0,0,1,1", takes 5, close false, by "P8C10P10C12P10C6P8C10P8C10", "";
+        put [1, 0, 0, 1, 1], taken [1, 0, 0, 1, 1], told false),
 ];
 
 #[test]
@@ -137,53 +87,15 @@ fn the_worked_plays_have_their_lists(rt: HostRuntime) -> Result<(), Fail> {
 
 const OVERLAPS: [Play<'static>; 4] = [
     // a read spans a whole put and answers 1
-    Play {
-        shape: SMALL,
-        items: "1",
-        takes: 1,
-        close: false,
-        schedule: "C1P8C13",
-        oracle: "1",
-        put: &[1],
-        taken: &[1],
-        told: false,
-    },
+    play!(SMALL, "1", takes 1, close false, by "C1P8C13", "1"; put [1], taken [1], told false),
     // it answers 0
-    Play {
-        shape: SMALL,
-        items: "1",
-        takes: 1,
-        close: false,
-        schedule: "C1P8C9",
-        oracle: "0",
-        put: &[1],
-        taken: &[1],
-        told: false,
-    },
+    play!(SMALL, "1", takes 1, close false, by "C1P8C9", "0"; put [1], taken [1], told false),
     // largest shape
-    Play {
-        shape: "\"capacity\":1,\"modulus\":256,\"width\":64",
-        items: "18446744073709551615",
-        takes: 1,
-        close: false,
-        schedule: "P134C136",
-        oracle: "",
-        put: &[18446744073709551615],
-        taken: &[18446744073709551615],
-        told: false,
-    },
+    play!("\"capacity\":1,\"modulus\":256,\"width\":64", "18446744073709551615", takes 1, close false, by "P134C136", "";
+        put [18446744073709551615], taken [18446744073709551615], told false),
     // two cells
-    Play {
-        shape: "\"capacity\":2,\"modulus\":4,\"width\":2",
-        items: "2,1,3",
-        takes: 1,
-        close: false,
-        schedule: "P22C14P12",
-        oracle: "",
-        put: &[2, 1, 3],
-        taken: &[2],
-        told: false,
-    },
+    play!("\"capacity\":2,\"modulus\":4,\"width\":2", "2,1,3", takes 1, close false, by "P22C14P12", "";
+        put [2, 1, 3], taken [2], told false),
 ];
 
 #[test]
@@ -193,65 +105,15 @@ fn overlapped_and_large_plays_have_their_lists(rt: HostRuntime) -> Result<(), Fa
 
 const CLOSED: [Play<'static>; 5] = [
     // the second scan finds the item
-    Play {
-        shape: SMALL,
-        items: "1",
-        takes: 2,
-        close: true,
-        schedule: "C2P10C22",
-        oracle: "",
-        put: &[1],
-        taken: &[1],
-        told: true,
-    },
+    play!(SMALL, "1", takes 2, close true, by "C2P10C22", ""; put [1], taken [1], told true),
     // closed while the close bit is being written
-    Play {
-        shape: SMALL,
-        items: "",
-        takes: 1,
-        close: true,
-        schedule: "P1C6",
-        oracle: "1",
-        put: &[],
-        taken: &[],
-        told: true,
-    },
+    play!(SMALL, "", takes 1, close true, by "P1C6", "1"; put [], taken [], told true),
     // the close bit flickers
-    Play {
-        shape: SMALL,
-        items: "1",
-        takes: 2,
-        close: true,
-        schedule: "C2P9C18",
-        oracle: "10",
-        put: &[1],
-        taken: &[1],
-        told: false,
-    },
+    play!(SMALL, "1", takes 2, close true, by "C2P9C18", "10"; put [1], taken [1], told false),
     // cut before closed
-    Play {
-        shape: SMALL,
-        items: "",
-        takes: 1,
-        close: true,
-        schedule: "P1C5",
-        oracle: "1",
-        put: &[],
-        taken: &[],
-        told: false,
-    },
+    play!(SMALL, "", takes 1, close true, by "P1C5", "1"; put [], taken [], told false),
     // idle letters
-    Play {
-        shape: SMALL,
-        items: "1",
-        takes: 2,
-        close: true,
-        schedule: "C2P10C22P3C5",
-        oracle: "",
-        put: &[1],
-        taken: &[1],
-        told: true,
-    },
+    play!(SMALL, "1", takes 2, close true, by "C2P10C22P3C5", ""; put [1], taken [1], told true),
 ];
 
 #[test]

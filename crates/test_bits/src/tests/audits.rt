@@ -32,21 +32,19 @@ fn a_stale_read_without_cause_is_not_permitted(rt: HostRuntime) {
     );
 }
 
-// Two reads of s0 while a write of 0 to it is open, over the 1 that it holds, and a read after it.
-static INVERSIONS: [Case<'static>; 2] = [
-    (
-        "shape 1 3 1\nP write s0 0\nC read s0\nC got s0 0\nC read s0\nC got s0 1\nP wrote s0\nC read s0\nC got s0 0\n",
-        LAWFUL,
-    ),
-    (
-        "shape 1 3 1\nP write s0 0\nC read s0\nC got s0 1\nC read s0\nC got s0 0\nP wrote s0\nC read s0\nC got s0 0\n",
-        LAWFUL,
-    ),
-];
+// Two reads of s0 while a write of 0 to it is open, over the 1 that it holds, and a read after it: their answers.
+fn expect_reads(rt: &(impl Abort + AllocGlobal), answers: [u8; 3], verdict: Verdict) {
+    let [first, second, third] = answers;
+    let text = format!(in rt.alloc();
+        "shape 1 3 1\nP write s0 0\nC read s0\nC got s0 {first}\nC read s0\nC got s0 {second}\nP wrote s0\nC read s0\nC got s0 {third}\n"
+    );
+    expect_verdict(rt, text.expect(rt, "memory for the text").as_str(), verdict);
+}
 
 #[test]
 fn a_new_old_inversion_is_lawful(rt: HostRuntime) {
-    expect_verdicts(&rt, &INVERSIONS);
+    expect_reads(&rt, [0, 1, 0], LAWFUL);
+    expect_reads(&rt, [1, 0, 0], LAWFUL);
 }
 
 const STALE: Verdict = Verdict::Fault {
@@ -54,20 +52,10 @@ const STALE: Verdict = Verdict::Fault {
     kind: Kind::NotPermitted,
 };
 
-static STALE_AFTER: [Case<'static>; 2] = [
-    (
-        "shape 1 3 1\nP write s0 0\nC read s0\nC got s0 0\nC read s0\nC got s0 1\nP wrote s0\nC read s0\nC got s0 1\n",
-        STALE,
-    ),
-    (
-        "shape 1 3 1\nP write s0 0\nC read s0\nC got s0 1\nC read s0\nC got s0 0\nP wrote s0\nC read s0\nC got s0 1\n",
-        STALE,
-    ),
-];
-
 #[test]
 fn the_old_value_is_stale_once_the_write_has_ended(rt: HostRuntime) {
-    expect_verdicts(&rt, &STALE_AFTER);
+    expect_reads(&rt, [0, 1, 1], STALE);
+    expect_reads(&rt, [1, 0, 1], STALE);
 }
 
 #[test]

@@ -110,66 +110,48 @@ const READ_S0: Option<Access> = Some(Access::Read(S0));
 
 const WRITE_S0: Option<Access> = Some(Access::Write(S0, false));
 
-// Two reads within a write, and one after it, which does not ask the tape.
-static READS_IN_A_WRITE: [Step; 8] = [
-    (Side::P, false, None, WRITE_S0),
-    (Side::C, false, None, READ_S0),
-    (Side::C, false, Some(true), None),
-    (Side::C, false, None, READ_S0),
-    (Side::C, false, Some(false), None),
-    (Side::P, false, None, None),
-    (Side::C, false, None, READ_S0),
-    (Side::C, false, Some(false), None),
-];
+// P begins its write, C a read; and P ends its write, C its read with an answer.
+const WRITES: Step = (Side::P, false, None, WRITE_S0);
 
+const READS: Step = (Side::C, false, None, READ_S0);
+
+const WROTE: Step = (Side::P, false, None, None);
+
+const GOT_0: Step = (Side::C, false, Some(false), None);
+
+const GOT_1: Step = (Side::C, false, Some(true), None);
+
+// Two reads within a write, and one after it, which does not ask the tape.
 #[test]
 fn overlapped_reads_of_one_bit_ask_the_oracle(rt: HostRuntime) {
     expect_steps(
         &rt,
         &[true, false, true],
-        &READS_IN_A_WRITE,
+        &[WRITES, READS, GOT_1, READS, GOT_0, WROTE, READS, GOT_0],
         2,
         "shape 1 3 1\nP write s0 0\nC read s0\nC got s0 1\nC read s0\nC got s0 0\nP wrote s0\nC read s0\nC got s0 0\n",
     );
 }
 
 // A read, a whole write within it, and a read after both.
-static WRITE_IN_A_READ: [Step; 6] = [
-    (Side::C, false, None, READ_S0),
-    (Side::P, false, None, WRITE_S0),
-    (Side::P, false, None, None),
-    (Side::C, false, Some(true), None),
-    (Side::C, false, None, READ_S0),
-    (Side::C, false, Some(false), None),
-];
-
 #[test]
 fn a_read_spanned_by_a_write_flickers(rt: HostRuntime) {
     expect_steps(
         &rt,
         &[true],
-        &WRITE_IN_A_READ,
+        &[READS, WRITES, WROTE, GOT_1, READS, GOT_0],
         1,
         "shape 1 3 1\nC read s0\nP write s0 0\nP wrote s0\nC got s0 1\nC read s0\nC got s0 0\n",
     );
 }
 
 // A write that begins during a read of the bit marks that read alone: not the next one after the write.
-static MARK_IS_CLEARED: [Step; 6] = [
-    (Side::C, false, None, READ_S0),
-    (Side::P, false, None, WRITE_S0),
-    (Side::C, false, Some(false), None),
-    (Side::P, false, None, None),
-    (Side::C, false, None, READ_S0),
-    (Side::C, false, Some(false), None),
-];
-
 #[test]
 fn a_read_after_an_overlapped_one_does_not_ask(rt: HostRuntime) {
     expect_steps(
         &rt,
         &[false, true],
-        &MARK_IS_CLEARED,
+        &[READS, WRITES, GOT_0, WROTE, READS, GOT_0],
         1,
         "shape 1 3 1\nC read s0\nP write s0 0\nC got s0 0\nP wrote s0\nC read s0\nC got s0 0\n",
     );

@@ -3,47 +3,57 @@ use std::alloc::AllocGlobal;
 use std::fmt::Display;
 use std::process::Abort;
 
-// Capacity, modulus, width and batch, and why they are no shape.
-type Numbers = (u64, u64, u64, u64, Option<ShapeFault>);
+// Why numbers are no shape, where they are none, and such numbers.
+type Made<const COUNT: usize> = (Option<ShapeFault>, &'static [[u64; COUNT]]);
 
-// What was made of the numbers, and how. (A message is dear to prove, so this one is for both.)
-fn expect_made(rt: &impl Abort, how: &str, made: Result<Shape, ShapeFault>, numbers: &Numbers) {
-    let (capacity, modulus, width, batch, refused) = *numbers;
-    assert_eq!(rt;
-        made.err(),
-        refused,
-        "{how} {capacity} {modulus} {width} {batch}"
-    );
+const CAPACITY: Option<ShapeFault> = Some(ShapeFault::Capacity);
+
+const MODULUS: Option<ShapeFault> = Some(ShapeFault::Modulus);
+
+const MODULUS_OF_BATCHES: Option<ShapeFault> = Some(ShapeFault::ModulusOfBatches);
+
+const WIDTH: Option<ShapeFault> = Some(ShapeFault::Width);
+
+const BATCH: Option<ShapeFault> = Some(ShapeFault::Batch);
+
+const TAKE_BATCH: Option<ShapeFault> = Some(ShapeFault::TakeBatch);
+
+// What was made of the numbers, and how. (A message is dear to prove, so this one is for all.)
+fn expect_made(
+    rt: &impl Abort,
+    how: &str,
+    made: Result<Shape, ShapeFault>,
+    refused: Option<ShapeFault>,
+    numbers: &[u64],
+) {
+    assert_eq!(rt; made.err(), refused, "{how} {numbers:?}");
 }
 
-fn expect_numbers(rt: &impl Abort, numbers: &Numbers) {
-    let (capacity, modulus, width, batch, _) = *numbers;
+// Capacity, modulus, width and batch.
+fn expect_numbers(rt: &impl Abort, numbers: &[u64; 4], refused: Option<ShapeFault>) {
+    let [capacity, modulus, width, batch] = *numbers;
     let shape = Shape::with_batch(capacity, modulus, width, batch);
-    expect_made(rt, "with_batch", shape, numbers);
+    expect_made(rt, "with_batch", shape, refused, numbers);
     if batch == 1 {
         let single = Shape::new(capacity, modulus, width);
-        expect_made(rt, "new", single, numbers);
+        expect_made(rt, "new", single, refused, numbers);
     }
 }
 
 // Each row, and where it is a shape of batch 1, `Shape::new` too.
-fn expect_shapes(rt: &impl Abort, rows: &[Numbers]) {
-    for numbers in rows {
-        expect_numbers(rt, numbers);
+fn expect_shapes(rt: &impl Abort, rows: &[Made<4>]) {
+    for (refused, shapes) in rows {
+        for numbers in shapes.iter() {
+            expect_numbers(rt, numbers, *refused);
+        }
     }
 }
 
-static SINGLE: [Numbers; 10] = [
-    (1, 3, 1, 1, None),
-    (64, 66, 64, 1, None),
-    (64, 256, 1, 1, None),
-    (1, 2, 1, 1, Some(ShapeFault::Modulus)),
-    (1, 257, 1, 1, Some(ShapeFault::Modulus)),
-    (64, 65, 1, 1, Some(ShapeFault::Modulus)),
-    (65, 67, 64, 1, Some(ShapeFault::Capacity)),
-    (0, 0, 0, 1, Some(ShapeFault::Capacity)),
-    (1, 3, 0, 1, Some(ShapeFault::Width)),
-    (1, 3, 65, 1, Some(ShapeFault::Width)),
+static SINGLE: [Made<4>; 4] = [
+    (None, &[[1, 3, 1, 1], [64, 66, 64, 1], [64, 256, 1, 1]]),
+    (MODULUS, &[[1, 2, 1, 1], [1, 257, 1, 1], [64, 65, 1, 1]]),
+    (CAPACITY, &[[65, 67, 64, 1], [0, 0, 0, 1]]),
+    (WIDTH, &[[1, 3, 0, 1], [1, 3, 65, 1]]),
 ];
 
 #[test]
@@ -51,20 +61,16 @@ fn shapes_accepted_and_refused(rt: HostRuntime) {
     expect_shapes(&rt, &SINGLE);
 }
 
-static BATCHES: [Numbers; 11] = [
-    (3, 7, 1, 3, None),
-    (3, 6, 1, 2, None),
-    (64, 129, 64, 64, None),
+static BATCHES: [Made<4>; 7] = [
+    (None, &[[3, 7, 1, 3], [3, 6, 1, 2], [64, 129, 64, 64]]),
     // one less than capacity + batch + 1
-    (3, 6, 1, 3, Some(ShapeFault::Modulus)),
-    (64, 128, 64, 64, Some(ShapeFault::Modulus)),
-    (3, 7, 1, 4, Some(ShapeFault::Batch)),
-    (3, 7, 1, 0, Some(ShapeFault::Batch)),
+    (MODULUS, &[[3, 6, 1, 3], [64, 128, 64, 64]]),
+    (BATCH, &[[3, 7, 1, 4], [3, 7, 1, 0]]),
     // the capacity is told before the batch, the batch before the modulus, the modulus before the width
-    (65, 0, 0, 0, Some(ShapeFault::Capacity)),
-    (3, 3, 0, 4, Some(ShapeFault::Batch)),
-    (3, 6, 0, 3, Some(ShapeFault::Modulus)),
-    (3, 7, 65, 3, Some(ShapeFault::Width)),
+    (CAPACITY, &[[65, 0, 0, 0]]),
+    (BATCH, &[[3, 3, 0, 4]]),
+    (MODULUS, &[[3, 6, 0, 3]]),
+    (WIDTH, &[[3, 7, 65, 3]]),
 ];
 
 #[test]
@@ -72,44 +78,43 @@ fn batches_accepted_and_refused(rt: HostRuntime) {
     expect_shapes(&rt, &BATCHES);
 }
 
-// Capacity, modulus, width, batch and take batch, and why they are no shape.
-static TAKE_BATCHES: [([u64; 5], Option<ShapeFault>); 17] = [
-    ([3, 7, 1, 1, 3], None),
-    ([3, 7, 1, 3, 3], None),
-    ([3, 6, 1, 1, 2], None),
-    ([64, 129, 64, 1, 64], None),
-    ([64, 81, 64, 16, 16], None),
-    ([3, 5, 1, 1, 1], None),
+// Of capacity, modulus, width, batch and take batch.
+static TAKE_BATCHES: [Made<5>; 9] = [
+    (None, &[[3, 7, 1, 1, 3], [3, 7, 1, 3, 3], [3, 6, 1, 1, 2]]),
+    (
+        None,
+        &[[64, 129, 64, 1, 64], [64, 81, 64, 16, 16], [3, 5, 1, 1, 1]],
+    ),
     // one less than capacity + the larger batch + 1
-    ([3, 6, 1, 1, 3], Some(ShapeFault::ModulusOfBatches)),
-    ([3, 6, 1, 3, 2], Some(ShapeFault::ModulusOfBatches)),
-    ([64, 80, 64, 1, 16], Some(ShapeFault::ModulusOfBatches)),
-    ([3, 257, 1, 1, 3], Some(ShapeFault::ModulusOfBatches)),
-    ([3, 6, 1, 3, 1], Some(ShapeFault::Modulus)),
-    ([3, 7, 1, 1, 4], Some(ShapeFault::TakeBatch)),
-    ([3, 7, 1, 1, 0], Some(ShapeFault::TakeBatch)),
+    (MODULUS_OF_BATCHES, &[[3, 6, 1, 1, 3], [3, 6, 1, 3, 2]]),
+    (
+        MODULUS_OF_BATCHES,
+        &[[64, 80, 64, 1, 16], [3, 257, 1, 1, 3]],
+    ),
+    (MODULUS, &[[3, 6, 1, 3, 1]]),
     // the batch is told before the take batch, the take batch before the modulus, the modulus before the width
-    ([3, 7, 1, 4, 4], Some(ShapeFault::Batch)),
-    ([3, 3, 0, 1, 4], Some(ShapeFault::TakeBatch)),
-    ([3, 6, 0, 1, 3], Some(ShapeFault::ModulusOfBatches)),
-    ([3, 7, 65, 1, 3], Some(ShapeFault::Width)),
+    (BATCH, &[[3, 7, 1, 4, 4]]),
+    (
+        TAKE_BATCH,
+        &[[3, 7, 1, 1, 4], [3, 7, 1, 1, 0], [3, 3, 0, 1, 4]],
+    ),
+    (MODULUS_OF_BATCHES, &[[3, 6, 0, 1, 3]]),
+    (WIDTH, &[[3, 7, 65, 1, 3]]),
 ];
 
 // What was made of the five numbers.
 fn expect_batches(rt: &impl Abort, numbers: &[u64; 5], refused: Option<ShapeFault>) {
     let [capacity, modulus, width, batch, take_batch] = *numbers;
     let made = Shape::with_batches(capacity, modulus, width, batch, take_batch);
-    assert_eq!(rt;
-        made.err(),
-        refused,
-        "with_batches {capacity} {modulus} {width} {batch} {take_batch}"
-    );
+    expect_made(rt, "with_batches", made, refused, numbers);
 }
 
 #[test]
 fn take_batches_accepted_and_refused(rt: HostRuntime) {
-    for (numbers, refused) in TAKE_BATCHES.iter() {
-        expect_batches(&rt, numbers, *refused);
+    for (refused, shapes) in TAKE_BATCHES.iter() {
+        for numbers in shapes.iter() {
+            expect_batches(&rt, numbers, *refused);
+        }
     }
 }
 
@@ -166,25 +171,23 @@ fn expect_flag(rt: &impl Abort, found: bool, wanted: bool) {
     assert_eq!(rt; found, wanted);
 }
 
-// Whether the bit is one of the shape 2 5 3.
-static BITS: [(Bit, bool); 10] = [
-    (Bit::S(0), true),
-    (Bit::S(4), true),
-    (Bit::S(5), false),
-    (Bit::R(4), true),
-    (Bit::R(5), false),
-    (Bit::X, true),
-    (Bit::Cell(1, 2), true),
-    (Bit::Cell(2, 2), false),
-    (Bit::Cell(1, 3), false),
-    (Bit::Cell(255, 255), false),
+// No bits of the shape 2 5 3.
+static OUTSIDE: [Bit; 5] = [
+    Bit::S(5),
+    Bit::R(5),
+    Bit::Cell(2, 2),
+    Bit::Cell(1, 3),
+    Bit::Cell(255, 255),
 ];
 
 #[test]
 fn a_shape_has_its_bits(rt: HostRuntime) {
     let shape = Shape::new(2, 5, 3).expect(&rt, "a shape");
-    for (bit, belongs) in BITS.iter() {
-        expect_flag(&rt, shape.has(*bit), *belongs);
+    for bit in [Bit::S(0), Bit::S(4), Bit::R(4), Bit::X, Bit::Cell(1, 2)] {
+        expect_flag(&rt, shape.has(bit), true);
+    }
+    for bit in OUTSIDE.iter() {
+        expect_flag(&rt, shape.has(*bit), false);
     }
 }
 
@@ -196,8 +199,16 @@ fn expect_words(rt: &(impl Abort + AllocGlobal), value: &impl Display, words: &s
     assert_eq!(rt; written.as_str(), words);
 }
 
-fn expect_number(rt: &impl Abort, found: u8, wanted: u8) {
-    assert_eq!(rt; found, wanted);
+// A value with this number has the wanted number and words.
+fn expect_named(
+    rt: &(impl Abort + AllocGlobal),
+    value: &impl Display,
+    number: u8,
+    wanted: (u8, &str),
+) {
+    let (wanted, words) = wanted;
+    assert_eq!(rt; number, wanted);
+    expect_words(rt, value, words);
 }
 
 static SHAPE_FAULTS: [(ShapeFault, u8, &str); 6] = [
@@ -224,8 +235,7 @@ static SHAPE_FAULTS: [(ShapeFault, u8, &str); 6] = [
 #[test]
 fn shape_faults_have_their_numbers_and_words(rt: HostRuntime) {
     for (fault, number, words) in SHAPE_FAULTS.iter() {
-        expect_number(&rt, fault.number(), *number);
-        expect_words(&rt, fault, words);
+        expect_named(&rt, fault, fault.number(), (*number, words));
         // a bad shape has the words of its fault
         expect_words(&rt, &TraceFault::BadShape(*fault), words);
     }
@@ -249,23 +259,19 @@ static TRACE_FAULTS: [(TraceFault, u8, &str); 4] = [
 #[test]
 fn trace_faults_have_their_numbers_and_words(rt: HostRuntime) {
     for (fault, number, words) in TRACE_FAULTS.iter() {
-        expect_number(&rt, fault.number(), *number);
-        expect_words(&rt, fault, words);
+        expect_named(&rt, fault, fault.number(), (*number, words));
     }
 }
 
-static KINDS: [(Kind, u8, &str); 4] = [
-    (Kind::WrongSide, 1, "wrong side"),
-    (Kind::OutOfTurn, 2, "out of turn"),
-    (Kind::NotPermitted, 3, "not permitted"),
-    (Kind::NotProgram, 4, "not of the program"),
-];
-
 #[test]
 fn kinds_have_their_numbers_and_words(rt: HostRuntime) {
-    for (kind, number, words) in KINDS.iter() {
-        expect_number(&rt, kind.number(), *number);
-        expect_words(&rt, kind, words);
+    for (kind, number, words) in [
+        (Kind::WrongSide, 1, "wrong side"),
+        (Kind::OutOfTurn, 2, "out of turn"),
+        (Kind::NotPermitted, 3, "not permitted"),
+        (Kind::NotProgram, 4, "not of the program"),
+    ] {
+        expect_named(&rt, &kind, kind.number(), (number, words));
     }
 }
 
@@ -283,6 +289,6 @@ fn a_memory_shows_its_history(rt: HostRuntime) {
 
 #[test]
 fn the_fault_of_a_memory(rt: HostRuntime) {
-    expect_number(&rt, MemoryFault::OutOfMemory.number(), 1);
-    expect_words(&rt, &MemoryFault::OutOfMemory, "out of memory");
+    let fault = MemoryFault::OutOfMemory;
+    expect_named(&rt, &fault, fault.number(), (1, "out of memory"));
 }

@@ -135,67 +135,99 @@ fn a_first_line_of_no_form_is_bad(rt: HostRuntime) {
     expect_faults(&rt, &NO_LINE_ONE, TraceFault::BadLine(1));
 }
 
-static BAD_SHAPES: [(&str, ShapeFault); 20] = [
-    ("shape 1 9999 1\n", ShapeFault::Modulus),
-    ("shape 1 2 1\n", ShapeFault::Modulus),
-    ("shape 0 3 1\n", ShapeFault::Capacity),
-    ("shape 1 3 65\nnonsense", ShapeFault::Width),
-    ("shape 3 7 1 0\n", ShapeFault::Batch),
-    ("shape 3 7 1 4\n", ShapeFault::Batch),
-    ("shape 3 7 1 9999\n", ShapeFault::Batch),
-    ("shape 3 6 1 3\n", ShapeFault::Modulus),
-    ("shape 3 6 0 3\n", ShapeFault::Modulus),
-    ("shape 3 6 0 4\n", ShapeFault::Batch),
-    ("shape 65 0 0 0\n", ShapeFault::Capacity),
-    ("shape 3 7 0 3\nP", ShapeFault::Width),
-    ("shape 3 7 1 1 0\n", ShapeFault::TakeBatch),
-    ("shape 3 7 1 1 4\n", ShapeFault::TakeBatch),
-    ("shape 3 7 1 4 4\n", ShapeFault::Batch),
-    ("shape 3 7 1 9999 9999\n", ShapeFault::Batch),
-    ("shape 3 6 1 1 3\n", ShapeFault::ModulusOfBatches),
-    ("shape 3 6 0 3 2\n", ShapeFault::ModulusOfBatches),
-    ("shape 9999 9999 9999 9999 9999\n", ShapeFault::Capacity),
-    ("shape 3 7 0 1 3\nP", ShapeFault::Width),
+static BAD_SHAPES: [(ShapeFault, &[&str]); 6] = [
+    (
+        ShapeFault::Modulus,
+        &[
+            "shape 1 9999 1\n",
+            "shape 1 2 1\n",
+            "shape 3 6 1 3\n",
+            "shape 3 6 0 3\n",
+        ],
+    ),
+    (
+        ShapeFault::Capacity,
+        &[
+            "shape 0 3 1\n",
+            "shape 65 0 0 0\n",
+            "shape 9999 9999 9999 9999 9999\n",
+        ],
+    ),
+    (
+        ShapeFault::Width,
+        &[
+            "shape 1 3 65\nnonsense",
+            "shape 3 7 0 3\nP",
+            "shape 3 7 0 1 3\nP",
+        ],
+    ),
+    (
+        ShapeFault::Batch,
+        &[
+            "shape 3 7 1 0\n",
+            "shape 3 7 1 4\n",
+            "shape 3 7 1 9999\n",
+            "shape 3 6 0 4\n",
+            "shape 3 7 1 4 4\n",
+            "shape 3 7 1 9999 9999\n",
+        ],
+    ),
+    (
+        ShapeFault::TakeBatch,
+        &["shape 3 7 1 1 0\n", "shape 3 7 1 1 4\n"],
+    ),
+    (
+        ShapeFault::ModulusOfBatches,
+        &["shape 3 6 1 1 3\n", "shape 3 6 0 3 2\n"],
+    ),
 ];
 
 #[test]
 fn numbers_that_are_no_shape_are_told(rt: HostRuntime) {
-    for (text, fault) in BAD_SHAPES.iter() {
-        expect_fault(&rt, text.as_bytes(), TraceFault::BadShape(*fault));
+    for (fault, texts) in BAD_SHAPES.iter() {
+        expect_faults(&rt, texts, TraceFault::BadShape(*fault));
     }
 }
 
-// Each stands behind a line of the shape 1 3 1.
+// Each is a bad line behind the first one.
+fn expect_bad_lines(rt: &(impl Abort + AllocGlobal), lines: &[&str], first: &str) {
+    for line in lines {
+        let text = format!(in rt.alloc(); "{first}{line}");
+        let text = text.expect(rt, "memory for the text");
+        expect_fault(rt, text.as_bytes(), TraceFault::BadLine(2));
+    }
+}
+
 static NO_LINE_TWO: [&str; 24] = [
-    "shape 1 3 1\nP read r",
-    "shape 1 3 1\nP read r0",
-    "shape 1 3 1\nP read r3\n",
-    "shape 1 3 1\nP read r00\n",
-    "shape 1 3 1\nP read s00\n",
-    "shape 1 3 1\nP  read r0\n",
-    "shape 1 3 1\nP read r0 \n",
-    "shape 1 3 1\nP got r0 2\n",
-    "shape 1 3 1\nP got r0\n",
-    "shape 1 3 1\nP read r0 1\n",
-    "shape 1 3 1\nP read c1.0\n",
-    "shape 1 3 1\nP read c0.1\n",
-    "shape 1 3 1\nP read c0\n",
-    "shape 1 3 1\nP read r256\n",
-    "shape 1 3 1\nP read x0\n",
-    "shape 1 3 1\nP wrote s0 1\n",
-    "shape 1 3 1\nP write s0 01\n",
-    "shape 1 3 1\np read r0\n",
-    "shape 1 3 1\nP Read r0\n",
-    "shape 1 3 1\nshape 1 3 1\n",
-    "shape 1 3 1\n\n",
-    "shape 1 3 1\n P read r0\n",
-    "shape 1 3 1\nP read r0\r\n",
-    "shape 1 3 1\nP\tread r0\n",
+    "P read r",
+    "P read r0",
+    "P read r3\n",
+    "P read r00\n",
+    "P read s00\n",
+    "P  read r0\n",
+    "P read r0 \n",
+    "P got r0 2\n",
+    "P got r0\n",
+    "P read r0 1\n",
+    "P read c1.0\n",
+    "P read c0.1\n",
+    "P read c0\n",
+    "P read r256\n",
+    "P read x0\n",
+    "P wrote s0 1\n",
+    "P write s0 01\n",
+    "p read r0\n",
+    "P Read r0\n",
+    "shape 1 3 1\n",
+    "\n",
+    " P read r0\n",
+    "P read r0\r\n",
+    "P\tread r0\n",
 ];
 
 #[test]
 fn lines_of_no_form_are_refused(rt: HostRuntime) {
-    expect_faults(&rt, &NO_LINE_TWO, TraceFault::BadLine(2));
+    expect_bad_lines(&rt, &NO_LINE_TWO, "shape 1 3 1\n");
     expect_fault(&rt, b"shape 1 3 1\n\xff", TraceFault::BadLine(2));
 }
 

@@ -25,7 +25,7 @@ C take
 C closed
 ";
 
-pub const REPORT: CallsReport = CallsReport {
+pub const LAWFUL: CallsFinding = CallsFinding::Lawful(CallsReport {
     calls: 8,
     stored: 3,
     taken: 3,
@@ -37,6 +37,17 @@ pub const REPORT: CallsReport = CallsReport {
     perhaps_inside: 2,
     overlapped: 2,
     under_way: 0,
+});
+
+// A text whose first fault is a take of an item that was not put, and its finding.
+pub const NOT_PUT: &[u8] = b"queue 8\nC take\nC item 1\nP put 1\nC take\nC item 2\n";
+
+pub const ITEM_1_NOT_INSIDE: CallsFinding = CallsFinding::NotLinearizable {
+    line: 3,
+    cause: Cause::NotInside {
+        item: 1,
+        next: None,
+    },
 };
 
 // A text that is refused, and at which line.
@@ -107,11 +118,10 @@ fn found_by_bytes<A: Allocator + Copy>(
 
 #[test]
 fn pieces_are_cut_anywhere(rt: HostRuntime) -> Result<(), Fail> {
-    let lawful = Ok(CallsFinding::Lawful(REPORT));
     for at in 0..=TEXT.len() {
-        assert!(rt; found_in_two(rt.alloc(), TEXT, at) == lawful);
+        assert!(rt; found_in_two(rt.alloc(), TEXT, at) == Ok(LAWFUL));
     }
-    assert!(rt; found_by_bytes(rt.alloc(), TEXT) == lawful);
+    assert!(rt; found_by_bytes(rt.alloc(), TEXT) == Ok(LAWFUL));
     Ok(())
 }
 
@@ -129,15 +139,7 @@ fn other_texts_are_refused_at_their_line(rt: HostRuntime) -> Result<(), Fail> {
 fn a_bad_line_is_refused_behind_a_fault(rt: HostRuntime) -> Result<(), Fail> {
     let text = b"queue 8\nC take\nC item 1\nP put 01\n";
     assert!(rt; found_in_two(rt.alloc(), text, 9) == Err(RecordingFault::BadLine(4)));
-    let text = b"queue 8\nC take\nC item 1\nP put 1\nC take\nC item 2\n";
-    let fault = Ok(CallsFinding::NotLinearizable {
-        line: 3,
-        cause: Cause::NotInside {
-            item: 1,
-            next: None,
-        },
-    });
-    assert!(rt; found_in_two(rt.alloc(), text, 9) == fault);
+    assert!(rt; found_in_two(rt.alloc(), NOT_PUT, 9) == Ok(ITEM_1_NOT_INSIDE));
     let text = b"queue 8\nC take\nC take\n";
     assert!(rt; found_in_two(rt.alloc(), text, 9) == Ok(CallsFinding::OutOfTurn { line: 3 }));
     Ok(())
@@ -167,14 +169,7 @@ fn the_first_fault_is_told_with_its_line(rt: HostRuntime) -> Result<(), Fail> {
     assert!(rt; recording.read(b"queue 8\nC take\nC item 1").is_ok());
     assert!(rt; recording.fault().is_none());
     assert!(rt; recording.read(b"\nC take\nC take\n").is_ok());
-    let fault = CallsFinding::NotLinearizable {
-        line: 3,
-        cause: Cause::NotInside {
-            item: 1,
-            next: None,
-        },
-    };
-    assert!(rt; recording.fault() == Some(fault));
+    assert!(rt; recording.fault() == Some(ITEM_1_NOT_INSIDE));
     Ok(())
 }
 
@@ -201,7 +196,7 @@ fn each_growth_may_be_refused(rt: HostRuntime) -> Result<(), Fail> {
             refusals = refusals.saturating_add(1);
             assert!(rt; found == Err(RecordingFault::OutOfMemory));
         } else {
-            assert!(rt; found == Ok(CallsFinding::Lawful(REPORT)));
+            assert!(rt; found == Ok(LAWFUL));
         }
     }
     // (the line that is cut, its numbers, the items offered, those taken)

@@ -1,6 +1,6 @@
-use crate::tests::recordings::{REFUSED, REPORT, TEXT};
+use crate::tests::recordings::{ITEM_1_NOT_INSIDE, LAWFUL, NOT_PUT, REFUSED, TEXT};
 use queue_calls::{
-    CallAuditor, CallsFinding, Cause, Event, Fault, Filled, Lent, Lists, Offered, RecordingFault,
+    CallAuditor, CallsFinding, Event, Fault, Filled, Lent, Lists, Offered, RecordingFault,
     RecordingIn, Slots, Taken, exactly,
 };
 use std::process::Abort;
@@ -100,19 +100,10 @@ fn found(text: &[u8], size: usize, room: Room) -> Result<CallsFinding, Recording
 
 #[test]
 fn a_text_is_read_in_slots(rt: HostRuntime) -> Result<(), Fail> {
-    let lawful = Ok(CallsFinding::Lawful(REPORT));
     for size in 1..=TEXT.len() {
-        assert!(rt; found(TEXT, size, ENOUGH) == lawful);
+        assert!(rt; found(TEXT, size, ENOUGH) == Ok(LAWFUL));
     }
-    let text = b"queue 8\nC take\nC item 1\nP put 1\nC take\nC item 2\n";
-    let fault = Ok(CallsFinding::NotLinearizable {
-        line: 3,
-        cause: Cause::NotInside {
-            item: 1,
-            next: None,
-        },
-    });
-    assert!(rt; found(text, 9, ENOUGH) == fault);
+    assert!(rt; found(NOT_PUT, 9, ENOUGH) == Ok(ITEM_1_NOT_INSIDE));
     Ok(())
 }
 

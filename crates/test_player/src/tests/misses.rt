@@ -1,4 +1,5 @@
 use crate::tests::play_scripts::{Asked, Numbers, ONE, expect, script_of};
+use crate::tests::refusals::{Played, refusals};
 use bits_core::{Verdict, audit_bits};
 use near_misses::{NearCall, NearFault, NearMiss, play_near};
 use refusing::Refusing;
@@ -9,163 +10,49 @@ use std::process::Abort;
 // What a near miss is to tell of a script, and the items taken.
 type Near<'a> = (NearMiss, Numbers, Asked<'a>, &'a [NearCall], &'a [u64]);
 
+// A near miss and a script; what is told, with a number in brackets; and the items taken.
+macro_rules! near {
+    ($miss:ident, $shape:expr, $asked:expr; $($call:ident $(($number:literal))?),*; $taken:expr) => {
+        (NearMiss::$miss, $shape, $asked, &[$(NearCall::$call $(($number))?),*], $taken)
+    };
+}
+
 // Two are put and taken, and C's write of 0 to r0 is open. Two more are put by the new count, and the fifth put sees the old one: modulo
 // 4 the ring looks empty, and two digits of the fifth item are written over the third when C takes.
 const OVERWRITTEN: Asked<'static> = ("[1,2,3,5,4]", 4, false, "P24C21P36C27", "001");
 
 static CASES: [Near<'static>; 9] = [
     // The count write spans the take, which reads the cell before the item is there: 0 for 1.
-    (
-        NearMiss::CountBeforeCell,
-        ONE,
-        ("[1]", 1, false, "P5C10", ""),
-        &[
-            NearCall::PutBegins(0),
-            NearCall::TakeBegins(1),
-            NearCall::TakeItems(1),
-        ],
-        &[0],
-    ),
+    near!(CountBeforeCell, ONE, ("[1]", 1, false, "P5C10", "");
+        PutBegins(0), TakeBegins(1), TakeItems(1); &[0]),
     // Item 1 is stored, and the take that began before is told Closed.
-    (
-        NearMiss::NoSecondScan,
-        ONE,
-        ("[1]", 2, true, "C2P10C2", ""),
-        &[
-            NearCall::TakeBegins(1),
-            NearCall::PutBegins(0),
-            NearCall::PutStored(1),
-            NearCall::CloseBegins,
-            NearCall::CloseEnds,
-            NearCall::TakeClosed,
-        ],
-        &[],
-    ),
+    near!(NoSecondScan, ONE, ("[1]", 2, true, "C2P10C2", "");
+        TakeBegins(1), PutBegins(0), PutStored(1), CloseBegins, CloseEnds, TakeClosed; &[]),
     // The count write is open: it is seen new, and then old, which looks like a round more, and item 1 is taken twice.
-    (
-        NearMiss::SmallModulus,
-        [1, 3, 2, 1, 1],
-        ("[1,2,3]", 3, false, "P9C20", "01"),
-        &[
-            NearCall::PutBegins(0),
-            NearCall::TakeBegins(1),
-            NearCall::TakeItems(1),
-            NearCall::TakeBegins(1),
-            NearCall::TakeItems(1),
-        ],
-        &[1, 1],
-    ),
+    near!(SmallModulus, [1, 3, 2, 1, 1], ("[1,2,3]", 3, false, "P9C20", "01");
+        PutBegins(0), TakeBegins(1), TakeItems(1), TakeBegins(1), TakeItems(1); &[1, 1]),
     // The fifth put has cleared s0 and not yet set s1, so a scan finds s3, which was set a round ago: Empty, with the fourth item inside.
-    (
-        NearMiss::ClearsFirst,
-        [2, 4, 2, 1, 1],
-        ("[1,2,3,1,2]", 5, false, "P10C12P12C14P14C16P27C10", ""),
-        &[
-            NearCall::PutBegins(0),
-            NearCall::PutStored(1),
-            NearCall::TakeBegins(1),
-            NearCall::TakeItems(1),
-            NearCall::PutBegins(1),
-            NearCall::PutStored(1),
-            NearCall::TakeBegins(1),
-            NearCall::TakeItems(1),
-            NearCall::PutBegins(2),
-            NearCall::PutStored(1),
-            NearCall::TakeBegins(1),
-            NearCall::TakeItems(1),
-            NearCall::PutBegins(3),
-            NearCall::PutStored(1),
-            NearCall::PutBegins(4),
-            NearCall::TakeBegins(1),
-            NearCall::TakeEmpty,
-        ],
-        &[1, 2, 3],
-    ),
+    near!(ClearsFirst, [2, 4, 2, 1, 1], ("[1,2,3,1,2]", 5, false, "P10C12P12C14P14C16P27C10", "");
+        PutBegins(0), PutStored(1), TakeBegins(1), TakeItems(1), PutBegins(1), PutStored(1), TakeBegins(1),
+        TakeItems(1), PutBegins(2), PutStored(1), TakeBegins(1), TakeItems(1), PutBegins(3), PutStored(1),
+        PutBegins(4), TakeBegins(1), TakeEmpty; &[1, 2, 3]),
     // Where nothing overlaps, it is as with a ring: a batch of two, of which the second put finds room for one.
-    (
-        NearMiss::ClearsUpwards,
-        [3, 6, 2, 2, 1],
-        ("[1,2,3,1]", 1, false, "P26", ""),
-        &[
-            NearCall::PutBegins(0),
-            NearCall::PutStored(2),
-            NearCall::PutBegins(2),
-            NearCall::PutStored(1),
-            NearCall::PutBegins(3),
-            NearCall::PutFull,
-        ],
-        &[],
-    ),
-    (
-        NearMiss::SmallModulus,
-        [2, 5, 3, 1, 2],
-        OVERWRITTEN,
-        &[
-            NearCall::PutBegins(0),
-            NearCall::PutStored(1),
-            NearCall::PutBegins(1),
-            NearCall::PutStored(1),
-            NearCall::TakeBegins(2),
-            NearCall::PutBegins(2),
-            NearCall::PutStored(1),
-            NearCall::PutBegins(3),
-            NearCall::PutStored(1),
-            NearCall::PutBegins(4),
-            NearCall::TakeItems(2),
-            NearCall::TakeBegins(2),
-            NearCall::TakeItems(2),
-        ],
-        &[1, 2, 0, 5],
-    ),
+    near!(ClearsUpwards, [3, 6, 2, 2, 1], ("[1,2,3,1]", 1, false, "P26", "");
+        PutBegins(0), PutStored(2), PutBegins(2), PutStored(1), PutBegins(3), PutFull; &[]),
+    near!(SmallModulus, [2, 5, 3, 1, 2], OVERWRITTEN;
+        PutBegins(0), PutStored(1), PutBegins(1), PutStored(1), TakeBegins(2), PutBegins(2), PutStored(1),
+        PutBegins(3), PutStored(1), PutBegins(4), TakeItems(2), TakeBegins(2), TakeItems(2); &[1, 2, 0, 5]),
     // One item is there of two that the take wants, and then none: a take that finds the ring empty uses up one of three, and the last one
     // wants what is left.
-    (
-        NearMiss::ClearsUpwards,
-        [2, 5, 1, 1, 2],
-        ("[1,0]", 3, false, "P8C16P10C12", ""),
-        &[
-            NearCall::PutBegins(0),
-            NearCall::PutStored(1),
-            NearCall::TakeBegins(2),
-            NearCall::TakeItems(1),
-            NearCall::TakeBegins(2),
-            NearCall::TakeEmpty,
-            NearCall::PutBegins(1),
-            NearCall::PutStored(1),
-            NearCall::TakeBegins(1),
-            NearCall::TakeItems(1),
-        ],
-        &[1, 0],
-    ),
+    near!(ClearsUpwards, [2, 5, 1, 1, 2], ("[1,0]", 3, false, "P8C16P10C12", "");
+        PutBegins(0), PutStored(1), TakeBegins(2), TakeItems(1), TakeBegins(2), TakeEmpty, PutBegins(1),
+        PutStored(1), TakeBegins(1), TakeItems(1); &[1, 0]),
     // The last event of the count write is missing, so the take has not ended, and its items are not told.
-    (
-        NearMiss::CountBeforeCell,
-        [2, 5, 1, 1, 2],
-        ("[1,1]", 2, false, "P16C13", ""),
-        &[
-            NearCall::PutBegins(0),
-            NearCall::PutStored(1),
-            NearCall::PutBegins(1),
-            NearCall::PutStored(1),
-            NearCall::TakeBegins(2),
-        ],
-        &[],
-    ),
+    near!(CountBeforeCell, [2, 5, 1, 1, 2], ("[1,1]", 2, false, "P16C13", "");
+        PutBegins(0), PutStored(1), PutBegins(1), PutStored(1), TakeBegins(2); &[]),
     // With its last event it has.
-    (
-        NearMiss::CountBeforeCell,
-        [2, 5, 1, 1, 2],
-        ("[1,1]", 2, false, "P16C14", ""),
-        &[
-            NearCall::PutBegins(0),
-            NearCall::PutStored(1),
-            NearCall::PutBegins(1),
-            NearCall::PutStored(1),
-            NearCall::TakeBegins(2),
-            NearCall::TakeItems(2),
-        ],
-        &[1, 1],
-    ),
+    near!(CountBeforeCell, [2, 5, 1, 1, 2], ("[1,1]", 2, false, "P16C14", "");
+        PutBegins(0), PutStored(1), PutBegins(1), PutStored(1), TakeBegins(2), TakeItems(2); &[1, 1]),
 ];
 
 fn expect_told(rt: &(impl Abort + AllocGlobal), cases: &[Near]) {
@@ -218,8 +105,8 @@ fn near_misses_have_their_names(rt: HostRuntime) {
 // As many allocations as none makes.
 const MANY: u64 = 1_000_000;
 
-// Whether the play was refused, where the allocation after so many is.
-fn is_refused(rt: &(impl Abort + AllocGlobal), allocations: u64) -> bool {
+/// Whether the play was refused, where the allocation after so many is.
+pub fn is_refused(rt: &(impl Abort + AllocGlobal), allocations: u64) -> bool {
     let alloc: Refusing<Global> = Refusing::after(rt.alloc(), MANY);
     let (miss, shape, asked, wanted, taken) = &CASES[2];
     let script = script_of(rt, &alloc, shape, asked);
@@ -237,13 +124,7 @@ fn is_refused(rt: &(impl Abort + AllocGlobal), allocations: u64) -> bool {
 
 #[test]
 fn each_growth_of_a_near_miss_may_be_refused(rt: HostRuntime) {
-    let mut refused: u64 = 0;
-    for allocations in 0..40 {
-        if !is_refused(&rt, allocations) {
-            break;
-        }
-        refused = refused.saturating_add(1);
-    }
+    let refused = refusals(&rt, Played::NearMiss);
     // the first growths of the history, of what is told and of the items taken
     assert!(rt; 3 <= refused && refused < 40);
 }

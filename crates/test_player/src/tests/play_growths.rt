@@ -1,11 +1,12 @@
 use crate::tests::play_scripts::{Asked, ONE, Wanted, expect_report, script_of};
+use crate::tests::refusals::{Played, refusals};
+use crate::tests::script_words::expect_words;
 use bits_core::{Event, Side, Store};
 use refusing::Refusing;
 use ring_player::{PlayFault, World, play};
 use ring_script::LetterRun;
 use std::alloc::{AllocGlobal, Global};
 use std::process::Abort;
-use std::test::Fail;
 
 // Wrap under an open count write.
 pub const WRAP: Asked<'static> = ("[1,0,1]", 3, false, "P8C10P10C12P9C14", "01");
@@ -86,8 +87,8 @@ fn steps_that_were_refused_can_be_made_again(rt: HostRuntime) {
     expect_report(&rt, "a world refused", &script, &world.report(), &WRAPPED);
 }
 
-// Plays the wrap, where the allocation after so many is refused, and answers whether one was.
-fn is_refused(rt: &(impl Abort + AllocGlobal), allocations: u64) -> bool {
+/// Plays the wrap, where the allocation after so many is refused, and answers whether one was.
+pub fn is_refused(rt: &(impl Abort + AllocGlobal), allocations: u64) -> bool {
     let alloc = Refusing::after(rt.alloc(), MANY);
     let script = script_of(rt, &alloc, &ONE, &WRAP);
     alloc.refuse_after(allocations);
@@ -106,21 +107,13 @@ fn is_refused(rt: &(impl Abort + AllocGlobal), allocations: u64) -> bool {
 
 #[test]
 fn each_growth_of_a_play_may_be_refused(rt: HostRuntime) {
-    let mut refused: u64 = 0;
-    for allocations in 0..40 {
-        if !is_refused(&rt, allocations) {
-            break;
-        }
-        refused = refused.saturating_add(1);
-    }
+    let refused = refusals(&rt, Played::Ring);
     // the first growths of the history and of the items taken
     assert!(rt; 2 <= refused && refused < 40);
 }
 
 #[test]
-fn the_fault_has_its_number_and_words(rt: HostRuntime) -> Result<(), Fail> {
+fn the_fault_has_its_number_and_words(rt: HostRuntime) {
     let fault = PlayFault::OutOfMemory;
-    let words = fault.to_string(rt.alloc())?;
-    assert!(rt; fault.number() == 1 && words.as_str() == "out of memory");
-    Ok(())
+    expect_words(&rt, &fault, fault.number(), (1, "out of memory"));
 }

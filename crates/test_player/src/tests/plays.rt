@@ -4,49 +4,21 @@ use ring_player::{World, play};
 use std::alloc::AllocGlobal;
 use std::process::Abort;
 
+// A name, a shape and what else a script says; and what its report says.
+macro_rules! case {
+    ($name:literal, $shape:expr, $asked:expr => $wanted:expr) => { ($name, $shape, $asked, $wanted) };
+}
+
 static WHOLE_CALLS: [Case<'static>; 6] = [
-    (
-        "plain path",
-        ONE,
-        ("[1]", 1, false, "P8C10", ""),
-        (18, &[1], &[1], false, [0, 0, 0]),
-    ),
-    (
-        "nothing",
-        ONE,
-        ("[1]", 1, false, "", ""),
-        (0, &[], &[], false, [0, 0, 0]),
-    ),
-    (
-        "full at capacity one",
-        ONE,
-        ("[1,1]", 0, false, "P10", ""),
-        (10, &[1], &[], false, [1, 0, 0]),
-    ),
-    (
-        "five items",
-        ONE,
-        ("[1,0,0,1,1]", 5, false, "P8C10P10C12P10C6P8C10P8C10", ""),
-        (92, &[1, 0, 0, 1, 1], &[1, 0, 0, 1, 1], false, [0, 0, 0]),
-    ),
-    (
-        "largest shape",
-        [1, 256, 64, 1, 1],
-        ("[18446744073709551615]", 1, false, "P134C136", ""),
-        (
-            270,
-            &[18446744073709551615],
-            &[18446744073709551615],
-            false,
-            [0, 0, 0],
-        ),
-    ),
-    (
-        "two cells",
-        [2, 4, 2, 1, 1],
-        ("[2,1,3]", 1, false, "P22C14P12", ""),
-        (48, &[2, 1, 3], &[2], false, [1, 0, 0]),
-    ),
+    case!("plain path", ONE, ("[1]", 1, false, "P8C10", "") => (18, &[1], &[1], false, [0, 0, 0])),
+    case!("nothing", ONE, ("[1]", 1, false, "", "") => (0, &[], &[], false, [0, 0, 0])),
+    case!("full at capacity one", ONE, ("[1,1]", 0, false, "P10", "") => (10, &[1], &[], false, [1, 0, 0])),
+    case!("five items", ONE, ("[1,0,0,1,1]", 5, false, "P8C10P10C12P10C6P8C10P8C10", "")
+        => (92, &[1, 0, 0, 1, 1], &[1, 0, 0, 1, 1], false, [0, 0, 0])),
+    case!("largest shape", [1, 256, 64, 1, 1], ("[18446744073709551615]", 1, false, "P134C136", "")
+        => (270, &[18446744073709551615], &[18446744073709551615], false, [0, 0, 0])),
+    case!("two cells", [2, 4, 2, 1, 1], ("[2,1,3]", 1, false, "P22C14P12", "")
+        => (48, &[2, 1, 3], &[2], false, [1, 0, 0])),
 ];
 
 #[test]
@@ -55,36 +27,16 @@ fn whole_calls_give_their_reports(rt: HostRuntime) {
 }
 
 static OVERLAPS: [Case<'static>; 5] = [
-    (
-        "count write open, then seen old",
-        ONE,
-        ("[1]", 2, false, "P7C14", "01"),
-        (21, &[1], &[1], false, [0, 1, 2]),
-    ),
-    (
-        "take's count write open",
-        ONE,
-        ("[1,0,1]", 2, false, "P8C9P12", "01"),
-        (29, &[1, 0], &[], false, [1, 0, 2]),
-    ),
-    (
-        "wrap under an open count write",
-        ONE,
-        ("[1,0,1]", 3, false, "P8C10P10C12P9C14", "01"),
-        (63, &[1, 0, 1], &[1, 0, 1], false, [0, 1, 2]),
-    ),
-    (
-        "a read spans a put, answers one",
-        ONE,
-        ("[1]", 1, false, "C1P8C13", "1"),
-        (22, &[1], &[1], false, [0, 1, 1]),
-    ),
-    (
-        "a read spans a put, answers zero",
-        ONE,
-        ("[1]", 1, false, "C1P8C9", "0"),
-        (18, &[1], &[1], false, [0, 0, 1]),
-    ),
+    case!("count write open, then seen old", ONE, ("[1]", 2, false, "P7C14", "01")
+        => (21, &[1], &[1], false, [0, 1, 2])),
+    case!("take's count write open", ONE, ("[1,0,1]", 2, false, "P8C9P12", "01")
+        => (29, &[1, 0], &[], false, [1, 0, 2])),
+    case!("wrap under an open count write", ONE, ("[1,0,1]", 3, false, "P8C10P10C12P9C14", "01")
+        => (63, &[1, 0, 1], &[1, 0, 1], false, [0, 1, 2])),
+    case!("a read spans a put, answers one", ONE, ("[1]", 1, false, "C1P8C13", "1")
+        => (22, &[1], &[1], false, [0, 1, 1])),
+    case!("a read spans a put, answers zero", ONE, ("[1]", 1, false, "C1P8C9", "0")
+        => (18, &[1], &[1], false, [0, 0, 1])),
 ];
 
 #[test]
@@ -93,36 +45,12 @@ fn overlapped_reads_answer_as_the_oracle_says(rt: HostRuntime) {
 }
 
 static CLOSES: [Case<'static>; 5] = [
-    (
-        "second scan finds the item",
-        ONE,
-        ("[1]", 2, true, "C2P10C22", ""),
-        (34, &[1], &[1], true, [0, 0, 0]),
-    ),
-    (
-        "idle letters",
-        ONE,
-        ("[1]", 2, true, "C2P10C22P3C5", ""),
-        (34, &[1], &[1], true, [0, 0, 0]),
-    ),
-    (
-        "closed while the close bit is being written",
-        ONE,
-        ("[]", 1, true, "P1C6", "1"),
-        (7, &[], &[], true, [0, 0, 1]),
-    ),
-    (
-        "cut before closed",
-        ONE,
-        ("[]", 1, true, "P1C5", "1"),
-        (6, &[], &[], false, [0, 0, 1]),
-    ),
-    (
-        "close bit flickers",
-        ONE,
-        ("[1]", 2, true, "C2P9C18", "10"),
-        (29, &[1], &[1], false, [0, 1, 2]),
-    ),
+    case!("second scan finds the item", ONE, ("[1]", 2, true, "C2P10C22", "") => (34, &[1], &[1], true, [0, 0, 0])),
+    case!("idle letters", ONE, ("[1]", 2, true, "C2P10C22P3C5", "") => (34, &[1], &[1], true, [0, 0, 0])),
+    case!("closed while the close bit is being written", ONE, ("[]", 1, true, "P1C6", "1")
+        => (7, &[], &[], true, [0, 0, 1])),
+    case!("cut before closed", ONE, ("[]", 1, true, "P1C5", "1") => (6, &[], &[], false, [0, 0, 1])),
+    case!("close bit flickers", ONE, ("[1]", 2, true, "C2P9C18", "10") => (29, &[1], &[1], false, [0, 1, 2])),
 ];
 
 #[test]
@@ -131,18 +59,10 @@ fn a_close_is_told_once_it_is_read(rt: HostRuntime) {
 }
 
 static BATCHES: [Case<'static>; 2] = [
-    (
-        "batch of three",
-        [3, 7, 1, 3, 1],
-        ("[1,0,1]", 4, false, "P11C46", "0001"),
-        (57, &[1, 0, 1], &[1, 0, 1], false, [0, 1, 4]),
-    ),
-    (
-        "partial batches",
-        [3, 6, 1, 2, 1],
-        ("[1,0,1,1]", 0, false, "P20", ""),
-        (20, &[1, 0, 1], &[], false, [1, 0, 0]),
-    ),
+    case!("batch of three", [3, 7, 1, 3, 1], ("[1,0,1]", 4, false, "P11C46", "0001")
+        => (57, &[1, 0, 1], &[1, 0, 1], false, [0, 1, 4])),
+    case!("partial batches", [3, 6, 1, 2, 1], ("[1,0,1,1]", 0, false, "P20", "")
+        => (20, &[1, 0, 1], &[], false, [1, 0, 0])),
 ];
 
 #[test]
@@ -152,26 +72,14 @@ fn batches_give_their_reports(rt: HostRuntime) {
 
 static TAKES: [Case<'static>; 3] = [
     // a take whose count write is open while a put finds the ring full, and then both cells free
-    (
-        "take of two",
-        [2, 5, 1, 1, 2],
-        ("[1,0,1]", 2, false, "P16C13P14C1", "10"),
-        (44, &[1, 0, 1], &[1, 0], false, [1, 0, 2]),
-    ),
+    case!("take of two", [2, 5, 1, 1, 2], ("[1,0,1]", 2, false, "P16C13P14C1", "10")
+        => (44, &[1, 0, 1], &[1, 0], false, [1, 0, 2])),
     // no more than are left to take
-    (
-        "two of three",
-        [3, 7, 1, 3, 3],
-        ("[1,0,1]", 2, false, "P12C20", ""),
-        (28, &[1, 0, 1], &[1, 0], false, [0, 0, 0]),
-    ),
+    case!("two of three", [3, 7, 1, 3, 3], ("[1,0,1]", 2, false, "P12C20", "")
+        => (28, &[1, 0, 1], &[1, 0], false, [0, 0, 0])),
     // no more than are shown
-    (
-        "one by one",
-        [2, 5, 2, 1, 2],
-        ("[3,2]", 4, true, "P10C12P14C28", ""),
-        (64, &[3, 2], &[3, 2], true, [0, 0, 0]),
-    ),
+    case!("one by one", [2, 5, 2, 1, 2], ("[3,2]", 4, true, "P10C12P14C28", "")
+        => (64, &[3, 2], &[3, 2], true, [0, 0, 0])),
 ];
 
 #[test]

@@ -2,9 +2,10 @@
 use bits_core::ShapeFault;
 use ring_script::{Field, ScriptFault};
 use std::alloc::AllocGlobal;
+use std::fmt::Display;
 use std::process::Abort;
 
-static WORDS: [(ScriptFault, u8, &str); 16] = [
+static WORDS: [(ScriptFault, u8, &str); 12] = [
     (ScriptFault::NotJson, 1, "script is not JSON"),
     (ScriptFault::NotObject, 2, "script is not an object"),
     (ScriptFault::UnknownField, 3, "script has an unknown field"),
@@ -17,26 +18,6 @@ static WORDS: [(ScriptFault, u8, &str); 16] = [
         ScriptFault::WrongKind(Field::Batch),
         5,
         "field batch has the wrong kind",
-    ),
-    (
-        ScriptFault::Shape(ShapeFault::Capacity),
-        6,
-        "capacity must be from 1 to 64",
-    ),
-    (
-        ScriptFault::Shape(ShapeFault::Modulus),
-        6,
-        "modulus must be from capacity + batch + 1 to 256",
-    ),
-    (
-        ScriptFault::Shape(ShapeFault::Width),
-        6,
-        "width must be from 1 to 64",
-    ),
-    (
-        ScriptFault::Shape(ShapeFault::Batch),
-        6,
-        "batch must be from 1 to capacity",
     ),
     (ScriptFault::TooManyItems, 7, "script has too many items"),
     (
@@ -59,17 +40,35 @@ static WORDS: [(ScriptFault, u8, &str); 16] = [
     ),
 ];
 
-fn expect_words(rt: &(impl Abort + AllocGlobal), faults: &[(ScriptFault, u8, &str)]) {
-    for (fault, number, words) in faults {
-        let told = fault.to_string(rt.alloc()).expect(rt, "memory for words");
-        assert!(rt;
-            fault.number() == *number && told.as_str() == *words,
-            "{told}"
-        );
-    }
+// A shape that is refused, with its words: the fault of a script has the number 6.
+static SHAPE_WORDS: [(ShapeFault, &str); 4] = [
+    (ShapeFault::Capacity, "capacity must be from 1 to 64"),
+    (
+        ShapeFault::Modulus,
+        "modulus must be from capacity + batch + 1 to 256",
+    ),
+    (ShapeFault::Width, "width must be from 1 to 64"),
+    (ShapeFault::Batch, "batch must be from 1 to capacity"),
+];
+
+/// A fault of this number has the wanted number and words.
+pub fn expect_words(
+    rt: &(impl Abort + AllocGlobal),
+    fault: &impl Display,
+    number: u8,
+    wanted: (u8, &str),
+) {
+    let told = fault.to_string(rt.alloc()).expect(rt, "memory for words");
+    assert!(rt; (number, told.as_str()) == wanted, "{told}");
 }
 
 #[test]
 fn faults_have_their_numbers_and_words(rt: HostRuntime) {
-    expect_words(&rt, WORDS.as_slice());
+    for (fault, number, words) in WORDS.iter() {
+        expect_words(&rt, fault, fault.number(), (*number, words));
+    }
+    for (refused, words) in SHAPE_WORDS.iter() {
+        let fault = ScriptFault::Shape(*refused);
+        expect_words(&rt, &fault, fault.number(), (6, words));
+    }
 }

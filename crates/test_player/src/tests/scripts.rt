@@ -48,6 +48,25 @@ fn expect_with(rt: &(impl Abort + AllocGlobal), members: &str, fault: Option<Scr
     assert!(rt; found == fault, "{members}");
 }
 
+// A fault, and members that have it.
+type Refused = (ScriptFault, &'static [&'static str]);
+
+// Faults, each with its members.
+macro_rules! refused {
+    ($($fault:ident $(($of:expr))?: $($members:literal),*;)*) => {
+        &[$((ScriptFault::$fault $(($of))?, &[$($members),*])),*]
+    };
+}
+
+// Plain scripts with members behind them have these faults.
+fn expect_refused(rt: &(impl Abort + AllocGlobal), rows: &[Refused]) {
+    for (fault, texts) in rows {
+        for members in texts.iter() {
+            expect_with(rt, members, Some(*fault));
+        }
+    }
+}
+
 // The same where the members are a text, so many of a part, and a text.
 fn expect_repeated(
     rt: &(impl Abort + AllocGlobal),
@@ -180,125 +199,55 @@ fn accepts(rt: HostRuntime) {
     }
 }
 
-static SHAPE_FAULTS: [(&str, ShapeFault); 15] = [
-    (",\"capacity\":0", ShapeFault::Capacity),
-    (",\"capacity\":65", ShapeFault::Capacity),
-    (",\"modulus\":2", ShapeFault::Modulus),
-    (",\"modulus\":257", ShapeFault::Modulus),
-    (",\"width\":0", ShapeFault::Width),
-    (",\"width\":65", ShapeFault::Width),
-    (
-        ",\"capacity\":3,\"modulus\":6,\"batch\":3",
-        ShapeFault::Modulus,
-    ),
-    (
-        ",\"capacity\":3,\"modulus\":7,\"batch\":0",
-        ShapeFault::Batch,
-    ),
-    (
-        ",\"capacity\":3,\"modulus\":0,\"batch\":4",
-        ShapeFault::Batch,
-    ),
-    (
-        ",\"width\":65,\"modulus\":2,\"items\":[2]",
-        ShapeFault::Modulus,
-    ),
-    (",\"width\":0,\"items\":[2]", ShapeFault::Width),
-    (",\"take_batch\":0", ShapeFault::TakeBatch),
-    (",\"take_batch\":2", ShapeFault::TakeBatch),
-    (",\"take_batch\":2,\"batch\":2", ShapeFault::Batch),
-    (
-        ",\"capacity\":3,\"modulus\":6,\"take_batch\":3",
-        ShapeFault::ModulusOfBatches,
-    ),
-];
+static SHAPES: &[Refused] = refused! {
+    Shape(ShapeFault::Capacity): ",\"capacity\":0", ",\"capacity\":65";
+    Shape(ShapeFault::Modulus): ",\"modulus\":2", ",\"modulus\":257", ",\"capacity\":3,\"modulus\":6,\"batch\":3",
+        ",\"width\":65,\"modulus\":2,\"items\":[2]";
+    Shape(ShapeFault::Width): ",\"width\":0", ",\"width\":65", ",\"width\":0,\"items\":[2]";
+    Shape(ShapeFault::Batch): ",\"capacity\":3,\"modulus\":7,\"batch\":0",
+        ",\"capacity\":3,\"modulus\":0,\"batch\":4", ",\"take_batch\":2,\"batch\":2";
+    Shape(ShapeFault::TakeBatch): ",\"take_batch\":0", ",\"take_batch\":2";
+    Shape(ShapeFault::ModulusOfBatches): ",\"capacity\":3,\"modulus\":6,\"take_batch\":3";
+};
 
 #[test]
 fn refuses_shapes(rt: HostRuntime) {
-    for (members, fault) in SHAPE_FAULTS.iter() {
-        expect_with(&rt, members, Some(ScriptFault::Shape(*fault)));
-    }
+    expect_refused(&rt, SHAPES);
 }
 
-static WIDE_ITEMS: [(&str, u64); 8] = [
-    (",\"items\":[2]", 0),
-    (",\"items\":[1,0,2,3]", 2),
-    (",\"width\":3,\"items\":[7,8]", 1),
-    (",\"width\":63,\"items\":[9223372036854775808]", 0),
-    (",\"items\":[2],\"schedule\":\"P0C\"", 0),
-    (",\"items\":[2],\"schedule\":\"P0C\",\"oracle\":\"x\"", 0),
-    (",\"items\":[2],\"schedule\":\"P1000001\"", 0),
-    (",\"items\":[2],\"oracle\":\"x\"", 0),
-];
+// The place of an item, or of a byte.
+static PLACES: &[Refused] = refused! {
+    ItemTooWide(0): ",\"items\":[2]", ",\"width\":63,\"items\":[9223372036854775808]",
+        ",\"items\":[2],\"schedule\":\"P0C\"", ",\"items\":[2],\"schedule\":\"P0C\",\"oracle\":\"x\"",
+        ",\"items\":[2],\"schedule\":\"P1000001\"", ",\"items\":[2],\"oracle\":\"x\"";
+    ItemTooWide(2): ",\"items\":[1,0,2,3]";
+    ItemTooWide(1): ",\"width\":3,\"items\":[7,8]";
+    BadSchedule(1): ",\"schedule\":\"P0C\"", ",\"schedule\":\"P C\"", ",\"schedule\":\"C\u{e9}\"",
+        ",\"schedule\":\"P0C\",\"oracle\":\"x\"";
+    BadSchedule(0): ",\"schedule\":\"3P\"", ",\"schedule\":\"0\"", ",\"schedule\":\"p\"";
+    BadSchedule(3): ",\"schedule\":\"P1C0\"";
+    BadSchedule(9): ",\"schedule\":\"P99999999Q\"";
+    ScheduleTooLong: ",\"schedule\":\"P1000001\"", ",\"schedule\":\"P999999C2\"", ",\"schedule\":\"P1000000C\"",
+        ",\"schedule\":\"P18446744073709551616\"", ",\"schedule\":\"P18446744073709551617\"",
+        ",\"schedule\":\"P1000001\",\"oracle\":\"x\"";
+    BadOracle(2): ",\"oracle\":\"01x\"";
+    BadOracle(0): ",\"oracle\":\"2\"";
+    BadOracle(1): ",\"oracle\":\"1 0\"";
+};
 
 #[test]
-fn refuses_items_that_do_not_fit(rt: HostRuntime) {
-    for (members, place) in WIDE_ITEMS.iter() {
-        expect_with(&rt, members, Some(ScriptFault::ItemTooWide(*place)));
-    }
+fn refuses_items_schedules_and_oracles(rt: HostRuntime) {
+    expect_refused(&rt, PLACES);
 }
 
-static BAD_SCHEDULES: [(&str, u64); 9] = [
-    (",\"schedule\":\"P0C\"", 1),
-    (",\"schedule\":\"3P\"", 0),
-    (",\"schedule\":\"0\"", 0),
-    (",\"schedule\":\"p\"", 0),
-    (",\"schedule\":\"P C\"", 1),
-    (",\"schedule\":\"P1C0\"", 3),
-    (",\"schedule\":\"C\u{e9}\"", 1),
-    (",\"schedule\":\"P99999999Q\"", 9),
-    (",\"schedule\":\"P0C\",\"oracle\":\"x\"", 1),
-];
-
-#[test]
-fn refuses_bytes_of_a_schedule(rt: HostRuntime) {
-    for (members, place) in BAD_SCHEDULES.iter() {
-        expect_with(&rt, members, Some(ScriptFault::BadSchedule(*place)));
-    }
-}
-
-static TOO_LONG: [&str; 6] = [
-    ",\"schedule\":\"P1000001\"",
-    ",\"schedule\":\"P999999C2\"",
-    ",\"schedule\":\"P1000000C\"",
-    ",\"schedule\":\"P18446744073709551616\"",
-    ",\"schedule\":\"P18446744073709551617\"",
-    ",\"schedule\":\"P1000001\",\"oracle\":\"x\"",
-];
-
-#[test]
-fn refuses_long_schedules(rt: HostRuntime) {
-    for members in TOO_LONG.iter() {
-        expect_with(&rt, members, Some(ScriptFault::ScheduleTooLong));
-    }
-}
-
-static BAD_ORACLES: [(&str, u64); 3] = [
-    (",\"oracle\":\"01x\"", 2),
-    (",\"oracle\":\"2\"", 0),
-    (",\"oracle\":\"1 0\"", 1),
-];
-
-#[test]
-fn refuses_bytes_of_an_oracle(rt: HostRuntime) {
-    for (members, place) in BAD_ORACLES.iter() {
-        expect_with(&rt, members, Some(ScriptFault::BadOracle(*place)));
-    }
-}
-
-static UNKNOWN: [&str; 5] = [
-    ",\"note\":0",
-    ",\"Capacity\":1",
-    ",\"\":1",
-    ",\"note\":0,\"oracle\":1,\"capacity\":null",
-    ",\"capacity\":0,\"batch \":1",
-];
+static UNKNOWN: &[Refused] = refused! {
+    UnknownField: ",\"note\":0", ",\"Capacity\":1", ",\"\":1", ",\"note\":0,\"oracle\":1,\"capacity\":null",
+        ",\"capacity\":0,\"batch \":1";
+};
 
 #[test]
 fn refuses_unknown_names(rt: HostRuntime) {
-    for members in UNKNOWN.iter() {
-        expect_with(&rt, members, Some(ScriptFault::UnknownField));
-    }
+    expect_refused(&rt, UNKNOWN);
 }
 
 static NEEDED: [(&str, Field); 8] = [
@@ -332,40 +281,26 @@ fn names_the_missing_field(rt: HostRuntime) {
     }
 }
 
-static WRONG_KINDS: [(&str, Field); 21] = [
-    (",\"capacity\":\"1\"", Field::Capacity),
-    (",\"modulus\":true", Field::Modulus),
-    (",\"width\":null", Field::Width),
-    (",\"items\":1", Field::Items),
-    (",\"items\":{}", Field::Items),
-    (",\"items\":\"1\"", Field::Items),
-    (",\"items\":[1,\"1\"]", Field::Items),
-    (",\"items\":[[1]]", Field::Items),
-    (",\"items\":[2,null]", Field::Items),
-    (",\"items\":[-1]", Field::Items),
-    (",\"takes\":[1]", Field::Takes),
-    (",\"close\":0", Field::Close),
-    (",\"close\":\"true\"", Field::Close),
-    (",\"schedule\":1", Field::Schedule),
-    (",\"schedule\":[\"P\"]", Field::Schedule),
-    (",\"oracle\":false", Field::Oracle),
-    (",\"batch\":\"1\"", Field::Batch),
-    (",\"batch\":[]", Field::Batch),
-    (",\"capacity\":0,\"batch\":-1", Field::Batch),
-    (",\"take_batch\":null", Field::TakeBatch),
-    (",\"batch\":0,\"take_batch\":\"1\"", Field::TakeBatch),
-];
+static WRONG_KINDS: &[Refused] = refused! {
+    WrongKind(Field::Capacity): ",\"capacity\":\"1\"";
+    WrongKind(Field::Modulus): ",\"modulus\":true";
+    WrongKind(Field::Width): ",\"width\":null";
+    WrongKind(Field::Items): ",\"items\":1", ",\"items\":{}", ",\"items\":\"1\"", ",\"items\":[1,\"1\"]",
+        ",\"items\":[[1]]", ",\"items\":[2,null]", ",\"items\":[-1]";
+    WrongKind(Field::Takes): ",\"takes\":[1]";
+    WrongKind(Field::Close): ",\"close\":0", ",\"close\":\"true\"";
+    WrongKind(Field::Schedule): ",\"schedule\":1", ",\"schedule\":[\"P\"]";
+    WrongKind(Field::Oracle): ",\"oracle\":false";
+    WrongKind(Field::Batch): ",\"batch\":\"1\"", ",\"batch\":[]", ",\"capacity\":0,\"batch\":-1";
+    WrongKind(Field::TakeBatch): ",\"take_batch\":null", ",\"batch\":0,\"take_batch\":\"1\"";
+    // of two fields the first, of which the batches are the last
+    WrongKind(Field::Close): ",\"batch\":null,\"oracle\":1,\"close\":0";
+    WrongKind(Field::Batch): ",\"take_batch\":null,\"batch\":null";
+};
 
-// Each field of a wrong kind in turn; and of two the first, of which the batches are the last.
 #[test]
 fn names_the_field_of_the_wrong_kind(rt: HostRuntime) {
-    for (members, field) in WRONG_KINDS.iter() {
-        expect_with(&rt, members, Some(ScriptFault::WrongKind(*field)));
-    }
-    let first = ",\"batch\":null,\"oracle\":1,\"close\":0";
-    expect_with(&rt, first, Some(ScriptFault::WrongKind(Field::Close)));
-    let batches = ",\"take_batch\":null,\"batch\":null";
-    expect_with(&rt, batches, Some(ScriptFault::WrongKind(Field::Batch)));
+    expect_refused(&rt, WRONG_KINDS);
 }
 
 static OTHER_NUMBERS: [&str; 8] = [
@@ -404,13 +339,26 @@ fn keeps_the_limits(rt: HostRuntime) {
 // A count of more digits than any machine number has.
 #[test]
 fn reads_long_counts(rt: HostRuntime) {
-    let long = Some(ScriptFault::ScheduleTooLong);
-    let no_count = Some(ScriptFault::BadSchedule(1));
-    let stray = Some(ScriptFault::BadSchedule(101));
-    expect_repeated(&rt, (",\"schedule\":\"P", "0", 64, "\""), no_count);
-    expect_repeated(&rt, (",\"schedule\":\"P", "9", 100, "\""), long);
-    expect_repeated(&rt, (",\"schedule\":\"P1", "0", 99, "\""), long);
-    expect_repeated(&rt, (",\"schedule\":\"P1", "0", 99, "x\""), stray);
+    for (members, fault) in [
+        (
+            (",\"schedule\":\"P", "0", 64, "\""),
+            ScriptFault::BadSchedule(1),
+        ),
+        (
+            (",\"schedule\":\"P", "9", 100, "\""),
+            ScriptFault::ScheduleTooLong,
+        ),
+        (
+            (",\"schedule\":\"P1", "0", 99, "\""),
+            ScriptFault::ScheduleTooLong,
+        ),
+        (
+            (",\"schedule\":\"P1", "0", 99, "x\""),
+            ScriptFault::BadSchedule(101),
+        ),
+    ] {
+        expect_repeated(&rt, members, Some(fault));
+    }
 }
 
 #[test]
@@ -424,15 +372,18 @@ fn keeps_the_depth(rt: HostRuntime) {
     );
 }
 
-static BYTES: [(&[u8], ScriptFault); 14] = [
-    (b"", ScriptFault::NotJson),
-    (b"{", ScriptFault::NotJson),
-    (b"{}{}", ScriptFault::NotJson),
-    (b"{\"note\":0", ScriptFault::NotJson),
-    (b"\"\xff\"", ScriptFault::NotJson),
-    (b"{\"\xc3\":0}", ScriptFault::NotJson),
-    (b"{\"takes\":1e999}", ScriptFault::NotJson),
-    (b"{\"oracle\":\"\\ud800\"}", ScriptFault::NotJson),
+static NOT_JSON: [&[u8]; 8] = [
+    b"",
+    b"{",
+    b"{}{}",
+    b"{\"note\":0",
+    b"\"\xff\"",
+    b"{\"\xc3\":0}",
+    b"{\"takes\":1e999}",
+    b"{\"oracle\":\"\\ud800\"}",
+];
+
+static OTHER_BYTES: [(&[u8], ScriptFault); 6] = [
     (b"[]", ScriptFault::NotObject),
     (b"null", ScriptFault::NotObject),
     (b"1", ScriptFault::NotObject),
@@ -443,7 +394,10 @@ static BYTES: [(&[u8], ScriptFault); 14] = [
 
 #[test]
 fn refuses_bytes(rt: HostRuntime) {
-    for (bytes, fault) in BYTES.iter() {
+    for bytes in NOT_JSON.iter() {
+        expect_fault(&rt, bytes, Some(ScriptFault::NotJson));
+    }
+    for (bytes, fault) in OTHER_BYTES.iter() {
         expect_fault(&rt, bytes, Some(*fault));
     }
 }
