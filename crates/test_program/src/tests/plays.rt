@@ -2,10 +2,8 @@ use crate::tests::expects::{
     expect_calls, expect_lawful_plays, expect_plays, expect_refusal_words, expect_report,
 };
 use bits_core::ShapeFault;
-use ring_audit::AuditFault;
-use ring_player::{PlayFault, ScriptFault};
-use ring_program::Refusal;
-use ring_run::RunFault;
+use ring_player::ScriptFault;
+use ring_program::{AppFault, Refusal};
 
 const PLAIN: &str =
     "{\"capacity\":1,\"modulus\":3,\"width\":1,\"items\":[1],\"takes\":1,\"close\":false,\"schedule\":\"P8C10\",\"oracle\":\"\"}";
@@ -199,14 +197,12 @@ fn reports_have_their_text(rt: HostRuntime) {
     expect_report(&rt, &[0, u64::MAX], true, (u64::MAX, 1, 20), text);
 }
 
-static WORDS: [(Refusal, &str); 5] = [
+static WORDS: [(Refusal, &str); 3] = [
     (
         Refusal::Script(ScriptFault::BadSchedule(7)),
         "schedule is wrong at byte 7",
     ),
-    (Refusal::Play(PlayFault::OutOfMemory), "out of memory"),
-    (Refusal::Audit(AuditFault::OutOfMemory), "out of memory"),
-    (Refusal::Run(RunFault::OutOfMemory), "out of memory"),
+    (Refusal::App(AppFault::OutOfMemory), "out of memory"),
     (
         Refusal::Shape(ShapeFault::Width),
         "width must be from 1 to 64",
