@@ -16,7 +16,7 @@ use Rattle.ring_core.specs.ConsumerCalls.{Finding, Once, Twice, finding_phrase, 
 use Rattle.ring_core.proofs.CountRow.{value_held, first_is_count, counted_is_count}
 use Rattle.ring_core.proofs.Readings.Phrases.{GoByCalls, calls-push, state-push}
 
-takes_go_by_calls : (shape : Shape) → GoByCalls (take_phrase shape) (take_phrases shape) (count_after shape) (taken_count shape)
+pub takes_go_by_calls : (shape : Shape) → GoByCalls (take_phrase shape) (take_phrases shape) (count_after shape) (taken_count shape)
 takes_go_by_calls shape = record { none = λ c. refl; more = λ c y xs. refl; same = λ c. refl; next = λ c y xs. refl }
 
 -- the accesses of takes and one more

@@ -37,18 +37,25 @@ state-push {after} go s [] x = go.next s x [] ∙ go.same (after s x) ∙ ap (λ
 state-push {after} go s (y ∷ xs) x =
     go.next s y (xs ++ x ∷ []) ∙ state-push go (after s y) xs x ∙ ap (λ t. after t x) (sym (go.next s y xs))
 
--- and their phrases
+-- the phrases of calls and of others behind them
+pub calls-append :
+    {S X : Type 0} → {phrase : S → X → List Made} → {phrases : S → List X → List Made} → {after : S → X → S} → {state : S → List X → S} →
+    GoByCalls phrase phrases after state → (s : S) (xs ys : List X) → phrases s (xs ++ ys) ≡ phrases s xs ++ phrases (state s xs) ys
+calls-append {phrases} {state} go s [] ys = sym (ap (λ l. l ++ phrases (state s []) ys) (go.none s) ∙ ap (λ t. phrases t ys) (go.same s))
+calls-append {phrase} {phrases} {after} {state} go s (x ∷ xs) ys =
+    let front : List Made = phrase s x in
+    let rest : List Made = phrases (after s x) xs in
+    go.more s x (xs ++ ys) ∙ ap (λ l. front ++ l) (calls-append go (after s x) xs ys) ∙ sym (append_assoc front rest (phrases (state (after s x) xs) ys)) ∙
+    sym (ap (λ l. l ++ phrases (state s (x ∷ xs)) ys) (go.more s x xs) ∙ ap (λ t. (front ++ rest) ++ phrases t ys) (go.next s x xs))
+
+-- and of one more
 pub calls-push :
     {S X : Type 0} → {phrase : S → X → List Made} → {phrases : S → List X → List Made} → {after : S → X → S} → {state : S → List X → S} →
     GoByCalls phrase phrases after state → (s : S) (xs : List X) (x : X) → phrases s (xs ++ x ∷ []) ≡ phrases s xs ++ phrase (state s xs) x
-calls-push {phrase} {after} {state} go s [] x =
-    go.more s x [] ∙ ap (λ l. phrase s x ++ l) (go.none (after s x)) ∙ append-nil (phrase s x) ∙
-    sym (ap (λ l. l ++ phrase (state s []) x) (go.none s) ∙ ap (λ t. phrase t x) (go.same s))
-calls-push {phrase} {phrases} {after} {state} go s (y ∷ xs) x =
-    let front : List Made = phrase s y in
-    let rest : List Made = phrases (after s y) xs in
-    go.more s y (xs ++ x ∷ []) ∙ ap (λ l. front ++ l) (calls-push go (after s y) xs x) ∙ sym (append_assoc front rest (phrase (state (after s y) xs) x)) ∙
-    sym (ap (λ l. l ++ phrase (state s (y ∷ xs)) x) (go.more s y xs) ∙ ap (λ t. (front ++ rest) ++ phrase t x) (go.next s y xs))
+calls-push {S} {phrase} {phrases} {after} {state} go s xs x =
+    let last : S = state s xs in
+    calls-append go s xs (x ∷ []) ∙
+    ap (λ l. phrases s xs ++ l) (go.more last x [] ∙ ap (λ l. phrase last x ++ l) (go.none (after last x)) ∙ append-nil (phrase last x))
 
 -- ---- events and accesses
 
