@@ -11,10 +11,8 @@ use Rattle.ring_core.specs.Items.{events_in}
 use Rattle.ring_core.specs.Over.{over, PutsOverAreRead, TakesOverAreRead}
 use Rattle.ring_core.specs.Puts.{Put, Puts, ArePuts, close_phrase, number_after, put_phrase, put_phrases, put_program, stored_after, stored_count}
 use Rattle.ring_core.specs.Takes.{Take, Takes, End, Open, AreTakes, end_phrase, take_phrase, take_phrases, take_program, count_after}
-use Rattle.ring_core.proofs.Machines.PutCalls.{puts_go_by_calls}
-use Rattle.ring_core.proofs.Machines.TakeCalls.{takes_go_by_calls}
 use Rattle.ring_core.proofs.Readings.Cuts.{cut}
-use Rattle.ring_core.proofs.Readings.Phrases.{GoByCalls, calls-append}
+use Rattle.ring_core.proofs.Readings.ByCalls.{GoByCalls, calls-append, puts_go_by_calls, takes_go_by_calls}
 use Rattle.ring_core.proofs.Readings.ItemsRead.{puts-are_first}
 use Rattle.ring_core.proofs.Readings.TakenRead.{takes-are_first}
 use Rattle.ring_core.proofs.Machines.Following.{events_of-append, length-events}

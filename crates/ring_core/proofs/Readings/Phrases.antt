@@ -1,5 +1,5 @@
 -- Lists of accesses that begin with phrases: the phrase and what follows it are read off the list.
-use Rattle.std.proofs.Common.{◌≡◌, ℕ, zero, suc, ◌^◌, ◌<◌, Bool, true, false, List, [], ◌∷◌, ◌++◌, length, refl, sym, ap, ◌∙◌, arith, ◌⊎◌, inl, inr, append_assoc, append-nil}
+use Rattle.std.proofs.Common.{◌≡◌, ℕ, zero, suc, ◌^◌, ◌<◌, Bool, true, false, List, [], ◌∷◌, ◌++◌, length, refl, sym, ap, ◌∙◌, arith, ◌⊎◌, inl, inr, append_assoc}
 use Rattle.bits_core.specs.declared.events.Side.{Side}
 use Rattle.bits_core.specs.declared.events.Act.TheVariants.{ReadBegin, ReadEnd, WriteBegin}
 use Rattle.bits_core.specs.declared.events.Bit.{Bit}
@@ -21,41 +21,6 @@ joined s t r z = append_assoc (s ++ t) r z ∙ append_assoc s t (r ++ z)
 
 pub joined_two : (s t u r z : List Made) → (((s ++ t) ++ u) ++ r) ++ z ≡ s ++ (t ++ (u ++ (r ++ z)))
 joined_two s t u r z = joined (s ++ t) u r z ∙ append_assoc s t (u ++ (r ++ z))
-
--- calls have the phrase of the first one, and behind the state that it leaves those of the others
-pub record GoByCalls {S X : Type 0} (phrase : S → X → List Made) (phrases : S → List X → List Made) (after : S → X → S) (state : S → List X → S) : Type 0 where
-  pub none : (s : S) → phrases s [] ≡ []
-  pub more : (s : S) (y : X) (xs : List X) → phrases s (y ∷ xs) ≡ phrase s y ++ phrases (after s y) xs
-  pub same : (s : S) → state s [] ≡ s
-  pub next : (s : S) (y : X) (xs : List X) → state s (y ∷ xs) ≡ state (after s y) xs
-
--- the state that calls and one more leave
-pub state-push :
-    {S X : Type 0} → {phrase : S → X → List Made} → {phrases : S → List X → List Made} → {after : S → X → S} → {state : S → List X → S} →
-    GoByCalls phrase phrases after state → (s : S) (xs : List X) (x : X) → state s (xs ++ x ∷ []) ≡ after (state s xs) x
-state-push {after} go s [] x = go.next s x [] ∙ go.same (after s x) ∙ ap (λ t. after t x) (sym (go.same s))
-state-push {after} go s (y ∷ xs) x =
-    go.next s y (xs ++ x ∷ []) ∙ state-push go (after s y) xs x ∙ ap (λ t. after t x) (sym (go.next s y xs))
-
--- the phrases of calls and of others behind them
-pub calls-append :
-    {S X : Type 0} → {phrase : S → X → List Made} → {phrases : S → List X → List Made} → {after : S → X → S} → {state : S → List X → S} →
-    GoByCalls phrase phrases after state → (s : S) (xs ys : List X) → phrases s (xs ++ ys) ≡ phrases s xs ++ phrases (state s xs) ys
-calls-append {phrases} {state} go s [] ys = sym (ap (λ l. l ++ phrases (state s []) ys) (go.none s) ∙ ap (λ t. phrases t ys) (go.same s))
-calls-append {phrase} {phrases} {after} {state} go s (x ∷ xs) ys =
-    let front : List Made = phrase s x in
-    let rest : List Made = phrases (after s x) xs in
-    go.more s x (xs ++ ys) ∙ ap (λ l. front ++ l) (calls-append go (after s x) xs ys) ∙ sym (append_assoc front rest (phrases (state (after s x) xs) ys)) ∙
-    sym (ap (λ l. l ++ phrases (state s (x ∷ xs)) ys) (go.more s x xs) ∙ ap (λ t. (front ++ rest) ++ phrases t ys) (go.next s x xs))
-
--- and of one more
-pub calls-push :
-    {S X : Type 0} → {phrase : S → X → List Made} → {phrases : S → List X → List Made} → {after : S → X → S} → {state : S → List X → S} →
-    GoByCalls phrase phrases after state → (s : S) (xs : List X) (x : X) → phrases s (xs ++ x ∷ []) ≡ phrases s xs ++ phrase (state s xs) x
-calls-push {S} {phrase} {phrases} {after} {state} go s xs x =
-    let last : S = state s xs in
-    calls-append go s xs (x ∷ []) ∙
-    ap (λ l. phrases s xs ++ l) (go.more last x [] ∙ ap (λ l. phrase last x ++ l) (go.none (after last x)) ∙ append-nil (phrase last x))
 
 -- ---- events and accesses
 
