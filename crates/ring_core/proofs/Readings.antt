@@ -1,4 +1,5 @@
 -- Which calls a history can be read as.
+pub mod ByCalls
 pub mod Cuts
 pub mod ItemsRead
 pub mod Over

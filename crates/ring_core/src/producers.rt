@@ -18,8 +18,7 @@ use std::snapshot::Snapshot;
 /// How many of so many items a producer that has put `n` stores, where the consumer's count `d` leaves room.
 #[inline(always)]
 fn fitting(shape: &Shape, n: u64, d: u64, offered: usize) -> usize
-    requires n { n < modulus_of shape.now }
-    requires d { d < modulus_of shape.now }
+    requires below { (n < modulus_of shape.now) × (d < modulus_of shape.now) }
     requires room { counts.LeavesRoom shape.now n d }
     requires some { 1 ≤ offered }
     ensures some { 1 ≤ result }

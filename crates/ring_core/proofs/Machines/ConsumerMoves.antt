@@ -24,8 +24,9 @@ use Rattle.ring_core.specs.Items.{taken_of}
 use Rattle.ring_core.specs.ConsumerCalls.{ConsumerStands, ConsumerMadeAt, Finding, Finds, Once, Twice, finding_phrase, made_of_take, count_taken, values_taken, AreItemsOfTake, ConsumerHasMoved, ConsumerMoves, items_reply, take_reply_to, and_take, and_end, HasTakeMore, IsTakeOf, IsOpenForTake, ends_closed, IsReplyToTake, IsAfterTake}
 use Rattle.ring_core.proofs.Machines.MachineParts.{GoesOn, ScanGoesOn, RowGoesOn, row_more, and_more, longer}
 use Rattle.ring_core.proofs.CountRow.{values_writes-push}
+use Rattle.ring_core.proofs.Readings.ByCalls.{takes_go_by_calls, state-push}
 use Rattle.ring_core.proofs.Machines.Batches.{far_from, past_so}
-use Rattle.ring_core.proofs.Machines.TakeCalls.{count-push, are-push, are-end, reply-push, items-push, program-push, values_hold, values-empty, values-push, words_read-push, fit-push, take_of, take_of-is, take_of-items, take_of-takes, take_of-replies, take_of-phrase}
+use Rattle.ring_core.proofs.Machines.TakeCalls.{are-push, are-end, reply-push, items-push, program-push, values_hold, values-empty, values-push, words_read-push, fit-push, take_of, take_of-is, take_of-items, take_of-takes, take_of-replies, take_of-phrase}
 
 -- ---- what is known at a stage
 
@@ -111,7 +112,7 @@ pub take_over :
 take_over p st x reply count cell scan word row calls made more e before stands (is, of) reply_is items_are count_is cell_is rests made_is =
     let was : is_taking p ≡ true = ap takes_at e ∙ before in
     let o : calls.end ≡ Open = still_open p calls was stands.not_over in
-    let c : count_taken p.shape (and_take calls x) ≡ count_after p.shape (count_taken p.shape calls) x = count-push p.shape first_count calls.takes x in
+    let c : count_taken p.shape (and_take calls x) ≡ count_after p.shape (count_taken p.shape calls) x = state-push (takes_go_by_calls p.shape) first_count calls.takes x in
     let are : AreTakes p.shape 0 (calls.takes ++ x ∷ []) Open =
     are-push p.shape first_count calls.takes x (subst (λ d. AreTakes p.shape 0 calls.takes d) o stands.are) is in (
       and_take calls x,

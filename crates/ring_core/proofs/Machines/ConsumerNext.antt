@@ -27,9 +27,10 @@ use Rattle.ring_core.specs.ConsumerCalls.{ConsumerStands, Finding, Twice, findin
 use Rattle.ring_core.proofs.CountRow.{values_writes-push}
 use Rattle.ring_core.proofs.Machines.Lengths.{takes-are_short, ends-are_short, longest_up}
 use Rattle.ring_core.proofs.Machines.MachineParts.{longer}
+use Rattle.ring_core.proofs.Readings.ByCalls.{takes_open}
 use Rattle.ring_core.proofs.Machines.Batches.{far_from}
 use Rattle.ring_core.proofs.Machines.NextParts.{begins_more, begins_behind, length-part, scan_due, scan_reads, scan_goes_on, next_write}
-use Rattle.ring_core.proofs.Machines.TakeCalls.{are-push, are-last, are-end, end-sees_none, program_open, program-push, calls_are_count, values_hold, words_read-append, zeros, zeros-long, zeros-fit, fit-append, take_of, take_of-is, take_of-phrase}
+use Rattle.ring_core.proofs.Machines.TakeCalls.{are-push, are-last, are-end, end-sees_none, program-push, calls_are_count, values_hold, words_read-append, zeros, zeros-long, zeros-fit, fit-append, take_of, take_of-is, take_of-phrase}
 use Rattle.ring_core.proofs.Machines.ConsumerMoves.{made_at, open_at}
 use Rattle.ring_core.proofs.Recorded.RecordedStates.{few_items as takes_few}
 
@@ -146,7 +147,7 @@ pub begins_short :
 begins_short shape wanted calls made y some (more, has, (rest, e)) =
     let n : Count = count_taken shape calls in
     let front : List Made = take_phrases shape first_count calls.takes in
-    let program : length (take_program shape calls) ≡ length front = ap length (program_open shape calls has.not_over) in
+    let program : length (take_program shape calls) ≡ length front = ap length (takes_open shape calls has.not_over) in
     elim has.is_one_more [
       | inl (x, of, more_is) ↦
           let is : IsTake shape n.number x = are-last shape first_count calls.takes x (subst (λ (m : Takes). AreTakes shape 0 m.takes m.end) more_is has.are) in

@@ -26,9 +26,8 @@ use Rattle.ring_core.specs.ProducerState.{ProducerState, Call, Put, Close, call_
 use Rattle.ring_core.specs.ProducerCalls.{count_of, values_of, ProducerStands, ProducerMadeAt, ProducerHasMoved, ProducerMoves, IsPutOf, put_reply_to, and_put, and_close, HasCallMore, IsOpenForCall, closes_with, IsReplyToCall, IsAfterCall}
 use Rattle.ring_core.proofs.Machines.MachineParts.{GoesOn, ScanGoesOn, RowGoesOn, row_more, and_more, longer}
 use Rattle.ring_core.proofs.Machines.Batches.{taken_so, taken_batch, has_seen, words-take, far_from, past_so}
-use Rattle.ring_core.proofs.Machines.PutCalls.{puts_go_by_calls, are-push, reply-push, program-push, values_hold, values-push, values-full}
+use Rattle.ring_core.proofs.Machines.PutCalls.{stored-push, are-push, reply-push, program-push, values_hold, values-push, values-full}
 use Rattle.ring_core.proofs.CountRow.{values_writes-push}
-use Rattle.ring_core.proofs.Readings.Phrases.{state-push}
 
 -- ---- what is known at a stage
 
@@ -113,7 +112,7 @@ pub put_over :
 put_over p st x count cell scan word row calls made more e before stands of_items is count_is cell_is rests made_is =
     let was : call_of p ≡ Some (Put p.items) = subst (λ s. call_at s p.items ≡ Some (Put p.items)) (sym e) before in
     let n : (count_of p.shape (and_put calls x)).number ≡ number_after (count_of p.shape calls).number x =
-    ap (λ (c : Count). c.number) (state-push (puts_go_by_calls p.shape) first_count calls.puts x) in
+    ap (λ (c : Count). c.number) (stored-push p.shape first_count calls.puts x) in
     let are : ArePuts p.shape 0 (calls.puts ++ x ∷ []) = are-push p.shape first_count calls.puts x stands.are is in (
       and_put calls x,
       record {

@@ -28,8 +28,9 @@ use Rattle.ring_core.proofs.Machines.Lengths.{item_puts-are_short, full_puts-are
 use Rattle.ring_core.proofs.Machines.Batches.{taken_few, taken_so, taken_batch, words-split, far_from}
 use Rattle.ring_core.proofs.Cells.CellPlaces.{multiple_up}
 use Rattle.ring_core.proofs.Machines.MachineParts.{longer}
+use Rattle.ring_core.proofs.Readings.ByCalls.{puts_open}
 use Rattle.ring_core.proofs.Machines.NextParts.{length-part, scan_due, scan_goes_on, answered_write, next_write}
-use Rattle.ring_core.proofs.Machines.PutCalls.{are-push, are-last, calls_are_count, values_hold, program_open, program-push}
+use Rattle.ring_core.proofs.Machines.PutCalls.{are-push, are-last, calls_are_count, values_hold, program-push}
 use Rattle.ring_core.proofs.Machines.ProducerMoves.{made_at, open_at}
 
 -- ---- beginnings of one call more
@@ -115,7 +116,7 @@ begins_short shape (Put items) calls made y (more, (x, of, more_is, are, o), (re
     let front : List Made = put_phrases shape first_count calls.puts in
     let is : IsPut shape c.number x = are-last shape first_count calls.puts x (subst (λ (m : Puts). ArePuts shape 0 m.puts) more_is are) in
     let whole : (made ++ y ∷ []) ++ rest ≡ front ++ put_phrase shape c x = e ∙ ap (put_program shape) more_is ∙ program-push shape calls x in
-    let program : length (put_program shape calls) ≡ length front = ap length (program_open shape calls o) in
+    let program : length (put_program shape calls) ≡ length front = ap length (puts_open shape calls o) in
     omega (
       arith,
       length-part made rest (front ++ put_phrase shape c x) y whole,
@@ -126,7 +127,7 @@ begins_short shape (Put items) calls made y (more, (x, of, more_is, are, o), (re
 begins_short shape Close calls made y (more, (more_is, are, o), (rest, e)) =
     let front : List Made = put_phrases shape first_count calls.puts in
     let whole : (made ++ y ∷ []) ++ rest ≡ front ++ Write X true ∷ [] = e ∙ ap (put_program shape) more_is in
-    let program : length (put_program shape calls) ≡ length front = ap length (program_open shape calls o) in
+    let program : length (put_program shape calls) ≡ length front = ap length (puts_open shape calls o) in
     omega (arith, length-part made rest (front ++ Write X true ∷ []) y whole, length-append front (Write X true ∷ []), program)
 
 -- ---- the stages

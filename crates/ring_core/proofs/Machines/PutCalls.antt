@@ -1,18 +1,25 @@
 -- A program of puts with one put more.
-use Rattle.std.proofs.Common.{◌≡◌, ℕ, ◌%◌, false, Option, Some, List, [], ◌∷◌, ◌++◌, refl, ap, ◌∙◌, append-nil}
+use Rattle.std.proofs.Common.{◌≡◌, ℕ, ◌%◌, Option, Some, List, [], ◌∷◌, ◌++◌, refl, ap, ◌∙◌, append-nil}
 use Rattle.bits_core.specs.declared.shapes.Shape.{Shape}
 use Rattle.bits_core.specs.Shape.{modulus_of}
 use Rattle.register_core.specs.Row.{bits_after}
 use Rattle.register_core.specs.Unary.{unary_writes, row_writes}
 use Rattle.ring_core.specs.declared.replies.BatchReply.{BatchReply}
 use Rattle.ring_core.specs.Counts.{number_past, Count, first_count, IsCount}
-use Rattle.ring_core.specs.Puts.{Put, Puts, Stored, Full, stored_after, stored_count, put_values, put_phrase, put_phrases, close_phrase, put_program, IsPut, ArePuts}
+use Rattle.ring_core.specs.Puts.{Put, Puts, Stored, Full, stored_after, stored_count, put_values, put_phrase, put_phrases, put_program, IsPut, ArePuts}
 use Rattle.ring_core.specs.ProducerCalls.{count_of, and_put, put_reply_to, last_put_reply}
 use Rattle.ring_core.proofs.CountRow.{value_held, first_is_count, counted_is_count}
-use Rattle.ring_core.proofs.Readings.Phrases.{GoByCalls, calls-push}
+use Rattle.ring_core.proofs.Readings.ByCalls.{puts_go_by_calls, calls-push, state-push}
 
-pub puts_go_by_calls : (shape : Shape) → GoByCalls (put_phrase shape) (put_phrases shape) (stored_after shape) (stored_count shape)
-puts_go_by_calls shape = record { none = λ c. refl; more = λ c y xs. refl; same = λ c. refl; next = λ c y xs. refl }
+-- the accesses of puts and one more
+pub phrases-push :
+    (shape : Shape) (c : Count) (xs : List Put) (x : Put) →
+    put_phrases shape c (xs ++ x ∷ []) ≡ put_phrases shape c xs ++ put_phrase shape (stored_count shape c xs) x
+phrases-push shape = calls-push (puts_go_by_calls shape)
+
+-- their count
+pub stored-push : (shape : Shape) (c : Count) (xs : List Put) (x : Put) → stored_count shape c (xs ++ x ∷ []) ≡ stored_after shape (stored_count shape c xs) x
+stored-push shape = state-push (puts_go_by_calls shape)
 
 pub are-push :
     (shape : Shape) (c : Count) (xs : List Put) (x : Put) → ArePuts shape c.number xs → IsPut shape (stored_count shape c xs).number x →
@@ -59,12 +66,8 @@ pub reply-push : (first : Option BatchReply) (xs : List Put) (x : Put) → last_
 reply-push first [] x = refl
 reply-push first (y ∷ xs) x = reply-push (Some (put_reply_to y)) xs x
 
--- the accesses of calls without a close
-pub program_open : (shape : Shape) (calls : Puts) → calls.closes ≡ false → put_program shape calls ≡ put_phrases shape first_count calls.puts
-program_open shape calls e = ap (λ c. put_phrases shape first_count calls.puts ++ close_phrase c) e ∙ append-nil (put_phrases shape first_count calls.puts)
-
 -- the accesses of the calls and one put more
 pub program-push :
     (shape : Shape) (calls : Puts) (x : Put) →
     put_program shape (and_put calls x) ≡ put_phrases shape first_count calls.puts ++ put_phrase shape (count_of shape calls) x
-program-push shape calls x = append-nil (put_phrases shape first_count (calls.puts ++ x ∷ [])) ∙ calls-push (puts_go_by_calls shape) first_count calls.puts x
+program-push shape calls x = append-nil (put_phrases shape first_count (calls.puts ++ x ∷ [])) ∙ phrases-push shape first_count calls.puts x

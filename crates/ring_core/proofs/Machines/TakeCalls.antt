@@ -9,25 +9,18 @@ use Rattle.register_core.specs.Unary.{unary_writes, row_writes}
 use Rattle.register_core.specs.Phrases.{word_read}
 use Rattle.ring_core.specs.declared.replies.TakeReply.{TakeReply}
 use Rattle.ring_core.specs.Counts.{number_past, Count, first_count, IsCount}
-use Rattle.ring_core.specs.Takes.{Take, Takes, Item, ItemAfterClose, Empty, Open, Closed, count_after, taken_count, words_read, items_phrase, take_phrase, take_phrases, end_phrase, take_program, IsTake, SeesNone, IsTakeBatch, AreTakes}
+use Rattle.ring_core.specs.Takes.{Take, Takes, Item, ItemAfterClose, Empty, Open, Closed, count_after, taken_count, words_read, items_phrase, take_phrase, take_phrases, take_program, IsTake, SeesNone, IsTakeBatch, AreTakes}
 use Rattle.ring_core.specs.Items.{taken_of}
 use Rattle.ring_core.proofs.Machines.OneWordMore.{WordsGoOn}
 use Rattle.ring_core.specs.ConsumerCalls.{Finding, Once, Twice, finding_phrase, Finds, IsTakeOf, count_taken, take_values, and_take, items_reply, take_reply_to, last_take_reply, last_items, reply_at_end, take_batch_reply, IsReplyToTake, AreItemsOfTake, IsBatchReplyToTake}
 use Rattle.ring_core.proofs.CountRow.{value_held, first_is_count, counted_is_count}
-use Rattle.ring_core.proofs.Readings.Phrases.{GoByCalls, calls-push, state-push}
-
-takes_go_by_calls : (shape : Shape) → GoByCalls (take_phrase shape) (take_phrases shape) (count_after shape) (taken_count shape)
-takes_go_by_calls shape = record { none = λ c. refl; more = λ c y xs. refl; same = λ c. refl; next = λ c y xs. refl }
+use Rattle.ring_core.proofs.Readings.ByCalls.{takes_go_by_calls, calls-push}
 
 -- the accesses of takes and one more
 pub phrases-push :
     (shape : Shape) (c : Count) (xs : List Take) (x : Take) →
     take_phrases shape c (xs ++ x ∷ []) ≡ take_phrases shape c xs ++ take_phrase shape (taken_count shape c xs) x
 phrases-push shape = calls-push (takes_go_by_calls shape)
-
--- their count
-pub count-push : (shape : Shape) (c : Count) (xs : List Take) (x : Take) → taken_count shape c (xs ++ x ∷ []) ≡ count_after shape (taken_count shape c xs) x
-count-push shape = state-push (takes_go_by_calls shape)
 
 -- they are takes if the last one is
 pub are-push :
@@ -93,10 +86,6 @@ taken_is_count shape c (Empty seen ∷ xs) is = taken_is_count shape (count_afte
 
 pub calls_are_count : (shape : Shape) (calls : Takes) → IsCount shape (count_taken shape calls)
 calls_are_count shape calls = taken_is_count shape first_count calls.takes (first_is_count shape)
-
--- the accesses of calls of which none was told that the ring is closed
-pub program_open : (shape : Shape) (calls : Takes) → calls.end ≡ Open → take_program shape calls ≡ take_phrases shape first_count calls.takes
-program_open shape calls e = ap (λ d. take_phrases shape first_count calls.takes ++ end_phrase d) e ∙ append-nil (take_phrases shape first_count calls.takes)
 
 -- the accesses of the calls and one take more
 pub program-push :

@@ -14,9 +14,8 @@ use Rattle.ring_core.proofs.OverSpans.Spans.{Span, Outcome, Passes, Stops, Asks,
 use Rattle.ring_core.proofs.OverSpans.LookSpans.{Look, look, put_looks, take_looks, span_of, spans, put_spans, take_spans}
 use Rattle.ring_core.specs.CallsAt.{IsPutAt, IsTakeAt, scan_events}
 use Rattle.ring_core.proofs.CountRow.{past_is}
-use Rattle.ring_core.proofs.Machines.PutCalls.{puts_go_by_calls}
-use Rattle.ring_core.proofs.Machines.TakeCalls.{phrases-push}
-use Rattle.ring_core.proofs.Readings.Phrases.{calls-push}
+use Rattle.ring_core.proofs.Machines.PutCalls as put
+use Rattle.ring_core.proofs.Machines.TakeCalls as take
 
 -- the same, by equal numbers
 pub stands_at : (xs : List Span) (s s' n n' : ℕ) (x : Span) → s ≡ s' → n ≡ n' → IsSpanAt xs s n x → IsSpanAt xs s' n' x
@@ -91,7 +90,7 @@ has_span s shape c l xs n start stop st e =
 put_phrases-push :
     (shape : Shape) (c : Count) (before : List Put) (x : Put) →
     length (put_phrases shape c (before ++ x ∷ [])) ≡ length (put_phrases shape c before) + length (put_phrase shape (stored_count shape c before) x)
-put_phrases-push shape c before x = ap length (calls-push (puts_go_by_calls shape) c before x) ∙ length-append (put_phrases shape c before) (put_phrase shape (stored_count shape c before) x)
+put_phrases-push shape c before x = ap length (put.phrases-push shape c before x) ∙ length-append (put_phrases shape c before) (put_phrase shape (stored_count shape c before) x)
 
 abbrev pub put_outcome : Put → Outcome
 put_outcome (Stored seen items) = Passes items
@@ -195,7 +194,7 @@ behind_takes shape c (Empty seen ∷ before) rest end s n x st =
 take_phrases-push :
     (shape : Shape) (c : Count) (before : List Take) (x : Take) →
     length (take_phrases shape c (before ++ x ∷ [])) ≡ length (take_phrases shape c before) + length (take_phrase shape (taken_count shape c before) x)
-take_phrases-push shape c before x = ap length (phrases-push shape c before x) ∙ length-append (take_phrases shape c before) (take_phrase shape (taken_count shape c before) x)
+take_phrases-push shape c before x = ap length (take.phrases-push shape c before x) ∙ length-append (take_phrases shape c before) (take_phrase shape (taken_count shape c before) x)
 
 -- where the second scan of a take begins: behind its first scan, which gave seen, and the read of the close bit
 abbrev pub second_scan : ℕ → ℕ → ℕ

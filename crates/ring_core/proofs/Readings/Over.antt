@@ -8,10 +8,11 @@ use Rattle.bits_core.specs.declared.shapes.Shape.{Shape}
 use Rattle.bits_core.specs.Made.{Made, events_of, subhistory, IsPrefix}
 use Rattle.ring_core.specs.Counts.{Count, first_count}
 use Rattle.ring_core.specs.Items.{events_in}
-use Rattle.ring_core.specs.Over.{over, PutsOverAreRead, TakesOverAreRead, puts_over, takes_over}
-use Rattle.ring_core.specs.Puts.{Put, Puts, ArePuts, FollowsPuts, close_phrase, number_after, put_phrase, put_phrases, put_program, stored_after, stored_count}
-use Rattle.ring_core.specs.Takes.{Take, Takes, End, Open, AreTakes, FollowsTakes, end_phrase, take_phrase, take_phrases, take_program, count_after}
+use Rattle.ring_core.specs.Over.{over, PutsOverAreRead, TakesOverAreRead}
+use Rattle.ring_core.specs.Puts.{Put, Puts, ArePuts, close_phrase, number_after, put_phrase, put_phrases, put_program, stored_after, stored_count}
+use Rattle.ring_core.specs.Takes.{Take, Takes, End, Open, AreTakes, end_phrase, take_phrase, take_phrases, take_program, count_after}
 use Rattle.ring_core.proofs.Readings.Cuts.{cut}
+use Rattle.ring_core.proofs.Readings.ByCalls.{GoByCalls, calls-append, puts_go_by_calls, takes_go_by_calls}
 use Rattle.ring_core.proofs.Readings.ItemsRead.{puts-are_first}
 use Rattle.ring_core.proofs.Readings.TakenRead.{takes-are_first}
 use Rattle.ring_core.proofs.Machines.Following.{events_of-append, length-events}
@@ -76,80 +77,86 @@ begin_each s es whole rest one other l is (r, e) (r', e') =
     let (more, there, left) = cut (events_of s whole) (events_of s rest) es r (omega (arith, l, length-events s whole)) parts in
     (more ++ r', sym (append_assoc (events_of s whole) more r') ∙ ap (λ l. l ++ r') (sym there) ∙ e')
 
+-- ---- calls
+
+-- the events of calls are those of their phrases
+calls_total :
+    {S X : Type 0} → {phrase : S → X → List Made} → {phrases : S → List X → List Made} → {after : S → X → S} → {state : S → List X → S} →
+    GoByCalls phrase phrases after state → (s : S) (xs : List X) → total (λ t x. events_in (phrase t x)) after s xs ≡ 2 * length (phrases s xs)
+calls_total go s [] = omega (arith, ap length (go.none s))
+calls_total {phrase} {phrases} {after} go s (x ∷ xs) =
+    omega (arith, ap length (go.more s x xs), calls_total go (after s x) xs, length-append (phrase s x) (phrases (after s x) xs))
+
+-- what is over of one reading begins the other
+done_begins :
+    {S X : Type 0} → {phrase : S → X → List Made} → {phrases : S → List X → List Made} → {after : S → X → S} → {state : S → List X → S} →
+    GoByCalls phrase phrases after state → (side : Side) (es : List Event) (s : S) (xs : List X) (left other : List Made) →
+    IsPrefix es (events_of side (phrases s xs ++ left)) → IsPrefix es (events_of side other) →
+    IsPrefix (events_of side (phrases s (over (λ t x. events_in (phrase t x)) after s xs (length es)) ++ [])) (events_of side other)
+done_begins {X} {phrase} {phrases} {after} {state} go side es s xs left other p q =
+    let done : List X = over (λ t x. events_in (phrase t x)) after s xs (length es) in
+    let f = front (λ t x. events_in (phrase t x)) after s xs (length es) in
+    let first : List Made = phrases s done in
+    let rest : List Made = phrases (state s done) f.rest ++ left in
+    let program : phrases s xs ++ left ≡ (first ++ []) ++ rest =
+    ap (λ l. phrases s l ++ left) f.parts ∙ ap (λ l. l ++ left) (calls-append go s done f.rest) ∙ append_assoc first (phrases (state s done) f.rest) left ∙
+    ap (λ l. l ++ rest) (sym (append-nil first)) in
+    let size : 2 * length (first ++ []) ≤ length es = omega (arith, f.within, calls_total go s done, ap length (append-nil first)) in
+    begin_each side es (first ++ []) rest (phrases s xs ++ left) other size program p q
+
+-- so they are the same, where calls that begin others are the first of them
+over_read :
+    {S X : Type 0} → {phrase : S → X → List Made} → {phrases : S → List X → List Made} → {after : S → X → S} → {state : S → List X → S} →
+    GoByCalls phrase phrases after state → (side : Side) (es : List Event) (s : S) (xs ys : List X) (left right : List Made) →
+    IsPrefix es (events_of side (phrases s xs ++ left)) → IsPrefix es (events_of side (phrases s ys ++ right)) →
+    ((done rest : List X) → xs ≡ done ++ rest → IsPrefix (events_of side (phrases s done ++ [])) (events_of side (phrases s ys ++ right)) → (more : List X) × (ys ≡ done ++ more)) →
+    ((done rest : List X) → ys ≡ done ++ rest → IsPrefix (events_of side (phrases s done ++ [])) (events_of side (phrases s xs ++ left)) → (more : List X) × (xs ≡ done ++ more)) →
+    over (λ t x. events_in (phrase t x)) after s xs (length es) ≡ over (λ t x. events_in (phrase t x)) after s ys (length es)
+over_read {phrase} {phrases} {after} go side es s xs ys left right p q one two =
+    let f = front (λ t x. events_in (phrase t x)) after s xs (length es) in
+    let g = front (λ t x. events_in (phrase t x)) after s ys (length es) in
+    same_over (λ t x. events_in (phrase t x)) after s xs ys (length es) (one _ f.rest f.parts (done_begins go side es s xs left (phrases s ys ++ right) p q))
+    (two _ g.rest g.parts (done_begins go side es s ys right (phrases s xs ++ left) q p))
+
 -- ---- puts
 
 pub puts-append : (shape : Shape) (c : Count) (xs ys : List Put) → put_phrases shape c (xs ++ ys) ≡ put_phrases shape c xs ++ put_phrases shape (stored_count shape c xs) ys
-puts-append shape c [] ys = refl
-puts-append shape c (x ∷ xs) ys =
-    ap (λ l. put_phrase shape c x ++ l) (puts-append shape (stored_after shape c x) xs ys)
-    ∙ sym (append_assoc (put_phrase shape c x) (put_phrases shape (stored_after shape c x) xs) (put_phrases shape (stored_count shape c (x ∷ xs)) ys))
+puts-append shape = calls-append (puts_go_by_calls shape)
 
 first_puts : (shape : Shape) (n : ℕ) (xs ys : List Put) → ArePuts shape n (xs ++ ys) → ArePuts shape n xs
 first_puts shape n [] ys p = tt
 first_puts shape n (x ∷ xs) ys p = (p.0, first_puts shape (number_after n x) xs ys p.1)
 
 pub puts_total : (shape : Shape) (c : Count) (xs : List Put) → total (λ c x. events_in (put_phrase shape c x)) (stored_after shape) c xs ≡ 2 * length (put_phrases shape c xs)
-puts_total shape c [] = refl
-puts_total shape c (x ∷ xs) =
-    omega (arith, puts_total shape (stored_after shape c x) xs, length-append (put_phrase shape c x) (put_phrases shape (stored_after shape c x) xs))
+puts_total shape = calls_total (puts_go_by_calls shape)
 
--- what is over of one reading begins the other
 puts_begin :
-    (shape : Shape) (h : List Event) (a b : Puts) → FollowsPuts shape h a → FollowsPuts shape h b →
-    (rest : List Put) × (b.puts ≡ puts_over shape first_count a.puts (length (subhistory P h)) ++ rest)
-puts_begin shape h a b p q =
-    let t : ℕ = length (subhistory P h) in
-    let xs : List Put = puts_over shape first_count a.puts t in
-    let f = front (λ c x. events_in (put_phrase shape c x)) (stored_after shape) first_count a.puts t in
-    let calls : Puts = record { puts = xs; closes = false } in
-    let program : put_program shape a ≡ put_program shape calls ++ (put_phrases shape (stored_count shape first_count xs) f.rest ++ close_phrase a.closes) =
-    ap (λ l. put_phrases shape first_count l ++ close_phrase a.closes) f.parts
-    ∙ ap (λ l. l ++ close_phrase a.closes) (puts-append shape first_count xs f.rest)
-    ∙ append_assoc (put_phrases shape first_count xs) (put_phrases shape (stored_count shape first_count xs) f.rest) (close_phrase a.closes)
-    ∙ ap (λ l. l ++ (put_phrases shape (stored_count shape first_count xs) f.rest ++ close_phrase a.closes)) (sym (append-nil (put_phrases shape first_count xs))) in
-    let size : 2 * length (put_program shape calls) ≤ t = omega (arith, f.within, puts_total shape first_count xs, ap length (append-nil (put_phrases shape first_count xs))) in
-    (puts-are_first shape calls b (first_puts shape 0 xs f.rest (subst (ArePuts shape 0) f.parts p.are)) q.are
-    (begin_each P (subhistory P h) (put_program shape calls) _ (put_program shape a) (put_program shape b) size program p.events q.events)).0
+    (shape : Shape) (a b : Puts) → ArePuts shape 0 a.puts → ArePuts shape 0 b.puts → (done rest : List Put) → a.puts ≡ done ++ rest →
+    IsPrefix (events_of P (put_phrases shape first_count done ++ [])) (events_of P (put_program shape b)) → (more : List Put) × (b.puts ≡ done ++ more)
+puts_begin shape a b p q done rest parts begun =
+    (puts-are_first shape (record { puts = done; closes = false }) b (first_puts shape 0 done rest (subst (ArePuts shape 0) parts p)) q begun).0
 
 pub puts_over-read : PutsOverAreRead
 puts_over-read shape h a b p q =
-    same_over (λ c x. events_in (put_phrase shape c x)) (stored_after shape) first_count a.puts b.puts (length (subhistory P h)) (puts_begin shape h a b p q) (puts_begin shape h b a q p)
+    over_read (puts_go_by_calls shape) P (subhistory P h) first_count a.puts b.puts (close_phrase a.closes) (close_phrase b.closes) p.events q.events
+    (puts_begin shape a b p.are q.are) (puts_begin shape b a q.are p.are)
 
 -- ---- takes
-
-takes-append : (shape : Shape) (c : Count) (xs ys : List Take) → take_phrases shape c (xs ++ ys) ≡ take_phrases shape c xs ++ take_phrases shape (state (λ c x. events_in (take_phrase shape c x)) (count_after shape) c xs) ys
-takes-append shape c [] ys = refl
-takes-append shape c (x ∷ xs) ys =
-    ap (λ l. take_phrase shape c x ++ l) (takes-append shape (count_after shape c x) xs ys)
-    ∙ sym (append_assoc (take_phrase shape c x) (take_phrases shape (count_after shape c x) xs) _)
 
 pub first_takes : (shape : Shape) (c : Count) (xs ys : List Take) (end : End) → AreTakes shape c.number (xs ++ ys) end → AreTakes shape c.number xs Open
 first_takes shape c [] ys end p = tt
 first_takes shape c (x ∷ xs) ys end p = (p.0, first_takes shape (count_after shape c x) xs ys end p.1)
 
 pub takes_total : (shape : Shape) (c : Count) (xs : List Take) → total (λ c x. events_in (take_phrase shape c x)) (count_after shape) c xs ≡ 2 * length (take_phrases shape c xs)
-takes_total shape c [] = refl
-takes_total shape c (x ∷ xs) =
-    omega (arith, takes_total shape (count_after shape c x) xs, length-append (take_phrase shape c x) (take_phrases shape (count_after shape c x) xs))
+takes_total shape = calls_total (takes_go_by_calls shape)
 
 takes_begin :
-    (shape : Shape) (h : List Event) (a b : Takes) → FollowsTakes shape h a → FollowsTakes shape h b →
-    (rest : List Take) × (b.takes ≡ takes_over shape first_count a.takes (length (subhistory C h)) ++ rest)
-takes_begin shape h a b p q =
-    let t : ℕ = length (subhistory C h) in
-    let xs : List Take = takes_over shape first_count a.takes t in
-    let f = front (λ c x. events_in (take_phrase shape c x)) (count_after shape) first_count a.takes t in
-    let calls : Takes = record { takes = xs; end = Open } in
-    let left : List Made = take_phrases shape (state (λ c x. events_in (take_phrase shape c x)) (count_after shape) first_count xs) f.rest in
-    let program : take_program shape a ≡ take_program shape calls ++ (left ++ end_phrase a.end) =
-    ap (λ l. take_phrases shape first_count l ++ end_phrase a.end) f.parts
-    ∙ ap (λ l. l ++ end_phrase a.end) (takes-append shape first_count xs f.rest)
-    ∙ append_assoc (take_phrases shape first_count xs) left (end_phrase a.end)
-    ∙ ap (λ l. l ++ (left ++ end_phrase a.end)) (sym (append-nil (take_phrases shape first_count xs))) in
-    let size : 2 * length (take_program shape calls) ≤ t = omega (arith, f.within, takes_total shape first_count xs, ap length (append-nil (take_phrases shape first_count xs))) in
-    (takes-are_first shape calls b (first_takes shape first_count xs f.rest a.end (subst (λ l. AreTakes shape 0 l a.end) f.parts p.are)) q.are
-    (begin_each C (subhistory C h) (take_program shape calls) _ (take_program shape a) (take_program shape b) size program p.events q.events)).0
+    (shape : Shape) (a b : Takes) → AreTakes shape 0 a.takes a.end → AreTakes shape 0 b.takes b.end → (done rest : List Take) → a.takes ≡ done ++ rest →
+    IsPrefix (events_of C (take_phrases shape first_count done ++ [])) (events_of C (take_program shape b)) → (more : List Take) × (b.takes ≡ done ++ more)
+takes_begin shape a b p q done rest parts begun =
+    (takes-are_first shape (record { takes = done; end = Open }) b (first_takes shape first_count done rest a.end (subst (λ l. AreTakes shape 0 l a.end) parts p)) q begun).0
 
 pub takes_over-read : TakesOverAreRead
 takes_over-read shape h a b p q =
-    same_over (λ c x. events_in (take_phrase shape c x)) (count_after shape) first_count a.takes b.takes (length (subhistory C h)) (takes_begin shape h a b p q) (takes_begin shape h b a q p)
+    over_read (takes_go_by_calls shape) C (subhistory C h) first_count a.takes b.takes (end_phrase a.end) (end_phrase b.end) p.events q.events
+    (takes_begin shape a b p.are q.are) (takes_begin shape b a q.are p.are)

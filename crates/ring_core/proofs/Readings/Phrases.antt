@@ -1,5 +1,5 @@
 -- Lists of accesses that begin with phrases: the phrase and what follows it are read off the list.
-use Rattle.std.proofs.Common.{◌≡◌, ℕ, zero, suc, ◌^◌, ◌<◌, Bool, true, false, List, [], ◌∷◌, ◌++◌, length, refl, sym, ap, ◌∙◌, arith, ◌⊎◌, inl, inr, append_assoc, append-nil}
+use Rattle.std.proofs.Common.{◌≡◌, ℕ, zero, suc, ◌^◌, ◌<◌, Bool, true, false, List, [], ◌∷◌, ◌++◌, length, refl, sym, ap, ◌∙◌, arith, ◌⊎◌, inl, inr, append_assoc}
 use Rattle.bits_core.specs.declared.events.Side.{Side}
 use Rattle.bits_core.specs.declared.events.Act.TheVariants.{ReadBegin, ReadEnd, WriteBegin}
 use Rattle.bits_core.specs.declared.events.Bit.{Bit}
@@ -21,34 +21,6 @@ joined s t r z = append_assoc (s ++ t) r z ∙ append_assoc s t (r ++ z)
 
 pub joined_two : (s t u r z : List Made) → (((s ++ t) ++ u) ++ r) ++ z ≡ s ++ (t ++ (u ++ (r ++ z)))
 joined_two s t u r z = joined (s ++ t) u r z ∙ append_assoc s t (u ++ (r ++ z))
-
--- calls have the phrase of the first one, and behind the state that it leaves those of the others
-pub record GoByCalls {S X : Type 0} (phrase : S → X → List Made) (phrases : S → List X → List Made) (after : S → X → S) (state : S → List X → S) : Type 0 where
-  pub none : (s : S) → phrases s [] ≡ []
-  pub more : (s : S) (y : X) (xs : List X) → phrases s (y ∷ xs) ≡ phrase s y ++ phrases (after s y) xs
-  pub same : (s : S) → state s [] ≡ s
-  pub next : (s : S) (y : X) (xs : List X) → state s (y ∷ xs) ≡ state (after s y) xs
-
--- the state that calls and one more leave
-pub state-push :
-    {S X : Type 0} → {phrase : S → X → List Made} → {phrases : S → List X → List Made} → {after : S → X → S} → {state : S → List X → S} →
-    GoByCalls phrase phrases after state → (s : S) (xs : List X) (x : X) → state s (xs ++ x ∷ []) ≡ after (state s xs) x
-state-push {after} go s [] x = go.next s x [] ∙ go.same (after s x) ∙ ap (λ t. after t x) (sym (go.same s))
-state-push {after} go s (y ∷ xs) x =
-    go.next s y (xs ++ x ∷ []) ∙ state-push go (after s y) xs x ∙ ap (λ t. after t x) (sym (go.next s y xs))
-
--- and their phrases
-pub calls-push :
-    {S X : Type 0} → {phrase : S → X → List Made} → {phrases : S → List X → List Made} → {after : S → X → S} → {state : S → List X → S} →
-    GoByCalls phrase phrases after state → (s : S) (xs : List X) (x : X) → phrases s (xs ++ x ∷ []) ≡ phrases s xs ++ phrase (state s xs) x
-calls-push {phrase} {after} {state} go s [] x =
-    go.more s x [] ∙ ap (λ l. phrase s x ++ l) (go.none (after s x)) ∙ append-nil (phrase s x) ∙
-    sym (ap (λ l. l ++ phrase (state s []) x) (go.none s) ∙ ap (λ t. phrase t x) (go.same s))
-calls-push {phrase} {phrases} {after} {state} go s (y ∷ xs) x =
-    let front : List Made = phrase s y in
-    let rest : List Made = phrases (after s y) xs in
-    go.more s y (xs ++ x ∷ []) ∙ ap (λ l. front ++ l) (calls-push go (after s y) xs x) ∙ sym (append_assoc front rest (phrase (state (after s y) xs) x)) ∙
-    sym (ap (λ l. l ++ phrase (state s (y ∷ xs)) x) (go.more s y xs) ∙ ap (λ t. (front ++ rest) ++ phrase t x) (go.next s y xs))
 
 -- ---- events and accesses
 

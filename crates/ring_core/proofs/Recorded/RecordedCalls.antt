@@ -12,7 +12,8 @@ use Rattle.ring_core.specs.Takes.{Take, Item, ItemAfterClose, Empty, End, Takes,
 use Rattle.ring_core.specs.Items.{events_in, all_put, taken_of}
 use Rattle.ring_core.specs.Recorded.{call_told, told_or_behind, put_answer, take_answer, put_told, take_told, AreOffered}
 use Rattle.ring_core.specs.GoingOn.{AreWanted}
-use Rattle.ring_core.proofs.OverSpans.Spans.{Passes, Stops, Asks, whole}
+use Rattle.ring_core.proofs.OverSpans.Spans.{Span, Passes, Stops, Asks, whole}
+use Rattle.ring_core.proofs.OverSpans.Timeline.{AllProper}
 use Rattle.ring_core.proofs.OverSpans.LookSpans.{look, put_looks, take_looks, span_of, spans, put_spans, take_spans}
 use Rattle.ring_core.proofs.OverSpans.Looks.{proper_puts, proper_takes}
 use Rattle.ring_core.proofs.CountRow.{past_is}
@@ -60,6 +61,45 @@ told_last long begins ends i behind some e =
 told_past : (long : ℕ) (begins ends : calls.Event) (i : ℕ) (behind : List calls.Event) → long ≤ i → told_or_behind long begins ends i behind ≡ behind
 told_past long begins ends i behind l = ap (λ (b : Bool). if b then call_told long begins ends i else behind) (lt_not i long l)
 
+-- so they tell what comes behind, from its first event on
+told_behind :
+    (long : ℕ) (begins ends : calls.Event) (next : ℕ → List calls.Event) (j : ℕ) → told_or_behind long begins ends (long + j) (next (long + j - long)) ≡ next j
+told_behind long begins ends next j =
+    let back : long + j - long ≡ j = omega arith in
+    told_past long begins ends (long + j) (next (long + j - long)) (omega arith) ∙ ap next back
+
+-- ---- the calls of a side
+
+-- Behind the first of all calls of a side, which were so many with so many events and passed these items, come others: these are
+-- their spans, and this is what their events tell, by how many calls there were before.
+pub record CallsBehind (most : ℕ) (all : List Span) (tell : ℕ → List calls.Event) (start : ℕ) (passed : List ℕ) (rest : List Span) (rest_tell : ℕ → ℕ → List calls.Event) (n : ℕ) : Type 0 where
+  pub spans_are : SpansBehind most all start passed rest
+  pub made : ℕ
+  pub told : (j : ℕ) → tell (start + j) ≡ rest_tell made j
+  pub number : n ≡ length passed
+
+-- behind none
+abbrev calls_first :
+    (most : ℕ) (all : List Span) (tells : ℕ → ℕ → List calls.Event) → AllProper most all → CallsBehind most all (tells 0) 0 [] all tells 0
+calls_first most all tells proper = record {
+  spans_are = spans_first most all proper;
+  made = 0;
+  told = λ j. (let same : 0 + j ≡ j = omega arith in ap (tells 0) same);
+  number = refl;
+}
+
+-- and behind one call more, of so many events and of these items
+abbrev calls_past :
+    (most : ℕ) (all : List Span) (tell : ℕ → List calls.Event) (start stop long : ℕ) (passed items : List ℕ) (rest rest' : List Span) (tells tells' : ℕ → ℕ → List calls.Event) (n n' : ℕ) →
+    CallsBehind most all tell start passed rest tells n → stop ≡ start + long → SpansBehind most all (start + long) (passed ++ items) rest' →
+    ((made j : ℕ) → tells made (long + j) ≡ tells' (suc made) j) → n' ≡ length (passed ++ items) → CallsBehind most all tell stop (passed ++ items) rest' tells' n'
+calls_past most all tell start stop long passed items rest rest' tells tells' n n' b e spans_are past number = record {
+  spans_are = subst (λ s. SpansBehind most all s (passed ++ items) rest') (sym e) spans_are;
+  made = suc b.made;
+  told = λ j. (let on : stop + j ≡ start + (long + j) = omega (arith, e) in ap tell on ∙ b.told (long + j) ∙ past b.made j);
+  number = number;
+}
+
 -- ---- puts
 
 -- the items that a put stores
@@ -67,12 +107,16 @@ abbrev pub put_items : Put → List ℕ
 put_items (Stored seen items) = items
 put_items (Full seen) = []
 
--- behind the first of all puts, which were so many with so many events and stored these items, come the rest
+-- what the events of puts tell, behind so many
+abbrev puts_tell : Shape → (ℕ → List ℕ) → Puts → Count → List Put → ℕ → ℕ → List calls.Event
+puts_tell shape offers puts c rest made j = put_told shape offers made c rest puts.closes j
+
+-- behind the first of all puts, which stored these items, come the rest
 pub record PutsBehind (shape : Shape) (offers : ℕ → List ℕ) (puts : Puts) (c : Count) (start : ℕ) (stored : List ℕ) (rest : List Put) : Type 0 where
-  pub spans_are : SpansBehind (batch_of shape) (put_spans shape puts) start stored (spans P shape c (put_looks rest))
-  pub made : ℕ
-  pub told : (j : ℕ) → put_told shape offers 0 first_count puts.puts puts.closes (start + j) ≡ put_told shape offers made c rest puts.closes j
-  pub number : c.number ≡ length stored
+  pub calls :
+      CallsBehind (batch_of shape) (put_spans shape puts) (puts_tell shape offers puts first_count puts.puts 0) start stored (spans P shape c (put_looks rest))
+      (puts_tell shape offers puts c rest) c.number
+  pub open calls use *
   pub are : ArePuts shape c.number rest
   pub offered : AreOffered shape offers made c.number rest
   pub all : events_in (put_phrases shape first_count puts.puts) ≡ start + events_in (put_phrases shape c rest)
@@ -80,24 +124,14 @@ pub record PutsBehind (shape : Shape) (offers : ℕ → List ℕ) (puts : Puts) 
 
 pub puts_first : (shape : Shape) (offers : ℕ → List ℕ) (puts : Puts) → ArePuts shape 0 puts.puts → AreOffered shape offers 0 0 puts.puts →
     PutsBehind shape offers puts first_count 0 [] puts.puts
-puts_first shape offers puts are offered = record {
-  spans_are = spans_first (batch_of shape) (put_spans shape puts) (proper_puts shape puts are);
-  made = 0;
-  told = λ j. (let same : 0 + j ≡ j = omega arith in ap (put_told shape offers 0 first_count puts.puts puts.closes) same);
-  number = refl;
-  are = are;
-  offered = offered;
-  all = omega arith;
-  items = refl;
-}
+puts_first shape offers puts are offered =
+    let behind = calls_first (batch_of shape) (put_spans shape puts) (puts_tell shape offers puts first_count puts.puts) (proper_puts shape puts are) in
+    record { calls = behind; are = are; offered = offered; all = omega arith; items = refl }
 
 put_told_past : (shape : Shape) (offers : ℕ → List ℕ) (made : ℕ) (c : Count) (x : Put) (rest : List Put) (closes : Bool) (j : ℕ) →
     put_told shape offers made c (x ∷ rest) closes (put_long shape c x + j) ≡ put_told shape offers (suc made) (stored_after shape c x) rest closes j
 put_told_past shape offers made c x rest closes j =
-    let back : put_long shape c x + j - put_long shape c x ≡ j = omega arith in
-    told_past (put_long shape c x) (PutBegin (offers made)) (put_answer x) (put_long shape c x + j)
-    (put_told shape offers (suc made) (stored_after shape c x) rest closes (put_long shape c x + j - put_long shape c x)) (omega arith) ∙
-    ap (put_told shape offers (suc made) (stored_after shape c x) rest closes) back
+    told_behind (put_long shape c x) (PutBegin (offers made)) (put_answer x) (put_told shape offers (suc made) (stored_after shape c x) rest closes) j
 
 put_spans_past : (shape : Shape) (puts : Puts) (c : Count) (start : ℕ) (stored : List ℕ) (x : Put) (rest : List Put) →
     SpansBehind (batch_of shape) (put_spans shape puts) start stored (spans P shape c (put_looks (x ∷ rest))) →
@@ -120,28 +154,29 @@ items_past stored (Full seen) rest = ap (λ l. l ++ all_put rest) (sym (append-n
 pub puts_past : (shape : Shape) (offers : ℕ → List ℕ) (puts : Puts) (c : Count) (start stop : ℕ) (stored : List ℕ) (x : Put) (rest : List Put) →
     stop ≡ start + put_long shape c x →
     PutsBehind shape offers puts c start stored (x ∷ rest) → PutsBehind shape offers puts (stored_after shape c x) stop (stored ++ put_items x) rest
-puts_past shape offers puts c start stop stored x rest e b = record {
-  spans_are = subst (λ s. SpansBehind (batch_of shape) (put_spans shape puts) s (stored ++ put_items x) (spans P shape (stored_after shape c x) (put_looks rest))) (sym e)
-      (put_spans_past shape puts c start stored x rest b.spans_are);
-  made = suc b.made;
-  told = λ j.
-      (let on : stop + j ≡ start + (put_long shape c x + j) = omega (arith, e) in
-      ap (put_told shape offers 0 first_count puts.puts puts.closes) on ∙ b.told (put_long shape c x + j) ∙ put_told_past shape offers b.made c x rest puts.closes j);
-  number = number_past c.number stored x b.number;
-  are = b.are.1;
-  offered = b.offered.2;
-  all = omega (arith, e, b.all, length-append (put_phrase shape c x) (put_phrases shape (stored_after shape c x) rest));
-  items = b.items ∙ items_past stored x rest;
-}
+puts_past shape offers puts c start stop stored x rest e b =
+    let behind = calls_past _ _ _ start stop (put_long shape c x) stored (put_items x) _ _ (puts_tell shape offers puts c (x ∷ rest)) (puts_tell shape offers puts (stored_after shape c x) rest) _ _ b.calls e
+    (put_spans_past shape puts c start stored x rest b.spans_are) (λ made j. put_told_past shape offers made c x rest puts.closes j) (number_past c.number stored x b.number) in
+    record {
+      calls = behind;
+      are = b.are.1;
+      offered = b.offered.2;
+      all = omega (arith, e, b.all, length-append (put_phrase shape c x) (put_phrases shape (stored_after shape c x) rest));
+      items = b.items ∙ items_past stored x rest;
+    }
 
 -- ---- takes
 
--- behind the first of all takes, which were so many with so many events and took these items, come the rest
+-- what the events of takes tell, behind so many
+abbrev takes_tell : Shape → (ℕ → ℕ) → Takes → Count → List Take → ℕ → ℕ → List calls.Event
+takes_tell shape wants takes c rest made j = take_told shape wants made c rest takes.end j
+
+-- behind the first of all takes, which took these items, come the rest
 pub record TakesBehind (shape : Shape) (wants : ℕ → ℕ) (takes : Takes) (c : Count) (start : ℕ) (taken : List ℕ) (rest : List Take) : Type 0 where
-  pub spans_are : SpansBehind (take_batch_of shape) (take_spans shape takes) start taken (spans C shape c (take_looks rest takes.end))
-  pub made : ℕ
-  pub told : (j : ℕ) → take_told shape wants 0 first_count takes.takes takes.end (start + j) ≡ take_told shape wants made c rest takes.end j
-  pub number : c.number ≡ length taken
+  pub calls :
+      CallsBehind (take_batch_of shape) (take_spans shape takes) (takes_tell shape wants takes first_count takes.takes 0) start taken (spans C shape c (take_looks rest takes.end))
+      (takes_tell shape wants takes c rest) c.number
+  pub open calls use *
   pub are : AreTakes shape c.number rest takes.end
   pub wanted : AreWanted shape wants made c.number rest
   pub among : length takes.takes ≡ made + length rest
@@ -149,24 +184,14 @@ pub record TakesBehind (shape : Shape) (wants : ℕ → ℕ) (takes : Takes) (c 
 
 pub takes_first : (shape : Shape) (wants : ℕ → ℕ) (takes : Takes) → AreTakes shape 0 takes.takes takes.end → AreWanted shape wants 0 0 takes.takes →
     TakesBehind shape wants takes first_count 0 [] takes.takes
-takes_first shape wants takes are wanted = record {
-  spans_are = spans_first (take_batch_of shape) (take_spans shape takes) (proper_takes shape takes are);
-  made = 0;
-  told = λ j. (let same : 0 + j ≡ j = omega arith in ap (take_told shape wants 0 first_count takes.takes takes.end) same);
-  number = refl;
-  are = are;
-  wanted = wanted;
-  among = omega arith;
-  all = omega arith;
-}
+takes_first shape wants takes are wanted =
+    let behind = calls_first (take_batch_of shape) (take_spans shape takes) (takes_tell shape wants takes first_count takes.takes) (proper_takes shape takes are) in
+    record { calls = behind; are = are; wanted = wanted; among = omega arith; all = omega arith }
 
 take_told_past : (shape : Shape) (wants : ℕ → ℕ) (made : ℕ) (c : Count) (x : Take) (rest : List Take) (end : End) (j : ℕ) →
     take_told shape wants made c (x ∷ rest) end (take_long shape c x + j) ≡ take_told shape wants (suc made) (count_after shape c x) rest end j
 take_told_past shape wants made c x rest end j =
-    let back : take_long shape c x + j - take_long shape c x ≡ j = omega arith in
-    told_past (take_long shape c x) (TakeBegin (wants made)) (take_answer x) (take_long shape c x + j)
-    (take_told shape wants (suc made) (count_after shape c x) rest end (take_long shape c x + j - take_long shape c x)) (omega arith) ∙
-    ap (take_told shape wants (suc made) (count_after shape c x) rest end) back
+    told_behind (take_long shape c x) (TakeBegin (wants made)) (take_answer x) (take_told shape wants (suc made) (count_after shape c x) rest end) j
 
 take_spans_past : (shape : Shape) (takes : Takes) (c : Count) (start : ℕ) (taken : List ℕ) (x : Take) (rest : List Take) →
     SpansBehind (take_batch_of shape) (take_spans shape takes) start taken (spans C shape c (take_looks (x ∷ rest) takes.end)) →
@@ -197,20 +222,16 @@ taken_past k taken (Empty seen) e = omega (arith, e, ap length (append-nil taken
 pub takes_past : (shape : Shape) (wants : ℕ → ℕ) (takes : Takes) (c : Count) (start stop : ℕ) (taken : List ℕ) (x : Take) (rest : List Take) →
     stop ≡ start + take_long shape c x →
     TakesBehind shape wants takes c start taken (x ∷ rest) → TakesBehind shape wants takes (count_after shape c x) stop (taken ++ taken_of x) rest
-takes_past shape wants takes c start stop taken x rest e b = record {
-  spans_are = subst (λ s. SpansBehind (take_batch_of shape) (take_spans shape takes) s (taken ++ taken_of x) (spans C shape (count_after shape c x) (take_looks rest takes.end))) (sym e)
-      (take_spans_past shape takes c start taken x rest b.spans_are);
-  made = suc b.made;
-  told = λ j.
-      (let on : stop + j ≡ start + (take_long shape c x + j) = omega (arith, e) in
-      ap (take_told shape wants 0 first_count takes.takes takes.end) on ∙ b.told (take_long shape c x + j) ∙ take_told_past shape wants b.made c x rest takes.end j);
-  number = taken_past c.number taken x b.number;
-  are = b.are.1;
-  wanted = b.wanted.1;
-  among = omega (arith, b.among);
-  all =
-      let more = take_phrases shape (count_after shape c x) rest in
-      omega (
+takes_past shape wants takes c start stop taken x rest e b =
+    let behind = calls_past _ _ _ start stop (take_long shape c x) taken (taken_of x) _ _ (takes_tell shape wants takes c (x ∷ rest)) (takes_tell shape wants takes (count_after shape c x) rest) _ _ b.calls e
+    (take_spans_past shape takes c start taken x rest b.spans_are) (λ made j. take_told_past shape wants made c x rest takes.end j) (taken_past c.number taken x b.number) in
+    let more = take_phrases shape (count_after shape c x) rest in
+    record {
+      calls = behind;
+      are = b.are.1;
+      wanted = b.wanted.1;
+      among = omega (arith, b.among);
+      all = omega (
         arith,
         e,
         b.all,
@@ -218,4 +239,4 @@ takes_past shape wants takes c start stop taken x rest e b = record {
         length-append (take_phrase shape c x) more,
         length-append more (end_phrase takes.end),
       );
-}
+    }

@@ -108,20 +108,22 @@ module _ (shape : Shape) (offers : ℕ → List ℕ) (wants : ℕ → ℕ) (h : 
           taken = now.taken;
           moment = past_p h t p q e rest by now.moment;
           put = inr (inl (record {
-            count = c;
-            start = p;
-            call = x;
-            rest = more;
-            before = length k.inside;
-            behind = b;
+            of = record {
+              count = c;
+              start = p;
+              call = x;
+              rest = more;
+              before = length k.inside;
+              behind = b;
+              left_is = refl;
+              put_is = refl;
+              no_room = λ over fewer.
+                  lacks c now.stored x more t p (counts_ended (take_spans shape takes) q) (length k.inside) b (place_p h t p q e rest by now.moment)
+                  (ap (counts_ended (take_spans shape takes)) (at_q h t p q (e ∷ rest) now.moment))
+                  (omega (arith, view.ended, ap length same, length-append now.taken k.inside)) over fewer;
+            };
             begun = omega arith;
             not_ended = omega (arith, two);
-            left_is = refl;
-            put_is = refl;
-            no_room = λ over fewer.
-                lacks c now.stored x more t p (counts_ended (take_spans shape takes) q) (length k.inside) b (place_p h t p q e rest by now.moment)
-                (ap (counts_ended (take_spans shape takes)) (at_q h t p q (e ∷ rest) now.moment))
-                (omega (arith, view.ended, ap length same, length-append now.taken k.inside)) over fewer;
           }));
           take = now.take;
           items = sym (append_assoc now.taken k.inside items) ∙ ap (λ l. l ++ items) same;
@@ -200,19 +202,7 @@ module _ (shape : Shape) (offers : ℕ → List ℕ) (wants : ℕ → ℕ) (h : 
           left = now.left;
           taken = now.taken;
           moment = past_p h t p q e rest by now.moment;
-          put = inr (inl (record {
-            count = r.count;
-            start = r.start;
-            call = r.call;
-            rest = r.rest;
-            before = r.before;
-            behind = r.behind;
-            begun = omega (arith, r.begun);
-            not_ended = l;
-            left_is = r.left_is;
-            put_is = r.put_is;
-            no_room = r.no_room;
-          }));
+          put = inr (inl (record { of = r.of; begun = omega (arith, r.begun); not_ended = l }));
           take = now.take;
           items = now.items;
           shut = λ s. absurd (omega (arith, (now.shut s).0, r.behind.all, r.not_ended, length-append (put_phrase shape r.count r.call) (put_phrases shape (stored_after shape r.count r.call) r.rest)));

@@ -39,20 +39,25 @@ pub record PutIdle (shape : Shape) (offers : ℕ → List ℕ) (puts : Puts) (p 
   pub left_is : left ≡ []
   pub put_is : put ≡ Free
 
--- it is in a put, which is offered the items left. Where that ends with fewer, there was no room for one more than it stored.
-pub record PutRuns (shape : Shape) (offers : ℕ → List ℕ) (h : List Event) (puts : Puts) (p : ℕ) (stored left : List ℕ) (put : PutTurn) : Type 0 where
+-- a put, which is offered the items left. Where that ends with fewer, there was no room for one more than it stored.
+pub record PutOffers (shape : Shape) (offers : ℕ → List ℕ) (h : List Event) (puts : Puts) (stored left : List ℕ) (put : PutTurn) : Type 0 where
   pub count : Count
   pub start : ℕ
   pub call : Put
   pub rest : List Put
   pub before : ℕ
   pub behind : PutsBehind shape offers puts count start stored (call ∷ rest)
-  pub begun : start < p
-  pub not_ended : p < start + put_long shape count call
   pub left_is : left ≡ offers behind.made
   pub put_is : put ≡ Offers (length left) before
   pub no_room :
       start + put_long shape count call ≤ length (subhistory P h) → length (put_items call) < length left → capacity_of shape ≤ before + length (put_items call)
+
+-- it is in one
+pub record PutRuns (shape : Shape) (offers : ℕ → List ℕ) (h : List Event) (puts : Puts) (p : ℕ) (stored left : List ℕ) (put : PutTurn) : Type 0 where
+  pub of : PutOffers shape offers h puts stored left put
+  pub open of use *
+  pub begun : start < p
+  pub not_ended : p < start + put_long shape count call
 
 -- it is past all puts, with so many own events of its close
 pub record PastPuts (shape : Shape) (offers : ℕ → List ℕ) (puts : Puts) (p made : ℕ) (stored left : List ℕ) : Type 0 where
@@ -174,35 +179,36 @@ pub record TakeIdle (shape : Shape) (wants : ℕ → ℕ) (takes : Takes) (q : �
   pub behind : TakesBehind shape wants takes count q taken rest
   pub take_is : take ≡ Rests
 
+-- it is in a call, behind which these takes are to come, begun behind so many own events
+pub record InCall (shape : Shape) (wants : ℕ → ℕ) (takes : Takes) (left : List Take) (taken : List ℕ) (take : TakeTurn) : Type 0 where
+  pub count : Count
+  pub start : ℕ
+  pub before : ℕ
+  pub shut : Bool
+  pub behind : TakesBehind shape wants takes count start taken left
+  pub take_is : take ≡ Waits (wants behind.made) before shut
+
 -- it is in a take. Where that ends with fewer items than it wants, no more were inside where it began; and where it ends with none, the
 -- ring was open.
 pub record TakeRuns (shape : Shape) (wants : ℕ → ℕ) (h : List Event) (takes : Takes) (q : ℕ) (taken : List ℕ) (take : TakeTurn) : Type 0 where
-  pub count : Count
-  pub start : ℕ
   pub call : Take
   pub rest : List Take
-  pub before : ℕ
-  pub shut : Bool
-  pub behind : TakesBehind shape wants takes count start taken (call ∷ rest)
+  pub inside : InCall shape wants takes (call ∷ rest) taken take
+  pub open inside use *
   pub begun : start < q
   pub not_ended : q < start + take_long shape count call
-  pub take_is : take ≡ Waits (wants behind.made) before shut
   pub no_more : start + take_long shape count call ≤ length (subhistory C h) → length (taken_of call) < wants behind.made → before ≤ length (taken_of call)
   pub open_then : start + take_long shape count call ≤ length (subhistory C h) → taken_of call ≡ [] → shut ≡ false
 
 -- it is in the take that is told the ring is closed
 pub record TakeEnds (shape : Shape) (wants : ℕ → ℕ) (takes : Takes) (q : ℕ) (taken : List ℕ) (take : TakeTurn) : Type 0 where
-  pub count : Count
-  pub start : ℕ
   pub seen : ℕ
   pub again : ℕ
-  pub before : ℕ
-  pub shut : Bool
-  pub behind : TakesBehind shape wants takes count start taken []
+  pub inside : InCall shape wants takes [] taken take
+  pub open inside use *
   pub end_is : takes.end ≡ Closed seen again
   pub begun : start < q
   pub not_ended : q < start + end_long seen again
-  pub take_is : take ≡ Waits (wants behind.made) before shut
 
 -- that has ended
 pub record TakeOver (shape : Shape) (wants : ℕ → ℕ) (takes : Takes) (q : ℕ) (taken : List ℕ) (take : TakeTurn) : Type 0 where

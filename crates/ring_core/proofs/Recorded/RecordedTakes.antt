@@ -7,6 +7,7 @@ use Rattle.queue_calls.specs.Calls as calls
 use Rattle.queue_calls.specs.Calls.{TakeBegin, TakeClosed}
 use Rattle.queue_calls.specs.State.{offered_by, has_closed}
 use Rattle.queue_calls.specs.Counting.{Kept, kept, EndsTake}
+use Rattle.queue_calls.specs.declared.turns.TakeTurn.{TakeTurn}
 use Rattle.queue_calls.specs.declared.turns.TakeTurn.TheVariants.{Rests, Waits}
 use Rattle.bits_core.specs.declared.events.Side.TheVariants.{P, C}
 use Rattle.bits_core.specs.declared.events.Event.{Event}
@@ -34,7 +35,7 @@ use Rattle.ring_core.proofs.Linear.PutTurns.{by_test}
 use Rattle.ring_core.proofs.Linear.TakeTurns.{take_long, end_long, end_some}
 use Rattle.ring_core.proofs.Recorded.RecordedSpans.{stands_next, counted_here}
 use Rattle.ring_core.proofs.Recorded.RecordedCalls.{told_first, told_between, told_last, TakesBehind, takes_past}
-use Rattle.ring_core.proofs.Recorded.RecordedStates.{before_close, IsClosing, TakeRuns, TakeEnds, put_view, end_ended}
+use Rattle.ring_core.proofs.Recorded.RecordedStates.{before_close, IsClosing, TakeAt, TakeRuns, TakeEnds, put_view, end_ended}
 use Rattle.ring_core.proofs.Recorded.RecordedMoments.{at_p, at_q, past_q, next_q, place_q, few_takes, within_at, prefix_at, Now, Stepped, by_events}
 use Rattle.bits_core.proofs.LawLemmas.{subhistory_has_place}
 
@@ -66,6 +67,22 @@ module _ (shape : Shape) (offers : ℕ → List ℕ) (wants : ℕ → ℕ) (h : 
       (before_close shape puts < p) × ((before_close shape puts + 2 ≤ p) ⊎ (events_in (take_program shape takes) ≤ suc q))
   shut_later p q (l, inl m) = (l, inl m)
   shut_later p q (l, inr m) = (l, inr (omega (arith, m)))
+
+  -- behind an event of the consumer that neither takes items nor tells that the ring is closed, it is in this turn
+  turns :
+      (t p q : ℕ) (e : Event) (rest : List Event) (k : Kept) → e.side ≡ C → (now : Here t p q (e ∷ rest) k) → (turn : TakeTurn) →
+      TakeAt shape wants h takes (suc q) now.taken turn → Here (suc t) p (suc q) rest (kept k.inside k.put turn k.shut)
+  turns t p q e rest k by now turn at = record {
+    stored = now.stored;
+    left = now.left;
+    taken = now.taken;
+    moment = past_q h t p q e rest by now.moment;
+    put = now.put;
+    take = at;
+    items = now.items;
+    shut = λ s. shut_later p q (now.shut s);
+    closed = now.closed;
+  }
 
   -- where a take begins that will find nothing
   none_inside :
@@ -168,30 +185,15 @@ module _ (shape : Shape) (offers : ℕ → List ℕ) (wants : ℕ → ℕ) (h : 
       (record {
         after = kept k.inside k.put (Waits wanted before k.shut) k.shut;
         moves = (rests, some_wanted b.made, refl);
-        now = record {
-          stored = now.stored;
-          left = now.left;
-          taken = now.taken;
-          moment = past_q h t p q e rest by now.moment;
-          put = now.put;
-          take = inr (inl (record {
-            count = c;
-            start = q;
-            call = x;
-            rest = more;
-            before = before;
-            shut = k.shut;
-            behind = b;
-            begun = omega arith;
-            not_ended = omega (arith, two);
-            take_is = refl;
-            no_more = lacks c now.taken x more t p q (length now.stored) before b place here_p here_q view.ended size;
-            open_then = opened c now.taken x more t p q (length now.stored) before k.shut b place here_p here_q view.ended size now.shut (next_q h t p q e rest by now.moment);
-          }));
-          items = now.items;
-          shut = λ s. shut_later p q (now.shut s);
-          closed = now.closed;
-        };
+        now = turns t p q e rest k by now (Waits wanted before k.shut) (inr (inl (record {
+          call = x;
+          rest = more;
+          inside = record { count = c; start = q; before = before; shut = k.shut; behind = b; take_is = refl };
+          begun = omega arith;
+          not_ended = omega (arith, two);
+          no_more = lacks c now.taken x more t p q (length now.stored) before b place here_p here_q view.ended size;
+          open_then = opened c now.taken x more t p q (length now.stored) before k.shut b place here_p here_q view.ended size now.shut (next_q h t p q e rest by now.moment);
+        })));
       })
 
   -- the consumer goes on in a take
@@ -207,30 +209,15 @@ module _ (shape : Shape) (offers : ℕ → List ℕ) (wants : ℕ → ℕ) (h : 
       (record {
         after = k;
         moves = refl;
-        now = record {
-          stored = now.stored;
-          left = now.left;
-          taken = now.taken;
-          moment = past_q h t p q e rest by now.moment;
-          put = now.put;
-          take = inr (inl (record {
-            count = r.count;
-            start = r.start;
-            call = r.call;
-            rest = r.rest;
-            before = r.before;
-            shut = r.shut;
-            behind = r.behind;
-            begun = omega (arith, r.begun);
-            not_ended = l;
-            take_is = r.take_is;
-            no_more = r.no_more;
-            open_then = r.open_then;
-          }));
-          items = now.items;
-          shut = λ s. shut_later p q (now.shut s);
-          closed = now.closed;
-        };
+        now = turns t p q e rest k by now k.take (inr (inl (record {
+          call = r.call;
+          rest = r.rest;
+          inside = r.inside;
+          begun = omega (arith, r.begun);
+          not_ended = l;
+          no_more = r.no_more;
+          open_then = r.open_then;
+        })));
       })
 
   -- what a take leaves that ends
@@ -340,29 +327,14 @@ module _ (shape : Shape) (offers : ℕ → List ℕ) (wants : ℕ → ℕ) (h : 
       (record {
         after = kept k.inside k.put (Waits wanted before k.shut) k.shut;
         moves = (rests, some_wanted b.made, refl);
-        now = record {
-          stored = now.stored;
-          left = now.left;
-          taken = now.taken;
-          moment = past_q h t p q e rest by now.moment;
-          put = now.put;
-          take = inr (inr (inl (record {
-            count = c;
-            start = q;
-            seen = seen;
-            again = again;
-            before = before;
-            shut = k.shut;
-            behind = b;
-            end_is = is;
-            begun = omega arith;
-            not_ended = omega (arith, two);
-            take_is = refl;
-          })));
-          items = now.items;
-          shut = λ s. shut_later p q (now.shut s);
-          closed = now.closed;
-        };
+        now = turns t p q e rest k by now (Waits wanted before k.shut) (inr (inr (inl (record {
+          seen = seen;
+          again = again;
+          inside = record { count = c; start = q; before = before; shut = k.shut; behind = b; take_is = refl };
+          end_is = is;
+          begun = omega arith;
+          not_ended = omega (arith, two);
+        }))));
       })
 
   -- it goes on
@@ -378,29 +350,14 @@ module _ (shape : Shape) (offers : ℕ → List ℕ) (wants : ℕ → ℕ) (h : 
       (record {
         after = k;
         moves = refl;
-        now = record {
-          stored = now.stored;
-          left = now.left;
-          taken = now.taken;
-          moment = past_q h t p q e rest by now.moment;
-          put = now.put;
-          take = inr (inr (inl (record {
-            count = r.count;
-            start = r.start;
-            seen = r.seen;
-            again = r.again;
-            before = r.before;
-            shut = r.shut;
-            behind = r.behind;
-            end_is = r.end_is;
-            begun = omega (arith, r.begun);
-            not_ended = l;
-            take_is = r.take_is;
-          })));
-          items = now.items;
-          shut = λ s. shut_later p q (now.shut s);
-          closed = now.closed;
-        };
+        now = turns t p q e rest k by now k.take (inr (inr (inl (record {
+          seen = r.seen;
+          again = r.again;
+          inside = r.inside;
+          end_is = r.end_is;
+          begun = omega (arith, r.begun);
+          not_ended = l;
+        }))));
       })
 
   -- it ends: nothing is inside, and the close has begun
