@@ -189,10 +189,7 @@ stands_with s p' o' there shape batched asked program = record {
   calls = s.calls;
   there = there;
   same_shape = shape;
-  attempts = s.attempts;
-  counted = s.counted;
-  filled = s.filled;
-  long = s.long;
+  made = s.made;
   batched = batched;
   asked = asked;
   program = program;
@@ -204,7 +201,7 @@ pub begins_access :
 begins_access script p kept list due a s next is =
     let n : IsNextPut script.shape s.calls (call_of p) list (Some a) = subst (λ d. IsNextPut script.shape s.calls (call_of p) list d) is (next_in script p kept list None due s next) in
     stands_with s p (Some a) s.there s.same_shape s.batched s.asked (program_beginning script P (so_far P list (Some a)) _
-    (subst (λ t. IsProgram script P t) (events-more P list a true) (goes_on script (call_of p) s.calls list a true s.attempts s.asked n (λ l. refl))))
+    (subst (λ t. IsProgram script P t) (events-more P list a true) (goes_on script (call_of p) s.calls list a true s.made.attempts s.asked n (λ l. refl))))
 
 -- ---- where an access is due the side is not done
 
@@ -265,14 +262,14 @@ began_one script p p' kept list items s next left begun e =
 
     still_open : (b : Bool) → s.calls.closes ≡ b → s.calls.closes ≡ false
     still_open false e = e
-    still_open true e = absurd (omega (arith, (asked_none e).1, s.counted, left))
+    still_open true e = absurd (omega (arith, (asked_none e).1, s.made.counted, left))
 
 pub began_close :
     (script : Content) (p p' : ProducerState) (kept : PutTally) (list : List Made) → PutActorStands script p kept list None → length script.items ≤ kept.stored → script.closes ≡ true →
     p'.shape ≡ p.shape → call_of p' ≡ Some Close → StandsOn p p' → PutActorStands script p' kept list None
 began_close script p p' kept list s over closes shape call on =
     stands_with s p' None (on s.calls list s.there) (shape ∙ s.same_shape) (λ items e. absurd (no_put items (sym call ∙ e)))
-    (subst (λ t. IsAsked script s.calls t) (sym call) (closes, omega (arith, over, s.counted, attempts_within script 0 s.calls.puts (omega arith) s.attempts))) s.program
+    (subst (λ t. IsAsked script s.calls t) (sym call) (closes, omega (arith, over, s.made.counted, attempts_within script 0 s.calls.puts (omega arith) s.made.attempts))) s.program
   where
     no_put : (items : List ℕ) → Some Close ≡ Some (Put items) → ⊥
     no_put items e = absurd (cc)
@@ -285,7 +282,7 @@ is_done script p kept list s next over closes =
       s.calls,
       subst (λ (t : Shape). ArePuts t 0 s.calls.puts) s.same_shape s.there.are,
       ap (events_of P) (whole ∙ ap (λ (t : Shape). put_program t s.calls) s.same_shape),
-      omega (arith, over, s.counted, attempts_within script 0 s.calls.puts (omega arith) s.attempts),
+      omega (arith, over, s.made.counted, attempts_within script 0 s.calls.puts (omega arith) s.made.attempts),
       sym (closes ∙ s.there.closed_is ∙ ap (closes_with s.calls) none),
     )
 
@@ -329,7 +326,7 @@ pub ended :
 ended script p p' kept list due a v s next due_is is one moved shape batched due' next' =
     let n : IsNextPut script.shape s.calls (call_of p) list (Some a) = subst (λ d. IsNextPut script.shape s.calls (call_of p) list d) (due_is ∙ is) (next_in script p kept list (Some a) due s next) in
     let one' : LastBitIsDue script.shape P (Some a) → v ≡ true = subst (λ d. LastBitIsDue script.shape P d → v ≡ true) is one in
-    let goes : IsProgram script P (events_of P (list ++ answered a v ∷ [])) = goes_on script (call_of p) s.calls list a v s.attempts s.asked n one' in
+    let goes : IsProgram script P (events_of P (list ++ answered a v ∷ [])) = goes_on script (call_of p) s.calls list a v s.made.attempts s.asked n one' in
     let (more, there, after) = moved s.calls s.there in
     let after' : IsAfterCall script.shape (call_of p) (call_of p') s.calls more p'.reply = subst (λ (t : Shape). IsAfterCall t (call_of p) (call_of p') s.calls more p'.reply) s.same_shape after in
     by_call (call_of p) (call_of p') refl refl more s.asked there after' goes
@@ -366,10 +363,12 @@ ended script p p' kept list due a v s next due_is is one moved shape batched due
           calls = more;
           there = there;
           same_shape = shape ∙ s.same_shape;
-          attempts = subst (λ (t : Puts). AreAttempts script 0 t.puts) (sym more_is) s.attempts;
-          counted = quiet silent ∙ s.counted ∙ ap (λ (t : Puts). stored_in 0 t.puts) (sym more_is);
-          filled = quiet_full silent ∙ s.filled ∙ ap (λ (t : Puts). fulls t.puts) (sym more_is);
-          long = omega (arith, s.long, ap (λ (t : Puts). length (put_program script.shape t)) more_is, length-append list (answered a v ∷ []));
+          made = record {
+            attempts = subst (λ (t : Puts). AreAttempts script 0 t.puts) (sym more_is) s.made.attempts;
+            counted = quiet silent ∙ s.made.counted ∙ ap (λ (t : Puts). stored_in 0 t.puts) (sym more_is);
+            filled = quiet_full silent ∙ s.made.filled ∙ ap (λ (t : Puts). fulls t.puts) (sym more_is);
+            long = omega (arith, s.made.long, ap (λ (t : Puts). length (put_program script.shape t)) more_is, length-append list (answered a v ∷ []));
+          };
           batched = λ items e. batched ∙ s.batched items (c_is ∙ ap (λ t. Some t) (sym same) ∙ sym d_is ∙ e);
           asked = subst (λ t. IsAsked script more t) (sym d_is) (subst (λ t. IsAsked script more (Some t)) (sym same) (subst (λ (t : Puts). IsAsked script t (Some c)) (sym more_is) asked));
           program = goes;
@@ -382,13 +381,15 @@ ended script p p' kept list due a v s next due_is is one moved shape batched due
           calls = more;
           there = there;
           same_shape = shape ∙ s.same_shape;
-          attempts = (calls_asked script (Put items) s.calls more s.attempts (items_are, left) (x, of, more_is, are, o)).attempts;
-          filled = ap (λ t. kept.full + full_in_reply t) reply_is ∙ ap (λ t. t + full_in_reply (Some (put_reply_to x))) s.filled ∙ fulls-more s.calls.puts x ∙ ap (λ (t : Puts). fulls t.puts) (sym more_is);
-          counted = ap (λ t. kept.stored + stored_in_reply t) reply_is ∙ ap (λ t. t + stored_in_reply (Some (put_reply_to x))) s.counted ∙ sym (counted_by (stored_in 0 s.calls.puts) x)
-              ∙ sym (stored-more 0 s.calls.puts x) ∙ ap (λ (t : Puts). stored_in 0 t.puts) (sym more_is);
-          long = whole_long more there d_is;
+          made = record {
+            attempts = (calls_asked script (Put items) s.calls more s.made.attempts (items_are, left) (x, of, more_is, are, o)).attempts;
+            filled = ap (λ t. kept.full + full_in_reply t) reply_is ∙ ap (λ t. t + full_in_reply (Some (put_reply_to x))) s.made.filled ∙ fulls-more s.calls.puts x ∙ ap (λ (t : Puts). fulls t.puts) (sym more_is);
+            counted = ap (λ t. kept.stored + stored_in_reply t) reply_is ∙ ap (λ t. t + stored_in_reply (Some (put_reply_to x))) s.made.counted ∙ sym (counted_by (stored_in 0 s.calls.puts) x)
+                ∙ sym (stored-more 0 s.calls.puts x) ∙ ap (λ (t : Puts). stored_in 0 t.puts) (sym more_is);
+            long = whole_long more there d_is;
+          };
           batched = λ items e. absurd (none_some items (sym d_is ∙ e));
-          asked = subst (λ t. IsAsked script more t) (sym d_is) (calls_asked script (Put items) s.calls more s.attempts (items_are, left) (x, of, more_is, are, o)).closes;
+          asked = subst (λ t. IsAsked script more t) (sym d_is) (calls_asked script (Put items) s.calls more s.made.attempts (items_are, left) (x, of, more_is, are, o)).closes;
           program = goes;
         }
       where
@@ -399,12 +400,14 @@ ended script p p' kept list due a v s next due_is is one moved shape batched due
           calls = more;
           there = there;
           same_shape = shape ∙ s.same_shape;
-          attempts = subst (λ (t : Puts). AreAttempts script 0 t.puts) (sym more_is) s.attempts;
-          counted = quiet (silent refl) ∙ s.counted ∙ ap (λ (t : Puts). stored_in 0 t.puts) (sym more_is);
-          filled = quiet_full (silent refl) ∙ s.filled ∙ ap (λ (t : Puts). fulls t.puts) (sym more_is);
-          long = whole_long more there d_is;
+          made = record {
+            attempts = subst (λ (t : Puts). AreAttempts script 0 t.puts) (sym more_is) s.made.attempts;
+            counted = quiet (silent refl) ∙ s.made.counted ∙ ap (λ (t : Puts). stored_in 0 t.puts) (sym more_is);
+            filled = quiet_full (silent refl) ∙ s.made.filled ∙ ap (λ (t : Puts). fulls t.puts) (sym more_is);
+            long = whole_long more there d_is;
+          };
           batched = λ items e. absurd (none_some items (sym d_is ∙ e));
-          asked = subst (λ t. IsAsked script more t) (sym d_is) (calls_asked script Close s.calls more s.attempts asked (more_is, are, o)).closes;
+          asked = subst (λ t. IsAsked script more t) (sym d_is) (calls_asked script Close s.calls more s.made.attempts asked (more_is, are, o)).closes;
           program = goes;
         }
       where
@@ -412,7 +415,7 @@ ended script p p' kept list due a v s next due_is is one moved shape batched due
         none_some items e = absurd (cc)
 
 pub ended_within : (script : Content) (p : ProducerState) (kept : PutTally) (list : List Made) (o : Option Access) → PutActorStands script p kept list o → kept.stored ≤ length script.items
-ended_within script p kept list o s = omega (arith, s.counted, attempts_within script 0 s.calls.puts (omega arith) s.attempts)
+ended_within script p kept list o s = omega (arith, s.made.counted, attempts_within script 0 s.calls.puts (omega arith) s.made.attempts)
 
 -- an actor that has made no access
 pub new_putting : (script : Content) (p : ProducerState) → p ≡ new_producer script.shape → ProducerStands p no_puts [] → PutActorStands script p (record { stored = 0; full = 0 }) [] None
@@ -420,10 +423,12 @@ new_putting script p is there = record {
   calls = no_puts;
   there = there;
   same_shape = ap (λ (t : ProducerState). t.shape) is;
-  attempts = tt;
-  counted = refl;
-  filled = refl;
-  long = omega arith;
+  made = record {
+    attempts = tt;
+    counted = refl;
+    filled = refl;
+    long = omega arith;
+  };
   batched = λ items e. absurd (none_some items (sym none ∙ e));
   asked = subst (λ t. IsAsked script no_puts t) (sym none) closed;
   program = (no_puts, record { are = tt; attempts = tt; closes = closed }, (events_of P (put_program script.shape no_puts), refl));

@@ -13,7 +13,7 @@ use Rattle.bits_core.specs.History.{open_access}
 use Rattle.bits_core.proofs.LawLemmas.{open_changes}
 use Rattle.bits_core.specs.Lawful.{IsLawful}
 use Rattle.bits_core.specs.Made.{Made, Read, answered, end_event, events_of, subhistory, opening_event}
-use Rattle.bits_core.specs.Open.{IsReading, IsWriting, bit_of}
+use Rattle.bits_core.specs.Open.{bit_of}
 use Rattle.bits_core.specs.declared.shapes.Shape.{Shape}
 use Rattle.bits_core.specs.Shape.{modulus_of}
 use Rattle.register_core.specs.Row.{row_bit}
@@ -59,15 +59,15 @@ own_with s h due stands o p e = p.own_is ∙ ap (so_far s p.list) e
 pub playing_on : (s : Side) (h : List Event) (due due' : Option Access) (stands stands' : Stands) → IsPlaying s h due stands → due' ≡ due → ((list : List Made) (o : Option Access) → stands list o → stands' list o) → IsPlaying s h due' stands'
 playing_on s h due due' stands stands' p same on = record { list = p.list; there = on p.list (open_access s h) p.there; own_is = p.own_is; is_due = λ a e. same ∙ p.is_due a e }
 
-pub reading : (o : Option Access) → IsReading o → o ≡ Some (access.Read (bit_of o))
-reading None r = absurd r
-reading (Some (access.Read b)) r = refl
-reading (Some (access.Write b v)) r = absurd r
+pub reading : (found o : Option Access) (a : Access) (b : Bit) → found ≡ o → found ≡ Some a → a ≡ access.Read b → o ≡ Some (access.Read (bit_of o))
+reading found o a b same is read =
+    let e : o ≡ Some (access.Read b) = sym same ∙ is ∙ ap (λ (x : Access). Some x) read in
+    e ∙ ap (λ (x : Option Access). Some (access.Read (bit_of x))) (sym e)
 
-pub writing : (o : Option Access) → IsWriting o → (v : Bool) × (o ≡ Some (access.Write (bit_of o) v))
-writing None w = absurd w
-writing (Some (access.Read b)) w = absurd w
-writing (Some (access.Write b v)) w = (v, refl)
+pub writing : (found o : Option Access) (a : Access) (b : Bit) (v : Bool) → found ≡ o → found ≡ Some a → a ≡ access.Write b v → o ≡ Some (access.Write (bit_of o) v)
+writing found o a b v same is write =
+    let e : o ≡ Some (access.Write b v) = sym same ∙ is ∙ ap (λ (x : Access). Some x) write in
+    e ∙ ap (λ (x : Option Access). Some (access.Write (bit_of x) v)) (sym e)
 
 -- the actor, which has made room, ends the access that its side has open
 pub after_end :
@@ -80,10 +80,6 @@ after_end s h h' due mid due' stands between stands' a v e p same on o is end by
     (moves p.list a (same ∙ p.is_due a o) (on p.list (Some a) (there_with s h due stands (Some a) p o)))
     (own_by s h e by ∙ ap (λ l. l ++ e ∷ []) (own_with s h due stands (Some a) p o) ∙ ap (λ x. so_far s p.list (Some a) ++ x ∷ []) end ∙ sym (events-more s p.list a v))
     (λ b f. none_some b f))
-
-pub begun_side : (s : Side) (a : Access) → (opening_event s a).side ≡ s
-begun_side s (access.Read b) = refl
-begun_side s (access.Write b v) = refl
 
 -- a side whose access was open was not done
 pub end_move :

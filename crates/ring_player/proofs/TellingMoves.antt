@@ -119,6 +119,19 @@ module _ (script : Content) (h h' : List Event) (e : Event) (is : h' ≡ h ++ e 
       (told_is puts takes r ∙ sym (ap (λ t. by_side t (f (length (subhistory P h))) (g (length (subhistory C h)))) by))
       ∙ sym (told-last f g h e) ∙ ap (calls_told f g 0 0) (sym is)
 
+  -- by what its own side says of it: where that side is then, and what is told
+  moves_on :
+      (s : Side) → e.side ≡ s → (told : Option (CallEvent ℕ TakenItems)) (Stage : Puts → Takes → ℕ → Type 0) →
+      ((puts : Puts) (takes : Takes) → IsReadingAsked script h' puts takes →
+      (told_in script told ≡ by_side s (put_told script.shape (offers_of script puts) 0 first_count puts.puts puts.closes (length (subhistory P h)))
+      (take_told script.shape (wants_of script takes) 0 first_count takes.takes takes.end (length (subhistory C h)))) × Stage puts takes (suc (length (subhistory s h)))) →
+      ((puts : Puts) (takes : Takes) → IsReadingAsked script h' puts takes → Stage puts takes (length (subhistory s h'))) ×
+      ((events : List calls.Event) → TellsCalls script h events → TellsCalls script h' (events ++ told_in script told))
+  moves_on s by told Stage said = (
+    (λ puts takes r. subst (Stage puts takes) (sym (one_more s by)) (said puts takes r).1),
+    tells_more s by told (λ puts takes r. (said puts takes r).0),
+  )
+
   module _ (by : e.side ≡ P) (stage next : PutStage) (t : TakeStage) (items : ℕ) (before now : PutTally) (told : Option (CallEvent ℕ TakenItems)) where
     pub put_moves :
         SaysPut stage items before now next told → items ≡ length script.items → AreAt stage t script h →
@@ -127,23 +140,16 @@ module _ (script : Content) (h h' : List Event) (e : Event) (is : h' ≡ h ++ e 
         ((puts : Puts) → FollowsPuts script.shape h' puts → now.stored ≡ stored_in 0 (puts_over_in script.shape h' puts)) →
         ((puts : Puts) → FollowsPuts script.shape h' puts → now.full ≡ fulls (puts_over_in script.shape h' puts)) →
         AreAt next t script h' × ((events : List calls.Event) → TellsCalls script h events → TellsCalls script h' (events ++ told_in script told))
-    put_moves says all at stored full stored' full' = (
-      (λ puts takes r. (
-        subst (IsPutStage next script puts) (sym (one_more P by)) (said puts takes r).1,
-        subst (λ l. IsTakeStage t script takes (length l)) (sym (ap (subhistory C) is ∙ own_other P h e by)) (at puts takes (reading_before puts takes r)).1,
-      )),
-      tells_more P by told (λ puts takes r. (said puts takes r).0),
-    )
-      where
-        said :
-            (puts : Puts) (takes : Takes) → IsReadingAsked script h' puts takes →
-            (told_in script told ≡ put_told script.shape (offers_of script puts) 0 first_count puts.puts puts.closes (length (subhistory P h))) × IsPutStage next script puts (suc (length (subhistory P h)))
-        said puts takes r =
-            let r' = reading_before puts takes r in
-            says script puts (length (subhistory P h)) r.asked all (few P by (put_program script.shape puts) r.puts_follow.events) (at puts takes r').0 (stored puts r'.puts_follow, full puts r'.puts_follow) (
-              stored' puts r.puts_follow ∙ ap (λ n. stored_in 0 (puts_over script.shape first_count puts.puts n)) (one_more P by),
-              full' puts r.puts_follow ∙ ap (λ n. fulls (puts_over script.shape first_count puts.puts n)) (one_more P by),
-            )
+    put_moves says all at stored full stored' full' =
+        let (own, tells) = moves_on P by told (λ puts _ n. IsPutStage next script puts n) (λ puts takes r.
+        (let r' = reading_before puts takes r in
+        says script puts (length (subhistory P h)) r.asked all (few P by (put_program script.shape puts) r.puts_follow.events) (at puts takes r').0 (stored puts r'.puts_follow, full puts r'.puts_follow) (
+          stored' puts r.puts_follow ∙ ap (λ n. stored_in 0 (puts_over script.shape first_count puts.puts n)) (one_more P by),
+          full' puts r.puts_follow ∙ ap (λ n. fulls (puts_over script.shape first_count puts.puts n)) (one_more P by),
+        ))) in (
+          λ puts takes r. (own puts takes r, subst (λ l. IsTakeStage t script takes (length l)) (sym (ap (subhistory C) is ∙ own_other P h e by)) (at puts takes (reading_before puts takes r)).1),
+          tells,
+        )
 
   module _ (by : e.side ≡ C) (stage : PutStage) (t next : TakeStage) (wanted : ℕ) (before now : TakeTally) (told : Option (CallEvent ℕ TakenItems)) where
     -- what is counted of takes in a history
@@ -159,27 +165,20 @@ module _ (script : Content) (h h' : List Event) (e : Event) (is : h' ≡ h ++ e 
         AreAt stage t script h → IsCounted h before → IsCounted h' now →
         ((takes : Takes) → FollowsTakes script.shape h' takes → IsPrefix (all_taken (takes_over_in script.shape h' takes)) script.items) →
         AreAt stage next script h' × ((events : List calls.Event) → TellsCalls script h events → TellsCalls script h' (events ++ told_in script told))
-    take_moves says is_wanted at counted counted' first = (
-      (λ puts takes r. (
-        subst (λ l. IsPutStage stage script puts (length l)) (sym (ap (subhistory P) is ∙ own_other C h e by)) (at puts takes (reading_before puts takes r)).0,
-        subst (IsTakeStage next script takes) (sym (one_more C by)) (said puts takes r).1,
-      )),
-      tells_more C by told (λ puts takes r. (said puts takes r).0),
-    )
-      where
-        said :
-            (puts : Puts) (takes : Takes) → IsReadingAsked script h' puts takes →
-            (told_in script told ≡ take_told script.shape (wants_of script takes) 0 first_count takes.takes takes.end (length (subhistory C h))) × IsTakeStage next script takes (suc (length (subhistory C h)))
-        said puts takes r =
-            let r' = reading_before puts takes r in
-            let (now_taken, now_empty, now_told) = counted' takes r.takes_follow in
-            says script takes (length (subhistory C h)) (is_wanted takes r'.takes_follow ∙ ap (wanted_at script) (sym (counted takes r'.takes_follow).0)) (few C by (take_program script.shape takes) r.takes_follow.events)
-            r.takes_follow.are (subst (λ n. IsPrefix (all_taken (takes_over script.shape first_count takes.takes n)) script.items) (one_more C by) (first takes r.takes_follow))
-            (at puts takes r').1 (counted takes r'.takes_follow) (
-              now_taken ∙ ap (λ n. length (all_taken (takes_over script.shape first_count takes.takes n))) (one_more C by),
-              now_empty ∙ ap (λ n. empties (takes_over script.shape first_count takes.takes n)) (one_more C by),
-              subst (λ n. (now.told ≡ true) ↔ IsTold script.shape takes n) (one_more C by) now_told,
-            )
+    take_moves says is_wanted at counted counted' first =
+        let (own, tells) = moves_on C by told (λ _ takes n. IsTakeStage next script takes n) (λ puts takes r.
+        (let r' = reading_before puts takes r in
+        let (now_taken, now_empty, now_told) = counted' takes r.takes_follow in
+        says script takes (length (subhistory C h)) (is_wanted takes r'.takes_follow ∙ ap (wanted_at script) (sym (counted takes r'.takes_follow).0)) (few C by (take_program script.shape takes) r.takes_follow.events)
+        r.takes_follow.are (subst (λ n. IsPrefix (all_taken (takes_over script.shape first_count takes.takes n)) script.items) (one_more C by) (first takes r.takes_follow))
+        (at puts takes r').1 (counted takes r'.takes_follow) (
+          now_taken ∙ ap (λ n. length (all_taken (takes_over script.shape first_count takes.takes n))) (one_more C by),
+          now_empty ∙ ap (λ n. empties (takes_over script.shape first_count takes.takes n)) (one_more C by),
+          subst (λ n. (now.told ≡ true) ↔ IsTold script.shape takes n) (one_more C by) now_told,
+        ))) in (
+          λ puts takes r. (subst (λ l. IsPutStage stage script puts (length l)) (sym (ap (subhistory P) is ∙ own_other C h e by)) (at puts takes (reading_before puts takes r)).0, own puts takes r),
+          tells,
+        )
 
 -- nothing was told of nothing
 pub nothing_told : (script : Content) → TellsCalls script [] []

@@ -103,7 +103,7 @@ fulls_few shape c (Full u ∷ list) =
 
 pub full_few : (script : Content) (p : ProducerState) (kept : PutTally) (list : List Made) (o : Option Access) → PutActorStands script p kept list o → kept.full ≤ length list
 full_few script p kept list o s =
-    omega (arith, s.filled, fulls_few script.shape first_count s.calls.puts, s.long, length-append (put_phrases script.shape first_count s.calls.puts) (close_phrase s.calls.closes))
+    omega (arith, s.made.filled, fulls_few script.shape first_count s.calls.puts, s.made.long, length-append (put_phrases script.shape first_count s.calls.puts) (close_phrase s.calls.closes))
 
 -- ---- what is put is the first of the script's items
 
@@ -210,10 +210,10 @@ put_so_far script p kept digits put list o due s h next is_due = by_due due is_d
 
     -- the calls that are over have come
     come : 2 * front ≤ length (so_far P list o)
-    come = omega (arith, s.long, program_parts calls, so_far_length P list o)
+    come = omega (arith, s.made.long, program_parts calls, so_far_length P list o)
 
     of_calls : IsAsked script calls None → ArePutsOf script calls
-    of_calls closes = record { are = subst (λ (t : Shape). ArePuts t 0 calls.puts) s.same_shape s.there.are; attempts = s.attempts; closes = closes }
+    of_calls closes = record { are = subst (λ (t : Shape). ArePuts t 0 calls.puts) s.same_shape s.there.are; attempts = s.made.attempts; closes = closes }
 
     some_same : (a b : Access) → Some a ≡ Some b → a ≡ b
     some_same a b e = cc
@@ -240,7 +240,7 @@ put_so_far script p kept digits put list o due s h next is_due = by_due due is_d
         let made : with_open list o ≡ put_program shape calls = ap (with_open list) none ∙ whole in
         let es : so_far P list o ≡ events_of P (put_program shape calls) = ap (so_far P list) none ∙ ap (events_of P) whole in
         reading_so_far script digits put kept list o h calls (of_calls asked) ([], append-nil (with_open list o) ∙ made) ([], append-nil (so_far P list o) ∙ es)
-        calls.puts (calls_all_over (put_phrase shape) (stored_after shape) (put_phrases shape) (puts_total shape) first_count calls.puts (length (so_far P list o)) come) s.filled s.counted
+        calls.puts (calls_all_over (put_phrase shape) (stored_after shape) (put_phrases shape) (puts_total shape) first_count calls.puts (length (so_far P list o)) come) s.made.filled s.made.counted
     by_due None f (Some c) asked next = absurd next
     by_due (Some a) f None asked next = absurd next
     by_due (Some a) f (Some c) asked next =
@@ -249,7 +249,7 @@ put_so_far script p kept digits put list o due s h next is_due = by_due due is_d
         let whole : IsPrefix (list ++ answered a true ∷ []) (put_program shape more) = (rest, e) in
         let whole_events : IsPrefix (events_of P (list ++ answered a true ∷ [])) (events_of P (put_program shape more)) =
         (events_of P rest, sym (events_of-append P (list ++ answered a true ∷ []) rest) ∙ ap (events_of P) e) in
-        reading_so_far script digits put kept list o h more (calls_asked script c calls more s.attempts asked has)
+        reading_so_far script digits put kept list o h more (calls_asked script c calls more s.made.attempts asked has)
         (begins-trans (with_open list o) (list ++ answered a true ∷ []) (put_program shape more) (open_begins o a f) whole)
         (begins-trans (so_far P list o) (events_of P (list ++ answered a true ∷ [])) (events_of P (put_program shape more)) (so_far_begins P list o a true f) whole_events)
-        calls.puts (over_more c more has longer) s.filled s.counted
+        calls.puts (over_more c more has longer) s.made.filled s.made.counted

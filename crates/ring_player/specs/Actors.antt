@@ -79,15 +79,19 @@ pub record PutTally : Type 0 where
 abbrev pub after_reply : PutTally → Option BatchReply → PutTally
 after_reply kept reply = record { stored = kept.stored + stored_in_reply reply; full = kept.full + full_in_reply reply }
 
+-- the puts that are over are attempts at the script's items, and are counted so; these accesses make no fewer
+pub record ArePutsMade (script : Content) (kept : PutTally) (list : List Made) (calls : Puts) : Type 0 where
+  pub attempts : AreAttempts script 0 calls.puts
+  pub counted : kept.stored ≡ stored_in 0 calls.puts
+  pub filled : kept.full ≡ fulls calls.puts
+  pub long : length (put_program script.shape calls) ≤ length list
+
 -- it stands after these accesses, with this one open
 pub record PutActorStands (script : Content) (p : ProducerState) (kept : PutTally) (list : List Made) (opened : Option Access) : Type 0 where
   pub calls : Puts
   pub there : ProducerStands p calls list
   pub same_shape : p.shape ≡ script.shape
-  pub attempts : AreAttempts script 0 calls.puts
-  pub counted : kept.stored ≡ stored_in 0 calls.puts
-  pub filled : kept.full ≡ fulls calls.puts
-  pub long : length (put_program script.shape calls) ≤ length list
+  pub made : ArePutsMade script kept list calls
   pub batched : (items : List ℕ) → call_of p ≡ Some (Put items) → p.batched ≡ true
   pub asked : IsAsked script calls (call_of p)
   pub program : IsProgram script P (so_far P list opened)

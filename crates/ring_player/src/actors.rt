@@ -3,7 +3,7 @@ ghost use Rattle.std.specs.Prelude.{◌≡◌, ◌≢◌, ◌<◌, ◌≤◌, �
 ghost use Rattle.bits_core.specs.Bits.{other};
 ghost use Rattle.bits_core.specs.History.{open_access};
 ghost use Rattle.bits_core.specs.Made.{subhistory, opening_event};
-ghost use Rattle.bits_core.specs.Open.{IsOpenRight, IsReading, IsWriting};
+ghost use Rattle.bits_core.specs.Open.{IsOpenRight};
 ghost use Rattle.ring_player.specs.Actors.{IsAtTurn, IsMove, IsPlaying};
 ghost use Rattle.ring_player.specs.Plays.{IsProgram};
 
@@ -123,105 +123,8 @@ fn event_count<M: Store<Event>>(memory: &Memory<M>) -> usize
     memory.events().len()
 }
 
-/// Ends the read that the side has open. It answers true, as each step does that makes an event.
-fn end_read<M: Store<Event>, A: Actor, O: Oracle>(
-    memory: &mut Memory<M>,
-    actor: &mut A,
-    oracle: &mut O,
-    side: Side,
-) -> Result<bool, PlayFault>
-    requires open { IsReading (open_access side memory.old.events) }
-    requires playing { IsPlaying side memory.old.events (A.due actor.old) (A.stands actor.old) }
-    requires side { A.side actor.old ≡ side }
-    requires shape { memory.old.shape ≡ (A.script actor.old).shape }
-    requires other { IsProgram (A.script actor.old) (other side) (subhistory (other side) memory.old.events) }
-    ensures shape { memory.new.shape ≡ memory.old.shape }
-    ensures script { A.script actor.new ≡ A.script actor.old }
-    ensures side { A.side actor.new ≡ A.side actor.old }
-    ensures playing { IsPlaying side memory.new.events (A.due actor.new) (A.stands actor.new) }
-    ensures ok { IfOk result (λ moved. IsMove (A.script actor.old) side moved memory.old.events memory.new.events) }
-    ensures err { OnErr result (memory.new.events ≡ memory.old.events) }
-    ensures rooms { (memory.new.room ≡ memory.old.room) × (A.room actor.new ≡ A.room actor.old) }
-    ensures full { OnErr result ((memory.old.room ≤ length memory.old.events) ⊎
-        (A.room actor.old < A.kept actor.old + A.wants actor.old)) }
-    ensures kept { OnErr result (A.kept actor.new ≡ A.kept actor.old) }
-    ensures err_oracle { OnErr result (oracle.new ≡ oracle.old) }
-    ensures turns { (turns : ℕ → Bool) → IsAtTurn turns memory.old.events (O.answers oracle.old) →
-        IsAtTurn turns memory.new.events (O.answers oracle.new) }
-{
-    event_count(memory);
-    actor.reserve()?;
-    actor.last_bit();
-    let answer = memory.end_read(side, oracle)?;
-    memory.events();
-    actor.end(answer);
-    Ok(true)
-}
-
-/// Ends the write that the side has open. It answers true, as each step does that makes an event.
-fn end_write<M: Store<Event>, A: Actor>(
-    memory: &mut Memory<M>,
-    actor: &mut A,
-    side: Side,
-) -> Result<bool, PlayFault>
-    requires open { IsWriting (open_access side memory.old.events) }
-    requires playing { IsPlaying side memory.old.events (A.due actor.old) (A.stands actor.old) }
-    requires side { A.side actor.old ≡ side }
-    ensures shape { memory.new.shape ≡ memory.old.shape }
-    ensures script { A.script actor.new ≡ A.script actor.old }
-    ensures side { A.side actor.new ≡ A.side actor.old }
-    ensures playing { IsPlaying side memory.new.events (A.due actor.new) (A.stands actor.new) }
-    ensures ok { IfOk result (λ moved. IsMove (A.script actor.old) side moved memory.old.events memory.new.events) }
-    ensures err { OnErr result (memory.new.events ≡ memory.old.events) }
-    ensures rooms { (memory.new.room ≡ memory.old.room) × (A.room actor.new ≡ A.room actor.old) }
-    ensures full { OnErr result ((memory.old.room ≤ length memory.old.events) ⊎
-        (A.room actor.old < A.kept actor.old + A.wants actor.old)) }
-    ensures kept { OnErr result (A.kept actor.new ≡ A.kept actor.old) }
-    ensures turns { (turns answers : ℕ → Bool) → IsAtTurn turns memory.old.events answers →
-        IsAtTurn turns memory.new.events answers }
-{
-    event_count(memory);
-    actor.reserve()?;
-    memory.end_write(side)?;
-    actor.end(true);
-    Ok(true)
-}
-
-/// Begins the next access of the side, if it is not done.
+/// One step of the side: it ends the access that it has open, or begins the next one, or is done. It answers whether it made an event.
 #[tactic(auto, using(bits_core::proofs::LawLemmas::open_changes, bits_core::proofs::LawLemmas::subhistory_changes))]
-fn go_on<M: Store<Event>, A: Actor>(
-    memory: &mut Memory<M>,
-    actor: &mut A,
-    side: Side,
-) -> Result<bool, PlayFault>
-    requires none_open { open_access side memory.old.events ≡ None }
-    requires playing { IsPlaying side memory.old.events (A.due actor.old) (A.stands actor.old) }
-    requires side { A.side actor.old ≡ side }
-    requires shape { memory.old.shape ≡ (A.script actor.old).shape }
-    ensures shape { memory.new.shape ≡ memory.old.shape }
-    ensures script { A.script actor.new ≡ A.script actor.old }
-    ensures side { A.side actor.new ≡ A.side actor.old }
-    ensures playing { IsPlaying side memory.new.events (A.due actor.new) (A.stands actor.new) }
-    ensures ok { IfOk result (λ moved. IsMove (A.script actor.old) side moved memory.old.events memory.new.events) }
-    ensures err { OnErr result (memory.new.events ≡ memory.old.events) }
-    ensures rooms { (memory.new.room ≡ memory.old.room) × (A.room actor.new ≡ A.room actor.old) }
-    ensures full { OnErr result ((memory.old.room ≤ length memory.old.events) ⊎
-        (A.room actor.old < A.kept actor.old + A.wants actor.old)) }
-    ensures kept { OnErr result (A.kept actor.new ≡ A.kept actor.old) }
-    ensures turns { (turns answers : ℕ → Bool) → IsAtTurn turns memory.old.events answers →
-        IsAtTurn turns memory.new.events answers }
-{
-    match actor.next() {
-        None => Ok(false),
-        Some(access) => {
-            begin(memory, side, access)?;
-            actor.begin();
-            Ok(true)
-        }
-    }
-}
-
-/// One step of the side: it ends the access that it has open, or begins the next one, or is done.
 pub fn advance<M: Store<Event>, A: Actor, O: Oracle>(
     memory: &mut Memory<M>,
     actor: &mut A,
@@ -246,8 +149,29 @@ pub fn advance<M: Store<Event>, A: Actor, O: Oracle>(
         IsAtTurn turns memory.new.events (O.answers oracle.new) }
 {
     match memory.pending(side) {
-        Some(Access::Read(_)) => end_read(memory, actor, oracle, side),
-        Some(Access::Write(_, _)) => end_write(memory, actor, side),
-        None => go_on(memory, actor, side),
+        Some(Access::Read(_)) => {
+            event_count(memory);
+            actor.reserve()?;
+            actor.last_bit();
+            let answer = memory.end_read(side, oracle)?;
+            memory.events();
+            actor.end(answer);
+            Ok(true)
+        }
+        Some(Access::Write(_, _)) => {
+            event_count(memory);
+            actor.reserve()?;
+            memory.end_write(side)?;
+            actor.end(true);
+            Ok(true)
+        }
+        None => match actor.next() {
+            None => Ok(false),
+            Some(access) => {
+                begin(memory, side, access)?;
+                actor.begin();
+                Ok(true)
+            }
+        },
     }
 }

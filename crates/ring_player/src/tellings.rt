@@ -174,60 +174,6 @@ fn take_count<E: Store<Event>, T: Store<u64>>(world: &World<'_, E, T>) -> TakeCo
     }
 }
 
-// One step of the producer, and what its event tells, if any.
-fn put_step<E: Store<Event>, T: Store<u64>>(
-    world: &mut World<'_, E, T>,
-    at: &mut Stages,
-    items: usize,
-) -> Result<Option<PlayedCall>, PlayFault>
-    requires items { items ≡ length world.old.script.items }
-    requires at { AreAt at.old.put at.old.take world.old.script world.old.history }
-    ensures script { world.new.script ≡ world.old.script }
-    ensures at { OnOk result (AreAt at.new.put at.new.take world.new.script world.new.history) }
-    ensures told { IfOk result (λ told. (events : List calls.Event) →
-        TellsCalls world.old.script world.old.history events →
-        TellsCalls world.new.script world.new.history (events ++ told_in world.old.script told)) }
-    ensures letters { OnOk result ((letters : List Side) → Plays world.old.script letters world.old.history →
-        Plays world.new.script (letters ++ side_is.P ∷ []) world.new.history) }
-{
-    let before = put_count(world);
-    let moved = world.step(Side::P)?;
-    if !moved {
-        return Ok(None);
-    }
-    let now = put_count(world);
-    let said = put_says(at.put, items, before, now);
-    at.put = said.0;
-    Ok(said.1)
-}
-
-// One step of the consumer, and what its event tells, if any.
-fn take_step<E: Store<Event>, T: Store<u64>>(
-    world: &mut World<'_, E, T>,
-    at: &mut Stages,
-) -> Result<Option<PlayedCall>, PlayFault>
-    requires at { AreAt at.old.put at.old.take world.old.script world.old.history }
-    ensures script { world.new.script ≡ world.old.script }
-    ensures at { OnOk result (AreAt at.new.put at.new.take world.new.script world.new.history) }
-    ensures told { IfOk result (λ told. (events : List calls.Event) →
-        TellsCalls world.old.script world.old.history events →
-        TellsCalls world.new.script world.new.history (events ++ told_in world.old.script told)) }
-    ensures letters { OnOk result ((letters : List Side) → Plays world.old.script letters world.old.history →
-        Plays world.new.script (letters ++ side_is.C ∷ []) world.new.history) }
-{
-    let wanted = world.wanted() as usize;
-    let before = take_count(world);
-    let moved = world.step(Side::C)?;
-    if !moved {
-        return Ok(None);
-    }
-    world.ended_items();
-    let now = take_count(world);
-    let said = take_says(at.take, wanted, before, now);
-    at.take = said.0;
-    Ok(said.1)
-}
-
 // One step of a side, and what its event tells, if any.
 fn step_told<E: Store<Event>, T: Store<u64>>(
     world: &mut World<'_, E, T>,
@@ -246,8 +192,30 @@ fn step_told<E: Store<Event>, T: Store<u64>>(
         Plays world.new.script (letters ++ side ∷ []) world.new.history) }
 {
     match side {
-        Side::P => put_step(world, at, items),
-        Side::C => take_step(world, at),
+        Side::P => {
+            let before = put_count(world);
+            let moved = world.step(Side::P)?;
+            if !moved {
+                return Ok(None);
+            }
+            let now = put_count(world);
+            let said = put_says(at.put, items, before, now);
+            at.put = said.0;
+            Ok(said.1)
+        }
+        Side::C => {
+            let wanted = world.wanted() as usize;
+            let before = take_count(world);
+            let moved = world.step(Side::C)?;
+            if !moved {
+                return Ok(None);
+            }
+            world.ended_items();
+            let now = take_count(world);
+            let said = take_says(at.take, wanted, before, now);
+            at.take = said.0;
+            Ok(said.1)
+        }
     }
 }
 

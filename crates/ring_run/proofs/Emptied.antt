@@ -127,6 +127,10 @@ module _ {shape : Shape} {known : List Event} (x : Side) {after : List Event} (s
       later_than x known st.begins.0 st.history (events_in phrases) place st.begins.1 at.past
       (omega (arith, ap length is, length-events_of x (phrases ++ ends), length-append phrases ends, ap length none, ap length begins.1, length-append (subhistory x known) begins.0))
 
+  -- where its list is that of whole calls, all their accesses are made
+  pub all_made : (phrases : List Made) → after ≡ events_of x (phrases ++ []) → events_in phrases ≤ length (subhistory x st.history)
+  all_made phrases is = omega (arith, ap length (st.list_is ∙ is), length-events_of x (phrases ++ []), length-append phrases [])
+
   -- and what is known of a side's calls begins them
   pub own_known : (y : Side) → IsPrefix (subhistory y known) (subhistory y st.history)
   own_known y = (subhistory y st.begins.0, sym (own_append y known st.begins.0) ∙ ap (subhistory y) st.begins.1)
@@ -147,17 +151,14 @@ module _ (law : InEveryRun EmptyIsFresh) (first : PutsAreFirst) (made : MadeIsAc
     (shape : Shape) (known before after : List Event) (puts : Puts) (calls : Takes) (seen : ℕ) (is_open : calls.end ≡ Open)
     (whole : HasPuts shape (subhistory P known) puts) (was : HasTakes shape before calls) (begins : IsPrefix (subhistory C known) before)
     (st : Stands shape C after known) (has : HasTakes shape after (and_take calls (Empty seen))) where
-  abbrev h : List Event
-  h = st.history
-
   abbrev more : Takes
   more = and_take calls (Empty seen)
 
-  run : IsRun shape h st.ring.puts more
+  run : IsRun shape st.history st.ring.puts more
   run = record {
     lawful = st.ring.run.lawful;
     puts_follow = st.ring.run.puts_follow;
-    takes_follow = record { are = has.are; events = ([], append-nil (subhistory C h) ∙ st.list_is ∙ has.list_is) };
+    takes_follow = record { are = has.are; events = ([], append-nil (subhistory C st.history) ∙ st.list_is ∙ has.list_is) };
   }
 
   start : ℕ
@@ -167,13 +168,9 @@ module _ (law : InEveryRun EmptyIsFresh) (first : PutsAreFirst) (made : MadeIsAc
   unfolding start
   is_take = record { before = calls.takes; after = []; among = refl; number = refl; starts = refl; stops = refl }
 
-  over : events_in (take_phrases shape first_count (calls.takes ++ Empty seen ∷ [])) ≤ length (subhistory C h)
-  over =
-      omega (arith, ap length (st.list_is ∙ has.list_is), length-events_of C (take_program shape more), length-append (take_phrases shape first_count (calls.takes ++ Empty seen ∷ [])) [])
-
-  fresh : (first : ℕ) × IsPlaceOf C h start first × (puts_ended shape st.ring.puts (clock P h first) ≤ takes_ended shape more (clock C h first)) ×
-      ((v : Bool) (from to : ℕ) → IsWrite h X v from to → ¬ (to < first))
-  fresh = law shape h st.ring.puts more run seen (taken_in 0 calls.takes) start (events_in (take_phrases shape first_count (calls.takes ++ Empty seen ∷ []))) is_take over
+  fresh : (first : ℕ) × IsPlaceOf C st.history start first × (puts_ended shape st.ring.puts (clock P st.history first) ≤ takes_ended shape more (clock C st.history first)) ×
+      ((v : Bool) (from to : ℕ) → IsWrite st.history X v from to → ¬ (to < first))
+  fresh = law shape st.history st.ring.puts more run seen (taken_in 0 calls.takes) start (events_in (take_phrases shape first_count (calls.takes ++ Empty seen ∷ []))) is_take (all_made C st (take_phrases shape first_count (calls.takes ++ Empty seen ∷ [])) has.list_is)
 
   abbrev place : ℕ
   place = fresh.0
@@ -192,11 +189,11 @@ module _ (law : InEveryRun EmptyIsFresh) (first : PutsAreFirst) (made : MadeIsAc
   -- the items of the known puts were taken before it
   pub items : length (all_put puts.puts) ≤ length (all_taken calls.takes)
   items =
-      let ended : length (all_put puts.puts) ≤ length (items_ended shape first_count (puts.puts ++ are_first.0.0) (clock P h place)) =
-      ended_least shape first_count puts.puts are_first.0.0 (clock P h place) (omega (arith, known_long, behind_known C st P place known_before)) in
-      let same : puts_ended shape st.ring.puts (clock P h place) ≡ length (items_ended shape first_count (puts.puts ++ are_first.0.0) (clock P h place)) =
-      ap (λ l. length (items_ended shape first_count l (clock P h place))) are_first.0.1 in
-      omega (arith, ended, same, fresh.2, ended_most shape first_count more.takes (clock C h place), ap length (none_more calls.takes seen))
+      let ended : length (all_put puts.puts) ≤ length (items_ended shape first_count (puts.puts ++ are_first.0.0) (clock P st.history place)) =
+      ended_least shape first_count puts.puts are_first.0.0 (clock P st.history place) (omega (arith, known_long, behind_known C st P place known_before)) in
+      let same : puts_ended shape st.ring.puts (clock P st.history place) ≡ length (items_ended shape first_count (puts.puts ++ are_first.0.0) (clock P st.history place)) =
+      ap (λ l. length (items_ended shape first_count l (clock P st.history place))) are_first.0.1 in
+      omega (arith, ended, same, fresh.2, ended_most shape first_count more.takes (clock C st.history place), ap length (none_more calls.takes seen))
 
   -- and no close is among them
   pub open_yet : puts.closes ≡ false
@@ -206,11 +203,11 @@ module _ (law : InEveryRun EmptyIsFresh) (first : PutsAreFirst) (made : MadeIsAc
       let program : put_program shape st.ring.puts ≡ phrases ++ Write X true ∷ [] = ap (put_program shape) (sym (are_first.1 closes)) ∙ ap (λ b. phrases ++ close_phrase b) closes in
       let long : length (subhistory P known) ≡ 2 * (length phrases + 1) = known_long ∙ ap (λ b. 2 * (length phrases + length (close_phrase b))) closes in
       let mine = own_known C st P in
-      let more_own : length (subhistory P known) ≤ length (subhistory P h) = omega (arith, ap length mine.1, length-append (subhistory P known) mine.0) in
-      let (stop, at) = made P h (put_program shape st.ring.puts) st.ring.run.puts_follow.events (length phrases) (Write X true)
+      let more_own : length (subhistory P known) ≤ length (subhistory P st.history) = omega (arith, ap length mine.1, length-append (subhistory P known) mine.0) in
+      let (stop, at) = made P st.history (put_program shape st.ring.puts) st.ring.run.puts_follow.events (length phrases) (Write X true)
       (ap (λ l. slice_get l (length phrases)) program ∙ there phrases (Write X true) []) (omega (arith, long, more_own)) in
       let ended = (at.ended (omega (arith, long, more_own))).0 in
-      let not_before : ¬ (stop < place) = fresh.3 true (place_of P h (2 * length phrases)) stop at.access in
+      let not_before : ¬ (stop < place) = fresh.3 true (place_of P st.history (2 * length phrases)) stop at.access in
       let begun : length known ≤ stop = omega (arith, not_before, known_before) in
       absurd (omega (arith, long, behind_known C st P stop begun, ended.before)))
       (λ no_close. no_close)

@@ -23,7 +23,7 @@ use Rattle.ring_seats.specs.Rule.{Stands}
 use Rattle.ring_ends.specs.Ends.{HasPuts, HasTakes, PutAdds, HasPutAll}
 use Rattle.ring_run.specs.Laws.{FullAfterMeeting, ItemFullAfterMeeting, PutsAdd}
 use Rattle.ring_ends.proofs.Lists.{events_of-append, length-events_of}
-use Rattle.ring_run.proofs.Emptied.{behind_known, by_true, known_first, later, past_is, within_le}
+use Rattle.ring_run.proofs.Emptied.{all_made, behind_known, by_true, known_first, later, past_is, within_le}
 use Rattle.ring_core.proofs.Readings.Over.{puts-append as put_phrases-append}
 
 -- ---- how many items are stored, and how many are taken by takes that have ended
@@ -64,16 +64,13 @@ module _ (law : InEveryRun FullIsFresh) (first : TakesAreFirst)
     (shape : Shape) (known before after : List Event) (takes : Takes) (calls : Puts) (seen : ℕ) (is_open : calls.closes ≡ false)
     (whole : HasTakes shape (subhistory C known) takes) (was : HasPuts shape before calls) (begins : IsPrefix (subhistory P known) before)
     (st : Stands shape P after known) (has : HasPuts shape after (and_put calls (Full seen))) where
-  abbrev h : List Event
-  h = st.history
-
   abbrev more : Puts
   more = and_put calls (Full seen)
 
-  run : IsRun shape h more st.ring.takes
+  run : IsRun shape st.history more st.ring.takes
   run = record {
     lawful = st.ring.run.lawful;
-    puts_follow = record { are = has.are; events = ([], append-nil (subhistory P h) ∙ st.list_is ∙ has.list_is) };
+    puts_follow = record { are = has.are; events = ([], append-nil (subhistory P st.history) ∙ st.list_is ∙ has.list_is) };
     takes_follow = st.ring.run.takes_follow;
   }
 
@@ -84,12 +81,8 @@ module _ (law : InEveryRun FullIsFresh) (first : TakesAreFirst)
   unfolding start
   is_put = record { before = calls.puts; after = []; among = refl; number = refl; starts = refl; stops = refl }
 
-  over : events_in (put_phrases shape first_count (calls.puts ++ Full seen ∷ [])) ≤ length (subhistory P h)
-  over =
-      omega (arith, ap length (st.list_is ∙ has.list_is), length-events_of P (put_program shape more), length-append (put_phrases shape first_count (calls.puts ++ Full seen ∷ [])) [])
-
-  fresh : (place : ℕ) × IsPlaceOf P h start place × (takes_ended shape st.ring.takes (clock C h place) + capacity_of shape ≤ stored_in 0 calls.puts)
-  fresh = law shape h more st.ring.takes run seen (stored_in 0 calls.puts) start (events_in (put_phrases shape first_count (calls.puts ++ Full seen ∷ []))) is_put over
+  fresh : (place : ℕ) × IsPlaceOf P st.history start place × (takes_ended shape st.ring.takes (clock C st.history place) + capacity_of shape ≤ stored_in 0 calls.puts)
+  fresh = law shape st.history more st.ring.takes run seen (stored_in 0 calls.puts) start (events_in (put_phrases shape first_count (calls.puts ++ Full seen ∷ []))) is_put (all_made P st (put_phrases shape first_count (calls.puts ++ Full seen ∷ [])) has.list_is)
 
   abbrev place : ℕ
   place = fresh.0
@@ -107,7 +100,7 @@ module _ (law : InEveryRun FullIsFresh) (first : TakesAreFirst)
   -- the known takes had ended where it began
   pub filled : length (all_taken takes.takes) + capacity_of shape ≤ length (all_put calls.puts)
   filled =
-      let t : ℕ = clock C h place in
+      let t : ℕ = clock C st.history place in
       let late : length (subhistory C known) ≤ t = behind_known P st C place known_before in
       let ended : length (all_taken takes.takes) ≤ length (items_taken shape first_count (takes.takes ++ are_first.0) t) = all_ended shape first_count takes.takes are_first.0 t (omega (arith, late, known_long)) in
       omega (arith, ended, ap (λ l. length (items_taken shape first_count l t)) are_first.1, fresh.2, stored_is 0 calls.puts)

@@ -8,6 +8,7 @@ use Rattle.bits_core.specs.declared.events.Side.TheVariants.{P, C}
 use Rattle.bits_core.specs.declared.events.Event.{Event}
 use Rattle.bits_core.specs.Shape.{AllFit, batch_of, modulus_of}
 use Rattle.bits_core.specs.Made.{subhistory, clock, IsPrefix}
+use Rattle.ring_core.specs.declared.replies.BatchReply.{BatchReply}
 use Rattle.ring_core.specs.declared.replies.BatchReply.TheVariants as several
 use Rattle.ring_core.specs.declared.replies.PutReply.{PutReply}
 use Rattle.ring_core.specs.declared.replies.PutReply.TheVariants as single
@@ -31,7 +32,7 @@ use Rattle.ring_run.specs.Ends.{HasPuts, HasPut, HasPutAll, PutAdds, HasTakes, H
 use Rattle.ring_run.specs.Counters.{ShowsWords}
 use Rattle.ring_run.specs.Laws.{PutsAreShown, TakesAreShown}
 use Rattle.ring_run.proofs.RelayLemmas.{fit_first, fit_left}
-use Rattle.uses.specs.Passed.{HasStored, HasTook}
+use Rattle.uses.specs.Passed.{HasStored, HasTook, number_stored}
 use Rattle.ring_audit.proofs.TakeItems.{taken-push as all_taken_snoc}
 use Rattle.ring_audit.proofs.TakeReads.{told-tells as tells_true}
 use Rattle.ring_core.proofs.Machines.TakeCalls.{reply-push as last_reply}
@@ -111,6 +112,11 @@ few_by_one shape before after calls false given m (puts.Full seen, of, answered,
 pub few_stored : (shape : Shape) (given : List ℕ) (before after : List Event) (m : ℕ) → HasPutAll shape given before after (several.Stored m) → (1 ≤ m) × (m ≤ length given)
 few_stored shape given before after m h = few_by_one shape before after h.calls h.calls.closes given m h.adds
 
+pub few_all : (shape : Shape) (given : List ℕ) (before after : List Event) (reply : BatchReply) → HasPutAll shape given before after reply → number_stored reply ≤ length given
+few_all shape given before after (several.Stored m) h = (few_stored shape given before after m h).1
+few_all shape given before after several.Full h = omega arith
+few_all shape given before after several.Closed h = omega arith
+
 -- an end that has made no call
 pub none_stored : (e : RingEnd) → e.list ≡ [] → HasStored e []
 none_stored e is = record { calls = no_puts; list_is = record { are = tt; list_is = is }; items_are = refl }
@@ -169,6 +175,12 @@ module _ (read : PutsAreRead) (a b : RingEnd) (same : b.ring ≡ a.ring) (items 
   -- nor did one behind a close
   pub stored_late : (given : List ℕ) → HasPutAll b.ring.shape given a.list b.list several.Closed → HasStored b items
   stored_late given h = refused_by_one h.calls h.before_is h.calls.closes given h.adds
+
+  -- so, whatever it was answered
+  pub stored_all : (given : List ℕ) (reply : BatchReply) → HasPutAll b.ring.shape given a.list b.list reply → HasStored b (items ++ take (number_stored reply) given)
+  stored_all given (several.Stored m) h = stored_more given m h
+  stored_all given several.Full h = subst (HasStored b) (sym (append-nil items)) (stored_none given h)
+  stored_all given several.Closed h = subst (HasStored b) (sym (append-nil items)) (stored_late given h)
 
   -- the same of a put of one item
   pub one_stored : (item : ℕ) → HasPut b.ring.shape item a.list b.list single.Stored → HasStored b (items ++ item ∷ [])

@@ -25,10 +25,16 @@ pub fn put_batch<E: PutEnd>(putter: &mut E, items: &[u64]) -> usize
         HasStored (E.end putter.new) (before ++ take result items.now) }
 {
     puts_are_read();
-    match putter.put_all(items) {
+    stored_by(putter.put_all(items))
+}
+
+// How many items a put stored.
+fn stored_by(reply: BatchReply) -> usize
+    ensures { result ≡ number_stored reply }
+{
+    match reply {
         BatchReply::Stored(stored) => stored as usize,
-        BatchReply::Full => 0,
-        BatchReply::Closed => 0,
+        _ => 0,
     }
 }
 
@@ -49,9 +55,15 @@ pub fn take_batch<E: TakeEnd>(taker: &mut E, into: &mut [u64]) -> usize
         HasTook (E.end taker.new) (before ++ take result into.new) }
 {
     takes_are_read();
-    match taker.take_all(into) {
+    taken_by(taker.take_all(into))
+}
+
+// How many items a take took.
+fn taken_by(reply: TakeBatchReply) -> usize
+    ensures { result ≡ number_brought reply }
+{
+    match reply {
         TakeBatchReply::Taken(taken) => taken as usize,
-        TakeBatchReply::Empty => 0,
-        TakeBatchReply::Closed => 0,
+        _ => 0,
     }
 }

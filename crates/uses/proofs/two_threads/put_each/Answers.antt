@@ -26,14 +26,13 @@ put_batch-stored-requires-clause-batch g c =
 
 pub puts-preserved : goal.puts-preserved
 puts-preserved g c =
-    let a = g.E.PutEnd.end c.puts.putter in
     let b = g.E.PutEnd.end c.put_batch-stored.new.putter in
     let i = c.puts.invariant in
     let s = c.put_batch-stored.ensures in
     let items : List ℕ = c.args.items.now in
     let next : ℕ = c.puts.stored + c.min.result in (
       s.idle,
-      same_trans (g.E.PutEnd.end c.args.putter.now) a b i.1 s.same,
+      same_trans (g.E.PutEnd.end c.args.putter.now) (g.E.PutEnd.end c.puts.putter) b i.1 s.same,
       refl,
       chunk_within items c.puts.stored next c.put_batch-stored.result (omega arith) (omega (arith, c.min.ensures, i.3)) s.few,
       subst (HasStored b) (chunk_first items c.puts.stored next c.put_batch-stored.result s.few) (s.stored (take c.puts.stored items) i.4),

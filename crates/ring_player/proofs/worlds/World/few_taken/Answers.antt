@@ -12,9 +12,9 @@ pub returns-clause-items : goal.returns-clause-items
 returns-clause-items g c =
     let w = c.self.inside in
     let i = c.self.invariant in
-    let first = taken_first _ _ (content_of w.producer.script) (content_of w.consumer.script) _ _ _ _ _ w.producer.put (g.T.Store.items w.consumer.taken) (record { stored = w.producer.stored; full = w.producer.full }) w.consumer.told w.consumer.empty c.self.view_is
-    i.put_script_is i.take_script_is i.puts i.takes c.look.ensures c.look-2.ensures c.history.ensures.plays.headline in
-    subst (λ (x : Played). x.taken ≤ length x.script.items) c.self.view_is (first_few (g.T.Store.items w.consumer.taken) (content_of w.script).items first)
+    subst (λ (x : Played). x.taken ≤ length x.script.items) c.self.view_is (first_few (g.T.Store.items w.consumer.taken) (content_of w.script).items
+    (taken_first _ _ (content_of w.producer.script) (content_of w.consumer.script) _ _ _ _ _ w.producer.put (g.T.Store.items w.consumer.taken) (record { stored = w.producer.stored; full = w.producer.full }) w.consumer.told w.consumer.empty c.self.view_is
+    i.put_script_is i.take_script_is i.puts i.takes c.look.ensures c.look-2.ensures c.history.ensures.plays.headline))
 
 pub returns-clause-takes : goal.returns-clause-takes
 returns-clause-takes g c =
