@@ -3,55 +3,28 @@ use crate::{
     HeardFound, WordLine, ring_audit_begin, ring_audit_hear, ring_audit_layout, ring_audit_report,
 };
 use queue_calls::{CAUSE_WORDS, CallsReport, Offered, Taken};
+use std::process::Abort;
 
-const NO_ENTRY: Offered = Offered {
-    item: 7,
-    offered_at: 7,
-    stored_at: 7,
-};
+// A row of numbers, each behind its name.
+macro_rules! numbers {
+    ($kind:ident: $($name:ident $number:expr),*) => {
+        $kind { $($name: $number),* }
+    };
+}
 
-const NOT_TAKEN: Taken = Taken {
-    item: 7,
-    taken_at: 7,
-};
+const NO_ENTRY: Offered = numbers!(Offered: item 7, offered_at 7, stored_at 7);
 
-const NO_REPORT: CallsReport = CallsReport {
-    calls: 0,
-    stored: 0,
-    taken: 0,
-    full: 0,
-    empty: 0,
-    nothing: 0,
-    told: false,
-    surely_inside: 0,
-    perhaps_inside: 0,
-    overlapped: 0,
-    under_way: 0,
-};
+const NOT_TAKEN: Taken = numbers!(Taken: item 7, taken_at 7);
 
-const NO_CALLS: Calls = Calls {
-    full: 0,
-    most: 0,
-    offered: 0,
-    before_put: 0,
-    wanted: 0,
-    before_take: 0,
-    begun_items: 0,
-    put: 0,
-    begun: 0,
-    bounded: false,
-    again: false,
-    take: false,
-    ended: false,
-    shut: false,
-};
+const NO_REPORT: CallsReport = numbers!(CallsReport:
+    calls 0, stored 0, taken 0, full 0, empty 0, nothing 0, told false, surely_inside 0,
+    perhaps_inside 0, overlapped 0, under_way 0);
 
-const NOTHING_FOUND: HeardFound = HeardFound {
-    line: 0,
-    against: 0,
-    words: 0,
-    verdict: 0,
-};
+const NO_CALLS: Calls = numbers!(Calls:
+    full 0, most 0, offered 0, before_put 0, wanted 0, before_take 0, begun_items 0, put 0, begun 0,
+    bounded false, again false, take false, ended false, shut false);
+
+const NOTHING_FOUND: HeardFound = numbers!(HeardFound: line 0, against 0, words 0, verdict 0);
 
 // An audit as C has it before it begins.
 fn zeroed<'a>(offered: &'a mut [Offered], taken: &'a mut [Taken]) -> Audit<'a> {
@@ -63,10 +36,7 @@ fn zeroed<'a>(offered: &'a mut [Offered], taken: &'a mut [Taken]) -> Audit<'a> {
         taken_first: 0,
         taken_used: 0,
         limit: 0,
-        last_taken: Taken {
-            item: 0,
-            taken_at: 0,
-        },
+        last_taken: numbers!(Taken: item 0, taken_at 0),
         line: 0,
         ended_at: 0,
         told_at: 0,
@@ -79,6 +49,18 @@ fn zeroed<'a>(offered: &'a mut [Offered], taken: &'a mut [Taken]) -> Audit<'a> {
         put_overlaps: false,
         take_overlaps: false,
     }
+}
+
+// The same, begun with these numbers.
+fn begun<'a>(
+    rt: &impl Abort,
+    offered: &'a mut [Offered],
+    taken: &'a mut [Taken],
+    numbers: &[u64],
+) -> Audit<'a> {
+    let mut audit = zeroed(offered, taken);
+    assert!(rt; ring_audit_begin(&mut audit, numbers));
+    audit
 }
 
 const fn line(word: u32, count: u32) -> WordLine {
@@ -110,12 +92,7 @@ fn heard(
     numbers: &[u64],
 ) -> (usize, HeardFound, [u8; CAUSE_WORDS]) {
     let mut words = [7; CAUSE_WORDS];
-    let mut found = HeardFound {
-        line: 9,
-        against: 9,
-        words: 9,
-        verdict: 9,
-    };
+    let mut found = numbers!(HeardFound: line 9, against 9, words 9, verdict 9);
     let count = ring_audit_hear(audit, lines, numbers, &mut words, &mut found);
     (count, found, words)
 }
@@ -124,8 +101,7 @@ fn heard(
 fn a_lawful_history_is_heard_in_several_calls(rt: HostRuntime) {
     let mut offered = [NO_ENTRY; 2];
     let mut taken = [NOT_TAKEN; 2];
-    let mut audit = zeroed(&mut offered, &mut taken);
-    assert!(rt; ring_audit_begin(&mut audit, &[1]));
+    let mut audit = begun(&rt, &mut offered, &mut taken, &[1]);
     let (count, found, words) = heard(&mut audit, &[PUT, STORED, TAKE, ITEM], &[5, 5]);
     assert_eq!(rt; (count, found), (4, NOTHING_FOUND));
     assert!(rt; words == [7; CAUSE_WORDS]);
@@ -144,19 +120,9 @@ fn a_lawful_history_is_heard_in_several_calls(rt: HostRuntime) {
     assert!(rt; ring_audit_report(&mut audit, &mut report));
     assert_eq!(rt;
         report,
-        CallsReport {
-            calls: 13,
-            stored: 5,
-            taken: 5,
-            full: 1,
-            empty: 0,
-            nothing: 0,
-            told: true,
-            surely_inside: 1,
-            perhaps_inside: 1,
-            overlapped: 0,
-            under_way: 0,
-        }
+        numbers!(CallsReport:
+            calls 13, stored 5, taken 5, full 1, empty 0, nothing 0, told true, surely_inside 1,
+            perhaps_inside 1, overlapped 0, under_way 0)
     );
     assert_eq!(rt; audit.line, 27);
 }
@@ -175,8 +141,7 @@ const fn fault(verdict: u32, line: u64, against: u64, words: u64) -> HeardFound 
 fn a_fault_is_told_in_words_and_not_kept(rt: HostRuntime) {
     let mut offered = [NO_ENTRY; 2];
     let mut taken = [NOT_TAKEN; 2];
-    let mut audit = zeroed(&mut offered, &mut taken);
-    assert!(rt; ring_audit_begin(&mut audit, &[8]));
+    let mut audit = begun(&rt, &mut offered, &mut taken, &[8]);
     let lines = [PUT, STORED, TAKE, EMPTY, TAKE];
     let text = "empty, but item 12 was inside since line 3";
     let (count, found, words) = heard(&mut audit, &lines, &[12]);
@@ -192,8 +157,7 @@ fn a_fault_is_told_in_words_and_not_kept(rt: HostRuntime) {
 #[test]
 fn the_words_are_cut_where_there_is_no_room(rt: HostRuntime) {
     let mut offered = [NO_ENTRY; 2];
-    let mut audit = zeroed(&mut offered, &mut []);
-    assert!(rt; ring_audit_begin(&mut audit, &[]));
+    let mut audit = begun(&rt, &mut offered, &mut [], &[]);
     let mut words = [7; 5];
     let mut found = NOTHING_FOUND;
     let lines = [TAKE, ITEM];
@@ -230,8 +194,7 @@ fn an_item_comes_again_among_those_that_are_kept(rt: HostRuntime) {
     for limit in 0..2 {
         let mut offered = [NO_ENTRY; 2];
         let mut taken = [NOT_TAKEN; 1];
-        let mut audit = zeroed(&mut offered, &mut taken[..limit]);
-        assert!(rt; ring_audit_begin(&mut audit, &[]));
+        let mut audit = begun(&rt, &mut offered, &mut taken[..limit], &[]);
         let lines = [PUT, STORED, TAKE, ITEM, TAKE, ITEM];
         let (count, found, words) = heard(&mut audit, &lines, &[1, 1, 1]);
         let (text, against) = if limit == 1 { (again, 5) } else { (lost, 0) };
@@ -247,8 +210,7 @@ fn an_item_comes_again_among_those_that_are_kept(rt: HostRuntime) {
 fn too_few_slots_are_told(rt: HostRuntime) {
     let mut offered = [NO_ENTRY; 1];
     let mut taken = [NOT_TAKEN; 1];
-    let mut audit = zeroed(&mut offered, &mut taken);
-    assert!(rt; ring_audit_begin(&mut audit, &[]));
+    let mut audit = begun(&rt, &mut offered, &mut taken, &[]);
     let (count, found, _) = heard(&mut audit, &[PUT, STORED, PUT], &[1, 2]);
     assert_eq!(rt; (count, found), (2, fault(4, 0, 0, 0)));
 }

@@ -134,14 +134,9 @@ pub fn steps<S: Store<Event>, M: Machine, O: Oracle>(
     }
 }
 
-pub fn expect_lawful<S: Store<Event>>(
-    rt: &impl Abort,
-    memory: &Memory<S>,
-    events: usize,
-    flickers: u64,
-) {
-    assert!(rt; memory.events().len() == events);
-    assert!(rt; memory.flickers() == flickers);
+/// So many events and flickers, and a lawful history.
+pub fn expect_lawful<S: Store<Event>>(rt: &impl Abort, memory: &Memory<S>, counts: (usize, u64)) {
+    assert!(rt; (memory.events().len(), memory.flickers()) == counts);
     assert!(rt; audit_bits(&memory.shape(), memory.events()) == Verdict::Lawful);
 }
 

@@ -133,15 +133,14 @@ fn a_value_is_written_over_what_the_last_ones_left(rt: HostRuntime) -> Result<()
 }
 
 // Bit 1 is still set at the end, so two are cleared, from the highest down.
-static OF_CONSUMER: [Write<'static>; 3] = [
-    (1, &[(1, true), (0, false)]),
-    (0, &[(0, true)]),
-    (3, &[(3, true), (1, false), (0, false)]),
-];
-
 #[test]
 fn the_consumer_writes_its_own_count(rt: HostRuntime) -> Result<(), Fail> {
-    expect_written(&rt, &Shape::new(1, 4, 1)?, Side::C, &OF_CONSUMER);
+    let writes: [Write; 3] = [
+        (1, &[(1, true), (0, false)]),
+        (0, &[(0, true)]),
+        (3, &[(3, true), (1, false), (0, false)]),
+    ];
+    expect_written(&rt, &Shape::new(1, 4, 1)?, Side::C, &writes);
     Ok(())
 }
 

@@ -24,12 +24,12 @@ fn an_overlapped_word_read_may_answer_anything(rt: HostRuntime) -> Result<(), Fa
     }
     expect_due(&rt, writer.due(), None);
     expect_value(&rt, reader.value(), Some(7));
-    expect_lawful(&rt, &memory, 12, 3);
+    expect_lawful(&rt, &memory, (12, 3));
     // with no write under way the read gives the item
     let mut later = WordReader::new(&shape, 0);
     steps(&rt, &mut memory, Side::C, &mut later, &mut ones, 10);
     expect_value(&rt, later.value(), Some(6));
-    expect_lawful(&rt, &memory, 18, 3);
+    expect_lawful(&rt, &memory, (18, 3));
     Ok(())
 }
 
@@ -47,7 +47,7 @@ fn an_unwritten_word_is_0(rt: HostRuntime) -> Result<(), Fail> {
         10,
     );
     expect_value(&rt, reader.value(), Some(0));
-    expect_lawful(&rt, &memory, 4, 0);
+    expect_lawful(&rt, &memory, (4, 0));
     Ok(())
 }
 
@@ -64,7 +64,7 @@ fn a_bit_is_written_where_it_changes(rt: HostRuntime) -> Result<(), Fail> {
             writer.write(*value);
         }
         steps(&rt, &mut memory, Side::P, &mut writer, &mut Always(true), 3);
-        expect_lawful(&rt, &memory, *events, 0);
+        expect_lawful(&rt, &memory, (*events, 0));
     }
     Ok(())
 }
@@ -130,7 +130,7 @@ fn expect_regular_scans<S: Store<Event>, O: Oracle>(
             }
         }
     }
-    expect_lawful(rt, memory, memory.events().len(), memory.flickers());
+    expect_lawful(rt, memory, (memory.events().len(), memory.flickers()));
     scans
 }
 
@@ -195,7 +195,7 @@ fn scans_during_one_write_may_go_back(rt: HostRuntime) -> Result<(), Fail> {
         steps(&rt, &mut memory, Side::P, &mut count, &mut ones, *events);
         expect_due(&rt, count.due(), *due);
         expect_scanned(&rt, &mut memory, &mut Always(*answer), *value);
-        expect_lawful(&rt, &memory, *total, *flickers);
+        expect_lawful(&rt, &memory, (*total, *flickers));
     }
     Ok(())
 }
@@ -221,6 +221,6 @@ fn clears_upwards_are_not_regular(rt: HostRuntime) -> Result<(), Fail> {
     }
     // the write of 1 has ended and that of 3 has begun, and yet the scan gives 2, though nothing overlapped
     expect_scanned(&rt, &mut memory, &mut Always(true), 2);
-    expect_lawful(&rt, &memory, 16, 0);
+    expect_lawful(&rt, &memory, (16, 0));
     Ok(())
 }

@@ -160,19 +160,23 @@ fn five_items_write_the_count_two_with_one_access(rt: HostRuntime) -> Result<(),
     Ok(())
 }
 
+// A run by the answers 0 and 1.
+fn expect_taped_run(
+    rt: &(impl Abort + AllocGlobal),
+    ring: &mut Ring,
+    schedule: &[(Side, u64)],
+    report: Report,
+) {
+    expect_new_run(rt, ring, &mut Tape::new(&[false, true]), schedule, report);
+}
+
 #[test]
 fn an_open_count_write_is_seen_and_then_not(rt: HostRuntime) -> Result<(), Fail> {
     let mut ring = Ring::new(&Shape::new(1, 3, 1)?, &[1], 2, false);
     // the write of 0 to s0 stays open: the first scan gives 1, and the second one the old count
     let schedule = [(Side::P, 7), (Side::C, 14)];
     let report = plain(21, 0, 1).empty(1).flickers(2);
-    expect_new_run(
-        &rt,
-        &mut ring,
-        &mut Tape::new(&[false, true]),
-        &schedule,
-        report,
-    );
+    expect_taped_run(&rt, &mut ring, &schedule, report);
     Ok(())
 }
 
@@ -189,13 +193,7 @@ fn a_count_wraps_while_its_write_is_open(rt: HostRuntime) -> Result<(), Fail> {
     ];
     // the count goes from 2 to 0: the scans give 2 and then 0
     let report = plain(63, 2, 3).empty(1).flickers(2);
-    expect_new_run(
-        &rt,
-        &mut ring,
-        &mut Tape::new(&[false, true]),
-        &schedule,
-        report,
-    );
+    expect_taped_run(&rt, &mut ring, &schedule, report);
     Ok(())
 }
 

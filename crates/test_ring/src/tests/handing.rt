@@ -1,6 +1,7 @@
 // A machine and a memory of its shape: what `next` ensures of the due access is all that the memory asks for, so it is
 // handed over with no test of it.
-ghost use Rattle.std.specs.Prelude.{◌≡◌};
+ghost use Rattle.std.specs.Prelude.{◌≡◌, IfSome};
+ghost use Rattle.bits_core.specs.Open.{IsOpenRight};
 
 use bits_core::{Access, Always, Event, Memory, MemoryFault, Shape, Side, Store};
 use ring_core::{Consumer, Producer, PutReply, TakeReply};
@@ -16,28 +17,33 @@ struct Ring<S: Store<Event>> {
     ghost of_consumer: { consumer.shape ≡ memory.shape },
 }
 
-impl<S: Store<Event>> Ring<S> {
-    // Begins the access that the producer has due, where it has none open.
-    fn begin_producer(&mut self) -> Result<(), MemoryFault> {
-        if self.memory.pending(Side::P).is_some() {
-            return Ok(());
-        }
-        match self.producer.next() {
-            Some(Access::Read(bit)) => self.memory.begin_read(Side::P, bit),
-            Some(Access::Write(bit, value)) => self.memory.begin_write(Side::P, bit, value),
-            None => Ok(()),
-        }
+// Begins the access that is due, which the side may make, where it has none open.
+fn begin<S: Store<Event>>(
+    memory: &mut Memory<S>,
+    side: Side,
+    due: Option<Access>,
+) -> Result<(), MemoryFault>
+    requires right { IfSome due (IsOpenRight memory.old.shape side) }
+    ensures shape { memory.new.shape ≡ memory.old.shape }
+{
+    if memory.pending(side).is_some() {
+        return Ok(());
     }
+    match due {
+        Some(Access::Read(bit)) => memory.begin_read(side, bit),
+        Some(Access::Write(bit, value)) => memory.begin_write(side, bit, value),
+        None => Ok(()),
+    }
+}
 
-    // The same of the consumer.
-    fn begin_consumer(&mut self) -> Result<(), MemoryFault> {
-        if self.memory.pending(Side::C).is_some() {
-            return Ok(());
-        }
-        match self.consumer.next() {
-            Some(Access::Read(bit)) => self.memory.begin_read(Side::C, bit),
-            Some(Access::Write(bit, value)) => self.memory.begin_write(Side::C, bit, value),
-            None => Ok(()),
+impl<S: Store<Event>> Ring<S> {
+    // The access that the side has due.
+    fn due(&self, side: Side) -> Option<Access>
+        ensures right { IfSome result (IsOpenRight self.now.memory.shape side) }
+    {
+        match side {
+            Side::P => self.producer.next(),
+            Side::C => self.consumer.next(),
         }
     }
 
@@ -53,25 +59,27 @@ impl<S: Store<Event>> Ring<S> {
         }
     }
 
-    // A whole call of the producer.
-    fn run_producer(&mut self) -> Result<(), MemoryFault> {
-        for _ in 0..40 {
-            self.begin_producer()?;
-            let answer = self.end(Side::P)?;
-            if self.producer.next().is_some() && (answer || !self.producer.expects_one()) {
-                self.producer.feed(answer);
-            }
+    fn answer_producer(&mut self, answer: bool) {
+        if self.producer.next().is_some() && (answer || !self.producer.expects_one()) {
+            self.producer.feed(answer);
         }
-        Ok(())
     }
 
-    // A whole take.
-    fn run_consumer(&mut self) -> Result<(), MemoryFault> {
+    fn answer_consumer(&mut self, answer: bool) {
+        if self.consumer.next().is_some() && (answer || !self.consumer.expects_one()) {
+            self.consumer.feed(answer);
+        }
+    }
+
+    // A whole call of the side.
+    fn run(&mut self, side: Side) -> Result<(), MemoryFault> {
         for _ in 0..40 {
-            self.begin_consumer()?;
-            let answer = self.end(Side::C)?;
-            if self.consumer.next().is_some() && (answer || !self.consumer.expects_one()) {
-                self.consumer.feed(answer);
+            let due = self.due(side);
+            begin(&mut self.memory, side, due)?;
+            let answer = self.end(side)?;
+            match side {
+                Side::P => self.answer_producer(answer),
+                Side::C => self.answer_consumer(answer),
             }
         }
         Ok(())
@@ -99,12 +107,12 @@ fn a_memory_takes_each_access(rt: HostRuntime) -> Result<(), Fail> {
         consumer: Consumer::new(shape),
     };
     ring.producer.put(1);
-    ring.run_producer()?;
+    ring.run(Side::P)?;
     expect_replies(&rt, &ring, 8, Some(PutReply::Stored), None);
     if ring.consumer.next().is_none() {
         ring.consumer.take();
     }
-    ring.run_consumer()?;
+    ring.run(Side::C)?;
     let one = Some(TakeReply::Item(1));
     expect_replies(&rt, &ring, 18, Some(PutReply::Stored), one);
     Ok(())

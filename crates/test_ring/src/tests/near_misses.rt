@@ -9,18 +9,7 @@ use ring_steps::{Step, next_event};
 use std::process::Abort;
 use std::test::Fail;
 
-// The side's next event. That the memory runs out fails the test.
-fn step<S: Store<Event>, O: Oracle>(
-    rt: &impl Abort,
-    memory: &mut Memory<S>,
-    side: Side,
-    due: Option<Access>,
-    oracle: &mut O,
-) -> Step {
-    next_event(memory, side, due, oracle).expect(rt, "memory for the event")
-}
-
-// The whole of the access that is due, if there is one: its answer.
+// The whole of the access that is due, if there is one: its answer. That the memory runs out fails the test.
 fn whole_access<S: Store<Event>, O: Oracle>(
     rt: &impl Abort,
     memory: &mut Memory<S>,
@@ -28,21 +17,16 @@ fn whole_access<S: Store<Event>, O: Oracle>(
     due: Option<Access>,
     oracle: &mut O,
 ) -> Option<bool> {
-    step(rt, memory, side, due, oracle);
-    match step(rt, memory, side, due, oracle) {
+    next_event(memory, side, due, oracle).expect(rt, "memory for the event");
+    match next_event(memory, side, due, oracle).expect(rt, "memory for the event") {
         Step::End(answer) => Some(answer),
         _ => None,
     }
 }
 
 // A scan by a side, and its value.
-fn scan<S: Store<Event>>(
-    rt: &impl Abort,
-    memory: &mut Memory<S>,
-    shape: &Shape,
-    side: Side,
-) -> Option<u64> {
-    let mut scan = UnaryScan::new(shape, side);
+fn scan<S: Store<Event>>(rt: &impl Abort, memory: &mut Memory<S>, side: Side) -> Option<u64> {
+    let mut scan = UnaryScan::new(&memory.shape(), side);
     for _ in 0..3 {
         if scan.next().is_some()
             && let Some(answer) = whole_access(rt, memory, side, scan.next(), &mut Always(false))
@@ -58,11 +42,11 @@ fn scan<S: Store<Event>>(
 fn write_count<S: Store<Event>>(
     rt: &impl Abort,
     memory: &mut Memory<S>,
-    shape: &Shape,
     value: u64,
     writes: u64,
 ) -> Option<Access> {
-    let mut count = UnaryWriter::new(shape, Side::P);
+    let shape = memory.shape();
+    let mut count = UnaryWriter::new(&shape, Side::P);
     if value < shape.modulus() {
         count.write(value);
     }
@@ -76,16 +60,11 @@ fn write_count<S: Store<Event>>(
 }
 
 // The word write of an item of one digit.
-fn write_digit<S: Store<Event>>(
-    rt: &impl Abort,
-    memory: &mut Memory<S>,
-    shape: &Shape,
-    cell: u64,
-    item: bool,
-) {
+fn write_digit<S: Store<Event>>(rt: &impl Abort, memory: &mut Memory<S>, cell: u64, item: bool) {
+    let shape = memory.shape();
     assert!(rt; cell < shape.capacity());
     if cell < shape.capacity() && shape.fits(u64::from(item)) {
-        let mut word = WordWriter::new(shape, cell, u64::from(item));
+        let mut word = WordWriter::new(&shape, cell, u64::from(item));
         let answer = whole_access(rt, memory, Side::P, word.next(), &mut Always(false));
         if answer.is_some() && word.next().is_some() {
             word.feed(false);
@@ -149,15 +128,8 @@ fn expect_due(rt: &impl Abort, due: Option<Access>, wanted: Option<Access>) {
 }
 
 // A scan by a side gives this value.
-fn expect_scan<S: Store<Event>>(
-    rt: &impl Abort,
-    memory: &mut Memory<S>,
-    shape: &Shape,
-    side: Side,
-    value: u64,
-) {
-    let scanned = scan(rt, memory, shape, side);
-    assert_eq!(rt; scanned, Some(value));
+fn expect_scan<S: Store<Event>>(rt: &impl Abort, memory: &mut Memory<S>, side: Side, value: u64) {
+    assert_eq!(rt; scan(rt, memory, side), Some(value));
 }
 
 fn expect_lawful_trace<S: Store<Event>>(
@@ -175,104 +147,27 @@ fn expect_lawful_trace<S: Store<Event>>(
     Ok(())
 }
 
-// The trace of examples/stale_item.trace.
-const STALE_ITEM: &str = "shape 1 3 1\n\
-P read r0\n\
-P got r0 1\n\
-P write s1 1\n\
-P wrote s1\n\
-P write s0 0\n\
-P wrote s0\n\
-C read s0\n\
-C got s0 0\n\
-C read s1\n\
-C got s1 1\n\
-C read c0.0\n\
-C got c0.0 0\n\
-C write r1 1\n\
-C wrote r1\n\
-C write r0 0\n\
-C wrote r0\n\
-P write c0.0 1\n\
-P wrote c0.0\n";
-
-// The trace of examples/batch_count_comes_back.trace.
-const BATCH_COUNT_COMES_BACK: &str = "shape 2 4 1\n\
-P read r0\n\
-P got r0 1\n\
-P write c0.0 1\n\
-P wrote c0.0\n\
-P write c1.0 0\n\
-P wrote c1.0\n\
-P write s2 1\n\
-P wrote s2\n\
-P write s0 0\n\
-C read s0\n\
-C got s0 0\n\
-C read s1\n\
-C got s1 0\n\
-C read s2\n\
-C got s2 1\n\
-C read c0.0\n\
-C got c0.0 1\n\
-C write r1 1\n\
-C wrote r1\n\
-C write r0 0\n\
-C wrote r0\n\
-C read s0\n\
-C got s0 0\n\
-C read s1\n\
-C got s1 0\n\
-C read s2\n\
-C got s2 1\n\
-C read c1.0\n\
-C got c1.0 0\n\
-C write r2 1\n\
-C wrote r2\n\
-C write r1 0\n\
-C wrote r1\n\
-C read s0\n\
-C got s0 1\n\
-C read c0.0\n\
-C got c0.0 1\n\
-C write r3 1\n\
-C wrote r3\n\
-C write r2 0\n\
-C wrote r2\n";
-
-// The trace of examples/closed_loses_an_item.trace.
-const CLOSED_LOSES_AN_ITEM: &str = "shape 1 3 1\n\
-C read s0\n\
-C got s0 1\n\
-P read r0\n\
-P got r0 1\n\
-P write c0.0 1\n\
-P wrote c0.0\n\
-P write s1 1\n\
-P wrote s1\n\
-P write s0 0\n\
-P wrote s0\n\
-P write x 1\n\
-P wrote x\n\
-C read x\n\
-C got x 1\n";
-
 #[test]
 fn a_count_before_its_cell_takes_a_stale_item(rt: HostRuntime) -> Result<(), Fail> {
     let shape = Shape::new(1, 3, 1)?;
     let mut memory = Memory::new(rt.alloc(), shape);
     // a put of 1: the scan, then the count, and the cell last
-    expect_scan(&rt, &mut memory, &shape, Side::P, 0);
-    let due = write_count(&rt, &mut memory, &shape, 1, 2);
+    expect_scan(&rt, &mut memory, Side::P, 0);
+    let due = write_count(&rt, &mut memory, 1, 2);
     expect_due(&rt, due, None);
     let mut consumer = Consumer::new(shape);
     let taken = take(&rt, &mut memory, &mut consumer, &mut Always(false));
-    write_digit(&rt, &mut memory, &shape, 0, true);
+    write_digit(&rt, &mut memory, 0, true);
     // what was put, and what was taken
     let put: [u64; 1] = [1];
     assert!(rt; taken == Some(TakeReply::Item(0)));
     assert!(rt; taken != Some(TakeReply::Item(put[0])));
-    expect_lawful_trace(&rt, &memory, STALE_ITEM)
+    // the trace of examples/stale_item.trace
+    expect_lawful_trace(
+        &rt,
+        &memory,
+        "shape 1 3 1\nP read r0\nP got r0 1\nP write s1 1\nP wrote s1\nP write s0 0\nP wrote s0\nC read s0\nC got s0 0\nC read s1\nC got s1 1\nC read c0.0\nC got c0.0 0\nC write r1 1\nC wrote r1\nC write r0 0\nC wrote r0\nP write c0.0 1\nP wrote c0.0\n",
+    )
 }
 
 #[test]
@@ -280,7 +175,7 @@ fn closed_without_a_second_scan_loses_an_item(rt: HostRuntime) -> Result<(), Fai
     let shape = Shape::new(1, 3, 1)?;
     let mut memory = Memory::new(rt.alloc(), shape);
     // a take that scans, finds nothing, and asks for the close bit once an item was put and the ring closed
-    expect_scan(&rt, &mut memory, &shape, Side::C, 0);
+    expect_scan(&rt, &mut memory, Side::C, 0);
     let mut producer = Producer::new(shape);
     producer.put(1);
     make_put(&rt, &mut memory, &mut producer);
@@ -294,9 +189,14 @@ fn closed_without_a_second_scan_loses_an_item(rt: HostRuntime) -> Result<(), Fai
     let put: [u64; 1] = [1];
     assert!(rt; told);
     assert!(rt; taken.len() < put.len());
-    expect_lawful_trace(&rt, &memory, CLOSED_LOSES_AN_ITEM)?;
+    // the trace of examples/closed_loses_an_item.trace
+    expect_lawful_trace(
+        &rt,
+        &memory,
+        "shape 1 3 1\nC read s0\nC got s0 1\nP read r0\nP got r0 1\nP write c0.0 1\nP wrote c0.0\nP write s1 1\nP wrote s1\nP write s0 0\nP wrote s0\nP write x 1\nP wrote x\nC read x\nC got x 1\n",
+    )?;
     // the second scan finds it
-    expect_scan(&rt, &mut memory, &shape, Side::C, 1);
+    expect_scan(&rt, &mut memory, Side::C, 1);
     Ok(())
 }
 
@@ -305,12 +205,12 @@ fn expect_taken(rt: &impl Abort, taken: Option<TakeReply>, wanted: Option<TakeRe
 }
 
 // A put of 1 and 0: the scan, both words, and the count, whose last write stays open.
-fn put_two<S: Store<Event>>(rt: &impl Abort, memory: &mut Memory<S>, shape: &Shape) {
-    expect_scan(rt, memory, shape, Side::P, 0);
-    write_digit(rt, memory, shape, 0, true);
-    write_digit(rt, memory, shape, 1, false);
-    let last = write_count(rt, memory, shape, 2, 1);
-    step(rt, memory, Side::P, last, &mut Always(false));
+fn put_two<S: Store<Event>>(rt: &impl Abort, memory: &mut Memory<S>) {
+    expect_scan(rt, memory, Side::P, 0);
+    write_digit(rt, memory, 0, true);
+    write_digit(rt, memory, 1, false);
+    let last = write_count(rt, memory, 2, 1);
+    next_event(memory, Side::P, last, &mut Always(false)).expect(rt, "memory for the event");
 }
 
 // A batch of two over counts modulo capacity + batch, which is one too few: the count that the open write replaces is
@@ -319,7 +219,7 @@ fn put_two<S: Store<Event>>(rt: &impl Abort, memory: &mut Memory<S>, shape: &Sha
 fn a_batch_needs_a_larger_modulus(rt: HostRuntime) -> Result<(), Fail> {
     let shape = Shape::new(2, 4, 1)?;
     let mut memory = Memory::new(rt.alloc(), shape);
-    put_two(&rt, &mut memory, &shape);
+    put_two(&rt, &mut memory);
     // two scans read 0 in s0, and the third one 1
     let mut oracle = Tape::new(&[false, false, true]);
     let mut consumer = Consumer::new(shape);
@@ -330,5 +230,10 @@ fn a_batch_needs_a_larger_modulus(rt: HostRuntime) -> Result<(), Fail> {
     // no third item was put
     let stale = take(&rt, &mut memory, &mut consumer, &mut oracle);
     expect_taken(&rt, stale, Some(TakeReply::Item(1)));
-    expect_lawful_trace(&rt, &memory, BATCH_COUNT_COMES_BACK)
+    // the trace of examples/batch_count_comes_back.trace
+    expect_lawful_trace(
+        &rt,
+        &memory,
+        "shape 2 4 1\nP read r0\nP got r0 1\nP write c0.0 1\nP wrote c0.0\nP write c1.0 0\nP wrote c1.0\nP write s2 1\nP wrote s2\nP write s0 0\nC read s0\nC got s0 0\nC read s1\nC got s1 0\nC read s2\nC got s2 1\nC read c0.0\nC got c0.0 1\nC write r1 1\nC wrote r1\nC write r0 0\nC wrote r0\nC read s0\nC got s0 0\nC read s1\nC got s1 0\nC read s2\nC got s2 1\nC read c1.0\nC got c1.0 0\nC write r2 1\nC wrote r2\nC write r1 0\nC wrote r1\nC read s0\nC got s0 1\nC read c0.0\nC got c0.0 1\nC write r3 1\nC wrote r3\nC write r2 0\nC wrote r2\n",
+    )
 }

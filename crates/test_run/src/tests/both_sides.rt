@@ -2,7 +2,7 @@
 //! at every schedule.
 ghost use Rattle.std.specs.Prelude.{◌<◌};
 
-use crate::tests::expects::{ITEMS, Kind, Numbers, SHAPES, expect, expect_relay, shape_of};
+use crate::tests::expects::{ITEMS, KINDS, Kind, Numbers, SHAPES, expect, expect_relay, shape_of};
 use crate::tests::recordings::slots;
 use bits_core::Side;
 use queue_calls::{CallAuditor, Event, Word, exactly};
@@ -119,8 +119,9 @@ fn expect_all_recorded(rt: &(impl Abort + AllocGlobal + Threads), kind: Kind, nu
 #[test]
 fn a_recording_has_all_calls_of_both_sides(rt: HostRuntime) {
     for numbers in SHAPES.iter() {
-        expect_all_recorded(&rt, Kind::Flicker, numbers);
-        expect_all_recorded(&rt, Kind::Counter, numbers);
+        for kind in KINDS {
+            expect_all_recorded(&rt, kind, numbers);
+        }
     }
 }
 

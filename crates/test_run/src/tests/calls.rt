@@ -1,12 +1,10 @@
 // Whole calls of both ends in one thread, in a given order, on a ring of either kind.
-ghost use Rattle.std.specs.Prelude.{◌≡◌, None, false};
+ghost use Rattle.std.specs.Prelude.{◌≡◌};
 
 use crate::tests::expects::shape_of;
 use bits_core::{Flip, Shape};
 use ring_core::{BatchReply, PutReply, TakeBatchReply, TakeReply};
-use ring_run::{
-    CounterPutter, CounterRing, CounterTaker, FlickerRing, PutEnd, Putter, RingOf, TakeEnd, Taker,
-};
+use ring_run::{CounterRing, FlickerRing, PutEnd, RingOf, TakeEnd};
 use std::alloc::AllocGlobal;
 use std::process::Abort;
 
@@ -23,7 +21,24 @@ pub(crate) enum Call {
 }
 
 // A shape, by its capacity, modulus, width and batch; calls in their order; and at the end: closed, told.
-type Case = ([u64; 4], &'static [Call], bool, bool);
+struct Case {
+    shape: [u64; 4],
+    closed: bool,
+    told: bool,
+    calls: &'static [Call],
+}
+
+// A shape, whether the ring is closed at the end and told so, and the calls.
+macro_rules! case {
+    ($shape:expr, closed $closed:literal, told $told:literal; $($call:ident $(($($part:expr),*))?),*) => {
+        Case {
+            shape: $shape,
+            closed: $closed,
+            told: $told,
+            calls: &[$(Call::$call $(($($part),*))?),*],
+        }
+    };
+}
 
 // The put of this item, or of it and more, is answered as is wanted.
 fn expect_reply(rt: &impl Abort, is_wanted: bool, item: u64) {
@@ -99,97 +114,65 @@ pub fn expect_each<P: PutEnd, T: TakeEnd>(
     }
 }
 
-// Two ends of one ring that no call is under way at.
-trait Ends: Sized {
-    // The call is answered so.
-    fn expect(self, rt: &impl Abort, call: &Call) -> Self;
-
-    // Closed, told.
-    fn finish(self) -> (bool, bool);
-}
-
-#[derive(Drop)]
-struct FlickerEnds<'a> {
-    putter: Putter<'a, Flip>,
-    taker: Taker<'a, Flip>,
-    ghost of_one_ring: { putter.end.ring ≡ taker.end.ring },
-    ghost idle: { (putter.call ≡ None) × (taker.taking ≡ false) },
-}
-
-impl<'a> Ends for FlickerEnds<'a> {
-    fn expect(self, rt: &impl Abort, call: &Call) -> FlickerEnds<'a> {
-        let FlickerEnds {
-            mut putter,
-            mut taker,
-        } = self;
-        if matches!(call, Call::Meet) {
-            let (putter, taker) = FlickerRing::meet(putter, taker);
-            return FlickerEnds { putter, taker };
-        }
-        expect_answer(rt, &mut putter, &mut taker, call);
-        FlickerEnds { putter, taker }
+// The call is answered so, or the ends of one ring meet.
+fn expect_call<K: RingOf<P, T>, P: PutEnd, T: TakeEnd>(
+    rt: &impl Abort,
+    _ring: &K,
+    ends: (P, T),
+    call: &Call,
+) -> (P, T)
+    requires ring { (P.end ends.0).ring ≡ (T.end ends.1).ring }
+    requires idle { P.idle ends.0 × T.idle ends.1 }
+    ensures ring { (P.end result.0).ring ≡ (T.end result.1).ring }
+    ensures idle { P.idle result.0 × T.idle result.1 }
+{
+    let (mut putter, mut taker) = ends;
+    if matches!(call, Call::Meet) {
+        return K::meet(putter, taker);
     }
-
-    fn finish(self) -> (bool, bool) {
-        let finished = FlickerRing::finish(self.putter, self.taker);
-        (finished.closed(), finished.told())
-    }
-}
-
-#[derive(Drop)]
-struct CounterEnds<'a> {
-    putter: CounterPutter<'a>,
-    taker: CounterTaker<'a>,
-    ghost of_one_ring: { putter.ring ≡ taker.ring },
-}
-
-impl<'a> Ends for CounterEnds<'a> {
-    fn expect(self, rt: &impl Abort, call: &Call) -> CounterEnds<'a> {
-        let CounterEnds {
-            mut putter,
-            mut taker,
-        } = self;
-        if matches!(call, Call::Meet) {
-            let (putter, taker) = CounterRing::meet(putter, taker);
-            return CounterEnds { putter, taker };
-        }
-        expect_answer(rt, &mut putter, &mut taker, call);
-        CounterEnds { putter, taker }
-    }
-
-    fn finish(self) -> (bool, bool) {
-        let finished = CounterRing::finish(self.putter, self.taker);
-        (finished.closed(), finished.told())
-    }
+    expect_answer(rt, &mut putter, &mut taker, call);
+    (putter, taker)
 }
 
 // The calls are answered so, and so the run ends.
-fn expect_run<E: Ends>(rt: &impl Abort, first: E, case: &Case) {
-    let (_, calls, closed, told) = *case;
+fn expect_run<K: RingOf<P, T>, P: PutEnd, T: TakeEnd>(
+    rt: &impl Abort,
+    ring: &K,
+    first: (P, T),
+    case: &Case,
+)
+    requires ring { (P.end first.0).ring ≡ (T.end first.1).ring }
+    requires idle { P.idle first.0 × T.idle first.1 }
+{
     let mut ends = first;
-    for call in calls {
-        ends = ends.expect(rt, call);
+    for call in case.calls {
+        ends = expect_call(rt, ring, ends, call);
     }
-    assert_eq!(rt; ends.finish(), (closed, told));
+    let (putter, taker) = ends;
+    let finished = K::finish(putter, taker);
+    assert_eq!(rt;
+        (finished.closed(), finished.told()),
+        (case.closed, case.told)
+    );
 }
 
 fn expect_flicker(rt: &(impl Abort + AllocGlobal), shape: Shape, case: &Case) {
     let made = FlickerRing::new(rt.alloc(), shape);
     let (ring, start) = made.expect(rt, "memory for the ring");
     let (putter, taker) = ring.ends(start, Flip::new(), Flip::new());
-    expect_run(rt, FlickerEnds { putter, taker }, case);
+    expect_run(rt, &ring, (putter, taker), case);
 }
 
 fn expect_counter(rt: &(impl Abort + AllocGlobal), shape: Shape, case: &Case) {
     let made = CounterRing::new(rt.alloc(), shape);
     let (ring, start) = made.expect(rt, "memory for the ring");
     let (putter, taker) = ring.ends(start);
-    expect_run(rt, CounterEnds { putter, taker }, case);
+    expect_run(rt, &ring, (putter, taker), case);
 }
 
 // So it is on a ring of either kind.
 fn expect_calls(rt: &(impl Abort + AllocGlobal), case: &Case) {
-    let shape = shape_of(rt, &case.0);
+    let shape = shape_of(rt, &case.shape);
     expect_flicker(rt, shape, case);
     expect_counter(rt, shape, case);
 }
@@ -223,42 +206,18 @@ fn ends_of_either_kind_meet_and_end_alike(rt: HostRuntime) {
     expect_empty(&rt, &ring, putter, taker);
 }
 
-static MEETING: Case = (
-    [1, 3, 1, 1],
-    &[
-        Call::Put(1, PutReply::Stored),
-        Call::Meet,
-        Call::Take(TakeReply::Item(1)),
-        Call::Take(TakeReply::Empty),
-        Call::Close,
-        Call::Meet,
-        Call::Take(TakeReply::Closed),
-        Call::Take(TakeReply::Closed),
-    ],
-    true,
-    true,
-);
+static MEETING: Case = case!([1, 3, 1, 1], closed true, told true;
+    Put(1, PutReply::Stored), Meet, Take(TakeReply::Item(1)), Take(TakeReply::Empty), Close, Meet,
+    Take(TakeReply::Closed), Take(TakeReply::Closed));
 
 #[test]
 fn ends_that_meet_between_their_calls_hand_items_over(rt: HostRuntime) {
     expect_calls(&rt, &MEETING);
 }
 
-static UNMET: Case = (
-    [1, 3, 1, 1],
-    &[
-        Call::Put(1, PutReply::Stored),
-        Call::Put(0, PutReply::Full),
-        Call::Take(TakeReply::Item(1)),
-        Call::Take(TakeReply::Empty),
-        Call::Put(0, PutReply::Stored),
-        Call::Take(TakeReply::Item(0)),
-        Call::Close,
-        Call::Take(TakeReply::Closed),
-    ],
-    true,
-    true,
-);
+static UNMET: Case = case!([1, 3, 1, 1], closed true, told true;
+    Put(1, PutReply::Stored), Put(0, PutReply::Full), Take(TakeReply::Item(1)), Take(TakeReply::Empty),
+    Put(0, PutReply::Stored), Take(TakeReply::Item(0)), Close, Take(TakeReply::Closed));
 
 #[test]
 fn ends_that_never_meet_hand_items_over(rt: HostRuntime) {
@@ -267,36 +226,14 @@ fn ends_that_never_meet_hand_items_over(rt: HostRuntime) {
 
 static ENDINGS: [Case; 5] = [
     // no call at all
-    ([1, 3, 1, 1], &[], false, false),
-    (
-        [1, 3, 1, 1],
-        &[
-            Call::Put(1, PutReply::Stored),
-            Call::Take(TakeReply::Item(1)),
-            Call::Take(TakeReply::Empty),
-        ],
-        false,
-        false,
-    ),
+    case!([1, 3, 1, 1], closed false, told false;),
+    case!([1, 3, 1, 1], closed false, told false;
+        Put(1, PutReply::Stored), Take(TakeReply::Item(1)), Take(TakeReply::Empty)),
     // a close that no take was told of
-    ([1, 3, 1, 1], &[Call::Close], true, false),
-    (
-        [1, 3, 1, 1],
-        &[
-            Call::Take(TakeReply::Empty),
-            Call::Put(0, PutReply::Stored),
-            Call::Close,
-            Call::Take(TakeReply::Item(0)),
-        ],
-        true,
-        false,
-    ),
-    (
-        [1, 3, 1, 1],
-        &[Call::Close, Call::Take(TakeReply::Closed)],
-        true,
-        true,
-    ),
+    case!([1, 3, 1, 1], closed true, told false; Close),
+    case!([1, 3, 1, 1], closed true, told false;
+        Take(TakeReply::Empty), Put(0, PutReply::Stored), Close, Take(TakeReply::Item(0))),
+    case!([1, 3, 1, 1], closed true, told true; Close, Take(TakeReply::Closed)),
 ];
 
 #[test]
@@ -306,36 +243,18 @@ fn a_run_ends_closed_and_told_as_it_was(rt: HostRuntime) {
     }
 }
 
-static ALONE: Case = (
-    [2, 4, 2, 1],
-    &[
-        Call::Put(2, PutReply::Stored),
-        Call::Put(1, PutReply::Stored),
-        Call::Put(3, PutReply::Full),
-        Call::Close,
-        Call::Put(0, PutReply::Closed),
-        Call::PutAll(&[0], BatchReply::Closed),
-        Call::Close,
-    ],
-    true,
-    false,
-);
+static ALONE: Case = case!([2, 4, 2, 1], closed true, told false;
+    Put(2, PutReply::Stored), Put(1, PutReply::Stored), Put(3, PutReply::Full), Close,
+    Put(0, PutReply::Closed), PutAll(&[0], BatchReply::Closed), Close);
 
 #[test]
 fn a_putter_alone_fills_the_ring_and_closes_it(rt: HostRuntime) {
     expect_calls(&rt, &ALONE);
 }
 
-static PARTIAL: Case = (
-    [3, 6, 1, 2],
-    &[
-        Call::PutAll(&[1, 0], BatchReply::Stored(2)),
-        Call::PutAll(&[1, 1], BatchReply::Stored(1)),
-        Call::PutAll(&[1], BatchReply::Full),
-    ],
-    false,
-    false,
-);
+static PARTIAL: Case = case!([3, 6, 1, 2], closed false, told false;
+    PutAll(&[1, 0], BatchReply::Stored(2)), PutAll(&[1, 1], BatchReply::Stored(1)),
+    PutAll(&[1], BatchReply::Full));
 
 #[test]
 fn a_batch_is_stored_as_far_as_there_is_room(rt: HostRuntime) {
@@ -343,30 +262,15 @@ fn a_batch_is_stored_as_far_as_there_is_room(rt: HostRuntime) {
 }
 
 // Takes of up to two items, of a ring of three cells.
-static TAKES: Case = (
-    [3, 7, 3, 3],
-    &[
-        Call::TakeAll(2, TakeBatchReply::Empty, &[]),
-        Call::PutAll(&[1, 2, 3], BatchReply::Stored(3)),
-        Call::TakeAll(2, TakeBatchReply::Taken(2), &[1, 2]),
-        Call::PutAll(&[4, 5, 6], BatchReply::Stored(2)),
-        Call::TakeAll(2, TakeBatchReply::Taken(2), &[3, 4]),
-        Call::Take(TakeReply::Item(5)),
-        Call::Meet,
-        Call::TakeAll(2, TakeBatchReply::Empty, &[]),
-        Call::Put(6, PutReply::Stored),
-        Call::TakeAll(2, TakeBatchReply::Taken(1), &[6]),
-        Call::PutAll(&[7, 0], BatchReply::Stored(2)),
-        Call::Close,
-        Call::TakeAll(1, TakeBatchReply::Taken(1), &[7]),
-        Call::TakeAll(2, TakeBatchReply::Taken(1), &[0]),
-        Call::TakeAll(2, TakeBatchReply::Closed, &[]),
-        Call::Take(TakeReply::Closed),
-        Call::TakeAll(1, TakeBatchReply::Closed, &[]),
-    ],
-    true,
-    true,
-);
+static TAKES: Case = case!([3, 7, 3, 3], closed true, told true;
+    TakeAll(2, TakeBatchReply::Empty, &[]), PutAll(&[1, 2, 3], BatchReply::Stored(3)),
+    TakeAll(2, TakeBatchReply::Taken(2), &[1, 2]), PutAll(&[4, 5, 6], BatchReply::Stored(2)),
+    TakeAll(2, TakeBatchReply::Taken(2), &[3, 4]), Take(TakeReply::Item(5)), Meet,
+    TakeAll(2, TakeBatchReply::Empty, &[]), Put(6, PutReply::Stored),
+    TakeAll(2, TakeBatchReply::Taken(1), &[6]), PutAll(&[7, 0], BatchReply::Stored(2)), Close,
+    TakeAll(1, TakeBatchReply::Taken(1), &[7]), TakeAll(2, TakeBatchReply::Taken(1), &[0]),
+    TakeAll(2, TakeBatchReply::Closed, &[]), Take(TakeReply::Closed),
+    TakeAll(1, TakeBatchReply::Closed, &[]));
 
 #[test]
 fn a_take_brings_as_many_items_as_are_shown_and_there_are_places(rt: HostRuntime) {

@@ -3,7 +3,7 @@ ghost use Rattle.std.specs.Prelude.{◌≡◌, None, false, []};
 ghost use Rattle.bits_core.specs.Shape.{AllFit};
 ghost use Rattle.ring_run.specs.Steppers.{IsSameEnd};
 
-use bits_core::{Flip, Oracle, Shape};
+use bits_core::{Always, Flip, Oracle, Shape, Tape};
 use ring_run::{
     CounterPutter, CounterTaker, FreeGate, Gate, Limits, Outcome, Putter, RunFault, Taker, relay,
     relay_counter, relay_flicker,
@@ -28,8 +28,8 @@ pub const ONE: Numbers = [1, 3, 1, 1];
 /// Up to three cells of six bits, each with its smallest modulus, and puts of up to three items.
 pub const SHAPES: [Numbers; 4] = [[1, 3, 6, 1], [2, 4, 6, 1], [3, 5, 6, 1], [3, 7, 6, 3]];
 
-/// Answers of an oracle.
-pub const TAPE: &[bool] = &[false, true, true, false, true, false, false];
+// Answers of an oracle.
+const TAPE: &[bool] = &[false, true, true, false, true, false, false];
 
 /// It holds; else what of which case does not. (A message is dear to prove, so this one is for all.)
 pub fn expect(rt: &impl Abort, holds: bool, what: &str, case: &str) {
@@ -58,6 +58,9 @@ pub(crate) enum Kind {
     Flicker,
     Counter,
 }
+
+/// Both of them.
+pub const KINDS: [Kind; 2] = [Kind::Flicker, Kind::Counter];
 
 impl Kind {
     pub fn name(self) -> &'static str {
@@ -114,6 +117,75 @@ pub fn expect_flicker<O: Oracle + Drop + Send, G: Gate + Sync>(
     let outcome = outcome.expect(rt, "memory for the relay");
     expect_in_order(rt, &outcome, items);
     outcome
+}
+
+/// What both ends of a flickering ring ask where reads and writes overlap.
+#[derive(Clone, Copy)]
+pub(crate) enum Oracles {
+    Zeros,
+    Ones,
+    Flips,
+    Tapes,
+}
+
+/// Each of them.
+pub const ORACLES: [Oracles; 4] = [
+    Oracles::Zeros,
+    Oracles::Ones,
+    Oracles::Flips,
+    Oracles::Tapes,
+];
+
+/// A relay of all items on a flickering ring under these oracles: they are in order.
+pub fn expect_under<G: Gate + Sync>(
+    rt: &(impl Abort + AllocGlobal + Threads),
+    oracles: Oracles,
+    numbers: &Numbers,
+    limits: Limits,
+    gate: &G,
+) -> Outcome<Global> {
+    match oracles {
+        Oracles::Zeros => {
+            expect_flicker(
+                rt,
+                numbers,
+                (Always(false), Always(false)),
+                &ITEMS,
+                limits,
+                gate,
+            )
+        }
+        Oracles::Ones => {
+            expect_flicker(
+                rt,
+                numbers,
+                (Always(true), Always(true)),
+                &ITEMS,
+                limits,
+                gate,
+            )
+        }
+        Oracles::Flips => {
+            expect_flicker(
+                rt,
+                numbers,
+                (Flip::new(), Flip::new()),
+                &ITEMS,
+                limits,
+                gate,
+            )
+        }
+        Oracles::Tapes => {
+            expect_flicker(
+                rt,
+                numbers,
+                (Tape::new(TAPE), Tape::new(TAPE)),
+                &ITEMS,
+                limits,
+                gate,
+            )
+        }
+    }
 }
 
 /// A relay between these ends, which have made no call.

@@ -1,8 +1,9 @@
 //! Gates that make one side of a relay wait for the other, so many looks at most, and what gates are told.
 use crate::tests::expects::{
-    ITEMS, Kind, Numbers, ONE, SHAPES, TAPE, expect, expect_flicker, expect_relay, shape_of,
+    ITEMS, Kind, Numbers, ONE, ORACLES, Oracles, SHAPES, expect, expect_relay, expect_under,
+    shape_of,
 };
-use bits_core::{Always, Flip, Oracle, Side, Tape};
+use bits_core::Side;
 use queue_calls::Event;
 use ring_run::{Gate, Limits, Outcome, RestGate, YieldGate};
 use std::alloc::{AllocGlobal, Allocator};
@@ -118,14 +119,9 @@ impl Held {
     }
 }
 
-fn expect_held<O: Oracle + Drop + Send>(
-    rt: &(impl Abort + AllocGlobal + Threads),
-    numbers: &Numbers,
-    oracles: (O, O),
-) {
+fn expect_held(rt: &(impl Abort + AllocGlobal + Threads), numbers: &Numbers, oracles: Oracles) {
     let gate = Held::new();
-    let limits = Limits::both(1_000_000);
-    let outcome = expect_flicker(rt, numbers, oracles, &ITEMS, limits, &gate);
+    let outcome = expect_under(rt, oracles, numbers, Limits::both(1_000_000), &gate);
     gate.expect_full(rt, &outcome);
 }
 
@@ -139,10 +135,9 @@ fn expect_held_counter(rt: &(impl Abort + AllocGlobal + Threads), numbers: &Numb
 #[test]
 fn a_taker_that_is_held_leaves_the_ring_full(rt: HostRuntime) {
     for numbers in SHAPES.iter() {
-        expect_held(&rt, numbers, (Always(false), Always(false)));
-        expect_held(&rt, numbers, (Always(true), Always(true)));
-        expect_held(&rt, numbers, (Flip::new(), Flip::new()));
-        expect_held(&rt, numbers, (Tape::new(TAPE), Tape::new(TAPE)));
+        for oracles in ORACLES {
+            expect_held(&rt, numbers, oracles);
+        }
         expect_held_counter(&rt, numbers);
     }
 }

@@ -2,7 +2,7 @@ ghost use Rattle.std.specs.Prelude.{◌≡◌, ◌∷◌, []};
 ghost use Rattle.bits_core.specs.Shape.{AllFit};
 ghost use Rattle.ring_run.specs.Steppers.{IsSameEnd};
 
-use crate::tests::expects::{ITEMS, Kind, Numbers, ONE, expect, expect_relay, shape_of};
+use crate::tests::expects::{ITEMS, KINDS, Kind, Numbers, ONE, expect, expect_relay, shape_of};
 use bits_core::{Flip, Shape};
 use ring_run::{CounterRing, FlickerRing, FreeGate, Limits, Outcome, PutEnd, relay};
 use std::alloc::{AllocGlobal, Allocator};
@@ -49,55 +49,27 @@ fn expect_cases(rt: &(impl Abort + AllocGlobal + Threads), kind: Kind, cases: &[
 // One cell of six bits.
 const SIX: Numbers = [1, 3, 6, 1];
 
+// A name, a shape, items, the most puts and takes, and what comes of it.
+macro_rules! case {
+    ($name:literal, $numbers:expr, $items:expr, $limits:expr => $wanted:expr) => { ($name, $numbers, $items, $limits, $wanted) };
+}
+
 static LIMITED: [Case; 6] = [
-    (
-        "no call",
-        SIX,
-        &[0, 1, 2],
-        (0, 0),
-        &[(0, 0, &[], false, [0, 0])],
-    ),
-    (
-        "no call but the close, as there is no item",
-        SIX,
-        &[],
-        (0, 0),
-        &[(0, 0, &[], false, [0, 0])],
-    ),
-    (
-        "a take before the put, or after it",
-        SIX,
-        &ITEMS,
-        (1, 1),
-        &[(1, 1, &[0], false, [0, 0]), (1, 1, &[], false, [0, 1])],
-    ),
-    (
-        "takes alone",
-        ONE,
-        &[1, 0, 1],
-        (0, 5),
-        &[(0, 0, &[], false, [0, 5])],
-    ),
-    (
-        "puts alone",
-        ONE,
-        &[1, 0],
-        (5, 0),
-        &[(1, 5, &[], false, [4, 0])],
-    ),
-    (
-        "a take before the close, or after it",
-        ONE,
-        &[],
-        (0, 1),
-        &[(0, 0, &[], true, [0, 0]), (0, 0, &[], false, [0, 1])],
-    ),
+    case!("no call", SIX, &[0, 1, 2], (0, 0) => &[(0, 0, &[], false, [0, 0])]),
+    case!("no call but the close, as there is no item", SIX, &[], (0, 0) => &[(0, 0, &[], false, [0, 0])]),
+    case!("a take before the put, or after it", SIX, &ITEMS, (1, 1)
+        => &[(1, 1, &[0], false, [0, 0]), (1, 1, &[], false, [0, 1])]),
+    case!("takes alone", ONE, &[1, 0, 1], (0, 5) => &[(0, 0, &[], false, [0, 5])]),
+    case!("puts alone", ONE, &[1, 0], (5, 0) => &[(1, 5, &[], false, [4, 0])]),
+    case!("a take before the close, or after it", ONE, &[], (0, 1)
+        => &[(0, 0, &[], true, [0, 0]), (0, 0, &[], false, [0, 1])]),
 ];
 
 #[test]
 fn a_relay_stops_at_its_limits(rt: HostRuntime) {
-    expect_cases(&rt, Kind::Flicker, &LIMITED);
-    expect_cases(&rt, Kind::Counter, &LIMITED);
+    for kind in KINDS {
+        expect_cases(&rt, kind, &LIMITED);
+    }
 }
 
 #[test]

@@ -100,8 +100,7 @@ static FIVE: [Call; 10] = [
 // The counts go round at 4: 5 is 1 there, and 4 is 0. The items lie by turns in the two cells, the last ones 1 and 2.
 #[test]
 fn a_closed_counter_ring_leaves_counts_and_items(rt: HostRuntime) {
-    let shape = shape_of(&rt, &[2, 4, 3, 1]);
-    let made = CounterRing::new(rt.alloc(), shape);
+    let made = CounterRing::new(rt.alloc(), shape_of(&rt, &[2, 4, 3, 1]));
     let (ring, start) = made.expect(&rt, "memory for the ring");
     let (mut putter, mut taker) = ring.ends(start);
     expect_each(&rt, &mut putter, &mut taker, &FIVE);
@@ -122,8 +121,7 @@ static TWO: [Call; 4] = [
 // The items are 3, whose digits are both 1, and 2, whose digit 1 is.
 #[test]
 fn a_closed_flickering_ring_leaves_its_bits(rt: HostRuntime) {
-    let shape = shape_of(&rt, &[2, 4, 2, 1]);
-    let made = FlickerRing::new(rt.alloc(), shape);
+    let made = FlickerRing::new(rt.alloc(), shape_of(&rt, &[2, 4, 2, 1]));
     let (ring, start) = made.expect(&rt, "memory for the ring");
     let (mut putter, mut taker) = ring.ends(start, Flip::new(), Flip::new());
     expect_each(&rt, &mut putter, &mut taker, &TWO);

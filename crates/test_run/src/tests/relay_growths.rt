@@ -92,9 +92,10 @@ fn expect_one<A: Allocator, B: Allocator>(
     }
 }
 
-// The run ended with a close that no take was told of, or, where the relay was refused, with no call.
-fn expect_closed(rt: &impl Abort, finished: &Finished, is_refused: bool) {
+// The run ended with a close that no take was told of, or, where the relay was refused, with no call: whether it was refused.
+fn expect_closed(rt: &impl Abort, finished: &Finished, is_refused: bool) -> bool {
     assert!(rt; finished.closed() != is_refused && !finished.told());
+    is_refused
 }
 
 // A relay of one item without the growth that comes after so many: whether it was refused. Then the two ends are as they
@@ -110,8 +111,7 @@ fn expect_relay_of_one(rt: &(impl Abort + AllocGlobal + Threads), allocations: u
     let limits = Limits::both(1);
     let relayed = relay_between(rt, &alloc, &mut putter, &mut taker, &items, limits);
     let is_refused = expect_one(rt, relayed, &alloc);
-    expect_closed(rt, &FlickerRing::finish(putter, taker), is_refused);
-    is_refused
+    expect_closed(rt, &FlickerRing::finish(putter, taker), is_refused)
 }
 
 // The same on a counter ring.
@@ -129,8 +129,7 @@ fn expect_counter_relay_of_one(
     let limits = Limits::both(1);
     let relayed = relay_counted(rt, &alloc, &mut putter, &mut taker, &items, limits);
     let is_refused = expect_one(rt, relayed, &alloc);
-    expect_closed(rt, &CounterRing::finish(putter, taker), is_refused);
-    is_refused
+    expect_closed(rt, &CounterRing::finish(putter, taker), is_refused)
 }
 
 #[test]

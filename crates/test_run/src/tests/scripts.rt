@@ -65,133 +65,46 @@ const ONE_ZERO: &[bool] = &[true, false];
 
 const ZERO_ONE: &[bool] = &[false, true];
 
+// A name, a shape and a script; the steps, and what is wanted.
+macro_rules! case {
+    ($name:literal, $shape:expr, $script:expr; $steps:expr => $wanted:expr) => {
+        ($name, $shape, $script, $steps, $wanted)
+    };
+}
+
 static PUTS: [Case; 16] = [
-    (
-        "the plain path",
-        ONE,
-        (&[1], false, 1, &[]),
-        &[(P, 8), (C, 10)],
-        (18, 1, &[1], false, [0, 0]),
-    ),
-    (
-        "nothing",
-        ONE,
-        (&[1], false, 1, &[]),
-        &[],
-        (0, 0, &[], false, [0, 0]),
-    ),
+    case!("the plain path", ONE, (&[1], false, 1, &[]); &[(P, 8), (C, 10)] => (18, 1, &[1], false, [0, 0])),
+    case!("nothing", ONE, (&[1], false, 1, &[]); &[] => (0, 0, &[], false, [0, 0])),
     // the put's last write is open to the end
-    (
-        "a count write open, then seen old",
-        ONE,
-        (&[1], false, 2, ZERO_ONE),
-        &[(P, 7), (C, 14)],
-        (21, 0, &[1], false, [0, 1]),
-    ),
-    (
-        "a count write of the takes open",
-        ONE,
-        (&[1, 0, 1], false, 2, ZERO_ONE),
-        &[(P, 8), (C, 9), (P, 12)],
-        (29, 2, &[], false, [1, 0]),
-    ),
-    (
-        "full at capacity one",
-        ONE,
-        (&[1, 1], false, 0, &[]),
-        &[(P, 10)],
-        (10, 1, &[], false, [1, 0]),
-    ),
+    case!("a count write open, then seen old", ONE, (&[1], false, 2, ZERO_ONE);
+        &[(P, 7), (C, 14)] => (21, 0, &[1], false, [0, 1])),
+    case!("a count write of the takes open", ONE, (&[1, 0, 1], false, 2, ZERO_ONE);
+        &[(P, 8), (C, 9), (P, 12)] => (29, 2, &[], false, [1, 0])),
+    case!("full at capacity one", ONE, (&[1, 1], false, 0, &[]); &[(P, 10)] => (10, 1, &[], false, [1, 0])),
     // the third put's last write is open to the end
-    (
-        "a wrap under an open count write",
-        ONE,
-        (&[1, 0, 1], false, 3, ZERO_ONE),
-        &[(P, 8), (C, 10), (P, 10), (C, 12), (P, 9), (C, 14)],
-        (63, 2, &[1, 0, 1], false, [0, 1]),
-    ),
-    (
-        "five items",
-        ONE,
-        (&[1, 0, 0, 1, 1], false, 5, &[]),
-        &[
-            (P, 8),
-            (C, 10),
-            (P, 10),
-            (C, 12),
-            (P, 10),
-            (C, 6),
-            (P, 8),
-            (C, 10),
-            (P, 8),
-            (C, 10),
-        ],
-        (92, 5, &[1, 0, 0, 1, 1], false, [0, 0]),
-    ),
-    (
-        "a read that spans a put answers one",
-        ONE,
-        (&[1], false, 1, &[true]),
-        &[(C, 1), (P, 8), (C, 13)],
-        (22, 1, &[1], false, [0, 1]),
-    ),
-    (
-        "a read that spans a put answers zero",
-        ONE,
-        (&[1], false, 1, &[false]),
-        &[(C, 1), (P, 8), (C, 9)],
-        (18, 1, &[1], false, [0, 0]),
-    ),
-    (
-        "a second scan finds the item",
-        ONE,
-        (&[1], true, 2, &[]),
-        &[(C, 2), (P, 10), (C, 22)],
-        (34, 1, &[1], true, [0, 0]),
-    ),
-    (
-        "closed while being written",
-        ONE,
-        (&[], true, 1, &[true]),
-        &[(P, 1), (C, 6)],
-        (7, 0, &[], true, [0, 0]),
-    ),
-    (
-        "the close bit flickers",
-        ONE,
-        (&[1], true, 2, ONE_ZERO),
-        &[(C, 2), (P, 9), (C, 18)],
-        (29, 1, &[1], false, [0, 1]),
-    ),
-    (
-        "cut before closed is told",
-        ONE,
-        (&[], true, 1, &[true]),
-        &[(P, 1), (C, 5)],
-        (6, 0, &[], false, [0, 0]),
-    ),
+    case!("a wrap under an open count write", ONE, (&[1, 0, 1], false, 3, ZERO_ONE);
+        &[(P, 8), (C, 10), (P, 10), (C, 12), (P, 9), (C, 14)] => (63, 2, &[1, 0, 1], false, [0, 1])),
+    case!("five items", ONE, (&[1, 0, 0, 1, 1], false, 5, &[]);
+        &[(P, 8), (C, 10), (P, 10), (C, 12), (P, 10), (C, 6), (P, 8), (C, 10), (P, 8), (C, 10)] => (92, 5, &[1, 0, 0, 1, 1], false, [0, 0])),
+    case!("a read that spans a put answers one", ONE, (&[1], false, 1, &[true]);
+        &[(C, 1), (P, 8), (C, 13)] => (22, 1, &[1], false, [0, 1])),
+    case!("a read that spans a put answers zero", ONE, (&[1], false, 1, &[false]);
+        &[(C, 1), (P, 8), (C, 9)] => (18, 1, &[1], false, [0, 0])),
+    case!("a second scan finds the item", ONE, (&[1], true, 2, &[]);
+        &[(C, 2), (P, 10), (C, 22)] => (34, 1, &[1], true, [0, 0])),
+    case!("closed while being written", ONE, (&[], true, 1, &[true]);
+        &[(P, 1), (C, 6)] => (7, 0, &[], true, [0, 0])),
+    case!("the close bit flickers", ONE, (&[1], true, 2, ONE_ZERO);
+        &[(C, 2), (P, 9), (C, 18)] => (29, 1, &[1], false, [0, 1])),
+    case!("cut before closed is told", ONE, (&[], true, 1, &[true]);
+        &[(P, 1), (C, 5)] => (6, 0, &[], false, [0, 0])),
     // no step is made at the eight last letters
-    (
-        "idle letters",
-        ONE,
-        (&[1], true, 2, &[]),
-        &[(C, 2), (P, 10), (C, 22), (P, 3), (C, 5)],
-        (34, 1, &[1], true, [0, 0]),
-    ),
-    (
-        "the most bits of an item and of a count",
-        [1, 256, 64, 1],
-        (&[u64::MAX], false, 1, &[]),
-        &[(P, 134), (C, 136)],
-        (270, 1, &[u64::MAX], false, [0, 0]),
-    ),
-    (
-        "two cells",
-        [2, 4, 2, 1],
-        (&[2, 1, 3], false, 1, &[]),
-        &[(P, 22), (C, 14), (P, 12)],
-        (48, 3, &[2], false, [1, 0]),
-    ),
+    case!("idle letters", ONE, (&[1], true, 2, &[]);
+        &[(C, 2), (P, 10), (C, 22), (P, 3), (C, 5)] => (34, 1, &[1], true, [0, 0])),
+    case!("the most bits of an item and of a count", [1, 256, 64, 1], (&[u64::MAX], false, 1, &[]);
+        &[(P, 134), (C, 136)] => (270, 1, &[u64::MAX], false, [0, 0])),
+    case!("two cells", [2, 4, 2, 1], (&[2, 1, 3], false, 1, &[]);
+        &[(P, 22), (C, 14), (P, 12)] => (48, 3, &[2], false, [1, 0])),
 ];
 
 #[test]
@@ -203,20 +116,10 @@ fn steps_that_interleave_give_what_their_script_says(rt: HostRuntime) {
 
 static BATCHES: [Case; 2] = [
     // the write of the count is open to the end
-    (
-        "a batch of three",
-        [3, 7, 1, 3],
-        (&[1, 0, 1], false, 4, &[false, false, false, true]),
-        &[(P, 11), (C, 46)],
-        (57, 0, &[1, 0, 1], false, [0, 1]),
-    ),
-    (
-        "partial batches",
-        [3, 6, 1, 2],
-        (&[1, 0, 1, 1], false, 0, &[]),
-        &[(P, 20)],
-        (20, 3, &[], false, [1, 0]),
-    ),
+    case!("a batch of three", [3, 7, 1, 3], (&[1, 0, 1], false, 4, &[false, false, false, true]);
+        &[(P, 11), (C, 46)] => (57, 0, &[1, 0, 1], false, [0, 1])),
+    case!("partial batches", [3, 6, 1, 2], (&[1, 0, 1, 1], false, 0, &[]);
+        &[(P, 20)] => (20, 3, &[], false, [1, 0])),
 ];
 
 #[test]

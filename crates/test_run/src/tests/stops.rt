@@ -33,12 +33,12 @@ fn expect_at(rt: &impl Abort, holds: bool, what: &str, stop: Stop) {
     assert!(rt; holds, "{what}: {stop:?}");
 }
 
-// All that was stored is taken, at most the items of the put that was stopped beside it; and takes go on to return.
+// At least so many items are taken, all that were stored, and at most so many, with those of the put that was stopped; and takes go
+// on to return.
 fn expect_taken(
     rt: &impl Abort,
     consuming: &mut Consuming<'_>,
-    stored: u64,
-    batch: u64,
+    (least, most): (u64, u64),
     stop: Stop,
 ) {
     let empty = consuming.empty;
@@ -46,9 +46,8 @@ fn expect_taken(
         let _made = consuming.step(rt);
     }
     let taken = consuming.taken as u64;
-    let most = stored.saturating_add(batch);
     let is_all = taken == ITEMS.len() as u64;
-    expect_at(rt, stored <= taken && taken <= most, "items taken", stop);
+    expect_at(rt, least <= taken && taken <= most, "items taken", stop);
     expect_at(
         rt,
         empty < consuming.empty || consuming.told,
@@ -106,7 +105,8 @@ fn expect_stop(
             if drops {
                 let_putter_go(producing);
             }
-            expect_taken(rt, &mut consuming, stored, batch, stop);
+            let most = stored.saturating_add(batch);
+            expect_taken(rt, &mut consuming, (stored, most), stop);
         }
         Side::C => {
             let taken = consuming.taken as u64;
