@@ -31,7 +31,7 @@ use Rattle.ring_core.proofs.OverSpans.SpanItems.{within_items}
 use Rattle.ring_core.proofs.OverSpans.Looks.{puts_as_looks, takes_as_looks, proper_puts, proper_takes, puts_items, takes_items, asks_word}
 use Rattle.ring_core.proofs.Machines.Lengths.{length-scan}
 use Rattle.ring_core.proofs.CloseEnds.{place_within, not_ended}
-use Rattle.ring_core.proofs.OverSpans.CallSpans.{second_scan, stands_at, put_has_span, item_has_span, empty_has_span, after_has_second}
+use Rattle.ring_core.proofs.OverSpans.CallSpans.{second_scan, stands_at, put_items, put_size, put_has_span, item_has_span, empty_has_span, after_has_second}
 use Rattle.ring_core.proofs.EndedCounts.{puts_ended_is, takes_begun_is}
 use Rattle.ring_core.proofs.ScanPlaces.{ScanSpan, scan_there, none-close}
 use Rattle.ring_core.proofs.CallCounts.{stored_ended_is, taken_begun_is, put_tally, take_tally}
@@ -184,15 +184,15 @@ module _ (shape : Shape) (h : List Event) (puts : Puts) (takes : Takes) (run : I
   pub items_quiet : ItemsAreQuiet shape h puts takes
   items_quiet j item word past a k item' word' past' b cell start stop start' stop' on off overlap =
       let w : ℕ = width_of shape in
-      let x = put_has_span shape puts (Stored a.seen a.items) a.n a.start past a.is_put in
-      let y = has_word shape takes b.take b.n b.start past' b.index item' word' b.is_take b.has b.reads in
+      let x = put_has_span shape puts a.call a.n a.start past a.is_call in
+      let y = has_word shape takes b.call b.n b.start past' b.index item' word' b.is_call b.has b.word_is in
       let size : suc a.index * w ≡ a.index * w + w = suc-mul a.index w in
       let size' : suc b.index * w ≡ b.index * w + w = suc-mul b.index w in
       let digits : 0 < w = shape.has_digits in
-      law.quiet a.start a.n a.index x.span x.stands (omega (arith, slice_get_within a.items a.index item a.listed, ap counts x.outcome_is))
+      law.quiet a.start a.n a.index x.span x.stands (omega (arith, slice_get_within (put_items a.call) a.index item a.has, ap counts x.outcome_is, put_size a.call))
       y.start b.n b.index y.span y.stands (within_items y.span.outcome b.index item' y.listed)
       (ap (λ i. i % capacity_of shape) (sym a.number) ∙ cell ∙ ap (λ i. i % capacity_of shape) b.number) start stop start' stop'
-      (interval_at P h word _ _ _ start stop (omega (arith, a.writes, x.scan_is)) (omega (arith, a.writes, x.scan_is, size, digits)) on)
+      (interval_at P h word _ _ _ start stop (omega (arith, a.word_is, x.scan_is)) (omega (arith, a.word_is, x.scan_is, size, digits)) on)
       (interval_at C h word' _ _ _ start' stop' (omega (arith, y.word_is)) (omega (arith, y.word_is, size', digits)) off)
       overlap
 

@@ -8,13 +8,13 @@ use Rattle.bits_core.specs.declared.events.Side.{Side}
 use Rattle.bits_core.specs.declared.events.Side.TheVariants.{P, C}
 use Rattle.bits_core.specs.declared.shapes.Shape.{Shape}
 use Rattle.bits_core.specs.Shape.{batch_of, capacity_of, modulus_of, take_batch_of}
-use Rattle.bits_core.specs.Made.{Write}
+use Rattle.bits_core.specs.Made.{Made, Write}
 use Rattle.register_core.specs.Row.{RowWrite, row_bit, first_bits, bits_with, bits_after, writes_in}
 use Rattle.register_core.specs.Unary.{clearing, setting, unary_phrase, unary_writes, row_writes, writes_of, count_writes}
 use Rattle.ring_core.specs.Counts.{bits_held, counted, number_past, Count, first_count, count_bits, batch_phrase, batch_by, IsCount}
 use Rattle.ring_core.proofs.OverSpans.Distances.{apart}
 use Rattle.register_core.proofs.Rows.{other_bit, same_bit}
-use Rattle.ring_core.proofs.Readings.Phrases.{at_or_below}
+use Rattle.ring_core.proofs.Readings.Phrases.{at_or_below, NotFirst}
 pub use Rattle.register_core.proofs.Rows.{bits_after-append}
 pub use Rattle.register_core.proofs.Stands.{row_writes-more as row_writes-push}
 
@@ -344,3 +344,13 @@ values_writes-push shape s values items c held =
     let old : List RowWrite = writes_of values in
     ap (writes_in (row_bit s)) (row_writes-push values v first_bits ∙ ap (λ b. old ++ unary_phrase b v) held) ∙
     map-append (λ (w : RowWrite). Write (row_bit s w.bit) w.value) old (count_bits shape c items)
+
+-- a count write does not begin with accesses that no row's bit has
+pub batch_first :
+    (shape : Shape) (s : Side) (access : ℕ → ℕ → Bool → Made) → ((i j d : ℕ) (v w : Bool) → Write (row_bit s i) v ≡ access j d w → ⊥) → (c : Count) (items : List ℕ) (behind : List Made) →
+    IsCount shape c → 1 ≤ length items → length items < modulus_of shape → NotFirst access (batch_phrase shape s c items ++ behind)
+batch_first shape s access other c items behind is some few = by_writes (count_bits shape c items) (bits_long shape c items is some few)
+  where
+    by_writes : (writes : List RowWrite) → 1 ≤ length writes → NotFirst access (writes_in (row_bit s) writes ++ behind)
+    by_writes [] l j d v rest e = absurd (omega (arith, l))
+    by_writes (w ∷ writes) l j d v rest e = other w.bit j d w.value v (cc)

@@ -7,10 +7,11 @@ use Rattle.bits_core.specs.Made.{Read, Write}
 use Rattle.register_core.specs.ScanState.{scan_phrase, row_read_by}
 use Rattle.ring_core.specs.Counts.{first_count}
 use Rattle.ring_core.specs.Puts.{Puts, Stored, put_program, ArePuts}
-use Rattle.ring_core.specs.Takes.{Takes, Item, ItemAfterClose, Empty, Open, Closed, take_phrases, take_program, IsTakeBatch, AreTakes}
-use Rattle.ring_core.specs.Items.{items_put, items_taken, IsTold}
+use Rattle.ring_core.specs.Takes.{Takes, Item, ItemAfterClose, Empty, Open, Closed, accesses_before_word, take_phrases, take_program, IsTakeBatch, AreTakes}
+use Rattle.ring_core.specs.Items.{items_put, items_taken, taken_of, IsTold}
 use Rattle.ring_core.specs.CallsAt.{IsPutAt, IsTakeAt, IsPartAt, puts_ended, takes_begun}
-use Rattle.ring_core.proofs.Cells.ItemPlaces.{StoresItem, TakesItem}
+use Rattle.ring_core.proofs.Cells.ItemPlaces.{StoresItem, TakesItem, put_scan, has_item}
+use Rattle.ring_core.proofs.OverSpans.CallSpans.{put_items}
 
 -- items of one digit, and takes of one item
 abbrev pub narrow : (capacity modulus batch : ℕ) → (1 ≤ capacity) × (capacity ≤ 64) × (1 ≤ batch) × (batch ≤ capacity) × (capacity + batch < modulus) × (modulus ≤ 256) → Shape
@@ -209,32 +210,17 @@ wrap_takes-third =
 -- item 1 of the batch is written with events 4 and 5, and its put ends with event 11
 three_at_once-second : StoresItem three_cells three_at_once 1 0 4 12
 unfolding three_cells
-three_at_once-second = record {
-  seen = 0;
-  items = 1 ∷ 0 ∷ 1 ∷ [];
-  n = 0;
-  start = 0;
-  index = 1;
-  is_put = record { before = []; after = []; among = refl; number = refl; starts = refl; stops = refl };
-  listed = refl;
-  number = refl;
-  writes = refl;
-}
+three_at_once-second =
+    has_item (IsPutAt three_cells three_at_once) put_scan put_items 1 (Stored 0 (1 ∷ 0 ∷ 1 ∷ [])) 0 0 12 1 0
+    (record { before = []; after = []; among = refl; number = refl; starts = refl; stops = refl }) refl
 
 -- a take that scans twice reads its item's word with event 8; the take that is told so begins with event 14, and its second scan
 -- with event 20
 second_scan-item : TakesItem one_cell second_scan 0 1 8 14
 unfolding one_cell
-second_scan-item = record {
-  take = ItemAfterClose 0 1 (1 ∷ []);
-  n = 0;
-  start = 0;
-  index = 0;
-  is_take = record { before = []; after = []; among = refl; number = refl; starts = refl; stops = refl };
-  has = refl;
-  number = refl;
-  reads = refl;
-}
+second_scan-item =
+    has_item (IsTakeAt one_cell second_scan) accesses_before_word taken_of 1 (ItemAfterClose 0 1 (1 ∷ [])) 0 0 14 0 1
+    (record { before = []; after = []; among = refl; number = refl; starts = refl; stops = refl }) refl
 
 second_scan-last : IsPartAt (take_program one_cell second_scan) (scan_phrase (row_read_by C) 1) 20
 unfolding one_cell

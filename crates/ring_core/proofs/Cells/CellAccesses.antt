@@ -1,5 +1,5 @@
 -- An access to a digit of a cell is one of a word that a call writes or reads, so no two of the two sides overlap.
-use Rattle.std.proofs.Common.{◌≡◌, ◌⊎◌, inl, inr, ℕ, zero, suc, ◌+◌, ◌-◌, ◌*◌, ◌%◌, ◌<◌, ◌≤◌, Bool, true, false, Option, Some, None, List, [], ◌∷◌, ◌++◌, length, drop, if◌then◌else◌, refl, sym, ap, ◌∙◌, arith, length-append}
+use Rattle.std.proofs.Common.{◌≡◌, ◌⊎◌, inl, inr, ℕ, zero, suc, ◌+◌, ◌-◌, ◌*◌, ◌%◌, ◌<◌, ◌≤◌, Bool, true, false, Option, Some, None, List, [], ◌∷◌, ◌++◌, length, drop, if◌then◌else◌, refl, sym, ap, subst, ◌∙◌, arith, length-append}
 use Rattle.std.specs.Prelude.{slice_get}
 use Rattle.std.proofs.Math.Nat.{suc-mul}
 use Rattle.std.proofs.lemmas.Option.{slice_get_within}
@@ -19,12 +19,14 @@ use Rattle.register_core.specs.Row.{RowWrite, row_bit, writes_in}
 use Rattle.register_core.specs.Word.{digit, digit_reads, digit_writes, word_read, word_write}
 use Rattle.register_core.specs.ScanState.{zero_reads, scan_phrase, row_read_by}
 use Rattle.ring_core.specs.Counts.{Count, first_count, count_bits, batch_phrase}
-use Rattle.ring_core.specs.Puts.{Put, Puts, Stored, Full, stored_in, stored_after, words_phrase, put_phrase, put_phrases, close_phrase, put_program}
-use Rattle.ring_core.specs.Takes.{accesses_before_word, Take, Takes, Item, ItemAfterClose, Empty, End, Open, Closed, taken_in, count_after, words_read, items_phrase, take_phrase, take_phrases, end_phrase, take_program}
+use Rattle.ring_core.specs.Puts.{Puts, Stored, Full, stored_in, words_phrase, put_phrase, put_phrases, close_phrase, put_program}
+use Rattle.ring_core.specs.Takes.{accesses_before_word, Takes, Item, ItemAfterClose, Empty, End, Open, Closed, taken_in, words_read, items_phrase, take_phrase, take_phrases, end_phrase, take_program}
 use Rattle.ring_core.specs.Items.{events_in, taken_of}
-use Rattle.ring_core.specs.CallsAt.{scan_events}
+use Rattle.ring_core.specs.CallsAt.{IsCallAt}
 use Rattle.ring_core.specs.RingLaw.{IsRun, IsInterval, CellsAreQuiet}
-use Rattle.ring_core.proofs.Cells.ItemPlaces.{StoresItem, TakesItem, ItemsAreQuiet}
+use Rattle.ring_core.proofs.Cells.ItemPlaces.{HasItem, has_item, put_scan, ItemsAreQuiet}
+use Rattle.ring_core.proofs.OverSpans.CallSpans.{put_items}
+use Rattle.ring_core.proofs.Readings.ByCalls.{GoByCalls, puts_go_by_calls, takes_go_by_calls}
 use Rattle.ring_core.proofs.Readings.Cuts.{at_most_or_above}
 use Rattle.ring_core.proofs.OwnEvents.{clock_within, clock_rises}
 use Rattle.ring_core.proofs.Machines.Lengths.{length-words}
@@ -124,7 +126,7 @@ length-word shape n item =
     let one : 1 * width_of shape ≡ width_of shape = omega arith in
     omega (arith, one, length-words shape n (item ∷ []), length-append (word_write (width_of shape) (n % capacity_of shape) item) [])
 
--- ---- the word of a put
+-- ---- words
 
 -- access m is one of the word of an item of these, the first of which has number n
 abbrev InWords : Shape → ℕ → List ℕ → ℕ → ℕ → Type 0
@@ -132,90 +134,115 @@ InWords shape n items m j =
     (index : ℕ) × (item : ℕ) × (slice_get items index ≡ Some item) × ((n + index) % capacity_of shape ≡ j) ×
     (index * width_of shape ≤ m) × (m < index * width_of shape + width_of shape)
 
-in_words : (shape : Shape) (n : ℕ) (items : List ℕ) (m j : ℕ) → AtCell (words_phrase shape n items) m j → InWords shape n items m j
-in_words shape n [] m j (y, e, f) = absurd (cc)
-in_words shape n (item ∷ items) m j at =
+in_words_by :
+    (shape : Shape) (words : ℕ → List ℕ → List Made) (word : ℕ → ℕ → List Made) → ((n : ℕ) → words n [] ≡ []) →
+    ((n item : ℕ) (items : List ℕ) → words n (item ∷ items) ≡ word n item ++ words (suc n) items) → ((n item : ℕ) → length (word n item) ≡ width_of shape) →
+    ((n item m j : ℕ) → AtCell (word n item) m j → n % capacity_of shape ≡ j) →
+    (n : ℕ) (items : List ℕ) (m j : ℕ) → AtCell (words n items) m j → InWords shape n items m j
+in_words_by shape words word none more long cell_is n [] m j at = absurd (none-nil m j (subst (λ l. AtCell l m j) (none n) at))
+in_words_by shape words word none more long cell_is n (item ∷ items) m j at =
     let w : ℕ = width_of shape in
-    let word : List Made = word_write w (n % capacity_of shape) item in
-    let long : length word ≡ w = length-word shape n item in
-    let none : 0 * w ≡ 0 = omega arith in
+    let nothing : 0 * w ≡ 0 = omega arith in
     let same : n + 0 ≡ n = omega arith in
-    elim (at_parts word (words_phrase shape (suc n) items) m j at) [
-      | inl (l, here) ↦ (0, item, refl, ap (λ k. k % capacity_of shape) same ∙ in_cell_write (n % capacity_of shape) (digit_writes item w) m j here, omega (arith, none), omega (arith, none, l, long))
+    elim (at_parts (word n item) (words (suc n) items) m j (subst (λ l. AtCell l m j) (more n item items) at)) [
+      | inl (l, here) ↦ (0, item, refl, ap (λ k. k % capacity_of shape) same ∙ cell_is n item m j here, omega (arith, nothing), omega (arith, nothing, l, long n item))
       | inr (i, e, later) ↦ (
-          let (index, x, listed, cell, low, high) = in_words shape (suc n) items i j later in
+          let (index, x, listed, cell, low, high) = in_words_by shape words word none more long cell_is (suc n) items i j later in
           let next : suc n + index ≡ n + suc index = omega arith in
           let size : suc index * w ≡ index * w + w = suc-mul index w in
-          (suc index, x, listed, ap (λ k. k % capacity_of shape) (sym next) ∙ cell, omega (arith, e, long, low, size), omega (arith, e, long, high, size)))
+          let here : length (word n item) ≡ w = long n item in
+          (suc index, x, listed, ap (λ k. k % capacity_of shape) (sym next) ∙ cell, omega (arith, e, here, low, size), omega (arith, e, here, high, size)))
     ]
 
--- the put whose word it is of
-pub record InPut (shape : Shape) (c : Count) (puts : List Put) (m j : ℕ) : Type 0 where
-  pub before : List Put
-  pub after : List Put
-  pub seen : ℕ
-  pub items : List ℕ
+-- ---- the word of a call
+
+-- the call whose word it is of
+pub record InCall {X : Type 0} (phrases : Count → List X → List Made) (counted : ℕ → List X → ℕ) (front : X → List Made) (items : X → List ℕ) (shape : Shape)
+    (c : Count) (calls : List X) (m j : ℕ) : Type 0 where
+  pub before : List X
+  pub call : X
+  pub after : List X
   pub index : ℕ
   pub item : ℕ
-  pub among : puts ≡ before ++ Stored seen items ∷ after
-  pub listed : slice_get items index ≡ Some item
-  pub cell : (stored_in c.number before + index) % capacity_of shape ≡ j
-  pub low : length (put_phrases shape c before) + length (scan_phrase (row_read_by P) seen) + index * width_of shape ≤ m
-  pub high : m < length (put_phrases shape c before) + length (scan_phrase (row_read_by P) seen) + index * width_of shape + width_of shape
+  pub among : calls ≡ before ++ call ∷ after
+  pub has : slice_get (items call) index ≡ Some item
+  pub cell : (counted c.number before + index) % capacity_of shape ≡ j
+  pub low : length (phrases c before) + length (front call) + index * width_of shape ≤ m
+  pub high : m < length (phrases c before) + length (front call) + index * width_of shape + width_of shape
 
--- in a put that stands behind others
-behind_put : (shape : Shape) (c : Count) (x : Put) (puts : List Put) (m n j : ℕ) → m ≡ length (put_phrase shape c x) + n →
-    InPut shape (stored_after shape c x) puts n j → InPut shape c (x ∷ puts) m j
-behind_put shape c x puts m n j e r =
-    let long = length-append (put_phrase shape c x) (put_phrases shape (stored_after shape c x) r.before) in
-    record {
-      before = x ∷ r.before;
-      after = r.after;
-      seen = r.seen;
-      items = r.items;
-      index = r.index;
-      item = r.item;
-      among = ap (λ l. x ∷ l) r.among;
-      listed = r.listed;
-      cell = r.cell;
-      low = omega (arith, e, long, r.low);
-      high = omega (arith, e, long, r.high);
-    }
+-- in a call it is in one of its words
+abbrev InsideOf : {X : Type 0} → (Count → X → List Made) → (X → List Made) → (X → List ℕ) → Shape → Type 0
+InsideOf phrase front items shape =
+    (c : Count) (x : _) (m j : ℕ) → AtCell (phrase c x) m j → (n : ℕ) × (m ≡ length (front x) + n) × InWords shape c.number (items x) n j
 
-in_puts : (shape : Shape) (c : Count) (puts : List Put) (m j : ℕ) → AtCell (put_phrases shape c puts) m j → InPut shape c puts m j
-in_puts shape c [] m j (y, e, f) = absurd (cc)
-in_puts shape c (Full seen ∷ puts) m j at =
-    elim (at_parts (put_phrase shape c (Full seen)) (put_phrases shape c puts) m j at) [
-      | inl (l, here) ↦ absurd (none-scan C seen m j here)
-      | inr (n, e, later) ↦ behind_put shape c (Full seen) puts m n j e (in_puts shape c puts n j later)
+in_calls :
+    {X : Type 0} → {phrase : Count → X → List Made} → {phrases : Count → List X → List Made} → {after : Count → X → Count} → {state : Count → List X → Count} →
+    GoByCalls phrase phrases after state → (counted : ℕ → List X → ℕ) (front : X → List Made) (items : X → List ℕ) (shape : Shape) → ((n : ℕ) → counted n [] ≡ n) →
+    ((c : Count) (x : X) (xs : List X) → counted c.number (x ∷ xs) ≡ counted (after c x).number xs) → InsideOf phrase front items shape →
+    (c : Count) (xs : List X) (m j : ℕ) → AtCell (phrases c xs) m j → InCall phrases counted front items shape c xs m j
+in_calls go counted front items shape none more inside c [] m j at = absurd (none-nil m j (subst (λ l. AtCell l m j) (go.none c) at))
+in_calls {phrase} {phrases} {after} go counted front items shape none more inside c (x ∷ xs) m j at =
+    elim (at_parts (phrase c x) (phrases (after c x) xs) m j (subst (λ l. AtCell l m j) (go.more c x xs) at)) [
+      | inl (l, here) ↦ (
+          let (n, e, (index, item, listed, cell, low, high)) = inside c x m j here in
+          let nothing : length (phrases c []) ≡ 0 = ap length (go.none c) in
+          record {
+            before = [];
+            call = x;
+            after = xs;
+            index = index;
+            item = item;
+            among = refl;
+            has = listed;
+            cell = ap (λ k. (k + index) % capacity_of shape) (none c.number) ∙ cell;
+            low = omega (arith, e, low, nothing);
+            high = omega (arith, e, high, nothing);
+          })
+      | inr (n, e, later) ↦ (
+          let r = in_calls go counted front items shape none more inside (after c x) xs n j later in
+          let long : length (phrases c (x ∷ r.before)) ≡ length (phrase c x) + length (phrases (after c x) r.before) =
+          ap length (go.more c x r.before) ∙ length-append (phrase c x) (phrases (after c x) r.before) in
+          record {
+            before = x ∷ r.before;
+            call = r.call;
+            after = r.after;
+            index = r.index;
+            item = r.item;
+            among = ap (λ l. x ∷ l) r.among;
+            has = r.has;
+            cell = ap (λ k. (k + r.index) % capacity_of shape) (more c x r.before) ∙ r.cell;
+            low = omega (arith, e, long, r.low);
+            high = omega (arith, e, long, r.high);
+          })
     ]
-in_puts shape c (Stored seen items ∷ puts) m j at =
-    let next : Count = stored_after shape c (Stored seen items) in
+
+-- the item of the word
+item_in :
+    {X : Type 0} → {phrases : Count → List X → List Made} → {counted : ℕ → List X → ℕ} → {front : X → List Made} → {items : X → List ℕ} → {shape : Shape} → {xs : List X} → {m j : ℕ} →
+    (r : InCall phrases counted front items shape first_count xs m j) →
+    HasItem (IsCallAt (phrases first_count) (counted 0) xs) front items (width_of shape) (counted 0 r.before + r.index) r.item
+    (events_in (phrases first_count r.before) + events_in (front r.call) + 2 * (r.index * width_of shape)) (events_in (phrases first_count (r.before ++ r.call ∷ [])))
+item_in {phrases} {counted} {front} {items} {shape} {xs} r =
+    has_item (IsCallAt (phrases first_count) (counted 0) xs) front items (width_of shape) r.call _ _ _ r.index r.item
+    (record { before = r.before; after = r.after; among = r.among; number = refl; starts = refl; stops = refl }) r.has
+
+-- ---- the word of a put
+
+in_words : (shape : Shape) (n : ℕ) (items : List ℕ) (m j : ℕ) → AtCell (words_phrase shape n items) m j → InWords shape n items m j
+in_words shape =
+    in_words_by shape (words_phrase shape) (λ n. word_write (width_of shape) (n % capacity_of shape)) (λ n. refl) (λ n item items. refl) (length-word shape)
+    (λ n item. in_cell_write (n % capacity_of shape) (digit_writes item (width_of shape)))
+
+in_put : (shape : Shape) → InsideOf (put_phrase shape) put_scan put_items shape
+in_put shape c (Full seen) m j at = absurd (none-scan C seen m j at)
+in_put shape c (Stored seen items) m j at =
     let a : List Made = scan_phrase (row_read_by P) seen in
     let b : List Made = words_phrase shape c.number items in
-    let d : List Made = batch_phrase shape P c items in
-    elim (at_parts (put_phrase shape c (Stored seen items)) (put_phrases shape next puts) m j at) [
-      | inr (n, e, later) ↦ behind_put shape c (Stored seen items) puts m n j e (in_puts shape next puts n j later)
-      | inl (l, here) ↦ elim (at_parts (a ++ b) d m j here) [
-        | inr (n, e, in_count) ↦ absurd (none-row P (count_bits shape c items) n j in_count)
-        | inl (l', front) ↦ elim (at_parts a b m j front) [
-          | inl (l'', in_scan) ↦ absurd (none-scan C seen m j in_scan)
-          | inr (n, e, word) ↦ (
-              let (index, item, listed, cell, low, high) = in_words shape c.number items n j word in
-              record {
-                before = [];
-                after = puts;
-                seen = seen;
-                items = items;
-                index = index;
-                item = item;
-                among = refl;
-                listed = listed;
-                cell = cell;
-                low = omega (arith, e, low);
-                high = omega (arith, e, high);
-              })
-        ]
+    elim (at_parts (a ++ b) (batch_phrase shape P c items) m j at) [
+      | inr (n, e, in_count) ↦ absurd (none-row P (count_bits shape c items) n j in_count)
+      | inl (l, front) ↦ elim (at_parts a b m j front) [
+        | inl (l', in_scan) ↦ absurd (none-scan C seen m j in_scan)
+        | inr (n, e, word) ↦ (n, e, in_words shape c.number items n j word)
       ]
     ]
 
@@ -226,50 +253,9 @@ none-close false = none-nil
 -- ---- the word of a take
 
 in_reads : (shape : Shape) (n : ℕ) (items : List ℕ) (m j : ℕ) → AtCell (words_read shape n items) m j → InWords shape n items m j
-in_reads shape n [] m j (y, e, f) = absurd (cc)
-in_reads shape n (item ∷ items) m j at =
-    let w : ℕ = width_of shape in
-    let cell : ℕ = n % capacity_of shape in
-    let long : length (word_read w cell item) ≡ w = length-reads cell item w in
-    let none : 0 * w ≡ 0 = omega arith in
-    let same : n + 0 ≡ n = omega arith in
-    elim (at_parts (word_read w cell item) (words_read shape (suc n) items) m j at) [
-      | inl (l, here) ↦ (0, item, refl, ap (λ k. k % capacity_of shape) same ∙ in_cell_read cell item w m j here, omega (arith, none), omega (arith, none, l, long))
-      | inr (i, e, later) ↦ (
-          let (index, x, listed, cell_is, low, high) = in_reads shape (suc n) items i j later in
-          let next : suc n + index ≡ n + suc index = omega arith in
-          let size : suc index * w ≡ index * w + w = suc-mul index w in
-          (suc index, x, listed, ap (λ k. k % capacity_of shape) (sym next) ∙ cell_is, omega (arith, e, long, low, size), omega (arith, e, long, high, size)))
-    ]
-
-pub record InTake (shape : Shape) (c : Count) (takes : List Take) (m j : ℕ) : Type 0 where
-  pub before : List Take
-  pub take : Take
-  pub after : List Take
-  pub index : ℕ
-  pub item : ℕ
-  pub among : takes ≡ before ++ take ∷ after
-  pub has : slice_get (taken_of take) index ≡ Some item
-  pub cell : (taken_in c.number before + index) % capacity_of shape ≡ j
-  pub low : length (take_phrases shape c before) + length (accesses_before_word take) + index * width_of shape ≤ m
-  pub high : m < length (take_phrases shape c before) + length (accesses_before_word take) + index * width_of shape + width_of shape
-
-behind_take : (shape : Shape) (c : Count) (x : Take) (takes : List Take) (m n j : ℕ) → m ≡ length (take_phrase shape c x) + n →
-    InTake shape (count_after shape c x) takes n j → InTake shape c (x ∷ takes) m j
-behind_take shape c x takes m n j e r =
-    let long = length-append (take_phrase shape c x) (take_phrases shape (count_after shape c x) r.before) in
-    record {
-      before = x ∷ r.before;
-      take = r.take;
-      after = r.after;
-      index = r.index;
-      item = r.item;
-      among = ap (λ l. x ∷ l) r.among;
-      has = r.has;
-      cell = r.cell;
-      low = omega (arith, e, long, r.low);
-      high = omega (arith, e, long, r.high);
-    }
+in_reads shape =
+    in_words_by shape (words_read shape) (λ n. word_read (width_of shape) (n % capacity_of shape)) (λ n. refl) (λ n item items. refl)
+    (λ n item. length-reads (n % capacity_of shape) item (width_of shape)) (λ n item. in_cell_read (n % capacity_of shape) item (width_of shape))
 
 -- behind what comes before its words, a take of items has them, and then its count write
 in_items : (shape : Shape) (c : Count) (items : List ℕ) (m j : ℕ) → AtCell (items_phrase shape c items) m j → InWords shape c.number items m j
@@ -279,22 +265,6 @@ in_items shape c items m j at =
       | inr (n, e, in_count) ↦ absurd (none-row C (count_bits shape c items) n j in_count)
     ]
 
-first_take :
-    (shape : Shape) (c : Count) (x : Take) (takes : List Take) (m n j : ℕ) → m ≡ length (accesses_before_word x) + n →
-    InWords shape c.number (taken_of x) n j → InTake shape c (x ∷ takes) m j
-first_take shape c x takes m n j e (index, item, listed, cell, low, high) = record {
-  before = [];
-  take = x;
-  after = takes;
-  index = index;
-  item = item;
-  among = refl;
-  has = listed;
-  cell = cell;
-  low = omega (arith, e, low);
-  high = omega (arith, e, high);
-}
-
 none-asks : (seen : ℕ) (answer : Bool) → NoCells (scan_phrase (row_bit P) seen ++ Read X answer ∷ [])
 none-asks seen answer = none-append (scan_phrase (row_bit P) seen) (Read X answer ∷ []) (none-scan P seen) (none-one (Read X answer) refl)
 
@@ -303,31 +273,16 @@ none-twice seen again =
     none-append (scan_phrase (row_bit P) seen) (Read X true ∷ scan_phrase (row_bit P) again) (none-scan P seen)
     (none-append (Read X true ∷ []) (scan_phrase (row_bit P) again) (none-one (Read X true) refl) (none-scan P again))
 
-in_takes : (shape : Shape) (c : Count) (takes : List Take) (m j : ℕ) → AtCell (take_phrases shape c takes) m j → InTake shape c takes m j
-in_takes shape c [] m j (y, e, f) = absurd (cc)
-in_takes shape c (Empty seen ∷ takes) m j at =
-    elim (at_parts (take_phrase shape c (Empty seen)) (take_phrases shape c takes) m j at) [
-      | inl (l, here) ↦ absurd (none-asks seen false m j here)
-      | inr (n, e, later) ↦ behind_take shape c (Empty seen) takes m n j e (in_takes shape c takes n j later)
-    ]
-in_takes shape c (Item seen items ∷ takes) m j at =
-    let next : Count = count_after shape c (Item seen items) in
-    elim (at_parts (take_phrase shape c (Item seen items)) (take_phrases shape next takes) m j at) [
-      | inr (n, e, later) ↦ behind_take shape c (Item seen items) takes m n j e (in_takes shape next takes n j later)
-      | inl (l, here) ↦ elim (at_parts (accesses_before_word (Item seen items)) (items_phrase shape c items) m j here) [
-        | inl (l', front) ↦ absurd (none-scan P seen m j front)
-        | inr (n, e, word) ↦ first_take shape c (Item seen items) takes m n j e (in_items shape c items n j word)
-      ]
-    ]
-in_takes shape c (ItemAfterClose seen again items ∷ takes) m j at =
-    let next : Count = count_after shape c (ItemAfterClose seen again items) in
-    elim (at_parts (take_phrase shape c (ItemAfterClose seen again items)) (take_phrases shape next takes) m j at) [
-      | inr (n, e, later) ↦ behind_take shape c (ItemAfterClose seen again items) takes m n j e (in_takes shape next takes n j later)
-      | inl (l, here) ↦ elim (at_parts (accesses_before_word (ItemAfterClose seen again items)) (items_phrase shape c items) m j here) [
-        | inl (l', front) ↦ absurd (none-twice seen again m j front)
-        | inr (n, e, word) ↦ first_take shape c (ItemAfterClose seen again items) takes m n j e (in_items shape c items n j word)
-      ]
-    ]
+in_take : (shape : Shape) → InsideOf (take_phrase shape) accesses_before_word taken_of shape
+in_take shape c (Empty seen) m j at = absurd (none-asks seen false m j at)
+in_take shape c (Item seen items) m j at = elim (at_parts (scan_phrase (row_read_by C) seen) (items_phrase shape c items) m j at) [
+  | inl (l, front) ↦ absurd (none-scan P seen m j front)
+  | inr (n, e, word) ↦ (n, e, in_items shape c items n j word)
+]
+in_take shape c (ItemAfterClose seen again items) m j at = elim (at_parts (accesses_before_word (ItemAfterClose seen again items)) (items_phrase shape c items) m j at) [
+  | inl (l, front) ↦ absurd (none-twice seen again m j front)
+  | inr (n, e, word) ↦ (n, e, in_items shape c items n j word)
+]
 
 none-end : (end : End) → NoCells (end_phrase end)
 none-end Open = none-nil
@@ -394,38 +349,13 @@ digits_are_quiet shape h puts takes run words j d d' a a' start stop start' stop
         | inr (n', e', at') ↦ none-end takes.end n' j at'
         | inl (l', at') ↦ (
             let w : ℕ = width_of shape in
-            let r : InPut shape first_count puts.puts m j = in_puts shape first_count puts.puts m j at in
-            let q : InTake shape first_count takes.takes m' j = in_takes shape first_count takes.takes m' j at' in
-            let s : ℕ = events_in (put_phrases shape first_count r.before) in
-            let s' : ℕ = events_in (take_phrases shape first_count q.before) in
-            let word : ℕ = s + scan_events P r.seen + 2 * (r.index * w) in
-            let word' : ℕ = s' + events_in (accesses_before_word q.take) + 2 * (q.index * w) in
-            let stores : StoresItem shape puts (stored_in 0 r.before + r.index) r.item word _ =
-            record {
-              seen = r.seen;
-              items = r.items;
-              n = stored_in 0 r.before;
-              start = s;
-              index = r.index;
-              is_put = record { before = r.before; after = r.after; among = r.among; number = refl; starts = refl; stops = refl };
-              listed = r.listed;
-              number = refl;
-              writes = refl;
-            } in
-            let takes_it : TakesItem shape takes (taken_in 0 q.before + q.index) q.item word' _ =
-            record {
-              take = q.take;
-              n = taken_in 0 q.before;
-              start = s';
-              index = q.index;
-              is_take = record { before = q.before; after = q.after; among = q.among; number = refl; starts = refl; stops = refl };
-              has = q.has;
-              number = refl;
-              reads = refl;
-            } in
+            let r = in_calls (puts_go_by_calls shape) stored_in put_scan put_items shape (λ n. refl) (λ c x xs. refl) (in_put shape) first_count puts.puts m j at in
+            let q = in_calls (takes_go_by_calls shape) taken_in accesses_before_word taken_of shape (λ n. refl) (λ c x xs. refl) (in_take shape) first_count takes.takes m' j at' in
+            let word : ℕ = events_in (put_phrases shape first_count r.before) + events_in (put_scan r.call) + 2 * (r.index * width_of shape) in
+            let word' : ℕ = events_in (take_phrases shape first_count q.before) + events_in (accesses_before_word q.call) + 2 * (q.index * width_of shape) in
             let (from, to, on, from_l, to_l) = around P h m x start stop word (2 * width_of shape) made (omega (arith, r.low)) (omega (arith, r.high)) in
             let (from', to', off, from_l', to_l') = around C h m' y start' stop' word' (2 * width_of shape) made' (omega (arith, q.low)) (omega (arith, q.high)) in
-            words _ r.item word _ stores _ q.item word' _ takes_it (r.cell ∙ sym q.cell) from to from' to' on off
+            words _ r.item word _ (item_in r) _ q.item word' _ (item_in q) (r.cell ∙ sym q.cell) from to from' to' on off
             ((λ e. not_after (omega (arith, e, to_l, from_l'))), (λ e. not_before (omega (arith, e, to_l', from_l)))))
       ]
     ]

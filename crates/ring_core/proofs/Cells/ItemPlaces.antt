@@ -1,40 +1,48 @@
 -- Where an item is stored and where it is taken, by the call that does it.
+use Rattle.std.proofs.Common.{refl}
 use Rattle.std.specs.Prelude.{◌≡◌, ℕ, ◌+◌, ◌-◌, ◌*◌, ◌%◌, Some, List, slice_get}
 use Rattle.bits_core.specs.declared.events.Side.TheVariants.{P, C}
 use Rattle.bits_core.specs.declared.events.Event.{Event}
 use Rattle.bits_core.specs.declared.shapes.Shape.{Shape}
 use Rattle.bits_core.specs.Shape.{capacity_of, width_of}
 use Rattle.bits_core.specs.Intervals as intervals
-use Rattle.ring_core.specs.Puts.{Stored, Puts}
-use Rattle.ring_core.specs.Takes.{Take, Takes, accesses_before_word}
+use Rattle.bits_core.specs.Made.{Made}
+use Rattle.register_core.specs.Phrases.{scan_phrase, row_read_by}
+use Rattle.ring_core.specs.Puts.{Put, Puts}
+use Rattle.ring_core.specs.Takes.{Takes, accesses_before_word}
 use Rattle.ring_core.specs.Items.{events_in, taken_of}
-use Rattle.ring_core.specs.CallsAt.{IsPutAt, IsTakeAt, scan_events}
+use Rattle.ring_core.specs.CallsAt.{IsPutAt, IsTakeAt}
 use Rattle.ring_core.specs.RingLaw.{IsInterval}
+use Rattle.ring_core.proofs.OverSpans.CallSpans.{put_seen, put_items}
 
--- Item number j is stored by a put whose own events end before stop: the digits of the item's word are written from the
--- producer's own event word on.
-pub record StoresItem (shape : Shape) (calls : Puts) (j item word stop : ℕ) : Type 0 where
-  pub seen : ℕ
-  pub items : List ℕ
+-- Item number j is one of those of a call whose own events end before stop: the digits of the item's word are accessed from the side's
+-- own event word on, behind what the call accesses before its words.
+pub record HasItem {X : Type 0} (IsAt : X → (n start stop : ℕ) → Type 0) (front : X → List Made) (items : X → List ℕ) (width j item word stop : ℕ) : Type 0 where
+  pub call : X
   pub n : ℕ
   pub start : ℕ
   pub index : ℕ
-  pub is_put : IsPutAt shape calls (Stored seen items) n start stop
-  pub listed : slice_get items index ≡ Some item
+  pub is_call : IsAt call n start stop
+  pub has : slice_get (items call) index ≡ Some item
   pub number : j ≡ n + index
-  pub writes : word ≡ start + scan_events P seen + 2 * (index * width_of shape)
+  pub word_is : word ≡ start + events_in (front call) + 2 * (index * width)
 
--- Item number k is taken by a take whose own events end before stop: the digits of the item's word are read from the
--- consumer's own event word on.
-pub record TakesItem (shape : Shape) (calls : Takes) (k item word stop : ℕ) : Type 0 where
-  pub take : Take
-  pub n : ℕ
-  pub start : ℕ
-  pub index : ℕ
-  pub is_take : IsTakeAt shape calls take n start stop
-  pub has : slice_get (taken_of take) index ≡ Some item
-  pub number : k ≡ n + index
-  pub reads : word ≡ start + events_in (accesses_before_word take) + 2 * (index * width_of shape)
+-- an item of a call that stands there
+pub has_item :
+    {X : Type 0} → (IsAt : X → (n start stop : ℕ) → Type 0) (front : X → List Made) (items : X → List ℕ) (width : ℕ) (x : X) (n start stop index item : ℕ) → IsAt x n start stop →
+    slice_get (items x) index ≡ Some item → HasItem IsAt front items width (n + index) item (start + events_in (front x) + 2 * (index * width)) stop
+has_item IsAt front items width x n start stop index item at e =
+    record { call = x; n = n; start = start; index = index; is_call = at; has = e; number = refl; word_is = refl }
+
+-- it is stored by a put, and taken by a take
+abbrev pub put_scan : Put → List Made
+put_scan x = scan_phrase (row_read_by P) (put_seen x)
+
+abbrev pub StoresItem : Shape → Puts → (j item word stop : ℕ) → Type 0
+StoresItem shape calls = HasItem (IsPutAt shape calls) put_scan put_items (width_of shape)
+
+abbrev pub TakesItem : Shape → Takes → (k item word stop : ℕ) → Type 0
+TakesItem shape calls = HasItem (IsTakeAt shape calls) accesses_before_word taken_of (width_of shape)
 
 -- where two items have the same cell, the word write of the one and the word read of the other do not overlap
 abbrev pub ItemsAreQuiet : Shape → List Event → Puts → Takes → Type 0

@@ -35,6 +35,11 @@ abbrev pub put_seen : Put → ℕ
 put_seen (Stored seen items) = seen
 put_seen (Full seen) = seen
 
+-- the items that it stores
+abbrev pub put_items : Put → List ℕ
+put_items (Stored seen items) = items
+put_items (Full seen) = []
+
 -- how many items puts store
 abbrev pub put_counts : List Put → ℕ
 put_counts [] = 0
@@ -95,6 +100,10 @@ put_phrases-push shape c before x = ap length (put.phrases-push shape c before x
 abbrev pub put_outcome : Put → Outcome
 put_outcome (Stored seen items) = Passes items
 put_outcome (Full seen) = Stops
+
+pub put_size : (x : Put) → counts (put_outcome x) ≡ length (put_items x)
+put_size (Stored seen items) = refl
+put_size (Full seen) = refl
 
 first_stands : (y : Span) (ys : List Span) → IsSpanAt (y ∷ ys) 0 0 y
 first_stands y ys = inl (refl, refl, refl)

@@ -5,6 +5,8 @@ use Rattle.bits_core.specs.declared.events.Act.TheVariants.{ReadBegin, ReadEnd, 
 use Rattle.bits_core.specs.declared.events.Bit.{Bit}
 use Rattle.bits_core.specs.declared.events.Bit.TheVariants.{Cell}
 use Rattle.bits_core.specs.declared.events.Event.{Event}
+use Rattle.bits_core.specs.declared.shapes.Shape.{Shape}
+use Rattle.bits_core.specs.Shape.{AllFit, width_of}
 use Rattle.bits_core.specs.Made.{Made, Read, Write, begin_event, end_event, events_of}
 use Rattle.register_core.specs.Row.{RowWrite, writes_in}
 use Rattle.register_core.specs.Word.{digit, digit_writes, digit_reads, word_write, word_read}
@@ -157,3 +159,32 @@ same_word_write width cell a b xs ys l m e =
     let parts : (digit_writes a width ≡ digit_writes b width) × (xs ≡ ys) =
     same_writes cell (digit_writes a width) (digit_writes b width) xs ys (length-digit_writes a width ∙ sym (length-digit_writes b width)) e in
     (digits_tell_items width a b l m (digits_written width a b parts.0), parts.1)
+
+-- ---- words one after the other, and what comes behind them
+
+-- accesses that do not begin with one of these
+abbrev pub NotFirst : (ℕ → ℕ → Bool → Made) → List Made → Type 0
+NotFirst access made = (j d : ℕ) (v : Bool) (rest : List Made) → made ≡ access j d v ∷ rest → ⊥
+
+-- words that begin with one are read off the accesses, where each of them is
+pub same_words_by :
+    (shape : Shape) (words : ℕ → List ℕ → List Made) (word : ℕ → ℕ → List Made) (access : ℕ → ℕ → Bool → Made) → ((n : ℕ) → words n [] ≡ []) →
+    ((n item : ℕ) (items : List ℕ) → words n (item ∷ items) ≡ word n item ++ words (suc n) items) →
+    ((n item : ℕ) (items : List ℕ) (behind : List Made) → NotFirst access (words n (item ∷ items) ++ behind) → ⊥) →
+    ((n x y : ℕ) (xs ys : List Made) → x < 2 ^ width_of shape → y < 2 ^ width_of shape → word n x ++ xs ≡ word n y ++ ys → (x ≡ y) × (xs ≡ ys)) →
+    (n : ℕ) (xs ys : List ℕ) (left right : List Made) → AllFit shape xs → AllFit shape ys → NotFirst access left → NotFirst access right →
+    words n xs ++ left ≡ words n ys ++ right → (xs ≡ ys) × (left ≡ right)
+same_words_by shape words word access none more begins same n [] [] left right f g l r e =
+    (refl, sym (ap (λ z. z ++ left) (none n)) ∙ e ∙ ap (λ z. z ++ right) (none n))
+same_words_by shape words word access none more begins same n [] (y ∷ ys) left right f g l r e =
+    absurd (begins n y ys right (λ j d v rest is. l j d v rest (sym (ap (λ z. z ++ left) (none n)) ∙ e ∙ is)))
+same_words_by shape words word access none more begins same n (x ∷ xs) [] left right f g l r e =
+    absurd (begins n x xs left (λ j d v rest is. r j d v rest (sym (ap (λ z. z ++ right) (none n)) ∙ sym e ∙ is)))
+same_words_by shape words word access none more begins same n (x ∷ xs) (y ∷ ys) left right f g l r e =
+    let parts : (z : ℕ) (zs : List ℕ) (end : List Made) → words n (z ∷ zs) ++ end ≡ word n z ++ (words (suc n) zs ++ end) =
+    λ z zs end. ap (λ w. w ++ end) (more n z zs) ∙ append_assoc (word n z) (words (suc n) zs) end in
+    let first : (x ≡ y) × (words (suc n) xs ++ left ≡ words (suc n) ys ++ right) = same n x y _ _ f.0 g.0 (sym (parts x xs left) ∙ e ∙ parts y ys right) in
+    let rest : (xs ≡ ys) × (left ≡ right) = same_words_by shape words word access none more begins same (suc n) xs ys left right f.1 g.1 l r first.1 in
+    let head : x ≡ y = first.0 in
+    let tail : xs ≡ ys = rest.0 in
+    (cc, rest.1)

@@ -1,5 +1,5 @@
 -- Equal events of whole calls of the producer come from equal calls.
-use Rattle.std.proofs.Common.{◌≡◌, ℕ, zero, suc, ◌%◌, ◌<◌, ◌≤◌, Bool, true, false, List, [], ◌∷◌, ◌++◌, length, refl, sym, ap, subst, ◌∙◌, arith, append_assoc}
+use Rattle.std.proofs.Common.{◌≡◌, ℕ, zero, suc, ◌%◌, ◌<◌, ◌≤◌, Bool, true, false, List, [], ◌∷◌, ◌++◌, length, refl, sym, ap, ap₂, subst, ◌∙◌, arith, append_assoc}
 use Rattle.std.proofs.lemmas.List.{append_cancel_left}
 use Rattle.bits_core.specs.declared.events.Side.TheVariants.{P}
 use Rattle.bits_core.specs.declared.events.Bit.{Bit}
@@ -7,14 +7,18 @@ use Rattle.bits_core.specs.declared.events.Bit.TheVariants.{X, Cell}
 use Rattle.bits_core.specs.declared.shapes.Shape.{Shape}
 use Rattle.bits_core.specs.Shape.{AllFit, capacity_of, modulus_of, width_of}
 use Rattle.bits_core.specs.Made.{Made, Read, Write}
-use Rattle.register_core.specs.Row.{RowWrite, row_bit, writes_in}
+use Rattle.register_core.specs.Row.{RowWrite, writes_in}
 use Rattle.register_core.specs.Word.{digit, digit_writes, word_write}
 use Rattle.register_core.specs.ScanState.{scan_phrase, row_read_by}
-use Rattle.ring_core.specs.Counts.{LeavesRoom, LeavesRoomFor, number_past, Count, first_count, count_bits, batch_phrase, IsCount}
+use Rattle.ring_core.specs.Counts.{LeavesRoom, LeavesRoomFor, number_past, Count, first_count, batch_phrase, IsCount}
 use Rattle.ring_core.specs.Puts.{Put, Puts, Stored, Full, stored_after, words_phrase, put_phrases, close_phrase, put_program, IsBatch, ArePuts}
 use Rattle.ring_core.specs.Readings.{PutsAreRead}
-use Rattle.ring_core.proofs.Readings.Phrases.{same_accesses, scan_begins, same_scan, same_word_write, joined_two, no_scan}
-use Rattle.ring_core.proofs.CountRow.{batch_below, first_is_count, counted_is_count, bits_long}
+use Rattle.ring_core.proofs.Readings.Phrases.{NotFirst, same_words_by, same_accesses, scan_begins, same_scan, same_word_write, joined_two, no_scan}
+use Rattle.ring_core.proofs.CountRow.{batch_below, first_is_count, counted_is_count, batch_first}
+
+-- puts, and whether a close follows them
+abbrev puts_of : List Put → Bool → Puts
+puts_of puts closes = record { puts = puts; closes = closes }
 
 -- a scan is no close
 pub no_close : (a : Bool) (bit_of : ℕ → Bit) (c : ℕ) (xs : List Made) → close_phrase a ≡ scan_phrase bit_of c ++ xs → ⊥
@@ -60,16 +64,12 @@ some_room shape n d m some room = omega (arith, some, room)
 
 -- accesses that do not begin with a write to a cell
 abbrev pub NoCellFirst : List Made → Type 0
-NoCellFirst made = (j d : ℕ) (v : Bool) (rest : List Made) → made ≡ Write (Cell j d) v ∷ rest → ⊥
+NoCellFirst = NotFirst (λ j d v. Write (Cell j d) v)
 
 -- a count write does not
-row_first : (writes : List RowWrite) (behind : List Made) → 1 ≤ length writes → NoCellFirst (writes_in (row_bit P) writes ++ behind)
-row_first [] behind some j d v rest e = absurd (omega (arith, some))
-row_first (w ∷ writes) behind some j d v rest e = absurd (cc)
-
 pub count_first :
     (shape : Shape) (c : Count) (items : List ℕ) (behind : List Made) → IsCount shape c → IsBatch shape items → NoCellFirst (batch_phrase shape P c items ++ behind)
-count_first shape c items behind is batch = row_first (count_bits shape c items) behind (bits_long shape c items is batch.some (omega (arith, batch.few, batch_below shape)))
+count_first shape c items behind is batch = batch_first shape P _ (λ i j d v w e. absurd (cc)) c items behind is batch.some (omega (arith, batch.few, batch_below shape))
 
 -- a word does
 pub digits_first : (item w : ℕ) → 0 < w → (rest : List RowWrite) × (digit_writes item w ≡ record { bit = 0; value = digit 0 item } ∷ rest)
@@ -97,18 +97,7 @@ words_first shape n item items behind none =
 pub same_words :
     (shape : Shape) (n : ℕ) (xs ys : List ℕ) (left right : List Made) → AllFit shape xs → AllFit shape ys → NoCellFirst left → NoCellFirst right →
     words_phrase shape n xs ++ left ≡ words_phrase shape n ys ++ right → (xs ≡ ys) × (left ≡ right)
-same_words shape n [] [] left right f g l r e = (refl, e)
-same_words shape n [] (y ∷ ys) left right f g l r e = absurd (words_first shape n y ys right (λ j d v rest is. l j d v rest (e ∙ is)))
-same_words shape n (x ∷ xs) [] left right f g l r e = absurd (words_first shape n x xs left (λ j d v rest is. r j d v rest (sym e ∙ is)))
-same_words shape n (x ∷ xs) (y ∷ ys) left right f g l r e =
-    let w : ℕ → List Made = word_write (width_of shape) (n % capacity_of shape) in
-    let first : (x ≡ y) × (words_phrase shape (suc n) xs ++ left ≡ words_phrase shape (suc n) ys ++ right) =
-    same_word_write (width_of shape) (n % capacity_of shape) x y _ _ f.0 g.0
-    (sym (append_assoc (w x) (words_phrase shape (suc n) xs) left) ∙ e ∙ append_assoc (w y) (words_phrase shape (suc n) ys) right) in
-    let rest : (xs ≡ ys) × (left ≡ right) = same_words shape (suc n) xs ys left right f.1 g.1 l r first.1 in
-    let head : x ≡ y = first.0 in
-    let tail : xs ≡ ys = rest.0 in
-    (cc, rest.1)
+same_words shape = same_words_by shape (words_phrase shape) (λ n. word_write (width_of shape) (n % capacity_of shape)) _ (λ n. refl) (λ n x xs. refl) (words_first shape) (λ n. same_word_write (width_of shape) (n % capacity_of shape))
 
 same_puts :
     (shape : Shape) (c : Count) (xs ys : List Put) (a b : Bool) → IsCount shape c → ArePuts shape c.number xs → ArePuts shape c.number ys →
@@ -128,8 +117,6 @@ same_puts shape c (Full u ∷ xs) (Full v ∷ ys) a b is (here, p) (here', q) e 
     let scans : (u ≡ v) × (put_phrases shape c xs ++ close_phrase a ≡ put_phrases shape c ys ++ close_phrase b) =
     same_scan (row_read_by P) u v _ _ (sym (puts_full shape c u xs a) ∙ e ∙ puts_full shape c v ys b) in
     let rest : (xs ≡ ys) × (a ≡ b) = same_puts shape c xs ys a b is p q scans.1 in
-    let seen : u ≡ v = scans.0 in
-    let more : xs ≡ ys = rest.0 in
     (cc, rest.1)
 same_puts shape c (Stored u i ∷ xs) (Stored v j ∷ ys) a b is ((below, room, batch), p) ((below', room', batch'), q) e =
     let w : List ℕ → List Made = words_phrase shape c.number in
@@ -145,15 +132,9 @@ same_puts shape c (Stored u i ∷ xs) (Stored v j ∷ ys) a b is ((below, room, 
     let are : ArePuts shape (number_past c.number i) ys = subst (λ (l : List ℕ). ArePuts shape (number_past c.number l) ys) (sym items) q in
     let rest : (xs ≡ ys) × (a ≡ b) =
     same_puts shape (stored_after shape c (Stored u i)) xs ys a b (counted_is_count shape c i) p are (append_cancel_left (k i) (after i xs a) (after i ys b) same) in
-    let seen : u ≡ v = scans.0 in
-    let more : xs ≡ ys = rest.0 in
     (cc, rest.1)
-
-abbrev puts_of : List Put → Bool → Puts
-puts_of puts closes = record { puts = puts; closes = closes }
 
 pub puts-are_read : PutsAreRead
 puts-are_read shape a b p q e =
-    let same : (a.puts ≡ b.puts) × (a.closes ≡ b.closes) =
-    same_puts shape first_count a.puts b.puts a.closes b.closes (first_is_count shape) p q (same_accesses P (put_program shape a) (put_program shape b) e) in
-    ap (λ l. puts_of l a.closes) same.0 ∙ ap (puts_of b.puts) same.1
+    let (puts, closes) = same_puts shape first_count a.puts b.puts a.closes b.closes (first_is_count shape) p q (same_accesses P (put_program shape a) (put_program shape b) e) in
+    ap₂ puts_of puts closes

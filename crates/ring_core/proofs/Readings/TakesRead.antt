@@ -1,20 +1,23 @@
 -- Equal events of whole calls of the consumer come from equal calls.
-use Rattle.std.proofs.Common.{◌≡◌, ℕ, zero, suc, ◌%◌, ◌<◌, ◌≤◌, Bool, true, false, List, [], ◌∷◌, ◌++◌, length, refl, sym, ap, subst, ◌∙◌, arith, append_assoc}
+use Rattle.std.proofs.Common.{◌≡◌, ℕ, zero, suc, ◌%◌, ◌<◌, ◌≤◌, true, false, List, [], ◌∷◌, ◌++◌, refl, sym, ap, ap₂, subst, ◌∙◌, arith, append_assoc}
 use Rattle.std.proofs.lemmas.List.{append_cancel_left}
 use Rattle.bits_core.specs.declared.events.Side.TheVariants.{C}
 use Rattle.bits_core.specs.declared.events.Bit.TheVariants.{X, Cell}
 use Rattle.bits_core.specs.declared.shapes.Shape.{Shape}
 use Rattle.bits_core.specs.Shape.{AllFit, capacity_of, modulus_of, width_of}
 use Rattle.bits_core.specs.Made.{Made, Read}
-use Rattle.register_core.specs.Row.{RowWrite, row_bit, writes_in}
 use Rattle.register_core.specs.Word.{digit, digit_reads, word_read}
 use Rattle.register_core.specs.ScanState.{row_read_by}
-use Rattle.ring_core.specs.Counts.{ShowsItem, number_past, Count, first_count, IsCount, count_bits, batch_phrase}
+use Rattle.ring_core.specs.Counts.{ShowsItem, number_past, Count, first_count, IsCount, batch_phrase}
 use Rattle.ring_core.specs.Takes.{Take, Takes, End, Item, ItemAfterClose, Empty, Open, Closed, count_after, words_read, items_phrase, take_program, SeesItems, SeesNone, IsTakeBatch, AreTakes}
 use Rattle.ring_core.specs.Readings.{TakesAreRead}
-use Rattle.ring_core.proofs.Readings.Phrases.{same_accesses, no_scan, same_scan, same_word_read}
-use Rattle.ring_core.proofs.CountRow.{take_batch_below, bits_long, first_is_count, counted_is_count}
+use Rattle.ring_core.proofs.Readings.Phrases.{NotFirst, same_words_by, same_accesses, no_scan, same_scan, same_word_read}
+use Rattle.ring_core.proofs.CountRow.{take_batch_below, batch_first, first_is_count, counted_is_count}
 use Rattle.ring_core.proofs.Readings.TakesFirst.{scan, calls_from, item_first, after_first, empty_first, closed_first}
+
+-- takes and their end
+abbrev takes_of : List Take → End → Takes
+takes_of takes end = record { takes = takes; end = end }
 
 -- what tells the takes apart: a count that shows items shows them, and the close bit is 0 or 1
 pub item_or_none :
@@ -45,16 +48,12 @@ after_or_closed shape k c d c' d' m xs ys some sees none e = item_or_none shape 
 
 -- accesses that do not begin with a read of a cell
 abbrev pub NoCellReadFirst : List Made → Type 0
-NoCellReadFirst made = (j d : ℕ) (v : Bool) (rest : List Made) → made ≡ Read (Cell j d) v ∷ rest → ⊥
+NoCellReadFirst = NotFirst (λ j d v. Read (Cell j d) v)
 
 -- a count write does not
-row_first : (writes : List RowWrite) (behind : List Made) → 1 ≤ length writes → NoCellReadFirst (writes_in (row_bit C) writes ++ behind)
-row_first [] behind some j d v rest e = absurd (omega (arith, some))
-row_first (w ∷ writes) behind some j d v rest e = absurd (cc)
-
 pub count_first :
     (shape : Shape) (c : Count) (items : List ℕ) (behind : List Made) → IsCount shape c → IsTakeBatch shape items → NoCellReadFirst (batch_phrase shape C c items ++ behind)
-count_first shape c items behind is batch = row_first (count_bits shape c items) behind (bits_long shape c items is batch.some (omega (arith, batch.few, take_batch_below shape)))
+count_first shape c items behind is batch = batch_first shape C _ (λ i j d v w e. absurd (cc)) c items behind is batch.some (omega (arith, batch.few, take_batch_below shape))
 
 -- a word does
 pub digits_first : (cell item w : ℕ) → 0 < w → (rest : List Made) × (digit_reads cell item w ≡ Read (Cell cell 0) (digit 0 item) ∷ rest)
@@ -77,18 +76,7 @@ words_first shape n item items behind none =
 pub same_words :
     (shape : Shape) (n : ℕ) (xs ys : List ℕ) (left right : List Made) → AllFit shape xs → AllFit shape ys → NoCellReadFirst left → NoCellReadFirst right →
     words_read shape n xs ++ left ≡ words_read shape n ys ++ right → (xs ≡ ys) × (left ≡ right)
-same_words shape n [] [] left right f g l r e = (refl, e)
-same_words shape n [] (y ∷ ys) left right f g l r e = absurd (words_first shape n y ys right (λ j d v rest is. l j d v rest (e ∙ is)))
-same_words shape n (x ∷ xs) [] left right f g l r e = absurd (words_first shape n x xs left (λ j d v rest is. r j d v rest (sym e ∙ is)))
-same_words shape n (x ∷ xs) (y ∷ ys) left right f g l r e =
-    let w : ℕ → List Made = word_read (width_of shape) (n % capacity_of shape) in
-    let first : (x ≡ y) × (words_read shape (suc n) xs ++ left ≡ words_read shape (suc n) ys ++ right) =
-    same_word_read (width_of shape) (n % capacity_of shape) x y _ _ f.0 g.0
-    (sym (append_assoc (w x) (words_read shape (suc n) xs) left) ∙ e ∙ append_assoc (w y) (words_read shape (suc n) ys) right) in
-    let rest : (xs ≡ ys) × (left ≡ right) = same_words shape (suc n) xs ys left right f.1 g.1 l r first.1 in
-    let head : x ≡ y = first.0 in
-    let tail : xs ≡ ys = rest.0 in
-    (cc, rest.1)
+same_words shape = same_words_by shape (words_read shape) (λ n. word_read (width_of shape) (n % capacity_of shape)) _ (λ n. refl) (λ n x xs. refl) (words_first shape) (λ n. same_word_read (width_of shape) (n % capacity_of shape))
 
 -- so are the items of a take
 pub same_items_phrase :
@@ -155,8 +143,6 @@ same_takes shape z (Item c i ∷ xs) (Item d j ∷ ys) a b is ((sees, batch), p)
     let are : AreTakes shape (number_past z.number i) ys b = subst (λ (l : List ℕ). AreTakes shape (number_past z.number l) ys b) (sym item) q in
     let same : left ≡ calls_from shape (count_after shape z (Item c i)) ys b = items.1 ∙ ap (λ (l : List ℕ). calls_from shape (count_after shape z (Item d l)) ys b) (sym item) in
     let rest : (xs ≡ ys) × (a ≡ b) = same_takes shape (count_after shape z (Item c i)) xs ys a b (counted_is_count shape z i) p are same in
-    let seen : c ≡ d = scans.0 in
-    let more : xs ≡ ys = rest.0 in
     (cc, rest.1)
 same_takes shape z (ItemAfterClose c c' i ∷ xs) (ItemAfterClose d d' j ∷ ys) a b is ((none, sees, batch), p) ((none', sees', batch'), q) e =
     let left : List Made = calls_from shape (count_after shape z (ItemAfterClose c c' i)) xs a in
@@ -181,15 +167,9 @@ same_takes shape z (Empty c ∷ xs) (Empty d ∷ ys) a b is (none, p) (none', q)
     let same : Read X false ∷ left ≡ Read X false ∷ right = scans.1 in
     let tail : left ≡ right = cc in
     let rest : (xs ≡ ys) × (a ≡ b) = same_takes shape z xs ys a b is p q tail in
-    let seen : c ≡ d = scans.0 in
-    let more : xs ≡ ys = rest.0 in
     (cc, rest.1)
-
-abbrev takes_of : List Take → End → Takes
-takes_of takes end = record { takes = takes; end = end }
 
 pub takes-are_read : TakesAreRead
 takes-are_read shape a b p q e =
-    let same : (a.takes ≡ b.takes) × (a.end ≡ b.end) =
-    same_takes shape first_count a.takes b.takes a.end b.end (first_is_count shape) p q (same_accesses C (take_program shape a) (take_program shape b) e) in
-    ap (λ l. takes_of l a.end) same.0 ∙ ap (takes_of b.takes) same.1
+    let (takes, end) = same_takes shape first_count a.takes b.takes a.end b.end (first_is_count shape) p q (same_accesses C (take_program shape a) (take_program shape b) e) in
+    ap₂ takes_of takes end

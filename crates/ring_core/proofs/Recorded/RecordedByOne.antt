@@ -15,8 +15,8 @@ use Rattle.ring_core.specs.Recorded.{put_answer, put_told, take_answer, take_tol
 use Rattle.ring_core.specs.RecordedByOne.{events_of_puts, events_of_takes, PutTells, PutsTellByOne, TakeTells, TakesTellByOne}
 use Rattle.ring_core.specs.Takes.{Take, Item, ItemAfterClose, Empty, End, Open, Closed, Takes, end_phrase, items_phrase, take_phrase, take_phrases, take_program, count_after}
 use Rattle.ring_core.proofs.Machines.Lengths.{length-scan}
-use Rattle.ring_core.proofs.Readings.Over.{total, puts_total, takes_total}
-use Rattle.ring_core.proofs.Recorded.TellsByOne.{IsFirst, IsBetween, IsLast, IsBehind, place, first_told, between_told, last_told, told, Tells, Begins, Ends, Goes, Behind, tells}
+use Rattle.ring_core.proofs.Readings.Over.{puts_total, takes_total}
+use Rattle.ring_core.proofs.Recorded.TellsByOne.{IsFirst, IsBetween, IsLast, IsBehind, place, first_told, between_told, last_told, told, Told, tells_so}
 
 -- ---- puts
 
@@ -50,8 +50,7 @@ put_told_is shape offers j c (x ∷ puts) closes i =
 
 -- what an event tells of the puts, in the words of any calls
 abbrev PutsTell : Shape → (ℕ → List ℕ) → Puts → ℕ → List Put → List Put → List Event → Type 0
-PutsTell shape offers calls i before after told =
-    Tells (put_events shape) (stored_after shape) (put_begin offers) put_answer (put_last calls.closes) 0 first_count calls.puts i before after told
+PutsTell shape offers calls = Told (put_events shape) (stored_after shape) (put_begin offers) put_answer (put_last calls.closes) (events_of_puts shape) 0 calls.puts
 
 -- the program's events are those of the puts, and of the close
 put_program_is : (shape : Shape) (calls : Puts) → events_in (put_program shape calls) ≡ events_of_puts shape calls.puts + 2 * length (close_phrase calls.closes)
@@ -79,25 +78,23 @@ close_tells shape offers calls i before after told true e l same all past whole 
 in_puts :
     (shape : Shape) (offers : ℕ → List ℕ) (calls : Puts) (i : ℕ) (before after : List Put) (told : List Event) → i < events_in (put_program shape calls) →
     PutsTell shape offers calls i before after told → PutTells shape offers calls i before after told
-in_puts shape offers calls i before after told l (Begins same at fewer is) =
+in_puts shape offers calls i before after told l (inl (same, at, fewer, is)) =
     let number : 0 + length before ≡ length before = omega arith in
-    inl (same, at ∙ puts_total shape first_count before, inl (fewer, is ∙ ap (λ n. PutBegin (offers n) ∷ []) number))
-in_puts shape offers calls i before after told l (Ends x one under at is) =
-    inr (inl (x, one, omega (arith, under, puts_total shape first_count before), at ∙ puts_total shape first_count after, is))
-in_puts shape offers calls i before after told l (Goes same under within is) =
-    inr (inr (inr (same, omega (arith, under, puts_total shape first_count before), λ _. omega (arith, within, puts_total shape first_count calls.puts, put_program_is shape calls), is)))
-in_puts shape offers calls i before after told l (Behind same all past is) =
+    inl (same, at, inl (fewer, is ∙ ap (λ n. PutBegin (offers n) ∷ []) number))
+in_puts shape offers calls i before after told l (inr (inl ends)) = inr (inl ends)
+in_puts shape offers calls i before after told l (inr (inr (inl (same, under, within, is)))) =
+    inr (inr (inr (same, under, (λ _. omega (arith, within, put_program_is shape calls)), is)))
+in_puts shape offers calls i before after told l (inr (inr (inr (same, all, past, is)))) =
     let whole : events_of_puts shape before ≡ events_of_puts shape calls.puts = ap (events_of_puts shape) all in
-    let total_is : total (put_events shape) (stored_after shape) first_count calls.puts ≡ events_of_puts shape before = omega (arith, whole, puts_total shape first_count calls.puts) in
-    close_tells shape offers calls i before after told calls.closes refl l same all (omega (arith, past, total_is)) whole (is ∙ ap (λ n. put_last calls.closes (i - n)) total_is)
+    close_tells shape offers calls i before after told calls.closes refl l same all (omega (arith, past, whole)) whole (is ∙ ap (λ n. put_last calls.closes (i - n)) (sym whole))
 
 pub puts-tell : PutsTellByOne
 puts-tell shape offers calls i l =
-    let before : List Put = puts_over shape first_count calls.puts i in
-    let after : List Put = puts_over shape first_count calls.puts (suc i) in
-    subst (PutTells shape offers calls i before after) (sym (put_told_is shape offers 0 first_count calls.puts calls.closes i))
-    (in_puts shape offers calls i before after _ l
-    (tells (put_events shape) (stored_after shape) (put_begin offers) put_answer (put_last calls.closes) (put_long shape) 0 first_count calls.puts i))
+    subst (PutTells shape offers calls i (puts_over shape first_count calls.puts i) (puts_over shape first_count calls.puts (suc i)))
+    (sym (put_told_is shape offers 0 first_count calls.puts calls.closes i))
+    (in_puts shape offers calls i _ _ _ l
+    (tells_so (put_events shape) (stored_after shape) (put_begin offers) put_answer (put_last calls.closes) (events_of_puts shape) (put_long shape) 0 first_count calls.puts i
+    (puts_total shape first_count)))
 
 -- ---- takes
 
@@ -142,8 +139,8 @@ take_told_is shape wants j c (x ∷ takes) end i =
 
 -- what an event tells of the takes, in the words of any calls
 abbrev TakesTell : Shape → (ℕ → ℕ) → Takes → ℕ → List Take → List Take → List Event → Type 0
-TakesTell shape wants calls i before after told =
-    Tells (take_events shape) (count_after shape) (take_begin wants) take_answer (take_last wants (0 + length calls.takes) calls.end) 0 first_count calls.takes i before after told
+TakesTell shape wants calls =
+    Told (take_events shape) (count_after shape) (take_begin wants) take_answer (take_last wants (0 + length calls.takes) calls.end) (events_of_takes shape) 0 calls.takes
 
 -- the program's events are those of the takes, and of the last that is told the ring is closed
 take_program_is : (shape : Shape) (calls : Takes) → events_in (take_program shape calls) ≡ events_of_takes shape calls.takes + events_in (end_phrase calls.end)
@@ -181,24 +178,22 @@ end_tells shape wants calls i before after told (Closed seen again) e l same pas
 in_takes :
     (shape : Shape) (wants : ℕ → ℕ) (calls : Takes) (i : ℕ) (before after : List Take) (told : List Event) → i < events_in (take_program shape calls) →
     TakesTell shape wants calls i before after told → TakeTells shape wants calls i before after told
-in_takes shape wants calls i before after told l (Begins same at fewer is) =
+in_takes shape wants calls i before after told l (inl (same, at, fewer, is)) =
     let number : 0 + length before ≡ length before = omega arith in
-    inl (same, at ∙ takes_total shape first_count before, is ∙ ap (λ n. take_begin wants n ∷ []) number)
-in_takes shape wants calls i before after told l (Ends x one under at is) =
-    inr (inl (x, one, omega (arith, under, takes_total shape first_count before), at ∙ takes_total shape first_count after, is))
-in_takes shape wants calls i before after told l (Goes same under within is) =
-    inr (inr (inr (same, omega (arith, under, takes_total shape first_count before), λ _. omega (arith, within, takes_total shape first_count calls.takes, take_program_is shape calls), is)))
-in_takes shape wants calls i before after told l (Behind same all past is) =
+    inl (same, at, is ∙ ap (λ n. take_begin wants n ∷ []) number)
+in_takes shape wants calls i before after told l (inr (inl ends)) = inr (inl ends)
+in_takes shape wants calls i before after told l (inr (inr (inl (same, under, within, is)))) =
+    inr (inr (inr (same, under, (λ _. omega (arith, within, take_program_is shape calls)), is)))
+in_takes shape wants calls i before after told l (inr (inr (inr (same, all, past, is)))) =
     let whole : events_of_takes shape before ≡ events_of_takes shape calls.takes = ap (events_of_takes shape) all in
-    let total_is : total (take_events shape) (count_after shape) first_count calls.takes ≡ events_of_takes shape before = omega (arith, whole, takes_total shape first_count calls.takes) in
     let number : 0 + length calls.takes ≡ length before = omega (arith, ap length all) in
-    end_tells shape wants calls i before after told calls.end refl l same (omega (arith, past, total_is)) whole
-    (is ∙ ap (λ n. take_last wants (0 + length calls.takes) calls.end (i - n)) total_is ∙ ap (λ n. take_last wants n calls.end (i - events_of_takes shape before)) number)
+    end_tells shape wants calls i before after told calls.end refl l same (omega (arith, past, whole)) whole
+    (is ∙ ap (λ n. take_last wants (0 + length calls.takes) calls.end (i - n)) (sym whole) ∙ ap (λ n. take_last wants n calls.end (i - events_of_takes shape before)) number)
 
 pub takes-tell : TakesTellByOne
 takes-tell shape wants calls i l =
-    let before : List Take = takes_over shape first_count calls.takes i in
-    let after : List Take = takes_over shape first_count calls.takes (suc i) in
-    subst (TakeTells shape wants calls i before after) (sym (take_told_is shape wants 0 first_count calls.takes calls.end i))
-    (in_takes shape wants calls i before after _ l
-    (tells (take_events shape) (count_after shape) (take_begin wants) take_answer (take_last wants (0 + length calls.takes) calls.end) (take_long shape) 0 first_count calls.takes i))
+    subst (TakeTells shape wants calls i (takes_over shape first_count calls.takes i) (takes_over shape first_count calls.takes (suc i)))
+    (sym (take_told_is shape wants 0 first_count calls.takes calls.end i))
+    (in_takes shape wants calls i _ _ _ l
+    (tells_so (take_events shape) (count_after shape) (take_begin wants) take_answer (take_last wants (0 + length calls.takes) calls.end) (events_of_takes shape) (take_long shape) 0
+    first_count calls.takes i (takes_total shape first_count)))

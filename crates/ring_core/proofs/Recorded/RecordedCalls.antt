@@ -18,6 +18,7 @@ use Rattle.ring_core.proofs.OverSpans.LookSpans.{look, put_looks, take_looks, sp
 use Rattle.ring_core.proofs.OverSpans.Looks.{proper_puts, proper_takes}
 use Rattle.ring_core.proofs.CountRow.{past_is}
 use Rattle.ring_core.proofs.OverSpans.CallSpans.{take_phrase-item, take_phrase-after, take_phrase-empty}
+pub use Rattle.ring_core.proofs.OverSpans.CallSpans.{put_items}
 use Rattle.ring_core.proofs.Linear.PutTurns.{lt_is, lt_not, put_long}
 use Rattle.ring_core.proofs.Linear.PutTurnFacts.{long_is}
 use Rattle.ring_core.proofs.Linear.TakeTurns.{take_long}
@@ -101,11 +102,6 @@ calls_past most all tell start stop long passed items rest rest' tells tells' n 
 }
 
 -- ---- puts
-
--- the items that a put stores
-abbrev pub put_items : Put → List ℕ
-put_items (Stored seen items) = items
-put_items (Full seen) = []
 
 -- what the events of puts tell, behind so many
 abbrev puts_tell : Shape → (ℕ → List ℕ) → Puts → Count → List Put → ℕ → ℕ → List calls.Event

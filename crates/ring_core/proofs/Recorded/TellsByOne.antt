@@ -1,5 +1,5 @@
 -- What one event tells of calls that follow one another, by those of them that are over before it and with it.
-use Rattle.std.proofs.Common.{◌≡◌, inl, inr, ℕ, suc, ◌+◌, ◌-◌, ◌<◌, ◌≤◌, Bool, true, false, nat_eq, nat_le, nat_lt, if◌then◌else◌, List, [], ◌∷◌, ◌++◌, length, refl, ap, ◌∙◌, arith}
+use Rattle.std.proofs.Common.{◌≡◌, ◌⊎◌, inl, inr, ℕ, suc, ◌+◌, ◌-◌, ◌<◌, ◌≤◌, Bool, true, false, nat_eq, nat_le, nat_lt, if◌then◌else◌, List, [], ◌∷◌, ◌++◌, length, refl, ap, ◌∙◌, arith}
 use Rattle.std.proofs.lemmas.Bool.Decides.{nat_tests}
 use Rattle.queue_calls.specs.Calls.{Event}
 use Rattle.ring_core.specs.Over.{over}
@@ -143,3 +143,25 @@ module _ {S X : Type 0} (events : S → X → ℕ) (after : S → X → S) (begi
   pub tells : ((s : S) (x : X) → 2 ≤ events s x) → (j : ℕ) (s : S) (xs : List X) (i : ℕ) → Tells j s xs i (over events after s xs i) (over events after s xs (suc i)) (told j s xs i)
   tells long j s [] i = let whole : i ≡ i - 0 = omega arith in Behind refl refl (omega arith) (ap last whole)
   tells long j s (x ∷ xs) i = at long j s x xs i (place (events s x) i (long s x)) (tells long (suc j) (after s x) xs (i - events s x))
+
+  -- the same where the calls have so many events, told as in the laws
+  abbrev pub Told : (List X → ℕ) → ℕ → List X → ℕ → (before with_it : List X) → List Event → Type 0
+  Told size j xs i before with_it tells =
+      ((with_it ≡ before) × (i ≡ size before) × (length before < length xs) × (tells ≡ begins (j + length before) ∷ [])) ⊎
+      (((x : X) × (with_it ≡ before ++ x ∷ []) × (size before < i) × (suc i ≡ size with_it) × (tells ≡ answer x ∷ [])) ⊎
+      (((with_it ≡ before) × (size before < i) × (suc i < size xs) × (tells ≡ [])) ⊎
+      ((with_it ≡ before) × (before ≡ xs) × (size xs ≤ i) × (tells ≡ last (i - size xs)))))
+
+  told_so :
+      (size : List X → ℕ) (j : ℕ) (s : S) (xs : List X) (i : ℕ) (before with_it : List X) (t : List Event) → ((ys : List X) → total events after s ys ≡ size ys) →
+      Tells j s xs i before with_it t → Told size j xs i before with_it t
+  told_so size j s xs i before with_it t is (Begins same at fewer told) = inl (same, at ∙ is before, fewer, told)
+  told_so size j s xs i before with_it t is (Ends x one under at told) = inr (inl (x, one, omega (arith, under, is before), at ∙ is with_it, told))
+  told_so size j s xs i before with_it t is (Goes same under within told) = inr (inr (inl (same, omega (arith, under, is before), omega (arith, within, is xs), told)))
+  told_so size j s xs i before with_it t is (Behind same all past told) =
+      inr (inr (inr (same, all, omega (arith, past, is xs), told ∙ ap (λ n. last (i - n)) (is xs))))
+
+  pub tells_so :
+      (size : List X → ℕ) → ((s : S) (x : X) → 2 ≤ events s x) → (j : ℕ) (s : S) (xs : List X) (i : ℕ) → ((ys : List X) → total events after s ys ≡ size ys) →
+      Told size j xs i (over events after s xs i) (over events after s xs (suc i)) (told j s xs i)
+  tells_so size long j s xs i is = told_so size j s xs i _ _ _ is (tells long j s xs i)
