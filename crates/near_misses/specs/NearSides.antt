@@ -21,17 +21,17 @@ use Rattle.queue_calls.specs.declared.events.CallEvent.{CallEvent}
 
 -- where the calls of a side have come to: to no call, into one, or past the last
 pub data NearPhase : Type 0 where
-  NoCall : NearPhase
+  Outside : NearPhase
   InCall : NearPhase
   PastAll : NearPhase
 
 abbrev pub put_phase : put.Stage → NearPhase
-put_phase put.TheVariants.Between = NoCall
+put_phase put.TheVariants.Between = Outside
 put_phase put.TheVariants.Over = PastAll
 put_phase _ = InCall
 
 abbrev pub take_phase : taking.Stage → NearPhase
-take_phase taking.TheVariants.Between = NoCall
+take_phase taking.TheVariants.Between = Outside
 take_phase taking.TheVariants.Over = PastAll
 take_phase _ = InCall
 
