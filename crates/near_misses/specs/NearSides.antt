@@ -36,12 +36,14 @@ take_phase taking.TheVariants.Over = PastAll
 take_phase _ = InCall
 
 abbrev pub is_in_call : NearPhase → Bool
+is_in_call Outside = false
 is_in_call InCall = true
-is_in_call _ = false
+is_in_call PastAll = false
 
 abbrev pub is_past_all : NearPhase → Bool
+is_past_all Outside = false
+is_past_all InCall = false
 is_past_all PastAll = true
-is_past_all _ = false
 
 abbrev pub put_stand : NearPutter → NearStand
 put_stand p = record { in_call = is_in_call (put_phase p.stage); stopped = p.stopped; count = p.stored; read = []; item = 0; over = is_past_all (put_phase p.stage) }
