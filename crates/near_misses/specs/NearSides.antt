@@ -19,30 +19,37 @@ use Rattle.near_misses.specs.declared.taking.Stage as taking
 use Rattle.ring_player.specs.Actors.{IsAtTurn}
 use Rattle.queue_calls.specs.declared.events.CallEvent.{CallEvent}
 
--- the stages in a call, and the one behind the last call
-abbrev pub is_in_put : put.Stage → Bool
-is_in_put put.TheVariants.Between = false
-is_in_put put.TheVariants.Over = false
-is_in_put _ = true
+-- where the calls of a side have come to: to no call, into one, or past the last
+pub data NearPhase : Type 0 where
+  Outside : NearPhase
+  InCall : NearPhase
+  PastAll : NearPhase
 
-abbrev pub is_put_over : put.Stage → Bool
-is_put_over put.TheVariants.Over = true
-is_put_over _ = false
+abbrev pub put_phase : put.Stage → NearPhase
+put_phase put.TheVariants.Between = Outside
+put_phase put.TheVariants.Over = PastAll
+put_phase _ = InCall
 
-abbrev pub is_in_take : taking.Stage → Bool
-is_in_take taking.TheVariants.Between = false
-is_in_take taking.TheVariants.Over = false
-is_in_take _ = true
+abbrev pub take_phase : taking.Stage → NearPhase
+take_phase taking.TheVariants.Between = Outside
+take_phase taking.TheVariants.Over = PastAll
+take_phase _ = InCall
 
-abbrev pub is_take_over : taking.Stage → Bool
-is_take_over taking.TheVariants.Over = true
-is_take_over _ = false
+abbrev pub is_in_call : NearPhase → Bool
+is_in_call Outside = false
+is_in_call InCall = true
+is_in_call PastAll = false
+
+abbrev pub is_past_all : NearPhase → Bool
+is_past_all Outside = false
+is_past_all InCall = false
+is_past_all PastAll = true
 
 abbrev pub put_stand : NearPutter → NearStand
-put_stand p = record { in_call = is_in_put p.stage; stopped = p.stopped; count = p.stored; read = []; item = 0; over = is_put_over p.stage }
+put_stand p = record { in_call = is_in_call (put_phase p.stage); stopped = p.stopped; count = p.stored; read = []; item = 0; over = is_past_all (put_phase p.stage) }
 
 abbrev pub take_stand : NearTaker → NearStand
-take_stand t = record { in_call = is_in_take t.stage; stopped = t.stopped; count = t.used; read = take t.whole t.items; item = t.item; over = is_take_over t.stage }
+take_stand t = record { in_call = is_in_call (take_phase t.stage); stopped = t.stopped; count = t.used; read = take t.whole t.items; item = t.item; over = is_past_all (take_phase t.stage) }
 
 -- they were asked so much
 abbrev pub IsAskedToPut : NearPutter → NearAsked → Type 0

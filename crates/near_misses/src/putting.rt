@@ -43,7 +43,7 @@ pub(crate) struct NearPutter<'a> {
 
 impl<'a> NearPutter<'a> {
     ghost use Rattle.near_misses.specs.NearPlays.{NearAsked, near_start};
-    ghost use Rattle.near_misses.specs.NearSides.{IsAskedToPut, PutterEnds, is_in_put, put_stand};
+    ghost use Rattle.near_misses.specs.NearSides.{IsAskedToPut, PutterEnds, put_stand};
 
     pub fn new(miss: NearMiss, shape: Shape, items: &'a [u64], closes: bool) -> Self
         ensures starts { put_stand result ≡ near_start }
@@ -76,7 +76,7 @@ impl<'a> NearPutter<'a> {
 
     // The access that was due has ended with this answer. Tells the end of a call, where it is one.
     fn ended(&mut self, answer: bool) -> Option<NearCall>
-        requires { is_in_put self.old.stage ≡ true }
+        requires { (put_stand self.old).in_call ≡ true }
         ensures { PutterEnds self.old result self.new }
     {
         match self.stage {
@@ -99,7 +99,7 @@ impl<'a> NearPutter<'a> {
 
     // A bit of the consumer's count answered 0: the next one is read. (One that answers 0 to the last gives no count, and the side stops.)
     fn scan_on(&mut self, zeros: u8) -> Option<NearCall>
-        requires { is_in_put self.old.stage ≡ true }
+        requires { (put_stand self.old).in_call ≡ true }
         ensures { PutterEnds self.old result self.new }
     {
         self.stage = if u64::from(zeros) + 1 < self.shape.modulus() {
@@ -129,7 +129,7 @@ impl<'a> NearPutter<'a> {
 
     // The scan gave this count: a put that finds room goes on, with its items or with its count.
     fn scanned(&mut self, seen: u64) -> Option<NearCall>
-        requires { is_in_put self.old.stage ≡ true }
+        requires { (put_stand self.old).in_call ≡ true }
         ensures { PutterEnds self.old result self.new }
     {
         let most = self.room_behind(seen);
@@ -150,7 +150,7 @@ impl<'a> NearPutter<'a> {
 
     // A digit was written.
     fn stored_digit(&mut self, done: usize, digit: u8) -> Option<NearCall>
-        requires { is_in_put self.old.stage ≡ true }
+        requires { (put_stand self.old).in_call ≡ true }
         ensures { PutterEnds self.old result self.new }
     {
         if u64::from(digit) + 1 < self.shape.width() {
@@ -169,7 +169,7 @@ impl<'a> NearPutter<'a> {
 
     // A bit of the count was written.
     fn counted(&mut self) -> Option<NearCall>
-        requires { is_in_put self.old.stage ≡ true }
+        requires { (put_stand self.old).in_call ≡ true }
         ensures { PutterEnds self.old result self.new }
     {
         self.row.feed();
@@ -184,7 +184,7 @@ impl<'a> NearPutter<'a> {
     }
 
     fn put_is_over(&mut self) -> Option<NearCall>
-        requires { is_in_put self.old.stage ≡ true }
+        requires { (put_stand self.old).in_call ≡ true }
         ensures { PutterEnds self.old result self.new }
     {
         let stored = self.storing;

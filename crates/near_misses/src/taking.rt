@@ -77,7 +77,7 @@ impl NearTaker {
     ghost use Rattle.bits_core.specs.Shape.{width_of};
     ghost use Rattle.near_misses.specs.declared.taking.Stage.TheVariants.{Counting, Reading};
     ghost use Rattle.near_misses.specs.NearPlays.{NearAsked, near_start, with_digit_read};
-    ghost use Rattle.near_misses.specs.NearSides.{IsAskedToTake, TakerEnds, is_in_take, take_stand, taker_wants};
+    ghost use Rattle.near_misses.specs.NearSides.{IsAskedToTake, TakerEnds, take_stand, taker_wants};
 
     pub fn new(miss: NearMiss, shape: Shape, takes: u64) -> Self
         ensures starts { take_stand result ≡ near_start }
@@ -121,7 +121,7 @@ impl NearTaker {
 
     // A bit of the producer's count was read. (A scan that reads 0 to the last bit gives no count, and the side stops.)
     fn scan_ends(&mut self, zeros: u8, answer: bool, again: bool) -> Option<NearCall>
-        requires in_take { is_in_take self.old.stage ≡ true }
+        requires in_take { (take_stand self.old).in_call ≡ true }
         requires none { (self.old.whole ≡ 0) × (1 ≤ taker_wants self.old) }
         ensures { TakerEnds self.old result self.new }
     {
@@ -157,7 +157,7 @@ impl NearTaker {
 
     // A scan gave this count.
     fn scanned(&mut self, seen: u64, again: bool) -> Option<NearCall>
-        requires in_take { is_in_take self.old.stage ≡ true }
+        requires in_take { (take_stand self.old).in_call ≡ true }
         requires none { (self.old.whole ≡ 0) × (1 ≤ taker_wants self.old) }
         ensures { TakerEnds self.old result self.new }
     {
@@ -179,7 +179,7 @@ impl NearTaker {
 
     // The close bit was read.
     fn looked(&mut self, closed: bool) -> Option<NearCall>
-        requires in_take { is_in_take self.old.stage ≡ true }
+        requires in_take { (take_stand self.old).in_call ≡ true }
         requires none { (self.old.whole ≡ 0) × (1 ≤ taker_wants self.old) }
         ensures { TakerEnds self.old result self.new }
     {
@@ -201,7 +201,7 @@ impl NearTaker {
         requires { self.old.stage ≡ Reading digit }
         ensures shape { self.new.shape ≡ self.old.shape }
         ensures asked { (asked : NearAsked) → IsAskedToTake self.old asked → IsAskedToTake self.new asked }
-        ensures in_take { is_in_take self.new.stage ≡ true }
+        ensures in_take { (take_stand self.new).in_call ≡ true }
         ensures read { take_stand self.new ≡ with_digit_read (width_of self.old.shape) answer digit
             (take_stand self.old) }
     {

@@ -13,7 +13,7 @@ use Rattle.ring_core.specs.ProducerState.{batch_reply, Call, call_of, Close, due
 use Rattle.ring_core.specs.Puts as puts
 use Rattle.ring_core.specs.Puts.{ArePuts, Full, IsBatch, number_after, Puts, put_program, Stored, stored_after, stored_count, stored_in}
 use Rattle.ring_core.specs.Over.{fulls}
-use Rattle.ring_player.specs.Actors.{IsAsked, PutActorStands, PutTally, after_reply, full_in_reply, so_far, stored_in_reply}
+use Rattle.ring_player.specs.Actors.{ArePutsMade, IsAsked, PutActorStands, PutTally, after_reply, full_in_reply, so_far, stored_in_reply}
 use Rattle.ring_player.specs.Plays.{AreAttempts, ArePutsOf, IsDoneAfter, IsProgram, offered}
 use Rattle.ring_script.specs.Content.{Content}
 use Rattle.ring_script.specs.Script.{Fit}
@@ -352,6 +352,17 @@ ended script p p' kept list due a v s next due_is is one moved shape batched due
     quiet_full : (p'.reply ≡ None) → kept.full + full_in_reply (batch_reply p') ≡ kept.full
     quiet_full e = let nothing : kept.full + 0 ≡ kept.full = omega arith in ap (λ t. kept.full + full_in_reply t) (none_told e) ∙ nothing
 
+    -- where no put has ended
+    no_more :
+        (more : Puts) → more.puts ≡ s.calls.puts → p'.reply ≡ None → length (put_program script.shape more) ≤ length (list ++ answered a v ∷ []) →
+        ArePutsMade script (after_reply kept (batch_reply p')) (list ++ answered a v ∷ []) more
+    no_more more same none long = record {
+      attempts = subst (AreAttempts script 0) (sym same) s.made.attempts;
+      counted = quiet none ∙ s.made.counted ∙ ap (stored_in 0) (sym same);
+      filled = quiet_full none ∙ s.made.filled ∙ ap fulls (sym same);
+      long = long;
+    }
+
     by_call :
         (c d : Option Call) → call_of p ≡ c → call_of p' ≡ d → (more : Puts) → IsAsked script s.calls c → ProducerStands p' more (list ++ answered a v ∷ []) →
         IsAfterCall script.shape c d s.calls more p'.reply → IsProgram script P (events_of P (list ++ answered a v ∷ [])) →
@@ -363,12 +374,7 @@ ended script p p' kept list due a v s next due_is is one moved shape batched due
           calls = more;
           there = there;
           same_shape = shape ∙ s.same_shape;
-          made = record {
-            attempts = subst (λ (t : Puts). AreAttempts script 0 t.puts) (sym more_is) s.made.attempts;
-            counted = quiet silent ∙ s.made.counted ∙ ap (λ (t : Puts). stored_in 0 t.puts) (sym more_is);
-            filled = quiet_full silent ∙ s.made.filled ∙ ap (λ (t : Puts). fulls t.puts) (sym more_is);
-            long = omega (arith, s.made.long, ap (λ (t : Puts). length (put_program script.shape t)) more_is, length-append list (answered a v ∷ []));
-          };
+          made = no_more more (ap (λ (t : Puts). t.puts) more_is) silent (omega (arith, s.made.long, ap (λ (t : Puts). length (put_program script.shape t)) more_is, length-append list (answered a v ∷ [])));
           batched = λ items e. batched ∙ s.batched items (c_is ∙ ap (λ t. Some t) (sym same) ∙ sym d_is ∙ e);
           asked = subst (λ t. IsAsked script more t) (sym d_is) (subst (λ t. IsAsked script more (Some t)) (sym same) (subst (λ (t : Puts). IsAsked script t (Some c)) (sym more_is) asked));
           program = goes;
@@ -400,12 +406,7 @@ ended script p p' kept list due a v s next due_is is one moved shape batched due
           calls = more;
           there = there;
           same_shape = shape ∙ s.same_shape;
-          made = record {
-            attempts = subst (λ (t : Puts). AreAttempts script 0 t.puts) (sym more_is) s.made.attempts;
-            counted = quiet (silent refl) ∙ s.made.counted ∙ ap (λ (t : Puts). stored_in 0 t.puts) (sym more_is);
-            filled = quiet_full (silent refl) ∙ s.made.filled ∙ ap (λ (t : Puts). fulls t.puts) (sym more_is);
-            long = whole_long more there d_is;
-          };
+          made = no_more more (ap (λ (t : Puts). t.puts) more_is) (silent refl) (whole_long more there d_is);
           batched = λ items e. absurd (none_some items (sym d_is ∙ e));
           asked = subst (λ t. IsAsked script more t) (sym d_is) (calls_asked script Close s.calls more s.made.attempts asked (more_is, are, o)).closes;
           program = goes;

@@ -21,7 +21,6 @@ use Rattle.ring_core.proofs.CountRow.{past_is}
 use Rattle.ring_player.proofs.Overs.{over_front}
 use Rattle.ring_player.proofs.Puttings.{fulls-more, stored-more}
 use Rattle.ring_player.proofs.TakeLists.{all-more, all_are, empties-more, take_at}
-use Rattle.ring_core.proofs.LawLemmas.{events_tell_by_one_puts, events_tell_by_one_takes}
 
 -- ---- lists
 
@@ -45,21 +44,13 @@ put_at : (shape : Shape) (n : ℕ) (xs : List Put) (x : Put) (ys : List Put) →
 put_at shape n [] x ys m = m.0
 put_at shape n (y ∷ xs) x ys m = put_at shape (number_after n y) xs x ys m.1
 
-module _ (script : Content) (puts : Puts) (i : ℕ) (asked : ArePutsOf script puts) (few : i < events_in (put_program script.shape puts)) where
-  abbrev shape : Shape
-  shape = script.shape
-
+module _ (script : Content) (puts : Puts) (i : ℕ) {told : List calls.Event} (asked : ArePutsOf script puts)
+    (tells : PutTells script.shape (offers_of script puts) puts i (puts_over script.shape first_count puts.puts i) (puts_over script.shape first_count puts.puts (suc i)) told) where
   abbrev before : List Put
-  before = puts_over shape first_count puts.puts i
+  before = puts_over script.shape first_count puts.puts i
 
   abbrev after : List Put
-  after = puts_over shape first_count puts.puts (suc i)
-
-  abbrev told : List calls.Event
-  told = put_told shape (offers_of script puts) 0 first_count puts.puts puts.closes i
-
-  tells : PutTells shape (offers_of script puts) puts i before after told
-  tells = events_tell_by_one_puts shape (offers_of script puts) puts i few
+  after = puts_over script.shape first_count puts.puts (suc i)
 
   front : (rest : List Put) × (puts.puts ≡ before ++ rest)
   front = over_front _ _ first_count puts.puts i
@@ -89,7 +80,7 @@ module _ (script : Content) (puts : Puts) (i : ℕ) (asked : ArePutsOf script pu
     | inl z ↦ elim z.2 [
       | inl w ↦ (
         ap (λ n. calls.PutBegin (offered script n) ∷ []) is ∙ ap (λ l. calls.PutBegin l ∷ []) (sym offer_is) ∙ sym w.1,
-        (omega (arith, z.1, ap (events_of_puts shape) z.0), omega (arith, w.0, ap length z.0)),
+        (omega (arith, z.1, ap (events_of_puts script.shape) z.0), omega (arith, w.0, ap length z.0)),
       )
       | inr w ↦ absurd (omega (arith, l, is, none_next w.0 w.1))
     ]
@@ -105,7 +96,7 @@ module _ (script : Content) (puts : Puts) (i : ℕ) (asked : ArePutsOf script pu
   close_begins stored e is l = elim tells [
     | inl z ↦ elim z.2 [
       | inl w ↦ absurd (omega (arith, l, is, next_item w.0))
-      | inr w ↦ (sym w.2, (z.0 ∙ w.0, w.1, omega (arith, z.1, ap (events_of_puts shape) w.0)))
+      | inr w ↦ (sym w.2, (z.0 ∙ w.0, w.1, omega (arith, z.1, ap (events_of_puts script.shape) w.0)))
     ]
     | inr y ↦ absurd (elim y [
       | inl z ↦ let (x, is', less, ends, t) = z in omega (arith, less, e)
@@ -129,19 +120,19 @@ module _ (script : Content) (puts : Puts) (i : ℕ) (asked : ArePutsOf script pu
           omega (arith, is_stored, now_stored, ap (stored_in 0) z.0),
           omega (arith, is_full, now_full, ap fulls z.0),
           sym z.3,
-          (omega (arith, z.1, ap (events_of_puts shape) z.0), omega (arith, at.1, ap length z.0)),
+          (omega (arith, z.1, ap (events_of_puts script.shape) z.0), omega (arith, at.1, ap length z.0)),
         ))
       ]
     ]
   ]
     where
-      is_put : (x : Put) → after ≡ before ++ x ∷ [] → IsPut shape (stored_in 0 before) x
+      is_put : (x : Put) → after ≡ before ++ x ∷ [] → IsPut script.shape (stored_in 0 before) x
       is_put x is =
           let (rest, e) = front_after in
-          put_at shape 0 before x rest (subst (ArePuts shape 0) (e ∙ ap (λ l. l ++ rest) is ∙ append_assoc before (x ∷ []) rest) asked.are)
+          put_at script.shape 0 before x rest (subst (ArePuts script.shape 0) (e ∙ ap (λ l. l ++ rest) is ∙ append_assoc before (x ∷ []) rest) asked.are)
 
       by_put :
-          (x : Put) → after ≡ before ++ x ∷ [] → suc i ≡ events_of_puts shape after → told ≡ put_answer x ∷ [] → IsPut shape (stored_in 0 before) x →
+          (x : Put) → after ≡ before ++ x ∷ [] → suc i ≡ events_of_puts script.shape after → told ≡ put_answer x ∷ [] → IsPut script.shape (stored_in 0 before) x →
           ((stored < stored') × (calls.PutStored (stored' - stored) true ∷ [] ≡ told) × IsPutStage put.Between script puts (suc i)) ⊎
           (((stored' ≤ stored) × (full < full') × (calls.PutFull ∷ [] ≡ told) × IsPutStage put.Between script puts (suc i)) ⊎
           ((stored' ≤ stored) × (full' ≤ full) × ([] ≡ told) × IsPutStage put.Putting script puts (suc i)))
@@ -159,7 +150,7 @@ module _ (script : Content) (puts : Puts) (i : ℕ) (asked : ArePutsOf script pu
 
   pub close_ends : IsPutStage put.Closing script puts i → (calls.CloseEnd ∷ [] ≡ told) × IsPutStage put.Closed script puts (suc i)
   close_ends at = elim tells [
-    | inl z ↦ absurd (omega (arith, z.1, at.2, ap (events_of_puts shape) at.0))
+    | inl z ↦ absurd (omega (arith, z.1, at.2, ap (events_of_puts script.shape) at.0))
     | inr y ↦ elim y [
       | inl z ↦ (
           let (x, is, less, ends, t) = z in
@@ -172,26 +163,18 @@ module _ (script : Content) (puts : Puts) (i : ℕ) (asked : ArePutsOf script pu
     ]
   ]
     where
-      whole : events_in (put_program shape puts) ≡ events_of_puts shape puts.puts + 2
-      whole = omega (arith, length-append (put_phrases shape first_count puts.puts) (close_phrase puts.closes), ap (λ b. length (close_phrase b)) at.1)
+      whole : events_in (put_program script.shape puts) ≡ events_of_puts script.shape puts.puts + 2
+      whole = omega (arith, length-append (put_phrases script.shape first_count puts.puts) (close_phrase puts.closes), ap (λ b. length (close_phrase b)) at.1)
 
 -- ---- takes
 
-module _ (script : Content) (takes : Takes) (i : ℕ) (few : i < events_in (take_program script.shape takes)) where
-  abbrev shape_of : Shape
-  shape_of = script.shape
-
+module _ (script : Content) (takes : Takes) (i : ℕ) {told : List calls.Event}
+    (tells : TakeTells script.shape (wants_of script takes) takes i (takes_over script.shape first_count takes.takes i) (takes_over script.shape first_count takes.takes (suc i)) told) where
   abbrev over_before : List Take
-  over_before = takes_over shape_of first_count takes.takes i
+  over_before = takes_over script.shape first_count takes.takes i
 
   abbrev over_after : List Take
-  over_after = takes_over shape_of first_count takes.takes (suc i)
-
-  abbrev told_of : List calls.Event
-  told_of = take_told shape_of (wants_of script takes) 0 first_count takes.takes takes.end i
-
-  take_tells : TakeTells shape_of (wants_of script takes) takes i over_before over_after told_of
-  take_tells = events_tell_by_one_takes shape_of (wants_of script takes) takes i few
+  over_after = takes_over script.shape first_count takes.takes (suc i)
 
   wants_are : wants_of script takes (length over_before) ≡ wanted_at script (length (all_taken over_before))
   wants_are =
@@ -201,11 +184,11 @@ module _ (script : Content) (takes : Takes) (i : ℕ) (few : i < events_in (take
 
   pub take_begins :
       (wanted taken : ℕ) → IsTakeStage taking.Between script takes i → wanted ≡ wanted_at script taken → taken ≡ length (all_taken over_before) →
-      (calls.TakeBegin wanted ∷ [] ≡ told_of) × IsTakeStage taking.Taking script takes (suc i)
-  take_begins wanted taken e is_wanted is_taken = elim take_tells [
+      (calls.TakeBegin wanted ∷ [] ≡ told) × IsTakeStage taking.Taking script takes (suc i)
+  take_begins wanted taken e is_wanted is_taken = elim tells [
     | inl z ↦ (
       ap (λ n. calls.TakeBegin n ∷ []) (is_wanted ∙ ap (wanted_at script) is_taken ∙ sym wants_are) ∙ sym z.2,
-      omega (arith, z.1, ap (events_of_takes shape_of) z.0),
+      omega (arith, z.1, ap (events_of_takes script.shape) z.0),
     )
     | inr y ↦ absurd (elim y [
       | inl z ↦ let (x, is, less, ends, t) = z in omega (arith, less, e)
@@ -216,18 +199,18 @@ module _ (script : Content) (takes : Takes) (i : ℕ) (few : i < events_in (take
   -- a take ends that took some items, or none
   abbrev Ends : (taken taken' empty empty' : ℕ) → Type 0
   Ends taken taken' empty empty' =
-      ((taken < taken') × (calls.TakeItems (take (taken' - taken) (drop taken script.items)) true ∷ [] ≡ told_of) × IsTakeStage taking.Between script takes (suc i)) ⊎
-      ((taken' ≤ taken) × (empty < empty') × (calls.TakeEmpty ∷ [] ≡ told_of) × IsTakeStage taking.Between script takes (suc i))
+      ((taken < taken') × (calls.TakeItems (take (taken' - taken) (drop taken script.items)) true ∷ [] ≡ told) × IsTakeStage taking.Between script takes (suc i)) ⊎
+      ((taken' ≤ taken) × (empty < empty') × (calls.TakeEmpty ∷ [] ≡ told) × IsTakeStage taking.Between script takes (suc i))
 
   -- a take goes on, or it ends, by what is counted
   pub take_goes :
-      (taken taken' empty empty' : ℕ) → AreTakes shape_of 0 takes.takes takes.end → IsPrefix (all_taken over_after) script.items → IsTakeStage taking.Taking script takes i →
+      (taken taken' empty empty' : ℕ) → AreTakes script.shape 0 takes.takes takes.end → IsPrefix (all_taken over_after) script.items → IsTakeStage taking.Taking script takes i →
       taken ≡ length (all_taken over_before) → empty ≡ empties over_before → taken' ≡ length (all_taken over_after) → empty' ≡ empties over_after →
       Ends taken taken' empty empty' ⊎
       ((taken' ≤ taken) × (empty' ≤ empty) ×
-      ((IsTold shape_of takes (suc i) × (calls.TakeClosed ∷ [] ≡ told_of) × IsTakeStage taking.Told script takes (suc i)) ⊎
-      ((¬ IsTold shape_of takes (suc i)) × ([] ≡ told_of) × IsTakeStage taking.Taking script takes (suc i))))
-  take_goes taken taken' empty empty' are (rest, first) at is_taken is_empty now_taken now_empty = elim take_tells [
+      ((IsTold script.shape takes (suc i) × (calls.TakeClosed ∷ [] ≡ told) × IsTakeStage taking.Told script takes (suc i)) ⊎
+      ((¬ IsTold script.shape takes (suc i)) × ([] ≡ told) × IsTakeStage taking.Taking script takes (suc i))))
+  take_goes taken taken' empty empty' are (rest, first) at is_taken is_empty now_taken now_empty = elim tells [
     | inl z ↦ absurd (omega (arith, at, z.1))
     | inr y ↦ elim y [
       | inl z ↦ (let (x, is, less, ends, t) = z in inl (by_take x is ends t (is_take x is)))
@@ -240,7 +223,7 @@ module _ (script : Content) (takes : Takes) (i : ℕ) (few : i < events_in (take
         | inr z ↦ inr (
           omega (arith, now_taken, ap (λ l. length (all_taken l)) z.0, is_taken),
           omega (arith, now_empty, ap empties z.0, is_empty),
-          inr ((λ t. absurd (omega (arith, z.2 t.0, t.1))), sym z.3, omega (arith, z.1, ap (events_of_takes shape_of) z.0)),
+          inr ((λ t. absurd (omega (arith, z.2 t.0, t.1))), sym z.3, omega (arith, z.1, ap (events_of_takes script.shape) z.0)),
         )
       ]
     ]
@@ -252,11 +235,11 @@ module _ (script : Content) (takes : Takes) (i : ℕ) (few : i < events_in (take
       count_more : (x : Take) → over_after ≡ over_before ++ x ∷ [] → taken' ≡ taken + length (taken_of x)
       count_more x is = omega (arith, now_taken, ap length (more x is), length-append (all_taken over_before) (taken_of x), is_taken)
 
-      is_take : (x : Take) → over_after ≡ over_before ++ x ∷ [] → IsTake shape_of (taken_in 0 over_before) x
+      is_take : (x : Take) → over_after ≡ over_before ++ x ∷ [] → IsTake script.shape (taken_in 0 over_before) x
       is_take x is =
           let (rest, e) = over_front _ _ first_count takes.takes (suc i) in
-          take_at shape_of 0 over_before x rest takes.end
-          (subst (λ (l : List Take). AreTakes shape_of 0 l takes.end) (e ∙ ap (λ l. l ++ rest) is ∙ append_assoc over_before (x ∷ []) rest) are)
+          take_at script.shape 0 over_before x rest takes.end
+          (subst (λ (l : List Take). AreTakes script.shape 0 l takes.end) (e ∙ ap (λ l. l ++ rest) is ∙ append_assoc over_before (x ∷ []) rest) are)
 
       -- the items of the take are the script's behind those taken before
       part : (x : Take) → over_after ≡ over_before ++ x ∷ [] → take (taken' - taken) (drop taken script.items) ≡ taken_of x
@@ -265,7 +248,7 @@ module _ (script : Content) (takes : Takes) (i : ℕ) (few : i < events_in (take
           (omega (arith, count_more x is))
 
       by_take :
-          (x : Take) → over_after ≡ over_before ++ x ∷ [] → suc i ≡ events_of_takes shape_of over_after → told_of ≡ take_answer x ∷ [] → IsTake shape_of (taken_in 0 over_before) x →
+          (x : Take) → over_after ≡ over_before ++ x ∷ [] → suc i ≡ events_of_takes script.shape over_after → told ≡ take_answer x ∷ [] → IsTake script.shape (taken_in 0 over_before) x →
           Ends taken taken' empty empty'
       by_take (Item seen items) is ends t one =
           inl (omega (arith, count_more (Item seen items) is, one.1.some), ap (λ l. calls.TakeItems l true ∷ []) (part (Item seen items) is) ∙ sym t, sym ends)

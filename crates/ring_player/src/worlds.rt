@@ -1,7 +1,6 @@
 //! The world that plays a script.
 ghost use Rattle.std.specs.Prelude.{◌≡◌, ◌↔◌, ◌⊎◌, ◌<◌, ◌≤◌, ℕ, ◌+◌, Bool, true, List, [], ◌∷◌, ◌++◌, IfOk, OnErr, OnOk, length, min, replicate, take};
 ghost use Rattle.bits_core.specs.declared.events.Side.{Side};
-ghost use Rattle.bits_core.specs.declared.events.Side.TheVariants as side_is;
 ghost use Rattle.bits_core.specs.Memory.{flicker_count};
 ghost use Rattle.bits_core.specs.Made.{IsPrefix};
 ghost use Rattle.bits_core.specs.Shape.{take_batch_of};
@@ -14,6 +13,7 @@ ghost use Rattle.ring_player.specs.Actors.{IsMove};
 ghost use Rattle.ring_player.specs.Headline.{IsPlayOf};
 ghost use Rattle.ring_player.specs.Plays.{HasFlickers, Plays, event_sides};
 ghost use Rattle.ring_player.specs.Wants.{wanted_at};
+ghost use Rattle.ring_player.specs.Worlds.{PlayedOn};
 ghost use Rattle.ring_script.specs.Borrowed.{content_of};
 
 use crate::actors::advance;
@@ -140,14 +140,24 @@ impl<'a, E: Store<Event>, T: Store<u64>> World<'a, E, T> {
         self.memory.flickers()
     }
 
-    /// How many items the puts that have ended stored.
+    // The producer, which has counted the puts that have ended.
     #[tactic(auto, using(ring_core::proofs::LawLemmas::calls_over_are_read_puts))]
+    fn puts(&self) -> &PutActor<'a>
+        ensures stored { (puts : Puts) → FollowsPuts self.now.script.shape self.now.history puts →
+            result.now.stored ≡ stored_in 0 (puts_over_in self.now.script.shape self.now.history puts) }
+        ensures full { (puts : Puts) → FollowsPuts self.now.script.shape self.now.history puts →
+            result.now.full ≡ fulls (puts_over_in self.now.script.shape self.now.history puts) }
+    {
+        self.producer.look();
+        &self.producer
+    }
+
+    /// How many items the puts that have ended stored.
     pub fn stored(&self) -> usize
         ensures { (puts : Puts) → FollowsPuts self.now.script.shape self.now.history puts →
             result ≡ stored_in 0 (puts_over_in self.now.script.shape self.now.history puts) }
     {
-        self.producer.look();
-        self.producer.stored
+        self.puts().stored
     }
 
     /// The items that the takes which have ended took: the first ones of the script.
@@ -163,13 +173,11 @@ impl<'a, E: Store<Event>, T: Store<u64>> World<'a, E, T> {
     }
 
     /// How many puts have ended that found the ring full.
-    #[tactic(auto, using(ring_core::proofs::LawLemmas::calls_over_are_read_puts))]
     pub fn full(&self) -> u64
         ensures { (puts : Puts) → FollowsPuts self.now.script.shape self.now.history puts →
             result ≡ fulls (puts_over_in self.now.script.shape self.now.history puts) }
     {
-        self.producer.look();
-        self.producer.full
+        self.puts().full
     }
 
     /// How many takes have ended that found the ring empty.
@@ -265,50 +273,24 @@ impl<'a, E: Store<Event>, T: Store<u64>> World<'a, E, T> {
         moved
     }
 
+    // The same, before the history is looked at.
     fn step_side(&mut self, side: Side) -> Result<bool, PlayFault>
-        ensures script { self.new.script ≡ self.old.script }
-        ensures ok { IfOk result (λ moved. IsMove self.old.script side moved self.old.history self.new.history) }
-        ensures err { OnErr result (self.new ≡ self.old) }
-        ensures rooms { (self.new.event_room ≡ self.old.event_room) × (self.new.item_room ≡ self.old.item_room) }
-        ensures full { OnErr result ((self.old.event_room ≤ length self.old.history) ⊎
-            (self.old.item_room < self.old.taken + wanted_at self.old.script self.old.taken)) }
+        ensures { PlayedOn side self.old self.new result }
     {
         match side {
-            Side::P => self.step_producer(),
-            Side::C => self.step_consumer(),
+            Side::P => advance(
+                &mut self.memory,
+                &mut self.producer,
+                &mut self.oracle,
+                Side::P,
+            ),
+            Side::C => advance(
+                &mut self.memory,
+                &mut self.consumer,
+                &mut self.oracle,
+                Side::C,
+            ),
         }
-    }
-
-    fn step_producer(&mut self) -> Result<bool, PlayFault>
-        ensures script { self.new.script ≡ self.old.script }
-        ensures ok { IfOk result (λ moved. IsMove self.old.script side_is.P moved self.old.history self.new.history) }
-        ensures err { OnErr result (self.new ≡ self.old) }
-        ensures rooms { (self.new.event_room ≡ self.old.event_room) × (self.new.item_room ≡ self.old.item_room) }
-        ensures full { OnErr result ((self.old.event_room ≤ length self.old.history) ⊎
-            (self.old.item_room < self.old.taken + wanted_at self.old.script self.old.taken)) }
-    {
-        advance(
-            &mut self.memory,
-            &mut self.producer,
-            &mut self.oracle,
-            Side::P,
-        )
-    }
-
-    fn step_consumer(&mut self) -> Result<bool, PlayFault>
-        ensures script { self.new.script ≡ self.old.script }
-        ensures ok { IfOk result (λ moved. IsMove self.old.script side_is.C moved self.old.history self.new.history) }
-        ensures err { OnErr result (self.new ≡ self.old) }
-        ensures rooms { (self.new.event_room ≡ self.old.event_room) × (self.new.item_room ≡ self.old.item_room) }
-        ensures full { OnErr result ((self.old.event_room ≤ length self.old.history) ⊎
-            (self.old.item_room < self.old.taken + wanted_at self.old.script self.old.taken)) }
-    {
-        advance(
-            &mut self.memory,
-            &mut self.consumer,
-            &mut self.oracle,
-            Side::C,
-        )
     }
 }
 

@@ -1,15 +1,21 @@
 -- What is said of a history, and of the text of a recording, by the event or the line at fault, if there is one.
-use Rattle.std.specs.Prelude.{◌<◌, ℕ, suc, Option, Some, None, List, length, take}
+use Rattle.std.specs.Prelude.{◌≡◌, ◌<◌, ℕ, suc, IfErr, IfOk, Option, Some, None, Result, List, length, take}
 use Rattle.queue_calls.specs.Audits.{HasMoreItems}
 use Rattle.queue_calls.specs.Calls.{Event, IsLinearizable}
 use Rattle.queue_calls.specs.Queue.{Capacity}
 use Rattle.queue_calls.specs.Recordings.{IsRecording, StopsAt}
+use Rattle.queue_calls.specs.declared.faults.Fault.{Fault}
+use Rattle.queue_calls.specs.declared.faults.Fault.TheVariants.{OutOfMemory}
 
 -- the history is linearizable, or the event of this number, from 0, is the first one with which it is not
 abbrev pub JudgesCalls : Capacity → List Event → Option ℕ → Type 0
 JudgesCalls capacity events None = IsLinearizable capacity events
 JudgesCalls capacity events (Some number) =
     (number < length events) × IsLinearizable capacity (take number events) × ¬ IsLinearizable capacity (take (suc number) events)
+
+-- that is told of it, or memory ran out
+abbrev pub IsFaultFound : Capacity → List Event → Result (Option ℕ) Fault → Type 0
+IsFaultFound capacity events told = IfOk told (JudgesCalls capacity events) × IfErr told (λ fault. fault ≡ OutOfMemory)
 
 -- behind some first events of the history there are more items than so many slots
 abbrev pub OutgrowsSlots : ℕ → Capacity → List Event → Type 0

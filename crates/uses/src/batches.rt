@@ -10,6 +10,26 @@ use ring_core::laws::{puts_are_read, takes_are_read};
 use ring_core::{BatchReply, TakeBatchReply};
 use ring_run::{PutEnd, TakeEnd};
 
+// How many items a put stored.
+fn stored_by(reply: BatchReply) -> usize
+    ensures { result ≡ number_stored reply }
+{
+    match reply {
+        BatchReply::Stored(stored) => stored as usize,
+        _ => 0,
+    }
+}
+
+// How many items a take took.
+fn taken_by(reply: TakeBatchReply) -> usize
+    ensures { result ≡ number_brought reply }
+{
+    match reply {
+        TakeBatchReply::Taken(taken) => taken as usize,
+        _ => 0,
+    }
+}
+
 /// Puts the items under one count write, from the first on as many as there is room for: how many were stored. None
 /// are where the ring is full, or closed.
 pub fn put_batch<E: PutEnd>(putter: &mut E, items: &[u64]) -> usize
@@ -26,16 +46,6 @@ pub fn put_batch<E: PutEnd>(putter: &mut E, items: &[u64]) -> usize
 {
     puts_are_read();
     stored_by(putter.put_all(items))
-}
-
-// How many items a put stored.
-fn stored_by(reply: BatchReply) -> usize
-    ensures { result ≡ number_stored reply }
-{
-    match reply {
-        BatchReply::Stored(stored) => stored as usize,
-        _ => 0,
-    }
 }
 
 /// Takes the next items under one count write, those that the producer's count shows, at most as many as there are places: how many
@@ -56,14 +66,4 @@ pub fn take_batch<E: TakeEnd>(taker: &mut E, into: &mut [u64]) -> usize
 {
     takes_are_read();
     taken_by(taker.take_all(into))
-}
-
-// How many items a take took.
-fn taken_by(reply: TakeBatchReply) -> usize
-    ensures { result ≡ number_brought reply }
-{
-    match reply {
-        TakeBatchReply::Taken(taken) => taken as usize,
-        _ => 0,
-    }
 }

@@ -4,7 +4,7 @@ ghost use Rattle.queue_calls.specs.Audits.{Audits};
 ghost use Rattle.queue_calls.specs.Queue.{exactly};
 ghost use Rattle.queue_calls.specs.Told.{meant, told};
 ghost use Rattle.queue_calls.specs.declared.faults.Fault.TheVariants.{OutOfMemory};
-ghost use Rattle.uses.specs.Judged.{JudgesCalls, OutgrowsSlots};
+ghost use Rattle.uses.specs.Judged.{IsFaultFound, JudgesCalls, OutgrowsSlots};
 
 use queue_calls::{CallAuditor, Event, Fault, Fifo, Slots, exactly};
 use std::alloc::Allocator;
@@ -40,8 +40,7 @@ pub fn first_at_fault<A: Allocator + Copy>(
     events: &[Event<'_>],
 ) -> Result<Option<usize>, Fault>
     requires { 1 ≤ capacity }
-    ensures judged { IfOk result (JudgesCalls (exactly capacity) (map told events.now)) }
-    ensures refused { IfErr result (λ fault. fault ≡ OutOfMemory) }
+    ensures judged { IsFaultFound (exactly capacity) (map told events.now) result }
 {
     first_of(&mut CallAuditor::new(alloc, exactly(capacity)), events)
 }
@@ -53,8 +52,7 @@ pub fn first_at_fault_in_slots(
     events: &[Event<'_>],
 ) -> Result<Option<usize>, Fault>
     requires { 1 ≤ capacity }
-    ensures judged { IfOk result (JudgesCalls (exactly capacity) (map told events.now)) }
-    ensures refused { IfErr result (λ fault. fault ≡ OutOfMemory) }
+    ensures judged { IsFaultFound (exactly capacity) (map told events.now) result }
     ensures full { OnErr result (OutgrowsSlots (length slots.old) (exactly capacity) (map told events.now)) }
 {
     let list = Slots::new(slots);
