@@ -1,57 +1,27 @@
+use crate::tests::numbers;
 use crate::{CAUSE_WORDS, CallsTold, Counts, page_calls};
 use queue_calls::{Offered, Taken};
 
-const NO_COUNTS: Counts = Counts {
-    calls: 0,
-    stored: 0,
-    taken: 0,
-    full: 0,
-    empty: 0,
-    nothing: 0,
-    told: 0,
-    surely_inside: 0,
-    perhaps_inside: 0,
-    overlapped: 0,
-    under_way: 0,
-};
+const NO_COUNTS: Counts = numbers!(Counts:
+    calls 0, stored 0, taken 0, full 0, empty 0, nothing 0, told 0, surely_inside 0, perhaps_inside 0,
+    overlapped 0, under_way 0);
 
 // What is told of a lawful recording of no calls.
-const NO_CALLS: CallsTold = CallsTold {
-    outcome: 0,
-    number: 0,
-    line: 0,
-    against: 0,
-    words: 0,
-    cut: 0,
-    counts: NO_COUNTS,
-};
+const NO_CALLS: CallsTold = numbers!(CallsTold:
+    outcome 0, number 0, line 0, against 0, words 0, cut 0, counts NO_COUNTS);
 
 // What is told of a text with so many slots of each kind, and the slots for words, which held 7s.
 fn calls_with(text: &str, room: usize, word_room: usize) -> (CallsTold, [u8; CAUSE_WORDS]) {
-    let blank = Offered {
-        item: 7,
-        offered_at: 7,
-        stored_at: 7,
-    };
-    let gone = Taken {
-        item: 7,
-        taken_at: 7,
-    };
+    let blank = numbers!(Offered: item 7, offered_at 7, stored_at 7);
+    let gone = numbers!(Taken: item 7, taken_at 7);
     let room = room.min(8);
     let mut offered = [blank; 8];
     let mut taken = [gone; 8];
     let mut numbers = [7; 8];
     let mut bytes = [7; 8];
     let mut words = [7; CAUSE_WORDS];
-    let mut told = CallsTold {
-        outcome: 9,
-        number: 9,
-        line: 9,
-        against: 9,
-        words: 9,
-        cut: 9,
-        counts: NO_COUNTS,
-    };
+    let mut told = numbers!(CallsTold:
+        outcome 9, number 9, line 9, against 9, words 9, cut 9, counts NO_COUNTS);
     page_calls(
         text.as_bytes(),
         &mut offered[..room],
@@ -76,19 +46,9 @@ fn a_lawful_recording_is_told_with_its_report(rt: HostRuntime) {
         "queue 2\nC take\nP put 7 8\nC item 7\nP stored\nP put 9 10\nP stored 1\nP put 11\nP full\nC take 3\n\
         C item 8 9\nC take 3\nC empty\nP close\nP closed\nC take\nC closed\n";
     let told = CallsTold {
-        counts: Counts {
-            calls: 8,
-            stored: 3,
-            taken: 3,
-            full: 2,
-            empty: 1,
-            nothing: 0,
-            told: 1,
-            surely_inside: 2,
-            perhaps_inside: 2,
-            overlapped: 2,
-            under_way: 0,
-        },
+        counts: numbers!(Counts:
+            calls 8, stored 3, taken 3, full 2, empty 1, nothing 0, told 1, surely_inside 2,
+            perhaps_inside 2, overlapped 2, under_way 0),
         ..NO_CALLS
     };
     assert!(rt; calls(text, 8) == told);
@@ -150,14 +110,8 @@ fn a_fault_of_a_recording_is_told_with_its_cause(rt: HostRuntime) {
         for room in [CAUSE_WORDS, 20, 0] {
             let (told, slots) = calls_with(text, 8, room);
             let count = words.len().min(room);
-            let wanted = CallsTold {
-                outcome: 1,
-                number: 2,
-                line: *line,
-                against: *against,
-                words: count as u64,
-                ..NO_CALLS
-            };
+            let wanted = numbers!(CallsTold:
+                outcome 1, number 2, line *line, against *against, words count as u64; NO_CALLS);
             assert!(rt; told == wanted);
             assert!(rt; are_words(&slots, words, count));
         }
@@ -166,12 +120,7 @@ fn a_fault_of_a_recording_is_told_with_its_cause(rt: HostRuntime) {
 
 #[test]
 fn no_cause_has_no_words(rt: HostRuntime) {
-    let out_of_turn = CallsTold {
-        outcome: 1,
-        number: 1,
-        line: 3,
-        ..NO_CALLS
-    };
+    let out_of_turn = numbers!(CallsTold: outcome 1, number 1, line 3; NO_CALLS);
     let (told, slots) = calls_with("queue 8\nC take\nC take\n", 8, CAUSE_WORDS);
     assert!(rt; told == out_of_turn);
     assert!(rt; are_words(&slots, "", 0));
@@ -198,14 +147,8 @@ fn no_recording_and_no_room_are_told(rt: HostRuntime) {
 fn calls_that_do_not_say_why_not_more_are_told(rt: HostRuntime) {
     let text = "queue 0 8\nP put 5 6 7\nP some 2\nC take 3\nC some 5\nC take 3\nC some 6\n";
     let told = CallsTold {
-        counts: Counts {
-            calls: 3,
-            stored: 2,
-            taken: 2,
-            surely_inside: 2,
-            perhaps_inside: 3,
-            ..NO_COUNTS
-        },
+        counts: numbers!(Counts:
+            calls 3, stored 2, taken 2, surely_inside 2, perhaps_inside 3; NO_COUNTS),
         ..NO_CALLS
     };
     assert!(rt; calls(text, 8) == told);
@@ -225,18 +168,18 @@ fn calls_that_do_not_say_why_not_more_are_told(rt: HostRuntime) {
 }
 
 // A recording whose first line says that later calls are missing, and the outcome, the number and the line that are told.
-static CUT: [(&str, [u64; 3]); 4] = [
-    ("cut queue 2\nP put 1\n", [0, 0, 0]),
-    ("cut queue\n", [0, 0, 0]),
-    ("cut queue 2\nC take\nC take\n", [1, 1, 3]),
-    ("cut queue 2\nC take\nC closed\n", [1, 2, 3]),
+static CUT: [(&str, u64, u64, u64); 4] = [
+    ("cut queue 2\nP put 1\n", 0, 0, 0),
+    ("cut queue\n", 0, 0, 0),
+    ("cut queue 2\nC take\nC take\n", 1, 1, 3),
+    ("cut queue 2\nC take\nC closed\n", 1, 2, 3),
 ];
 
 #[test]
 fn that_later_calls_are_missing_is_told(rt: HostRuntime) {
-    for (text, numbers) in CUT.iter() {
+    for (text, outcome, number, line) in CUT.iter() {
         let told = calls(text, 8);
-        assert!(rt; [told.outcome, told.number, told.line] == *numbers);
+        assert!(rt; (told.outcome, told.number, told.line) == (*outcome, *number, *line));
         assert!(rt; told.cut == 1);
         // the same without the word `cut`
         let (_, whole) = text.split_at(4);

@@ -1,35 +1,15 @@
-use crate::tests::NO_MARK;
+use crate::tests::{NO_MARK, numbers};
 use crate::{Asked, Mark, NearPlayed, Telling, page_play_near};
 
-const NOTHING_TOLD: Telling = Telling {
-    word: 99,
-    number: 99,
-};
+const NOTHING_TOLD: Telling = numbers!(Telling: word 99, number 99);
 
 // What is told before anything is told.
-const NOTHING_PLAYED: NearPlayed = NearPlayed {
-    outcome: 9,
-    number: 9,
-    place: 9,
-    shape_fault: 9,
-    count: 9,
-    told: 9,
-    taken: 9,
-    all_letters: 9,
-    modulus: 9,
-};
+const NOTHING_PLAYED: NearPlayed = numbers!(NearPlayed:
+    outcome 9, number 9, place 9, shape_fault 9, count 9, told 9, taken 9, all_letters 9, modulus 9);
 
 // A ring with one cell of two digits.
-const ASKED: Asked = Asked {
-    capacity: 1,
-    modulus: 3,
-    width: 2,
-    batch: 1,
-    take_batch: 1,
-    takes: 3,
-    closes: 0,
-    letters: 1_000_000,
-};
+const ASKED: Asked = numbers!(Asked:
+    capacity 1, modulus 3, width 2, batch 1, take_batch 1, takes 3, closes 0, letters 1_000_000);
 
 // The play by a near miss of the script with these items and this schedule, in room for two marks and five tellings; the items taken in this
 // room.
@@ -85,14 +65,7 @@ fn play(
 // what it finds there.
 #[test]
 fn by_takes_of_several_an_item_is_taken_that_was_not_put(rt: HostRuntime) {
-    let two = Asked {
-        capacity: 2,
-        modulus: 5,
-        width: 3,
-        take_batch: 2,
-        takes: 4,
-        ..ASKED
-    };
+    let two = numbers!(Asked: capacity 2, modulus 5, width 3, take_batch 2, takes 4; ASKED);
     let mut taken = [9; 5];
     let (played, told, _) = play_in(3, &two, &[1, 2, 3, 5, 4], "P24C21P36C17", "001", &mut taken);
     assert_eq!(rt; told, [[0, 0], [3, 1], [0, 1], [3, 1], [2, 2]]);
@@ -129,12 +102,7 @@ fn by_a_count_before_its_cell_an_item_is_taken_that_was_not_put(rt: HostRuntime)
 
 #[test]
 fn without_a_second_scan_an_item_is_lost(rt: HostRuntime) {
-    let closing = Asked {
-        width: 1,
-        takes: 2,
-        closes: 1,
-        ..ASKED
-    };
+    let closing = numbers!(Asked: width 1, takes 2, closes 1; ASKED);
     let (played, told, _) = play(2, &closing, &[1], "C2P9C2", "1");
     assert_eq!(rt; told, [[2, 1], [0, 0], [3, 1], [1, 0], [14, 0]]);
     assert_eq!(rt; (played.outcome, played.told), (0, 5));
@@ -146,12 +114,7 @@ fn without_a_second_scan_an_item_is_lost(rt: HostRuntime) {
 // The producer stops between two writes of its count: a scan finds the count of long ago, and the ring empty with items inside.
 #[test]
 fn where_bits_are_cleared_first_a_count_comes_back(rt: HostRuntime) {
-    let two = Asked {
-        capacity: 2,
-        modulus: 4,
-        takes: 5,
-        ..ASKED
-    };
+    let two = numbers!(Asked: capacity 2, modulus 4, takes 5; ASKED);
     let items = [1, 2, 3, 1, 2];
     let schedule = "P10C12P12C14P14C16P27C10";
     let (played, told, _) = play(4, &two, &items, schedule, "");
@@ -168,17 +131,11 @@ fn the_full_ring_is_told(rt: HostRuntime) {
 
 #[test]
 fn the_first_letters_are_played(rt: HostRuntime) {
-    let none = Asked {
-        letters: 0,
-        ..ASKED
-    };
+    let none = numbers!(Asked: letters 0; ASKED);
     let (played, told, _) = play(3, &none, &[1, 2, 3], "P9C20", "01");
     assert_eq!(rt; [played.count, played.told, played.all_letters], [0, 0, 29]);
     assert_eq!(rt; told, [[99, 99]; 5]);
-    let ten = Asked {
-        letters: 10,
-        ..ASKED
-    };
+    let ten = numbers!(Asked: letters 10; ASKED);
     let (played, told, _) = play(3, &ten, &[1, 2, 3], "P9C20", "01");
     assert_eq!(rt;
         [played.count, played.told, played.all_letters],
@@ -189,16 +146,10 @@ fn the_first_letters_are_played(rt: HostRuntime) {
 
 #[test]
 fn a_play_fills_the_room_for_events(rt: HostRuntime) {
-    let most = Asked {
-        letters: 10_000,
-        ..ASKED
-    };
+    let most = numbers!(Asked: letters 10_000; ASKED);
     let (played, _, _) = play(3, &most, &[1, 2], "P10001", "");
     assert_eq!(rt; [played.outcome, played.count], [0, 10_000]);
-    let more = Asked {
-        letters: 10_001,
-        ..most
-    };
+    let more = numbers!(Asked: letters 10_001; most);
     let (played, told, _) = play(3, &more, &[1, 2], "P10001", "");
     assert_eq!(rt; [played.outcome, played.number, played.count], [2, 12, 0]);
     assert_eq!(rt;

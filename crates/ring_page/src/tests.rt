@@ -5,56 +5,31 @@ use crate::{
 use std::alloc::AllocGlobal;
 use std::process::Abort;
 
-pub const NO_MARK: Mark = Mark {
-    side: 9,
-    row: 9,
-    index: 9,
-    digit: 9,
-    act: 9,
-    value: true,
-    held: true,
-    overlapped: true,
-    clashes: true,
-};
+// A row of numbers, each behind its name; and of the others those of another row.
+macro_rules! numbers {
+    ($kind:ident: $($name:ident $number:expr),*; $others:expr) => {
+        $kind { $($name: $number,)* ..$others }
+    };
+    ($kind:ident: $($name:ident $number:expr),*) => {
+        $kind { $($name: $number),* }
+    };
+}
 
-const NO_DUE: Due = Due {
-    is_due: 0,
-    row: 0,
-    index: 0,
-    digit: 0,
-    act: 0,
-    value: 0,
-};
+pub(crate) use numbers;
 
-const UNJUDGED: Judged = Judged {
-    outcome: 2,
-    number: 0,
-    place: 0,
-    put: 0,
-    taken: 0,
-    told: 0,
-    may_close: 0,
-    may_scan: 0,
-    first: NO_DUE,
-    second: NO_DUE,
-    third: NO_DUE,
-};
+pub const NO_MARK: Mark = numbers!(Mark:
+    side 9, row 9, index 9, digit 9, act 9, value true, held true, overlapped true, clashes true);
+
+const NO_DUE: Due = numbers!(Due: is_due 0, row 0, index 0, digit 0, act 0, value 0);
+
+const UNJUDGED: Judged = numbers!(Judged:
+    outcome 2, number 0, place 0, put 0, taken 0, told 0, may_close 0, may_scan 0, first NO_DUE,
+    second NO_DUE, third NO_DUE);
 
 // What is told before anything is told.
-const NOTHING_TOLD: AuditTold = AuditTold {
-    outcome: 9,
-    number: 9,
-    place: 9,
-    shape_fault: 9,
-    count: 9,
-    capacity: 9,
-    modulus: 9,
-    width: 9,
-    batch: 9,
-    take_batch: 9,
-    since: 9,
-    programs: UNJUDGED,
-};
+const NOTHING_TOLD: AuditTold = numbers!(AuditTold:
+    outcome 9, number 9, place 9, shape_fault 9, count 9, capacity 9, modulus 9, width 9, batch 9,
+    take_batch 9, since 9, programs UNJUDGED);
 
 // What is told, with the first items put and taken.
 fn audit_with_items(text: &str, marks: &mut [Mark]) -> (AuditTold, [u64; 4], [u64; 4]) {
@@ -120,20 +95,9 @@ fn a_lawful_trace_is_told_with_its_marks(rt: HostRuntime) {
     let told = audit(INVERSION, &mut marks);
     assert_eq!(rt;
         told,
-        AuditTold {
-            outcome: 0,
-            number: 0,
-            place: 0,
-            shape_fault: 0,
-            count: 8,
-            capacity: 1,
-            modulus: 3,
-            width: 1,
-            batch: 1,
-            take_batch: 1,
-            since: 0,
-            programs: told.programs,
-        }
+        numbers!(AuditTold:
+            outcome 0, number 0, place 0, shape_fault 0, count 8, capacity 1, modulus 3, width 1,
+            batch 1, take_batch 1, since 0, programs told.programs)
     );
     expect_rows(&rt, &marks, &INVERSION_ROWS);
     assert_eq!(rt; marks[8], NO_MARK);
@@ -155,20 +119,9 @@ fn marks_show_nothing_from_the_fault_on(rt: HostRuntime) {
     );
     assert_eq!(rt;
         told,
-        AuditTold {
-            outcome: 1,
-            number: 2,
-            place: 3,
-            shape_fault: 0,
-            count: 4,
-            capacity: 2,
-            modulus: 7,
-            width: 3,
-            batch: 2,
-            take_batch: 1,
-            since: 0,
-            programs: told.programs,
-        }
+        numbers!(AuditTold:
+            outcome 1, number 2, place 3, shape_fault 0, count 4, capacity 2, modulus 7, width 3,
+            batch 2, take_batch 1, since 0, programs told.programs)
     );
     expect_rows(
         &rt,
@@ -187,14 +140,7 @@ const PUT: &str = "shape 1 3 1\nP read r0\nP got r0 1\nP write c0.0 1\nP wrote c
 #[test]
 fn what_the_programs_have_done_is_told(rt: HostRuntime) {
     let (judged, put, _) = judge(PUT);
-    assert_eq!(rt;
-        judged,
-        Judged {
-            outcome: 0,
-            may_scan: 1,
-            ..UNJUDGED
-        }
-    );
+    assert_eq!(rt; judged, numbers!(Judged: outcome 0, may_scan 1; UNJUDGED));
     assert_eq!(rt; put[0], 1);
     let (judged, _, _) = judge("shape 1 3 1\nP read r0\nP got r0 1\n");
     assert_eq!(rt;
@@ -212,12 +158,7 @@ fn what_the_programs_have_done_is_told(rt: HostRuntime) {
 fn what_was_due_is_told(rt: HostRuntime) {
     // the count before the cell
     let (judged, _, _) = judge("shape 1 3 1\nP read r0\nP got r0 1\nP write s1 1\n");
-    let cell = Due {
-        is_due: 1,
-        row: 3,
-        act: 2,
-        ..NO_DUE
-    };
+    let cell = numbers!(Due: is_due 1, row 3, act 2; NO_DUE);
     let mut dues = [judged.first, judged.second, judged.third];
     if dues[0].value == 1 {
         dues = [dues[1], dues[0], dues[2]];
@@ -226,14 +167,7 @@ fn what_was_due_is_told(rt: HostRuntime) {
     assert_eq!(rt; dues, [cell, Due { value: 1, ..cell }, NO_DUE]);
     // none is told of a fault of the bits
     let (judged, _, _) = judge("shape 1 3 1\nC write s0 1\n");
-    assert_eq!(rt;
-        judged,
-        Judged {
-            outcome: 1,
-            number: 1,
-            ..UNJUDGED
-        }
-    );
+    assert_eq!(rt; judged, numbers!(Judged: outcome 1, number 1; UNJUDGED));
 }
 
 #[test]
@@ -320,31 +254,12 @@ fn a_fault_is_told_where_it_comes_before_the_room_ends(rt: HostRuntime) {
 }
 
 // Two items of three digits through two cells, one put after the other, and a close; three takes.
-const ASKED: Asked = Asked {
-    capacity: 2,
-    modulus: 4,
-    width: 3,
-    batch: 1,
-    take_batch: 1,
-    takes: 3,
-    closes: 1,
-    letters: 1_000,
-};
+const ASKED: Asked = numbers!(Asked:
+    capacity 2, modulus 4, width 3, batch 1, take_batch 1, takes 3, closes 1, letters 1_000);
 
-const NOTHING_PLAYED: Played = Played {
-    outcome: 9,
-    number: 9,
-    place: 9,
-    shape_fault: 9,
-    count: 9,
-    put: 9,
-    taken: 9,
-    told: 9,
-    full: 9,
-    empty: 9,
-    flickers: 9,
-    all_letters: 9,
-};
+const NOTHING_PLAYED: Played = numbers!(Played:
+    outcome 9, number 9, place 9, shape_fault 9, count 9, put 9, taken 9, told 9, full 9, empty 9,
+    flickers 9, all_letters 9);
 
 // The play of the script with these items and this schedule, in room for three items of each list.
 fn play(
@@ -384,17 +299,11 @@ fn a_play_is_told(rt: HostRuntime) {
 
 #[test]
 fn the_first_letters_are_played(rt: HostRuntime) {
-    let none = Asked {
-        letters: 0,
-        ..ASKED
-    };
+    let none = numbers!(Asked: letters 0; ASKED);
     let (played, put, taken) = play(&none, &[5, 2], "P100C100", "");
     assert_eq!(rt; (played.count, played.put, played.taken), (0, 0, 0));
     assert_eq!(rt; (put, taken), ([7; 3], [7; 3]));
-    let eleven = Asked {
-        letters: 11,
-        ..ASKED
-    };
+    let eleven = numbers!(Asked: letters 11; ASKED);
     let (played, put, _) = play(&eleven, &[5, 2], "P100C100", "");
     assert_eq!(rt; (played.count, played.put, put), (11, 1, [5, 7, 7]));
     assert_eq!(rt; (played.told, played.all_letters), (0, 200));
@@ -402,11 +311,7 @@ fn the_first_letters_are_played(rt: HostRuntime) {
 
 #[test]
 fn an_empty_ring_and_a_full_one_are_told(rt: HostRuntime) {
-    let narrow = Asked {
-        capacity: 1,
-        modulus: 3,
-        ..ASKED
-    };
+    let narrow = numbers!(Asked: capacity 1, modulus 3; ASKED);
     let (played, _, taken) = play(&narrow, &[5, 2], "C4P20P4C200P200C200", "");
     assert_eq!(rt;
         (played.full > 0, played.empty > 0, played.told),
@@ -418,18 +323,10 @@ fn an_empty_ring_and_a_full_one_are_told(rt: HostRuntime) {
 // Puts into a full ring, as many events as there is room for, and one more.
 #[test]
 fn a_play_fills_the_room_for_events(rt: HostRuntime) {
-    let most = Asked {
-        capacity: 1,
-        modulus: 3,
-        letters: 10_000,
-        ..ASKED
-    };
+    let most = numbers!(Asked: capacity 1, modulus 3, letters 10_000; ASKED);
     let (played, _, _) = play(&most, &[5, 2], "P10001", "");
     assert_eq!(rt; [played.outcome, played.count, played.put], [0, 10_000, 1]);
-    let more = Asked {
-        letters: 10_001,
-        ..most
-    };
+    let more = numbers!(Asked: letters 10_001; most);
     let (played, _, _) = play(&more, &[5, 2], "P10001", "");
     assert_eq!(rt; [played.outcome, played.number, played.count], [2, 12, 0]);
 }

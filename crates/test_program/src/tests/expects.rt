@@ -101,14 +101,50 @@ pub fn expect_runs(
     rows: &[(&'static str, u8, &'static str, &'static str)],
 ) {
     for (more, status, out, err) in rows {
-        let mut words = words_of(rt, front);
         let more = words_of(rt, more);
-        words
-            .extend_from_slice(more.as_slice())
-            .expect(rt, "memory for words");
-        let mut input = b"unread".as_slice();
-        expect_run_on(rt, words.as_slice(), &mut input, *status, out, err);
-        assert!(rt; input == b"unread".as_slice());
+        expect_unread(rt, front, more.as_slice(), *status, out, err);
+    }
+}
+
+/// A run with these words and more has this status and these texts. It reads nothing.
+pub fn expect_unread(
+    rt: &(impl Abort + AllocGlobal + Threads + Clock),
+    front: &'static str,
+    more: &[&'static str],
+    status: u8,
+    out: &str,
+    err: &str,
+) {
+    let mut words = words_of(rt, front);
+    words.extend_from_slice(more).expect(rt, "memory for words");
+    let mut input = b"unread".as_slice();
+    expect_run_on(rt, words.as_slice(), &mut input, status, out, err);
+    assert!(rt; input == b"unread".as_slice());
+}
+
+/// The words of a run are wrong, of which the standard error has this complaint. It reads nothing.
+pub fn expect_wrong(
+    rt: &(impl Abort + AllocGlobal + Threads + Clock),
+    front: &'static str,
+    more: &'static str,
+    complaint: &str,
+) {
+    let told = format!(in rt.alloc();
+        "error: {complaint}\n\nFor more information, try '--help'.\n"
+    );
+    let text = told.expect(rt, "memory for the text");
+    let words = words_of(rt, more);
+    expect_unread(rt, front, words.as_slice(), 2, "", text.as_str());
+}
+
+/// Each run with these words and more is refused, with these words. It reads nothing.
+pub fn expect_refused_runs(
+    rt: &(impl Abort + AllocGlobal + Threads + Clock),
+    front: &'static str,
+    rows: &[(&'static str, &'static str)],
+) {
+    for (more, err) in rows {
+        expect_runs(rt, front, &[(*more, 1, "", *err)]);
     }
 }
 
@@ -226,6 +262,20 @@ pub fn expect_verdicts(
     }
 }
 
+/// Each input has this text on the output, by these commands, with the status of a fault where it tells one.
+pub fn expect_whys(
+    rt: &(impl Abort + AllocGlobal + Threads + Clock),
+    commands: &[&[&str]],
+    rows: &[(&'static str, &'static str)],
+) {
+    for (input, out) in rows {
+        let status = if out.starts_with("fault") { 3 } else { 0 };
+        for words in commands {
+            expect_run_on(rt, words, &mut input.as_bytes(), status, out, "");
+        }
+    }
+}
+
 /// Each input is refused by these commands, with these words.
 pub fn expect_refusals(
     rt: &(impl Abort + AllocGlobal + Threads + Clock),
@@ -326,21 +376,23 @@ pub fn expect_statuses(
     }
 }
 
-/// Each command line ends with the status, and its one text has this piece.
+/// Each command line ends with the status, and its one text has these pieces.
 pub fn expect_words(
     rt: &(impl Abort + AllocGlobal + Threads + Clock),
-    rows: &[(&'static str, u8, &'static str)],
+    rows: &[(&'static str, u8, &'static [&'static str])],
 ) {
-    for (line, status, piece) in rows {
+    for (line, status, pieces) in rows {
         let words = words_of(rt, line);
         let ended = run_in(rt, rt.alloc(), words.as_slice(), &mut b"".as_slice());
         expect_of(rt, ended.status == *status, words.as_slice());
-        let is_there = if *status == 0 {
-            text_in(rt, ended.out.as_slice()).contains(*piece)
-        } else {
-            text_in(rt, ended.err.as_slice()).contains(*piece)
-        };
-        expect_of(rt, is_there, words.as_slice());
+        for piece in pieces.iter() {
+            let is_there = if *status == 0 {
+                text_in(rt, ended.out.as_slice()).contains(*piece)
+            } else {
+                text_in(rt, ended.err.as_slice()).contains(*piece)
+            };
+            expect_of(rt, is_there, &[line, piece]);
+        }
     }
 }
 

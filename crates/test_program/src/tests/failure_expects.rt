@@ -6,11 +6,25 @@ use refusing::Refusing;
 use ring_audit::Finding;
 use ring_player::Report;
 use ring_program::{AppFault, audit_text, execute, load, report_text, verdict_text};
-use std::alloc::AllocGlobal;
+use std::alloc::{AllocGlobal, Allocator};
 use std::io::ErrorKind;
 use std::process::Abort;
 use std::thread::Threads;
 use std::time::Clock;
+
+// Refuses each growth in turn, until the body says that there was none to refuse.
+macro_rules! each_growth {
+    ($rt:expr, $most:literal, |$allocations:ident| $has_growth:expr) => {
+        let mut is_whole = false;
+        for $allocations in 0..$most {
+            if !$has_growth {
+                is_whole = true;
+                break;
+            }
+        }
+        assert!($rt; is_whole, "a growth was refused each time");
+    };
+}
 
 /// A run on a reader that fails after so many reads ends with this status and these texts.
 pub fn expect_read(
@@ -153,14 +167,7 @@ fn expect_growth(
 /// Each growth of each run refused in turn, and none.
 pub fn expect_refused_growths(rt: &(impl Abort + AllocGlobal + Threads + Clock), rows: &[Growing]) {
     for row in rows {
-        let mut is_whole = false;
-        for allocations in 0..100 {
-            if !expect_growth(rt, row, allocations) {
-                is_whole = true;
-                break;
-            }
-        }
-        assert!(rt; is_whole);
+        each_growth!(rt, 100, |allocations| expect_growth(rt, row, allocations));
     }
 }
 
@@ -231,72 +238,53 @@ pub fn expect_told_at_each_growth(
     rows: &[Told],
 ) {
     for row in rows {
-        let mut is_whole = false;
-        for allocations in 0..100 {
-            if !expect_told(rt, row, allocations) {
-                is_whole = true;
-                break;
-            }
-        }
-        assert!(rt; is_whole);
+        each_growth!(rt, 100, |allocations| expect_told(rt, row, allocations));
     }
 }
 
 // Whether there was a growth to refuse, where the one after so many is: it was refused so, and else none was.
-fn expect_growth_refused<F: PartialEq + Copy>(
+fn expect_growth_refused<F: PartialEq + Copy, A: Allocator>(
     rt: &impl Abort,
     fault: Option<F>,
     short: F,
-    has_refused: bool,
+    alloc: &Refusing<A>,
     allocations: u64,
 ) -> bool {
-    let is_right = if has_refused {
+    let is_right = if alloc.has_refused() {
         fault == Some(short)
     } else {
         fault.is_none() && 1 <= allocations
     };
     assert!(rt; is_right);
-    has_refused
+    alloc.has_refused()
 }
 
 /// `load`, each growth refused in turn, and none.
 pub fn expect_refused_load(rt: &(impl Abort + AllocGlobal), bytes: &[u8]) {
-    for allocations in 0..20 {
+    each_growth!(rt, 20, |allocations| {
         let alloc = Refusing::after(rt.alloc(), allocations);
         let mut input = bytes;
         let fault = load(&alloc, &mut input).err();
-        let short = AppFault::OutOfMemory;
-        if !expect_growth_refused(rt, fault, short, alloc.has_refused(), allocations) {
-            return;
-        }
-    }
-    assert!(rt; false, "a growth was refused each time");
+        expect_growth_refused(rt, fault, AppFault::OutOfMemory, &alloc, allocations)
+    });
 }
 
 /// `read_trace`, each growth refused in turn, and none.
 pub fn expect_refused_trace(rt: &(impl Abort + AllocGlobal), bytes: &[u8]) {
-    for allocations in 0..20 {
+    each_growth!(rt, 20, |allocations| {
         let alloc = Refusing::after(rt.alloc(), allocations);
         let fault = read_trace(&alloc, bytes).err();
-        let short = TraceFault::OutOfMemory;
-        if !expect_growth_refused(rt, fault, short, alloc.has_refused(), allocations) {
-            return;
-        }
-    }
-    assert!(rt; false, "a growth was refused each time");
+        expect_growth_refused(rt, fault, TraceFault::OutOfMemory, &alloc, allocations)
+    });
 }
 
 /// `verdict_text`, each growth refused in turn, and none.
 pub fn expect_refused_text(rt: &(impl Abort + AllocGlobal), verdict: &Verdict) {
-    for allocations in 0..20 {
+    each_growth!(rt, 20, |allocations| {
         let alloc = Refusing::after(rt.alloc(), allocations);
         let fault = verdict_text(&alloc, verdict).err();
-        let short = AppFault::OutOfMemory;
-        if !expect_growth_refused(rt, fault, short, alloc.has_refused(), allocations) {
-            return;
-        }
-    }
-    assert!(rt; false, "a growth was refused each time");
+        expect_growth_refused(rt, fault, AppFault::OutOfMemory, &alloc, allocations)
+    });
 }
 
 /// `audit_text`, each growth refused in turn, and none.
@@ -306,15 +294,11 @@ pub fn expect_refused_finding(rt: &(impl Abort + AllocGlobal), put: &[u64], take
         taken: listed(rt, taken),
         told: true,
     };
-    for allocations in 0..20 {
+    each_growth!(rt, 20, |allocations| {
         let alloc = Refusing::after(rt.alloc(), allocations);
         let fault = audit_text(&alloc, &finding).err();
-        let short = AppFault::OutOfMemory;
-        if !expect_growth_refused(rt, fault, short, alloc.has_refused(), allocations) {
-            return;
-        }
-    }
-    assert!(rt; false, "a growth was refused each time");
+        expect_growth_refused(rt, fault, AppFault::OutOfMemory, &alloc, allocations)
+    });
 }
 
 /// `report_text`, each growth refused in turn, and none.
@@ -328,13 +312,9 @@ pub fn expect_refused_report(rt: &(impl Abort + AllocGlobal), put: &[u64]) {
         empty: 0,
         flicker: 0,
     };
-    for allocations in 0..20 {
+    each_growth!(rt, 20, |allocations| {
         let alloc = Refusing::after(rt.alloc(), allocations);
         let fault = report_text(&alloc, &report).err();
-        let short = AppFault::OutOfMemory;
-        if !expect_growth_refused(rt, fault, short, alloc.has_refused(), allocations) {
-            return;
-        }
-    }
-    assert!(rt; false, "a growth was refused each time");
+        expect_growth_refused(rt, fault, AppFault::OutOfMemory, &alloc, allocations)
+    });
 }

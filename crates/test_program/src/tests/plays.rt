@@ -10,55 +10,14 @@ const PLAIN: &str =
 
 pub const PLAIN_REPORT: &str = "events 18\nput 1\ntaken 1\ntold no\nfull 0\nempty 0\nflicker 0\n";
 
-pub const PLAIN_TRACE: &str = "\
-shape 1 3 1
-P read r0
-P got r0 1
-P write c0.0 1
-P wrote c0.0
-P write s1 1
-P wrote s1
-P write s0 0
-P wrote s0
-C read s0
-C got s0 0
-C read s1
-C got s1 1
-C read c0.0
-C got c0.0 1
-C write r1 1
-C wrote r1
-C write r0 0
-C wrote r0
-";
+pub const PLAIN_TRACE: &str =
+    "shape 1 3 1\nP read r0\nP got r0 1\nP write c0.0 1\nP wrote c0.0\nP write s1 1\nP wrote s1\nP write s0 0\nP wrote s0\nC read s0\nC got s0 0\nC read s1\nC got s1 1\nC read c0.0\nC got c0.0 1\nC write r1 1\nC wrote r1\nC write r0 0\nC wrote r0\n";
 
 const SEEN_OLD: &str =
     "{\"capacity\":1,\"modulus\":3,\"width\":1,\"items\":[1],\"takes\":2,\"close\":false,\"schedule\":\"P7C14\",\"oracle\":\"01\"}";
 
-const SEEN_OLD_TRACE: &str = "\
-shape 1 3 1
-P read r0
-P got r0 1
-P write c0.0 1
-P wrote c0.0
-P write s1 1
-P wrote s1
-P write s0 0
-C read s0
-C got s0 0
-C read s1
-C got s1 1
-C read c0.0
-C got c0.0 1
-C write r1 1
-C wrote r1
-C write r0 0
-C wrote r0
-C read s0
-C got s0 1
-C read x
-C got x 0
-";
+const SEEN_OLD_TRACE: &str =
+    "shape 1 3 1\nP read r0\nP got r0 1\nP write c0.0 1\nP wrote c0.0\nP write s1 1\nP wrote s1\nP write s0 0\nC read s0\nC got s0 0\nC read s1\nC got s1 1\nC read c0.0\nC got c0.0 1\nC write r1 1\nC wrote r1\nC write r0 0\nC wrote r0\nC read s0\nC got s0 1\nC read x\nC got x 0\n";
 
 const BATCH: &str =
     "{\"capacity\":3,\"modulus\":7,\"width\":1,\"items\":[1,0,1],\"takes\":4,\"close\":false,\"schedule\":\"P11C46\",\"oracle\":\"0001\",\"batch\":3}";

@@ -6,8 +6,6 @@ const ALL: &str = "put 64\ntaken 64\nclosed yes\n";
 
 const LIMIT: &str = "refused: limit reached\n";
 
-const SMALL: &str = "lamport_ring run --capacity 1 --modulus 3 --width 6";
-
 // What follows the options of the shape, the status, the output and the standard error.
 static RUNS: [(&str, u8, &str, &str); 12] = [
     ("--count 64 --limit 1000000000", 0, ALL, ""),
@@ -80,10 +78,12 @@ static RUNS: [(&str, u8, &str, &str); 12] = [
 
 #[test]
 fn relays_items_through_two_threads(rt: HostRuntime) {
-    expect_runs(&rt, SMALL, &RUNS);
+    expect_runs(
+        &rt,
+        "lamport_ring run --capacity 1 --modulus 3 --width 6",
+        &RUNS,
+    );
 }
-
-const BATCHED: &str = "lamport_ring run --capacity 3 --modulus 7 --width 6 --batch 3";
 
 static BATCHED_RUNS: [(&str, u8, &str, &str); 5] = [
     ("--count 64 --limit 1000000000", 0, ALL, ""),
@@ -112,12 +112,14 @@ static BATCHED_RUNS: [(&str, u8, &str, &str); 5] = [
 
 #[test]
 fn relays_batches(rt: HostRuntime) {
-    expect_runs(&rt, BATCHED, &BATCHED_RUNS);
+    expect_runs(
+        &rt,
+        "lamport_ring run --capacity 3 --modulus 7 --width 6 --batch 3",
+        &BATCHED_RUNS,
+    );
 }
 
-// The widest items, of which each is its number.
-const WIDE: &str = "lamport_ring run --capacity 2 --modulus 4 --width 64";
-
+// Of the widest items each is its number.
 static WIDE_RUNS: [(&str, u8, &str, &str); 1] = [(
     "--count 20 --limit 1000000000",
     0,
@@ -127,7 +129,11 @@ static WIDE_RUNS: [(&str, u8, &str, &str); 1] = [(
 
 #[test]
 fn relays_the_widest_items(rt: HostRuntime) {
-    expect_runs(&rt, WIDE, &WIDE_RUNS);
+    expect_runs(
+        &rt,
+        "lamport_ring run --capacity 2 --modulus 4 --width 64",
+        &WIDE_RUNS,
+    );
 }
 
 #[test]
@@ -142,69 +148,38 @@ fn relays_have_their_text(rt: HostRuntime) {
     expect_relay_text(&rt, 2, &[5, 6], true, "put 2\ntaken 2\nclosed yes\n");
 }
 
+// What a relay came to, the time that it took, and the text.
+macro_rules! reported {
+    (put $put:literal, calls $calls:literal, full $full:literal, taken $taken:expr, empty $empty:literal,
+     closed $closed:literal, $nanos:expr; $text:literal) => {
+        Reported {
+            put: $put,
+            calls: $calls,
+            full: $full,
+            taken: &$taken,
+            empty: $empty,
+            closed: $closed,
+            nanos: $nanos,
+            text: $text,
+        }
+    };
+}
+
 static REPORTS: [Reported; 6] = [
-    Reported {
-        put: 3,
-        calls: 10,
-        full: 7,
-        taken: &[5, 6, 5],
-        empty: 4,
-        closed: true,
-        nanos: Some(2_000_000_000),
-        text: "put 3\ntaken 3\nclosed yes\ncalls 10\nfull 7\nempty 4\nitems a second 1\n",
-    },
-    Reported {
-        put: 2,
-        calls: 1,
-        full: 0,
-        taken: &[5],
-        empty: 0,
-        closed: false,
-        nanos: Some(1),
-        text: "put 2\ntaken 1\nclosed no\ncalls 1\nfull 0\nempty 0\nitems a second 1000000000\n",
-    },
-    Reported {
-        put: 2,
-        calls: 2,
-        full: 0,
-        taken: &[5, 6],
-        empty: 9,
-        closed: true,
-        nanos: Some(3),
-        text: "put 2\ntaken 2\nclosed yes\ncalls 2\nfull 0\nempty 9\nitems a second 666666666\n",
-    },
-    Reported {
-        put: 18446744073709551615,
-        calls: 18446744073709551614,
-        full: 18446744073709551613,
-        taken: &[],
-        empty: 18446744073709551612,
-        closed: false,
-        nanos: Some(18446744073709551615),
-        text: "put 18446744073709551615\ntaken 0\nclosed no\ncalls 18446744073709551614\nfull 18446744073709551613\nempty 18446744073709551612\nitems a second 0\n",
-    },
+    reported!(put 3, calls 10, full 7, taken [5, 6, 5], empty 4, closed true, Some(2_000_000_000);
+        "put 3\ntaken 3\nclosed yes\ncalls 10\nfull 7\nempty 4\nitems a second 1\n"),
+    reported!(put 2, calls 1, full 0, taken [5], empty 0, closed false, Some(1);
+        "put 2\ntaken 1\nclosed no\ncalls 1\nfull 0\nempty 0\nitems a second 1000000000\n"),
+    reported!(put 2, calls 2, full 0, taken [5, 6], empty 9, closed true, Some(3);
+        "put 2\ntaken 2\nclosed yes\ncalls 2\nfull 0\nempty 9\nitems a second 666666666\n"),
+    reported!(put 18446744073709551615, calls 18446744073709551614, full 18446744073709551613, taken [], empty 18446744073709551612, closed false, Some(18446744073709551615);
+        "put 18446744073709551615\ntaken 0\nclosed no\ncalls 18446744073709551614\nfull 18446744073709551613\nempty 18446744073709551612\nitems a second 0\n"),
     // no time passed
-    Reported {
-        put: 1,
-        calls: 1,
-        full: 0,
-        taken: &[1],
-        empty: 0,
-        closed: true,
-        nanos: Some(0),
-        text: "put 1\ntaken 1\nclosed yes\ncalls 1\nfull 0\nempty 0\nitems a second unknown\n",
-    },
+    reported!(put 1, calls 1, full 0, taken [1], empty 0, closed true, Some(0);
+        "put 1\ntaken 1\nclosed yes\ncalls 1\nfull 0\nempty 0\nitems a second unknown\n"),
     // the clock told none
-    Reported {
-        put: 1,
-        calls: 1,
-        full: 0,
-        taken: &[1],
-        empty: 0,
-        closed: true,
-        nanos: None,
-        text: "put 1\ntaken 1\nclosed yes\ncalls 1\nfull 0\nempty 0\nitems a second unknown\n",
-    },
+    reported!(put 1, calls 1, full 0, taken [1], empty 0, closed true, None;
+        "put 1\ntaken 1\nclosed yes\ncalls 1\nfull 0\nempty 0\nitems a second unknown\n"),
 ];
 
 #[test]

@@ -1,109 +1,94 @@
-use crate::tests::expects::expect_verdicts;
+use crate::tests::expects::expect_whys;
 
 const WHY: &[&str] = &["lamport_ring", "audit", "--why"];
 
 const BITS_WHY: &[&str] = &["lamport_ring", "audit", "--bits", "--why"];
 
 // What is due by the programs, where the bits are lawful.
-static DUES: [(&str, u8, &str); 5] = [
+static DUES: [(&str, &str); 5] = [
     // a lawful history has no further line
     (
         "shape 1 3 1\nP read r0\nP got r0 1\n",
-        0,
         "lawful\nput\ntaken\ntold no\n",
     ),
     // behind the scan of a put comes its cell, of an item that nobody knows yet, and not its count
     (
         "shape 1 3 1\nP read r0\nP got r0 1\nP write s1 1\n",
-        3,
         "fault: line 4: not of the program\ndue: P write c0.0 0\ndue: P write c0.0 1\n",
     ),
     // behind the cell the count
     (
         "shape 1 3 1\nP read r0\nP got r0 1\nP write c0.0 1\nP wrote c0.0\nP read r0\n",
-        3,
         "fault: line 6: not of the program\ndue: P write s1 1\n",
     ),
     // between two calls: the close, or the scan of a put
     (
         "shape 1 3 1\nP write s1 1\n",
-        3,
         "fault: line 2: not of the program\ndue: P read r0\ndue: P write x 1\n",
     ),
     // behind its close the producer makes no call
     (
         "shape 1 3 1\nP write x 1\nP wrote x\nP read r0\n",
-        3,
         "fault: line 4: not of the program\ndue: nothing\n",
-    ),
-];
-
-// Why the bits do not permit an event, with the programs and without them.
-static REASONS: [(&str, u8, &str); 6] = [
-    // first values
-    (
-        "shape 1 3 1\nC read s0\nC got s0 0\n",
-        3,
-        "fault: line 3: not permitted\nheld: 1 since the start, where the read began at line 2\n",
-    ),
-    // an end without a begin
-    (
-        "shape 1 3 1\nP got r0 1\n",
-        3,
-        "fault: line 2: out of turn\nopen: nothing\n",
-    ),
-    // two begins; the other side's access between them is no matter
-    (
-        "shape 1 3 1\nP read r0\nC read s0\nP read r0\n",
-        3,
-        "fault: line 4: out of turn\nopen since line 2: P read r0\n",
-    ),
-    // the end of another access than the open one
-    (
-        "shape 1 3 1\nP write x 1\nP got r0 1\n",
-        3,
-        "fault: line 3: out of turn\nopen since line 2: P write x 1\n",
-    ),
-    // a reader writes, a writer reads
-    (
-        "shape 1 3 1\nC write s0 1\n",
-        3,
-        "fault: line 2: wrong side\nonly by: P\n",
-    ),
-    (
-        "shape 1 3 1\nP read s0\n",
-        3,
-        "fault: line 2: wrong side\nonly by: C\n",
-    ),
-];
-
-// What a bit held that was written: the value of the last write that ended, before the read began.
-static HELD: [(&str, u8, &str); 3] = [
-    (
-        "shape 1 3 1\nP write s0 0\nP wrote s0\nC read s0\nC got s0 1\n",
-        3,
-        "fault: line 5: not permitted\nheld: 0 since line 3, where the read began at line 4\n",
-    ),
-    (
-        "shape 1 3 1\nP write s0 0\nP wrote s0\nP write s1 1\nP wrote s1\nP write s0 1\nP wrote s0\nC read s0\nP write s1 0\nC got s0 0\n",
-        3,
-        "fault: line 10: not permitted\nheld: 1 since line 7, where the read began at line 8\n",
-    ),
-    (
-        "shape 1 3 1\nP write s0 0\nC read s0\nC got s0 1\n",
-        0,
-        "lawful\n",
     ),
 ];
 
 #[test]
 fn says_what_was_due(rt: HostRuntime) {
-    expect_verdicts(&rt, WHY, &DUES);
+    expect_whys(&rt, &[WHY], &DUES);
 }
+
+// Why the bits do not permit an event, with the programs and without them.
+static REASONS: [(&str, &str); 6] = [
+    // first values
+    (
+        "shape 1 3 1\nC read s0\nC got s0 0\n",
+        "fault: line 3: not permitted\nheld: 1 since the start, where the read began at line 2\n",
+    ),
+    // an end without a begin
+    (
+        "shape 1 3 1\nP got r0 1\n",
+        "fault: line 2: out of turn\nopen: nothing\n",
+    ),
+    // two begins; the other side's access between them is no matter
+    (
+        "shape 1 3 1\nP read r0\nC read s0\nP read r0\n",
+        "fault: line 4: out of turn\nopen since line 2: P read r0\n",
+    ),
+    // the end of another access than the open one
+    (
+        "shape 1 3 1\nP write x 1\nP got r0 1\n",
+        "fault: line 3: out of turn\nopen since line 2: P write x 1\n",
+    ),
+    // a reader writes, a writer reads
+    (
+        "shape 1 3 1\nC write s0 1\n",
+        "fault: line 2: wrong side\nonly by: P\n",
+    ),
+    (
+        "shape 1 3 1\nP read s0\n",
+        "fault: line 2: wrong side\nonly by: C\n",
+    ),
+];
+
+// What a bit held that was written: the value of the last write that ended, before the read began.
+static HELD: [(&str, &str); 3] = [
+    (
+        "shape 1 3 1\nP write s0 0\nP wrote s0\nC read s0\nC got s0 1\n",
+        "fault: line 5: not permitted\nheld: 0 since line 3, where the read began at line 4\n",
+    ),
+    (
+        "shape 1 3 1\nP write s0 0\nP wrote s0\nP write s1 1\nP wrote s1\nP write s0 1\nP wrote s0\nC read s0\nP write s1 0\nC got s0 0\n",
+        "fault: line 10: not permitted\nheld: 1 since line 7, where the read began at line 8\n",
+    ),
+    (
+        "shape 1 3 1\nP write s0 0\nC read s0\nC got s0 1\n",
+        "lawful\n",
+    ),
+];
 
 #[test]
 fn says_why_the_bits_do_not_permit_it(rt: HostRuntime) {
-    expect_verdicts(&rt, WHY, &REASONS);
-    expect_verdicts(&rt, BITS_WHY, &REASONS);
-    expect_verdicts(&rt, BITS_WHY, &HELD);
+    expect_whys(&rt, &[WHY, BITS_WHY], &REASONS);
+    expect_whys(&rt, &[BITS_WHY], &HELD);
 }

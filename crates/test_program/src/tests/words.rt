@@ -57,13 +57,10 @@ static VERDICTS: [(&str, u8, &str); 11] = [
 ];
 
 #[test]
-fn tells_the_verdict(rt: HostRuntime) {
-    expect_verdicts(&rt, BITS, &VERDICTS);
-}
-
-#[test]
-fn tells_the_verdict_of_a_trace_of_any_length(rt: HostRuntime) {
-    expect_verdicts(&rt, LONG, &VERDICTS);
+fn tells_the_verdict_also_of_a_trace_of_any_length(rt: HostRuntime) {
+    for words in [BITS, LONG] {
+        expect_verdicts(&rt, words, &VERDICTS);
+    }
 }
 
 // What the words ask for decides the status.
@@ -125,96 +122,86 @@ const PLAY_EXAMPLE: &str = "  lamport_ring play < examples/plain_path.json\n";
 const CALLS_EXAMPLE: &str =
     "  lamport_ring play --calls < examples/plain_path.json | lamport_ring audit --calls\n";
 
-static WORDS: [(&str, u8, &str); 31] = [
-    (HELP, 0, EXAMPLE),
-    (HELP, 0, PLAY_EXAMPLE),
-    (HELP, 0, AUDIT_EXAMPLE),
+static WORDS: [(&str, u8, &[&str]); 11] = [
     (
         HELP,
         0,
-        "  0  done: a play, a lawful history, a whole relay, or help or the version that\n     was asked for\n",
-    ),
-    (
-        HELP,
-        0,
-        "  1  refused, for the cause that standard error gives\n",
-    ),
-    (HELP, 0, "  2  the command line is wrong\n"),
-    (HELP, 0, "  3  the audit found a fault\n"),
-    (AUDIT_HELP, 0, EXAMPLE),
-    (AUDIT_HELP, 0, AUDIT_EXAMPLE),
-    (
-        AUDIT_HELP,
-        0,
-        "Usage: lamport_ring audit [--bits] [--why] < TRACE\n",
+        &[
+            EXAMPLE,
+            PLAY_EXAMPLE,
+            AUDIT_EXAMPLE,
+            "  0  done: a play, a lawful history, a whole relay, or help or the version that\n     was asked for\n",
+            "  1  refused, for the cause that standard error gives\n",
+            "  2  the command line is wrong\n",
+            "  3  the audit found a fault\n",
+        ],
     ),
     (
         AUDIT_HELP,
         0,
-        "       lamport_ring audit --calls [--stop] < CALLS\n",
+        &[
+            EXAMPLE,
+            AUDIT_EXAMPLE,
+            "Usage: lamport_ring audit [--bits] [--why] < TRACE\n",
+            "       lamport_ring audit --calls [--stop] < CALLS\n",
+            "With --stop a fault is told as soon as its line is read,\nand nothing is read behind it.",
+            "from standard input\n",
+            "  2  the command line is wrong\n",
+            "  3  the audit found a fault\n",
+        ],
     ),
-    (
-        AUDIT_HELP,
-        0,
-        "With --stop a fault is told as soon as its line is read,\nand nothing is read behind it.",
-    ),
-    (AUDIT_HELP, 0, "from standard input\n"),
-    (AUDIT_HELP, 0, "  2  the command line is wrong\n"),
-    (AUDIT_HELP, 0, "  3  the audit found a fault\n"),
     // the name of a file: its trace has to come on standard input
     (
         "lamport_ring audit x.trace",
         2,
-        "error: unexpected argument 'x.trace' found\n\nUsage: lamport_ring audit [--bits] [--why] < TRACE\n",
+        &[
+            "error: unexpected argument 'x.trace' found\n\nUsage: lamport_ring audit [--bits] [--why] < TRACE\n",
+        ],
     ),
     (
         "lamport_ring go",
         2,
-        "error: unrecognized subcommand 'go'\n",
+        &["error: unrecognized subcommand 'go'\n"],
     ),
-    (PLAY_HELP, 0, PLAY_EXAMPLE),
     (
         PLAY_HELP,
         0,
-        "Usage: lamport_ring play [--trace|--calls] < SCRIPT\n",
+        &[
+            PLAY_EXAMPLE,
+            "Usage: lamport_ring play [--trace|--calls] < SCRIPT\n",
+            CALLS_EXAMPLE,
+            "Print the calls of the play, as recorded calls, in place of the report\n",
+            "from standard input\n",
+            "  0  the script was played\n",
+            "  1  refused: the input is no script, or could not be read, or the output failed\n",
+            "  2  the command line is wrong\n",
+        ],
     ),
-    (PLAY_HELP, 0, CALLS_EXAMPLE),
-    (
-        PLAY_HELP,
-        0,
-        "Print the calls of the play, as recorded calls, in place of the report\n",
-    ),
-    (PLAY_HELP, 0, "from standard input\n"),
-    (PLAY_HELP, 0, "  0  the script was played\n"),
-    (
-        PLAY_HELP,
-        0,
-        "  1  refused: the input is no script, or could not be read, or the output failed\n",
-    ),
-    (PLAY_HELP, 0, "  2  the command line is wrong\n"),
     // the name of a file: its script has to come on standard input
     (
         "lamport_ring play x.json",
         2,
-        "error: unexpected argument 'x.json' found\n\nUsage: lamport_ring play [--trace|--calls] < SCRIPT\n",
+        &[
+            "error: unexpected argument 'x.json' found\n\nUsage: lamport_ring play [--trace|--calls] < SCRIPT\n",
+        ],
     ),
     (
         "lamport_ring play --trace --calls",
         2,
-        "error: a play prints a trace or its calls: --trace and --calls do not go together\n",
+        &["error: a play prints a trace or its calls: --trace and --calls do not go together\n"],
     ),
     (
         "lamport_ring audit --bits --calls",
         2,
-        "error: an audit is of bits or of calls: --bits and --calls do not go together\n",
+        &["error: an audit is of bits or of calls: --bits and --calls do not go together\n"],
     ),
     (
         "lamport_ring audit --long",
         2,
-        "error: a trace of any length is audited for its bits alone: --long goes with --bits\n",
+        &["error: a trace of any length is audited for its bits alone: --long goes with --bits\n"],
     ),
-    ("lamport_ring", 2, "Usage: lamport_ring <COMMAND>\n"),
-    ("lamport_ring -V", 0, "lamport_ring 0.1.0\n"),
+    ("lamport_ring", 2, &["Usage: lamport_ring <COMMAND>\n"]),
+    ("lamport_ring -V", 0, &["lamport_ring 0.1.0\n"]),
 ];
 
 #[test]

@@ -1,7 +1,7 @@
 //! One form for all machines, and what tests expect of them.
 ghost use Rattle.std.specs.Prelude.{◌≡◌};
 
-use bits_core::{Access, Event, Memory, Oracle, Shape, Side, Store, Verdict, audit_bits};
+use bits_core::{Access, Bit, Event, Memory, Oracle, Shape, Side, Store, Verdict, audit_bits};
 use register_core::{BitWriter, UnaryScan, UnaryWriter, WordReader, WordWriter};
 use ring_steps::{Step, next_event};
 use std::process::Abort;
@@ -13,15 +13,22 @@ pub(crate) trait Machine {
     fn answered(&mut self, answer: bool);
 }
 
+// Feeds a machine the answer, where it has an access due.
+macro_rules! feed_due {
+    ($machine:expr, $answer:expr) => {
+        if $machine.next().is_some() {
+            $machine.feed($answer);
+        }
+    };
+}
+
 impl Machine for WordWriter {
     fn due(&self) -> Option<Access> {
         self.next()
     }
 
     fn answered(&mut self, answer: bool) {
-        if self.next().is_some() {
-            self.feed(answer);
-        }
+        feed_due!(self, answer)
     }
 }
 
@@ -31,21 +38,7 @@ impl Machine for WordReader {
     }
 
     fn answered(&mut self, answer: bool) {
-        if self.next().is_some() {
-            self.feed(answer);
-        }
-    }
-}
-
-impl Machine for BitWriter {
-    fn due(&self) -> Option<Access> {
-        self.next()
-    }
-
-    fn answered(&mut self, answer: bool) {
-        if self.next().is_some() {
-            self.feed(answer);
-        }
+        feed_due!(self, answer)
     }
 }
 
@@ -86,15 +79,44 @@ impl Count {
     }
 }
 
+/// A writer of one bit.
+#[derive(Drop)]
+pub(crate) struct Flag {
+    writer: BitWriter,
+}
+
+impl Flag {
+    pub fn new(bit: Bit, value: bool) -> Flag {
+        Flag {
+            writer: BitWriter::new(bit, value),
+        }
+    }
+
+    /// Begins a write of the value, unless one is under way.
+    pub fn write(&mut self, value: bool) {
+        if self.writer.next().is_none() {
+            self.writer.write(value);
+        }
+    }
+}
+
 impl Machine for Count {
     fn due(&self) -> Option<Access> {
         self.writer.next()
     }
 
     fn answered(&mut self, answer: bool) {
-        if self.writer.next().is_some() {
-            self.writer.feed(answer);
-        }
+        feed_due!(self.writer, answer)
+    }
+}
+
+impl Machine for Flag {
+    fn due(&self) -> Option<Access> {
+        self.writer.next()
+    }
+
+    fn answered(&mut self, answer: bool) {
+        feed_due!(self.writer, answer)
     }
 }
 

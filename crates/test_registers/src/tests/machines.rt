@@ -1,6 +1,8 @@
-use crate::tests::driving::{Count, Machine, expect_access, expect_due, expect_true, expect_value};
+use crate::tests::driving::{
+    Count, Flag, Machine, expect_access, expect_due, expect_true, expect_value,
+};
 use bits_core::{Access, Bit, Shape, Side};
-use register_core::{BitWriter, UnaryScan, WordReader, WordWriter};
+use register_core::{UnaryScan, WordReader, WordWriter};
 use std::process::Abort;
 use std::test::Fail;
 
@@ -70,11 +72,9 @@ static LOGICAL: [(bool, bool); 6] = [
 
 #[test]
 fn an_unchanged_write_has_no_access(rt: HostRuntime) {
-    let mut writer = BitWriter::new(Bit::X, false);
+    let mut writer = Flag::new(Bit::X, false);
     for (value, is_written) in LOGICAL.iter() {
-        if writer.next().is_none() {
-            writer.write(*value);
-        }
+        writer.write(*value);
         if *is_written {
             expect_access(&rt, &mut writer, Access::Write(Bit::X, *value), true);
         }

@@ -1,8 +1,8 @@
 use crate::tests::driving::{
-    Count, Machine, expect_due, expect_lawful, expect_true, expect_value, step, steps,
+    Count, Flag, Machine, expect_due, expect_lawful, expect_true, expect_value, step, steps,
 };
 use bits_core::{Access, Always, Bit, Event, Flip, Memory, Oracle, Shape, Side, Store};
-use register_core::{BitWriter, UnaryScan, WordReader, WordWriter};
+use register_core::{UnaryScan, WordReader, WordWriter};
 use std::process::Abort;
 use std::test::Fail;
 
@@ -58,11 +58,9 @@ static LOGICAL: [(bool, usize); 5] = [(false, 0), (true, 2), (true, 2), (false, 
 fn a_bit_is_written_where_it_changes(rt: HostRuntime) -> Result<(), Fail> {
     let shape = Shape::new(1, 3, 1)?;
     let mut memory = Memory::new(rt.alloc(), shape);
-    let mut writer = BitWriter::new(Bit::X, false);
+    let mut writer = Flag::new(Bit::X, false);
     for (value, events) in LOGICAL.iter() {
-        if writer.next().is_none() {
-            writer.write(*value);
-        }
+        writer.write(*value);
         steps(&rt, &mut memory, Side::P, &mut writer, &mut Always(true), 3);
         expect_lawful(&rt, &memory, (*events, 0));
     }
@@ -213,10 +211,8 @@ static UPWARDS: [(Bit, bool); 5] = [
 fn clears_upwards_are_not_regular(rt: HostRuntime) -> Result<(), Fail> {
     let mut memory = Memory::new(rt.alloc(), Shape::new(2, 4, 1)?);
     for (bit, value) in UPWARDS.iter() {
-        let mut writer = BitWriter::new(*bit, !*value);
-        if writer.next().is_none() {
-            writer.write(*value);
-        }
+        let mut writer = Flag::new(*bit, !*value);
+        writer.write(*value);
         steps(&rt, &mut memory, Side::P, &mut writer, &mut Always(true), 3);
     }
     // the write of 1 has ended and that of 3 has begun, and yet the scan gives 2, though nothing overlapped

@@ -3,15 +3,16 @@ ghost use Rattle.std.specs.Prelude.{◌≡◌};
 
 use bits_core::Shape;
 use ring_run::{CounterRing, PutEnd};
-use std::alloc::AllocGlobal;
+use std::alloc::{AllocGlobal, Global};
 use std::process::Abort;
 use std::rt::HostRuntime;
 use std::test::Fail;
+use std::thread::Threads;
 use uses::batches::put_batch;
 use uses::oracles::pass_flickering;
 use uses::packed::{Reading, pass_places, pass_readings};
 use uses::relays::pass_on;
-use uses::two_threads::pass_through;
+use uses::two_threads::{Passed, pass_through};
 
 #[test]
 fn items_are_passed_on(rt: HostRuntime) -> Result<(), Fail> {
@@ -23,12 +24,22 @@ fn items_are_passed_on(rt: HostRuntime) -> Result<(), Fail> {
     Ok(())
 }
 
+// What comes through, of items that fit.
+fn passed(
+    rt: &(impl Abort + AllocGlobal + Threads),
+    shape: Shape,
+    items: &[u64],
+    calls: u64,
+) -> Result<Passed<Global>, Fail> {
+    assert!(rt; shape.fits_all(items));
+    Ok(pass_through(rt, rt.alloc(), shape, items, calls)?)
+}
+
 #[test]
 fn threads_of_ones_own_pass_all(rt: HostRuntime) -> Result<(), Fail> {
     let shape = Shape::with_batch(4, 8, 16, 3)?;
     let items = [5, 7, 5, 65_535, 1, 2, 3];
-    assert!(rt; shape.fits_all(&items));
-    let passed = pass_through(&rt, rt.alloc(), shape, &items, 1_000_000_000)?;
+    let passed = passed(&rt, shape, &items, 1_000_000_000)?;
     assert!(rt; passed.stored == 7 && passed.told && passed.counts == (7, 7));
     assert_eq!(rt; passed.taken.as_slice(), items.as_slice());
     Ok(())
@@ -39,8 +50,7 @@ fn threads_of_ones_own_pass_all(rt: HostRuntime) -> Result<(), Fail> {
 fn counts_go_round_at_the_modulus(rt: HostRuntime) -> Result<(), Fail> {
     let shape = Shape::new(1, 3, 4)?;
     let items = [9, 8, 7, 6, 5];
-    assert!(rt; shape.fits_all(&items));
-    let passed = pass_through(&rt, rt.alloc(), shape, &items, 1_000_000_000)?;
+    let passed = passed(&rt, shape, &items, 1_000_000_000)?;
     assert_eq!(rt; passed.counts, (2, 2));
     assert_eq!(rt; passed.taken.as_slice(), items.as_slice());
     Ok(())
@@ -50,8 +60,7 @@ fn counts_go_round_at_the_modulus(rt: HostRuntime) -> Result<(), Fail> {
 fn without_a_take_nothing_is_taken(rt: HostRuntime) -> Result<(), Fail> {
     let shape = Shape::new(1, 3, 1)?;
     let items = [1, 0];
-    assert!(rt; shape.fits_all(&items));
-    let passed = pass_through(&rt, rt.alloc(), shape, &items, 0)?;
+    let passed = passed(&rt, shape, &items, 0)?;
     assert!(rt; passed.stored == 0 && passed.taken.is_empty() && !passed.told);
     assert!(rt; passed.counts == (0, 0));
     Ok(())
