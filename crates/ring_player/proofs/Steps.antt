@@ -1,5 +1,5 @@
 -- What one step of a side does.
-use Rattle.std.proofs.Common.{◌≡◌, ℕ, suc, ◌<◌, ◌≤◌, Bool, true, false, Option, Some, None, List, [], ◌∷◌, ◌++◌, length, refl, sym, ap, subst, ◌∙◌, append_assoc, append-nil, length-append, arith}
+use Rattle.std.proofs.Common.{◌≡◌, ℕ, suc, ◌<◌, Bool, true, false, Option, Some, None, List, [], ◌∷◌, ◌++◌, length, refl, sym, ap, subst, ◌∙◌, append_assoc, append-nil, length-append, arith}
 use Rattle.std.specs.Prelude.{if◌then◌else◌, ◌^◌}
 use Rattle.bits_core.specs.declared.events.Side.{Side}
 use Rattle.bits_core.specs.declared.events.Side.TheVariants.{P, C}
@@ -12,7 +12,7 @@ use Rattle.bits_core.specs.Bits.{begun_by, other}
 use Rattle.bits_core.specs.History.{open_access}
 use Rattle.bits_core.proofs.LawLemmas.{open_changes}
 use Rattle.bits_core.specs.Lawful.{IsLawful}
-use Rattle.bits_core.specs.Made.{Made, Read, answered, end_event, events_of, subhistory, opening_event}
+use Rattle.bits_core.specs.Made.{Made, Read, answered, end_event, events_of, subhistory}
 use Rattle.bits_core.specs.Open.{bit_of}
 use Rattle.bits_core.specs.declared.shapes.Shape.{Shape}
 use Rattle.bits_core.specs.Shape.{modulus_of}
