@@ -1,5 +1,5 @@
 -- What begins a write of a bit, and where it stands to a read.
-use Rattle.std.proofs.Common.{◌≡◌, ℕ, ◌<◌, Bool, true, false, List, Option, Some, None, slice_get, if◌then◌else◌, sym, ap, arith, ◌∙◌, inl, inr}
+use Rattle.std.proofs.Common.{◌≡◌, ℕ, ◌<◌, Bool, List, Option, Some, None, slice_get, if◌then◌else◌, sym, ap, arith, ◌∙◌, inl, inr}
 use Rattle.std.proofs.lemmas.Bool.{cases_lt}
 use Rattle.std.proofs.lemmas.Option.{none-some}
 use Rattle.bits_core.specs.declared.events.Side.{Side}

@@ -1,5 +1,5 @@
 -- Lists of accesses that were made, and their events.
-use Rattle.std.proofs.Common.{◌≡◌, ℕ, zero, suc, ◌*◌, Bool, true, false, Some, List, [], ◌∷◌, ◌++◌, length, refl, ap, sym, ◌∙◌, arith, append_assoc, append-nil}
+use Rattle.std.proofs.Common.{◌≡◌, ℕ, suc, Bool, true, false, Some, List, [], ◌∷◌, ◌++◌, length, refl, ap, sym, ◌∙◌, arith, append_assoc, append-nil}
 use Rattle.std.specs.Prelude.{if◌then◌else◌}
 use Rattle.std.proofs.lemmas.List.{length-append}
 use Rattle.bits_core.specs.declared.events.Side.{Side}
@@ -12,7 +12,7 @@ use Rattle.bits_core.specs.Shape.{modulus_of}
 use Rattle.bits_core.specs.Bits.{other, begun_by}
 use Rattle.bits_core.specs.History.{open_access}
 use Rattle.bits_core.specs.Lawful.{IsLawful}
-use Rattle.bits_core.specs.Made.{Made, Read, Write, answered, begin_event, events_of, subhistory, IsPrefix}
+use Rattle.bits_core.specs.Made.{Made, Read, answered, begin_event, events_of, subhistory, IsPrefix}
 use Rattle.register_core.specs.ScanState.{zero_reads, row_read_by}
 use Rattle.ring_core.specs.Calls.{EndsInZeros}
 use Rattle.ring_seats.specs.Programs.{Follows, begin_of, ending_event}

@@ -1,5 +1,5 @@
 -- Lists of calls.
-use Rattle.std.proofs.Common.{◌≡◌, Bool, true, false, Some, List, [], ◌∷◌, ◌++◌, refl}
+use Rattle.std.proofs.Common.{◌≡◌, Bool, true, false, refl}
 pub use Rattle.ring_core.proofs.Machines.TakeCalls.{reply-push as last-snoc}
 
 pub by_case : {G : Type 0} → (b : Bool) → (b ≡ true → G) → (b ≡ false → G) → G

@@ -1,5 +1,5 @@
 -- What whole calls of a ring's ends store and take, and what came through where both ends are done.
-use Rattle.std.proofs.Common.{◌≡◌, ⊎_elim, ℕ, zero, suc, ◌+◌, ◌≤◌, Bool, true, false, Some, None, List, [], ◌∷◌, ◌++◌, length, slice_index, take, refl, ap, sym, subst, ◌∙◌, arith, append-nil, append_assoc, ◌%◌, ◌<◌, ◌^◌, ◌-◌, drop, Result, Ok, Err}
+use Rattle.std.proofs.Common.{◌≡◌, ⊎_elim, ℕ, zero, suc, ◌+◌, ◌≤◌, Bool, true, false, Some, None, List, [], ◌∷◌, ◌++◌, length, slice_index, take, refl, ap, sym, subst, ◌∙◌, arith, append-nil, append_assoc, ◌%◌, ◌<◌, ◌-◌, drop, Result, Ok, Err}
 use Rattle.std.specs.Prelude.{IfOk}
 use Rattle.std.proofs.lemmas.List.{length-drop, length-take-le, take-append-drop}
 use Rattle.std.proofs.Math.Seq.{take-add}
@@ -17,7 +17,7 @@ use Rattle.ring_core.specs.declared.replies.TakeReply.TheVariants as replies
 use Rattle.ring_core.specs.Counts.{first_count}
 use Rattle.ring_core.specs.Puts as puts
 use Rattle.ring_core.specs.Puts.{Put, Puts, IsBatch, IsPut, ArePuts, room_in}
-use Rattle.ring_core.specs.Takes.{Takes, AreTakes, Open, Closed, take_program}
+use Rattle.ring_core.specs.Takes.{Takes, AreTakes, Open, take_program}
 use Rattle.ring_core.specs.Items.{all_put, all_taken, taken_of, items_put, items_taken, events_in, IsTold}
 use Rattle.ring_core.specs.Readings.{PutsAreRead, TakesAreRead}
 use Rattle.ring_core.specs.ProducerCalls.{no_puts, and_put, count_of}

@@ -1,5 +1,5 @@
 -- What a take of several items took.
-use Rattle.std.proofs.Common.{◌≡◌, ⊎_elim, ℕ, Bool, true, false, List, [], ◌∷◌, ◌++◌, take, ap, sym, subst, ◌∙◌, append-nil}
+use Rattle.std.proofs.Common.{◌≡◌, ⊎_elim, ℕ, Bool, true, false, List, [], ◌++◌, take, ap, sym, subst, ◌∙◌, append-nil}
 use Rattle.bits_core.specs.declared.events.Event.{Event}
 use Rattle.ring_core.specs.declared.replies.TakeBatchReply.{TakeBatchReply}
 use Rattle.ring_core.specs.Takes.{Takes}
