@@ -26,8 +26,16 @@ crates_below() {
         END { walk(last) }' "$top/crates.txt"
 }
 
-# sources_sum CRATE..: a SHA-256 of what these crates are built from, their files and their lines of crates.txt: the same on each machine.
-# Four parts are summed side by side, as it is asked before each run.
+# code: of the files whose paths are on standard input, the paths and the lines that are code: a build does not depend on blank lines and
+# on lines that are a comment alone. (tests/launcher looks that no string has such a line in it.)
+code() {
+    xargs awk '
+        FNR == 1 { print FILENAME; is_antt = FILENAME ~ /[.]antt$/ }
+        is_antt ? !/^[ \t]*(--( .*)?)?$/ : !/^[ \t]*(\/\/.*)?$/'
+}
+
+# sources_sum CRATE..: a SHA-256 of what these crates are built from, the code of their files and their lines of crates.txt: the same on
+# each machine. Four parts are summed side by side, as it is asked before each run.
 sources_sum() {
     (
         cd "$top" || exit
@@ -48,7 +56,7 @@ sources_sum() {
                         at=$((at + 1))
                     done
                     # shellcheck disable=SC2086
-                    [ -z "$folders" ] || find $folders -type f -exec sha256sum {} + | sort | sha256sum &
+                    [ -z "$folders" ] || find $folders -type f \( -name '*.rt' -o -name '*.antt' \) | sort | code | sha256sum &
                 done
                 grep -E "^(${names#|})[: ]" crates.txt
                 wait

@@ -66,8 +66,15 @@ def words(crate, libraries, is_checked=False):
     return found + ["--crate-type", "staticlib"] * (kind(crate) == "staticlib")
 
 
+def code(path):
+    """Returns the lines of the file that are code, as `code` of tools/building.sh does: neither blank nor a comment alone."""
+    left_out = re.compile(rb"[ \t]*(--( .*)?)?" if path.endswith(".antt") else rb"[ \t]*(//.*)?")
+    with open(path, "rb") as file:
+        return [line for line in file.read().split(b"\n") if not left_out.fullmatch(line)]
+
+
 def sum_of(crate):
-    """Returns a checksum of what the crate's proof is of: its files and those of the crates below it, and the kit."""
+    """Returns a checksum of what the crate's proof is of: the code of its files and of the crates below it, and the kit."""
     found = hashlib.sha256()
     with open(f"{kit()}/KIT-ID", "rb") as file:
         found.update(file.read())
@@ -77,6 +84,6 @@ def sum_of(crate):
             for at, folders, files in os.walk(f"{TOP}/crates/{name}/{part}"):
                 folders.sort()
                 for each in sorted(files):
-                    with open(f"{at}/{each}", "rb") as file:
-                        found.update(repr((os.path.relpath(f"{at}/{each}", TOP), file.read())).encode())
+                    if each.endswith((".rt", ".antt")):
+                        found.update(repr((os.path.relpath(f"{at}/{each}", TOP), code(f"{at}/{each}"))).encode())
     return found.hexdigest()

@@ -24,22 +24,18 @@ const AUDIT_HELP: &str = "\
 A trace has a line `shape CAPACITY MODULUS WIDTH`, with the batch behind these
 where it is over 1, or the batch and the take batch where that is over 1, and
 then a line for each event of the history:
-
-  P write s1 1    side P begins to write 1 to bit s1
+\n  P write s1 1    side P begins to write 1 to bit s1
   P wrote s1      its write ends
   C read s1       side C begins to read bit s1
   C got s1 0      its read ends and answers 0
-
-Bits are s0, s1, .. and r0, r1, .., x, and cJ.I for digit I of cell J.
-
-The answer is `lawful` where each read's answer is one that safe bits may give
+\nBits are s0, s1, .. and r0, r1, .., x, and cJ.I for digit I of cell J.
+\nThe answer is `lawful` where each read's answer is one that safe bits may give
 and both sides follow the ring's programs, with the items put, the items taken
 and whether the consumer was told that the ring is closed. Else it is the first
 line at fault and of what kind the fault is. With --bits the programs are left
 out, and the items too; with --bits --long the trace is read in pieces, and may
 have any length. With --why a fault has further lines:
-
-  due: P write c0.0 1           an event of this side that is of its program; or
+\n  due: P write c0.0 1           an event of this side that is of its program; or
   due: nothing                  there is none, as it has made its last call
   held: 0 since line 5, where the read began at line 6
                                 what the bit held, which no write overlapped
@@ -47,29 +43,24 @@ have any length. With --why a fault has further lines:
                                 the access that this side has not ended
   open: nothing                 or that it has none to end
   only by: P                    the side that may do this to the bit
-
-With --calls the input is a recording of the calls of any queue of one producer
+\nWith --calls the input is a recording of the calls of any queue of one producer
 and one consumer: a line `queue CAPACITY`, and then a line where each call
 begins and one where it ends, in the order in which they happened:
-
-  P put 5         side P begins to put item 5, or several: P put 5 6 7
+\n  P put 5         side P begins to put item 5, or several: P put 5 6 7
   P stored        its put ends, stored; or P full, or P closed
   C take          side C begins to take an item, or up to Q: C take Q
   C item 5        its take ends with item 5; or C empty, or C closed
   P close         side P begins to close; P closed ends it
-
-The answer is `lawful` where the history is linearizable, with what it reached;
+\nThe answer is `lawful` where the history is linearizable, with what it reached;
 else the first line with which it is not, and what speaks against it. The input
 may have any length. With --stop a fault is told as soon as its line is read,
 and nothing is read behind it. docs/FORMATS.md has the whole format.
-
-Examples:
+\nExamples:
   lamport_ring audit < examples/plain_path.trace
   lamport_ring audit --bits < examples/new_old_inversion.trace
   lamport_ring audit --why < examples/count_before_cell.trace
   lamport_ring audit --calls < examples/calls/plain.calls
-
-Exit status:
+\nExit status:
   0  the history is lawful
   1  refused: the input is not of the format, or could not be read, or the
      output failed
@@ -81,8 +72,7 @@ const PLAY_USAGE: &str = "lamport_ring play [--trace|--calls] < SCRIPT
 
 const PLAY_HELP: &str = "\
 A script is a JSON object:
-
-  capacity, modulus, width  the shape of the ring, whole numbers
+\n  capacity, modulus, width  the shape of the ring, whole numbers
   items     the items to put, in order
   takes     how many items the consumer wants
   close     true or false: whether the producer closes after the last item
@@ -90,31 +80,25 @@ A script is a JSON object:
   oracle    what overlapped reads answer in turn, as 01
   batch     the most items that one put may store; 1 where it is left out
   take_batch  the most items that one take may take; 1 where it is left out
-
-  {\"capacity\":1, \"modulus\":3, \"width\":1, \"items\":[1], \"takes\":1,
+\n  {\"capacity\":1, \"modulus\":3, \"width\":1, \"items\":[1], \"takes\":1,
    \"close\":false, \"schedule\":\"P8C10\", \"oracle\":\"\"}
-
-The answer says how many events there were, the items put and taken, whether
+\nThe answer says how many events there were, the items put and taken, whether
 the consumer was told that the ring is closed, how many puts found the ring
 full, how many takes found it empty, and how many reads a write overlapped.
-
-With --wrong the script is played by a ring that is nearly right, and breaks
+\nWith --wrong the script is played by a ring that is nearly right, and breaks
 one rule. Its bits are lawful, and of its items nothing is promised:
-
-  count-before-cell  a put writes its count before the item's cell
+\n  count-before-cell  a put writes its count before the item's cell
   no-second-scan     a take that reads the close bit as 1 scans no second time
   small-modulus      the counts go round one too soon
   clears-first       a count write clears the bits below before it sets its own
   clears-upwards     a count write clears the bits below from the lowest up
-
-Examples:
+\nExamples:
   lamport_ring play < examples/plain_path.json
   lamport_ring play --trace < examples/plain_path.json | lamport_ring audit
   lamport_ring play --calls < examples/plain_path.json | lamport_ring audit --calls
   lamport_ring play --wrong no-second-scan --calls \\
     < examples/wrong/no_second_scan.json
-
-Exit status:
+\nExit status:
   0  the script was played
   1  refused: the input is no script, or could not be read, or the output failed
   2  the command line is wrong";
@@ -127,8 +111,7 @@ Examples:
   lamport_ring audit --calls < examples/calls/plain.calls
   lamport_ring run --capacity 1 --modulus 3 --width 6 --count 64 \\
     --limit 1000000000
-
-Exit status:
+\nExit status:
   0  done: a play, a lawful history, a whole relay, or help or the version that
      was asked for
   1  refused, for the cause that standard error gives

@@ -26,8 +26,7 @@ items were put and taken, and whether the taker was told that the ring is
 closed. The flickering ring has a word for each bit, which shows that it is
 being written; the counter ring has a word for each counter and each cell, and
 is faster. What they promise is the same.
-
-The numbers are whole, in decimal digits with no minus sign:
+\nThe numbers are whole, in decimal digits with no minus sign:
   B  how many cells the ring has, from 1 to 64
   M  what its counts run modulo, from B + G + 1 and B + H + 1 to 256
   W  how many binary digits an item has, from 1 to 64
@@ -36,29 +35,24 @@ The numbers are whole, in decimal digits with no minus sign:
   T  the most calls of take, from 0 to 2^64 - 1; L where it is left out
   G  how many items a put has at most, from 1 to B; 1 where it is left out
   H  how many items a take has at most, from 1 to B; 1 where it is left out
-
-A limit counts every call of put or take, also one that finds the ring full or
+\nA limit counts every call of put or take, also one that finds the ring full or
 empty, and a take that brings items by how many these are; the close is not
 counted. A side that has made so many makes no more.
 Where the taker was not told then that the ring is closed, the text is printed
 all the same, standard error says `refused: limit reached`, and the status is 1.
-
-With --report four lines follow: `calls`, how many puts were made; `full`, how
+\nWith --report four lines follow: `calls`, how many puts were made; `full`, how
 many of them found the ring full; `empty`, how many takes found it empty; and
 `items a second`, how many were taken, by the clock from just before the relay
 to just behind it, or `unknown` where the clock told no time.
-
-With --record the text is a recording of the calls of both sides, which
+\nWith --record the text is a recording of the calls of both sides, which
 `lamport_ring audit --calls` judges. It ends before the first line for which a
 side has no more room, which is behind some 2 million lines of either side.
-
-Examples:
+\nExamples:
   lamport_ring run --ring counter --capacity 8 --modulus 10 --width 16 \\
     --count 1000 --limit 1000000000
   lamport_ring run --capacity 1 --modulus 3 --width 6 --count 64 \\
     --limit 1000000000
-
-Exit status:
+\nExit status:
   0  the taker was told that the ring is closed: all items were put and taken
   1  refused: a limit was reached before, the numbers are no ring's, or the
      output failed
