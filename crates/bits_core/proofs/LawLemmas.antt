@@ -5,8 +5,6 @@ pub use Rattle.bits_core.proofs.Histories.{open_access-push as open_changes, bef
 pub use Rattle.bits_core.proofs.Changes.{open_write-push as open_write_changes, held_at_begin-push as held_at_begin_changes, is_overlapped-push as overlap_changes}
 pub use Rattle.bits_core.proofs.DecideLemmas.{decide_overlap as overlap_is_decidable}
 pub use Rattle.bits_core.proofs.FaultLemmas.{one_verdict, fault_breaks, fault_is_first}
-pub use Rattle.bits_core.proofs.TraceReadings.{one_reading, faulty_is_no_trace, one_fault, trace_is_text, one_text_reading, refused_is_no_text}
-pub use Rattle.bits_core.proofs.TraceTotal.{trace_or_fault}
 pub use Rattle.bits_core.proofs.FlickerLaws.{flicker_is_by_interval}
 pub use Rattle.bits_core.proofs.OwnEvents.{subhistory_changes, subhistory_has_place, subhistory_has_one_place, clock_counts_places}
 pub use Rattle.bits_core.proofs.MadeLemmas.{made_is_access, access_is_made}

@@ -1,5 +1,6 @@
 pub mod Statements
 pub mod Fitting
+pub mod ShapeLemmas
 pub mod Places
 pub mod Histories
 pub mod StepLemmas
@@ -10,16 +11,7 @@ pub mod HeldLemmas
 pub mod LawfulLemmas
 pub mod FaultLemmas
 pub mod LawProofs
-pub mod Digits
-pub mod TraceFields
-pub mod TraceLines
-pub mod TraceLemmas
 pub mod DecideLemmas
-pub mod TraceReadings
-pub mod TraceTotal
-pub mod LineEnds
-pub mod TraceTexts
-pub mod TraceFindings
 pub mod Tapes
 pub mod OpenAccesses
 pub mod Flickers

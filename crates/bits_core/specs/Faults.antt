@@ -1,11 +1,9 @@
 -- The number of each fault, and its words.
-use Rattle.std.specs.Prelude.{ℕ, List, ◌++◌, codes, decimal}
+use Rattle.std.specs.Prelude.{ℕ, List, codes}
 use Rattle.bits_core.specs.declared.faults.Kind.{Kind}
 use Rattle.bits_core.specs.declared.faults.Kind.TheVariants.{WrongSide, OutOfTurn, NotPermitted, NotProgram}
 use Rattle.bits_core.specs.declared.faults.ShapeFault.{ShapeFault}
 use Rattle.bits_core.specs.declared.faults.ShapeFault.TheVariants.{Capacity, Modulus, Width, Batch, TakeBatch, ModulusOfBatches}
-use Rattle.bits_core.specs.declared.faults.TraceFault.{TraceFault}
-use Rattle.bits_core.specs.declared.faults.TraceFault.TheVariants.{BadShape, BadLine, TooLong, OutOfMemory}
 
 -- of numbers that are no shape
 abbrev pub shape_fault_told : ShapeFault → ℕ × List ℕ
@@ -34,16 +32,3 @@ kind_number kind = (kind_told kind).0
 
 abbrev pub kind_words : Kind → List ℕ
 kind_words kind = (kind_told kind).1
-
--- of bytes that are no trace
-abbrev pub trace_fault_told : TraceFault → ℕ × List ℕ
-trace_fault_told (BadShape fault) = (1, shape_fault_words fault)
-trace_fault_told (BadLine line) = (2, codes "trace line " ++ (decimal line ++ codes " is not a line of the format"))
-trace_fault_told TooLong = (3, codes "trace has too many events")
-trace_fault_told OutOfMemory = (4, codes "out of memory")
-
-abbrev pub trace_fault_number : TraceFault → ℕ
-trace_fault_number fault = (trace_fault_told fault).0
-
-abbrev pub trace_fault_words : TraceFault → List ℕ
-trace_fault_words fault = (trace_fault_told fault).1

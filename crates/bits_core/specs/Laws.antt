@@ -1,5 +1,5 @@
 -- The laws that the layers above stand on.
-use Rattle.std.specs.Prelude.{◌≡◌, ◌≢◌, ℕ, suc, ◌≤◌, ◌⊎◌, ◌↔◌, Bool, true, Some, None, List, [], ◌∷◌, ◌++◌, length, take, if◌then◌else◌}
+use Rattle.std.specs.Prelude.{◌≡◌, ℕ, suc, ◌≤◌, ◌⊎◌, ◌↔◌, Bool, true, Some, None, List, [], ◌∷◌, ◌++◌, length, take, if◌then◌else◌}
 use Rattle.bits_core.specs.declared.events.Side.{Side}
 use Rattle.bits_core.specs.declared.events.Bit.{Bit}
 use Rattle.bits_core.specs.declared.events.Access.{Access}
@@ -7,11 +7,7 @@ use Rattle.bits_core.specs.declared.events.Event.{Event}
 use Rattle.bits_core.specs.declared.faults.Kind.{Kind}
 use Rattle.bits_core.specs.declared.audits.Verdict.{Verdict}
 use Rattle.bits_core.specs.declared.shapes.Shape.{Shape}
-use Rattle.bits_core.specs.declared.traces.TheConstants.{EVENT_LIMIT}
-use Rattle.bits_core.specs.declared.faults.TraceFault.{TraceFault}
-use Rattle.bits_core.specs.declared.faults.TraceFault.TheVariants.{TooLong}
 use Rattle.bits_core.specs.Audit.{IsFirstFault, IsVerdict}
-use Rattle.bits_core.specs.Trace.{IsTrace, IsTraceFault, IsTraceText, RefusesTraceText}
 use Rattle.bits_core.specs.Bits.{is_by, begun_by}
 use Rattle.bits_core.specs.History.{open_access, held, is_overlapped}
 use Rattle.bits_core.specs.Intervals.{IsHeld, IsOpenAt, IsRead, HasOverlap}
@@ -57,34 +53,6 @@ FaultBreaks = (shape : Shape) (h : List Event) (place : ℕ) (kind : Kind) → I
 -- whether a write of a bit overlaps an access is decidable
 abbrev pub OverlapIsDecidable : Type 0
 OverlapIsDecidable = (h : List Event) (b : Bit) (start stop : ℕ) → HasOverlap h b start stop ⊎ ¬ HasOverlap h b start stop
-
--- a text has one reading
-abbrev pub OneReading : Type 0
-OneReading = (bytes : List ℕ) (s t : Shape) (es fs : List Event) → IsTrace bytes s es → IsTrace bytes t fs → (s ≡ t) × (es ≡ fs)
-
--- bytes with a fault are no trace
-abbrev pub FaultyIsNoTrace : Type 0
-FaultyIsNoTrace = (bytes : List ℕ) (fault : TraceFault) (shape : Shape) (events : List Event) → IsTraceFault bytes fault → ¬ IsTrace bytes shape events
-
--- bytes are a trace or have a fault
-abbrev pub TraceOrFault : Type 0
-TraceOrFault = (bytes : List ℕ) → ((shape : Shape) × (events : List Event) × IsTrace bytes shape events) ⊎ ((fault : TraceFault) × IsTraceFault bytes fault)
-
--- and they have one fault
-abbrev pub OneFault : Type 0
-OneFault = (bytes : List ℕ) (f g : TraceFault) → IsTraceFault bytes f → IsTraceFault bytes g → f ≡ g
-
--- a trace is a trace of any length of no more events than it may have, and the other way round
-abbrev pub TraceIsText : Type 0
-TraceIsText = (bytes : List ℕ) (shape : Shape) (events : List Event) → IsTrace bytes shape events ↔ (IsTraceText bytes shape events × (length events ≤ EVENT_LIMIT))
-
--- one of any length has one reading too
-abbrev pub OneTextReading : Type 0
-OneTextReading = (bytes : List ℕ) (s t : Shape) (es fs : List Event) → IsTraceText bytes s es → IsTraceText bytes t fs → (s ≡ t) × (es ≡ fs)
-
--- and bytes that are refused as one are none, but where they are too many
-abbrev pub RefusedIsNoText : Type 0
-RefusedIsNoText = (bytes : List ℕ) (fault : TraceFault) (shape : Shape) (events : List Event) → fault ≢ TooLong → RefusesTraceText bytes fault → ¬ IsTraceText bytes shape events
 
 -- the reads that count as flickers are those that a write overlaps
 abbrev pub FlickerIsByInterval : Type 0

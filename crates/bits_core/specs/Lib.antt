@@ -7,16 +7,11 @@ pub mod Lawful
 pub mod Steps
 pub mod Audit
 pub mod Laws
-pub mod TraceText
-pub mod Trace
-pub mod TraceReading
-pub mod TraceLines
 pub mod Oracle
 pub mod Open
 pub mod Memory
 pub mod Made
 pub mod Marks
 pub mod Auditors
-pub mod TraceAudits
 pub mod Seen
 pub mod Reasons

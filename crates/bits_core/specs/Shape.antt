@@ -1,5 +1,5 @@
 -- Which numbers make a shape, and which bits a shape has.
-use Rattle.std.specs.Prelude.{◌≡◌, ℕ, ◌+◌, ◌^◌, ◌<◌, ◌≤◌, Bool, true, ◌&&◌, nat_lt, List, [], ◌∷◌}
+use Rattle.std.specs.Prelude.{◌≡◌, ℕ, ◌+◌, ◌^◌, ◌<◌, ◌≤◌, Bool, true, ◌&&◌, nat_lt, List, [], ◌∷◌, All}
 use Rattle.bits_core.specs.declared.shapes.Shape.{Shape}
 use Rattle.bits_core.specs.declared.faults.ShapeFault.{ShapeFault}
 use Rattle.bits_core.specs.declared.faults.ShapeFault.TheVariants.{Capacity, Modulus, Width, Batch, TakeBatch, ModulusOfBatches}
@@ -109,6 +109,10 @@ belongs shape (S i) = nat_lt i (modulus_of shape)
 belongs shape (R i) = nat_lt i (modulus_of shape)
 belongs shape X = true
 belongs shape (Cell j i) = nat_lt j (capacity_of shape) && nat_lt i (width_of shape)
+
+-- each event is one of a bit of the shape
+abbrev pub AreOfShape : Shape → List Event → Type 0
+AreOfShape shape events = All (λ e. belongs shape e.bit ≡ true) events
 
 -- a cell can hold each of these items
 abbrev pub AllFit : Shape → List ℕ → Type 0

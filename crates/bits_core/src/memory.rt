@@ -1,13 +1,12 @@
 //! A memory of safe bits.
 ghost use Rattle.std.specs.Prelude.{◌≡◌, ◌≤◌, ◌↔◌, ℕ, ◌+◌, Bool, true, false, if◌then◌else◌, OnOk, OnErr, IfOk, IfSome, IsSome, None, [], length, unwrap_or};
 ghost use Rattle.bits_core.specs.Bits.{reader, writer};
-ghost use Rattle.bits_core.specs.Shape.{belongs};
+ghost use Rattle.bits_core.specs.Shape.{AreOfShape, belongs};
 ghost use Rattle.bits_core.specs.History.{open_access, is_overlapped, held_at_begin};
 ghost use Rattle.bits_core.specs.Lawful.{IsLawful};
 ghost use Rattle.bits_core.specs.Memory.{EndsOverlappedRead, ends_read, flicker_count, held_for_read, is_read_overlapped, open_bit, unused, with_answer, with_event};
 ghost use Rattle.bits_core.specs.Open.{IsOpenRight, IsReading, IsWriting};
 ghost use Rattle.bits_core.specs.Steps.{MayFollow};
-ghost use Rattle.bits_core.specs.Trace.{AreOfShape};
 
 use crate::events::{Access, Act, Bit, Event, Side};
 use crate::faults::MemoryFault;

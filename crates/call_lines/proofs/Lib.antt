@@ -1,3 +1,2 @@
-mod NumberReading
 mod LineReadings
 pub mod LineLemmas

@@ -9,8 +9,12 @@ use Rattle.std.proofs.lemmas.Option.{none-some, same_Some}
 use Rattle.call_lines.specs.declared.lines.Word.{Word}
 use Rattle.call_lines.specs.declared.lines.Word.TheVariants.{Queue, Cut, Put, Stored, PutSome, Full, Short, PutNothing, PutClosed, Close, Take, Item, TakeSome, Empty, TakeShort, TakeNothing, TakeClosed}
 use Rattle.call_lines.specs.Lines.{word_text, numbers_text, line_text, Allows, AreSmall, BeginsWithNumbers, IsLine}
-use Rattle.call_lines.specs.LineReading.{bytes_behind, then_or_else, word_or, put_word_at, take_word_at, line_word_at, spaced_number}
-use Rattle.call_lines.proofs.LineReadings.{after-text, then_or_else-some, number_at-again}
+use Rattle.line_parts.specs.Parts.{after}
+use Rattle.line_parts.specs.LineEnds.{HasNoFeed}
+use Rattle.line_parts.proofs.LineFeeds.{IsOther, no_feed_digits, no_feed_text}
+use Rattle.line_parts.proofs.TextReading.{after-text}
+use Rattle.call_lines.specs.LineReading.{then_or_else, word_or, put_word_at, take_word_at, line_word_at, spaced_number}
+use Rattle.call_lines.proofs.LineReadings.{then_or_else-some, spaced_number-again}
 
 -- ---- the word
 
@@ -21,7 +25,7 @@ Tells front bytes x = front ++ bytes ≡ word_text x.0 ++ x.1
 named-text : (front : List ℕ) (w : Word) (text bytes : List ℕ) (other : Option (Word × List ℕ)) (x : Word × List ℕ) → front ++ text ≡ word_text w
     → (other ≡ Some x → Tells front bytes x) → word_or w text bytes other ≡ Some x → Tells front bytes x
 named-text front w text bytes other x is later e =
-    elim (then_or_else-some (bytes_behind text bytes) (λ rest. Some (w, rest)) other x e) [
+    elim (then_or_else-some (after text bytes) (λ rest. Some (w, rest)) other x e) [
       | inl k ↦ subst (λ (y : Word × List ℕ). Tells front bytes y) (same_Some (w, k.0) x k.2)
           (ap (λ (t : List ℕ). front ++ t) (after-text text bytes k.0 k.1) ∙ sym (append_assoc front text k.0) ∙ ap (λ (t : List ℕ). t ++ k.0) is)
       | inr k ↦ later k
@@ -46,9 +50,9 @@ take_word_at-text bytes x =
 
 -- the words of a side
 side-text : (front bytes : List ℕ) (reads : List ℕ → Option (Word × List ℕ)) (other : Option (Word × List ℕ)) (x : Word × List ℕ)
-    → ((rest : List ℕ) → reads rest ≡ Some x → Tells front rest x) → (other ≡ Some x → Tells [] bytes x) → then_or_else (bytes_behind front bytes) reads other ≡ Some x → Tells [] bytes x
+    → ((rest : List ℕ) → reads rest ≡ Some x → Tells front rest x) → (other ≡ Some x → Tells [] bytes x) → then_or_else (after front bytes) reads other ≡ Some x → Tells [] bytes x
 side-text front bytes reads other x is later e =
-    elim (then_or_else-some (bytes_behind front bytes) reads other x e) [
+    elim (then_or_else-some (after front bytes) reads other x e) [
       | inl k ↦ after-text front bytes k.0 k.1 ∙ is k.0 k.2
       | inr k ↦ later k
     ]
@@ -72,7 +76,7 @@ numbers_same [] (n ∷ other) small too e = absurd (omega (arith, ap length e))
 numbers_same (m ∷ one) [] small too e = absurd (omega (arith, ap length e))
 numbers_same (m ∷ one) (n ∷ other) small too e =
     let same : (m, numbers_text one) ≡ (n, numbers_text other) = same_Some (m, numbers_text one) (n, numbers_text other)
-    (sym (number_at-again m one (All-head (λ k. k < 2 ^ 64) m one small)) ∙ ap spaced_number e ∙ number_at-again n other (All-head (λ k. k < 2 ^ 64) n other too)) in
+    (sym (spaced_number-again m one (All-head (λ k. k < 2 ^ 64) m one small)) ∙ ap spaced_number e ∙ spaced_number-again n other (All-head (λ k. k < 2 ^ 64) n other too)) in
     ap₂ (λ (k : ℕ) (t : List ℕ). k ∷ t) (ap (λ (y : ℕ × List ℕ). y.0) same)
     (numbers_same one other (All-tail (λ k. k < 2 ^ 64) m one small) (All-tail (λ k. k < 2 ^ 64) n other too) (ap (λ (y : ℕ × List ℕ). y.1) same))
 
@@ -113,38 +117,19 @@ line_same bytes w other numbers told one two =
 
 -- ---- no line feed
 
--- a byte of a word or a number
-abbrev pub IsOther : ℕ → Type 0
-IsOther b = b ≢ 10
-
-no_feed_digits : (n : ℕ) → n < 2 ^ 64 → All IsOther (decimal n)
-no_feed_digits n small =
-    decimal_by_steps (λ m ds. All IsOther ds)
-    (λ m below. All-cons IsOther (48 + m) [] (λ e. absurd (omega (arith, e))) (All-nil IsOther))
-    (λ m ds two before. All-append IsOther ds ((48 + m % 10) ∷ []) before (All-cons IsOther (48 + m % 10) [] (λ e. absurd (omega (arith, e))) (All-nil IsOther)))
-    n small
-
-no_feed_numbers : (numbers : List ℕ) → AreSmall numbers → All IsOther (numbers_text numbers)
+no_feed_numbers : (numbers : List ℕ) → AreSmall numbers → HasNoFeed (numbers_text numbers)
 no_feed_numbers [] small = All-nil IsOther
 no_feed_numbers (n ∷ numbers) small =
     All-cons IsOther 32 (decimal n ++ numbers_text numbers) (λ e. absurd (omega (arith, e)))
     (All-append IsOther (decimal n) (numbers_text numbers) (no_feed_digits n (All-head (λ k. k < 2 ^ 64) n numbers small)) (no_feed_numbers numbers (All-tail (λ k. k < 2 ^ 64) n numbers small)))
 
--- the bytes of a text in which no byte is a line feed
-no_feed_text : (text : List ℕ) → list_all (λ b. nat_lt 10 b) text ≡ true → All IsOther text
-no_feed_text [] e = All-nil IsOther
-no_feed_text (b ∷ text) e =
-    let both = and_parts (nat_lt 10 b) (list_all (λ c. nat_lt 10 c) text) e in
-    let more : 10 < b = ltb-true 10 b both.0 in
-    All-cons IsOther b text (λ same. absurd (omega (arith, more, same))) (no_feed_text text both.1)
-
-no_feed_word : (w : Word) → All IsOther (word_text w)
+no_feed_word : (w : Word) → HasNoFeed (word_text w)
 no_feed_word Queue = no_feed_text (word_text Queue) refl
 no_feed_word w = no_feed_text (word_text w) refl
 
 -- in a line there is no line feed
-pub line_no_feed : (bytes : List ℕ) (w : Word) (numbers : List ℕ) → IsLine bytes w numbers → All IsOther bytes
-line_no_feed bytes w numbers is = subst (All IsOther) (sym is.text) (All-append IsOther (word_text w) (numbers_text numbers) (no_feed_word w) (no_feed_numbers numbers is.small))
+pub line_no_feed : (bytes : List ℕ) (w : Word) (numbers : List ℕ) → IsLine bytes w numbers → HasNoFeed bytes
+line_no_feed bytes w numbers is = subst HasNoFeed (sym is.text) (All-append IsOther (word_text w) (numbers_text numbers) (no_feed_word w) (no_feed_numbers numbers is.small))
 
 -- a word, and behind it more numbers than there is room for
 pub begins_with_numbers : (bytes rest : List ℕ) (w : Word) (numbers more : List ℕ) (room : ℕ) → Some (w, rest) ≡ line_word_at bytes → rest ≡ numbers_text numbers ++ more → AreSmall numbers

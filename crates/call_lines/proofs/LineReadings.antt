@@ -8,18 +8,10 @@ use Rattle.std.proofs.lemmas.Option.{cond_some, none-some, same_Some}
 use Rattle.std.proofs.lemmas.Slice.Eq.{bytes_eq-Decides}
 use Rattle.std.proofs.lemmas.Grind.{flat_map-append}
 use Rattle.call_lines.specs.Lines.{numbers_text, AreSmall}
-use Rattle.call_lines.specs.LineReading.{bytes_behind, then_or_else, digits_at, spaced_number}
-use Rattle.call_lines.proofs.NumberReading.{EndsDigits, digits_at-text, digits_at-again}
-
--- ---- texts
-
-pub after-text : (text bytes rest : List ℕ) → bytes_behind text bytes ≡ Some rest → bytes ≡ text ++ rest
-after-text text bytes rest e =
-    let c = cond_some (bytes_eq (take (length text) bytes) text) (drop (length text) bytes) rest e in
-    sym (take-append-drop (length text) bytes) ∙ ap₂ (λ (a : List ℕ) (b : List ℕ). a ++ b) ((bytes_eq-Decides (take (length text) bytes) text).0 c.0) c.1
-
-pub after-again : (text rest : List ℕ) → bytes_behind text (text ++ rest) ≡ Some rest
-after-again text rest = rw (take_at text rest (length text) refl, (bytes_eq-Decides text text).1 refl) (ap Some (drop_at text rest (length text) refl))
+use Rattle.line_parts.specs.Parts.{after, number_at}
+use Rattle.line_parts.proofs.TextReading.{after-text}
+use Rattle.line_parts.proofs.NumberReading.{EndsDigits, number_at-text, number_at-again}
+use Rattle.call_lines.specs.LineReading.{then_or_else, spaced_number}
 
 -- what is read behind a text, or without it
 pub then_or_else-some : {B : Type 0} (r : Option (List ℕ)) (f : List ℕ → Option B) (other : Option B) (x : B) → then_or_else r f other ≡ Some x
@@ -29,12 +21,12 @@ then_or_else-some None f other x e = inr e
 
 -- ---- a number behind a space
 
-pub number_at-text : (bytes : List ℕ) (x : ℕ × List ℕ) → spaced_number bytes ≡ Some x → (bytes ≡ (codes " " ++ decimal x.0) ++ x.1) × (x.0 < 2 ^ 64)
+pub spaced_number-text : (bytes : List ℕ) (x : ℕ × List ℕ) → spaced_number bytes ≡ Some x → (bytes ≡ (codes " " ++ decimal x.0) ++ x.1) × (x.0 < 2 ^ 64)
 unfolding spaced_number
-number_at-text bytes x e =
-    elim (then_or_else-some (bytes_behind (codes " ") bytes) digits_at None x e) [
+spaced_number-text bytes x e =
+    elim (then_or_else-some (after (codes " ") bytes) number_at None x e) [
       | inl k ↦
-          let b = digits_at-text k.0 x k.2 in
+          let b = number_at-text k.0 x k.2 in
           (after-text (codes " ") bytes k.0 k.1 ∙ ap (λ (t : List ℕ). codes " " ++ t) b.0, b.1)
       | inr k ↦ absurd (none-some x k)
     ]
@@ -44,28 +36,28 @@ pub ends_digits : (numbers : List ℕ) → EndsDigits (numbers_text numbers)
 ends_digits [] = tt
 ends_digits (n ∷ numbers) = refl
 
-pub number_at-again : (n : ℕ) (numbers : List ℕ) → n < 2 ^ 64 → spaced_number (numbers_text (n ∷ numbers)) ≡ Some (n, numbers_text numbers)
+pub spaced_number-again : (n : ℕ) (numbers : List ℕ) → n < 2 ^ 64 → spaced_number (numbers_text (n ∷ numbers)) ≡ Some (n, numbers_text numbers)
 unfolding spaced_number
-number_at-again n numbers small = digits_at-again n (numbers_text numbers) small (ends_digits numbers)
+spaced_number-again n numbers small = number_at-again n (numbers_text numbers) small (ends_digits numbers)
 
 -- ---- numbers
 
-pub one_more : (bytes left rest numbers bytes_behind : List ℕ) (n : ℕ) → bytes ≡ numbers_text numbers ++ left → Some (n, rest) ≡ spaced_number left → bytes_behind ≡ numbers ++ n ∷ []
-    → bytes ≡ numbers_text bytes_behind ++ rest
-one_more bytes left rest numbers bytes_behind n so_far read pushed =
-    let front = number_at-text left (n, rest) (sym read) in
+pub one_more : (bytes left rest numbers whole : List ℕ) (n : ℕ) → bytes ≡ numbers_text numbers ++ left → Some (n, rest) ≡ spaced_number left → whole ≡ numbers ++ n ∷ []
+    → bytes ≡ numbers_text whole ++ rest
+one_more bytes left rest numbers whole n so_far read pushed =
+    let front = spaced_number-text left (n, rest) (sym read) in
     let one : numbers_text (n ∷ []) ≡ codes " " ++ decimal n = append-nil (codes " " ++ decimal n) in
     so_far ∙ ap (λ (t : List ℕ). numbers_text numbers ++ t) front.0 ∙ sym (append_assoc (numbers_text numbers) (codes " " ++ decimal n) rest)
     ∙ ap (λ (t : List ℕ). (numbers_text numbers ++ t) ++ rest) (sym one) ∙ ap (λ (t : List ℕ). t ++ rest) (sym (flat_map-append (λ m. codes " " ++ decimal m) numbers (n ∷ [])))
     ∙ ap (λ (t : List ℕ). numbers_text t ++ rest) (sym pushed)
 
-pub small_more : (numbers bytes_behind left rest : List ℕ) (n : ℕ) → AreSmall numbers → Some (n, rest) ≡ spaced_number left → bytes_behind ≡ numbers ++ n ∷ [] → AreSmall bytes_behind
-small_more numbers bytes_behind left rest n small read pushed =
-    subst AreSmall (sym pushed) (All-append (λ m. m < 2 ^ 64) numbers (n ∷ []) small (All-cons (λ m. m < 2 ^ 64) n [] (number_at-text left (n, rest) (sym read)).1 (All-nil (λ m. m < 2 ^ 64))))
+pub small_more : (numbers whole left rest : List ℕ) (n : ℕ) → AreSmall numbers → Some (n, rest) ≡ spaced_number left → whole ≡ numbers ++ n ∷ [] → AreSmall whole
+small_more numbers whole left rest n small read pushed =
+    subst AreSmall (sym pushed) (All-append (λ m. m < 2 ^ 64) numbers (n ∷ []) small (All-cons (λ m. m < 2 ^ 64) n [] (spaced_number-text left (n, rest) (sym read)).1 (All-nil (λ m. m < 2 ^ 64))))
 
 pub shorter : (left rest : List ℕ) (n : ℕ) → Some (n, rest) ≡ spaced_number left → length rest < length left
 shorter left rest n read =
-    let front = number_at-text left (n, rest) (sym read) in
+    let front = spaced_number-text left (n, rest) (sym read) in
     let l : length left ≡ length (codes " " ++ decimal n) + length rest = ap length front.0 ∙ length-append (codes " " ++ decimal n) rest in
     let o : length (codes " " ++ decimal n) ≡ 1 + length (decimal n) = length-append (codes " ") (decimal n) in
     omega (arith, l, o)
@@ -75,11 +67,11 @@ pub left_more : (left rest more : List ℕ) (n : ℕ) → length left ≢ 0 → 
     → (others : List ℕ) × AreSmall others × (rest ≡ numbers_text others)
 left_more left rest [] n some read small text = absurd (some (ap length text))
 left_more left rest (m ∷ others) n some read small text =
-    let same : (n, rest) ≡ (m, numbers_text others) = same_Some (n, rest) (m, numbers_text others) (read ∙ ap spaced_number text ∙ number_at-again m others (All-head (λ k. k < 2 ^ 64) m others small)) in
+    let same : (n, rest) ≡ (m, numbers_text others) = same_Some (n, rest) (m, numbers_text others) (read ∙ ap spaced_number text ∙ spaced_number-again m others (All-head (λ k. k < 2 ^ 64) m others small)) in
     (others, All-tail (λ k. k < 2 ^ 64) m others small, ap (λ (y : ℕ × List ℕ). y.1) same)
 
 -- where no number is read, no numbers are left
 pub left_none : (left more : List ℕ) → length left ≢ 0 → None ≡ spaced_number left → AreSmall more → left ≢ numbers_text more
 left_none left [] some read small text = some (ap length text)
 left_none left (m ∷ others) some read small text =
-    none-some (m, numbers_text others) (read ∙ ap spaced_number text ∙ number_at-again m others (All-head (λ k. k < 2 ^ 64) m others small))
+    none-some (m, numbers_text others) (read ∙ ap spaced_number text ∙ spaced_number-again m others (All-head (λ k. k < 2 ^ 64) m others small))

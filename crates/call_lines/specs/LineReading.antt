@@ -1,14 +1,9 @@
 -- How a line is read: each part is what stands at the front and the bytes behind it, or there is none.
-use Rattle.std.specs.Prelude.{◌≡◌, ℕ, ◌+◌, ◌-◌, ◌*◌, ◌^◌, ◌==◌, nat_lt, Bool, true, false, if◌then◌else◌, List, [], ◌∷◌, codes, length, take, drop, Option, Some, None}
-use Rattle.std.specs.Char.{is_ascii_digit}
-use Rattle.std.specs.Str.{bytes_eq}
+use Rattle.std.specs.Prelude.{◌≡◌, ℕ, Bool, true, false, List, codes, Option, Some, None}
+use Rattle.line_parts.specs.Parts.{after, number_at}
 use Rattle.call_lines.specs.declared.lines.Word.{Word}
 use Rattle.call_lines.specs.declared.lines.Word.TheVariants.{Queue, Cut, Put, Stored, PutSome, Full, Short, PutNothing, PutClosed, Close, Take, Item, TakeSome, Empty, TakeShort, TakeNothing, TakeClosed}
 use Rattle.call_lines.specs.Lines.{numbers_text, AreSmall}
-
--- the bytes behind a text
-abbrev pub bytes_behind : List ℕ → List ℕ → Option (List ℕ)
-bytes_behind text bytes = if bytes_eq (take (length text) bytes) text then Some (drop (length text) bytes) else None
 
 -- what the bytes behind a text are read as, where there is the text, or else what is read without it
 abbrev pub then_or_else : {B : Type 0} → Option (List ℕ) → (List ℕ → Option B) → Option B → Option B
@@ -17,7 +12,7 @@ then_or_else None f other = other
 
 -- this word, where its text stands, or else another
 abbrev pub word_or : Word → List ℕ → List ℕ → Option (Word × List ℕ) → Option (Word × List ℕ)
-word_or word text bytes other = then_or_else (bytes_behind text bytes) (λ rest. Some (word, rest)) other
+word_or word text bytes other = then_or_else (after text bytes) (λ rest. Some (word, rest)) other
 
 abbrev pub put_word_at : List ℕ → Option (Word × List ℕ)
 put_word_at bytes = word_or Put (codes "put") bytes (word_or Stored (codes "stored") bytes (word_or Full (codes "full") bytes (word_or Short (codes "short") bytes
@@ -29,7 +24,7 @@ take_word_at bytes = word_or Take (codes "take") bytes (word_or Item (codes "ite
 
 abbrev pub line_word_at : List ℕ → Option (Word × List ℕ)
 line_word_at bytes =
-    then_or_else (bytes_behind (codes "P ") bytes) put_word_at (then_or_else (bytes_behind (codes "C ") bytes) take_word_at
+    then_or_else (after (codes "P ") bytes) put_word_at (then_or_else (after (codes "C ") bytes) take_word_at
     (word_or Queue (codes "queue") bytes (word_or Cut (codes "cut queue") bytes None)))
 
 -- whether bytes were read as numbers, and which these are
@@ -37,16 +32,6 @@ abbrev pub ReadsNumbers : List ℕ → Bool → List ℕ → Type 0
 ReadsNumbers bytes true numbers = (bytes ≡ numbers_text numbers) × AreSmall numbers
 ReadsNumbers bytes false numbers = (told : List ℕ) → AreSmall told → ¬ (bytes ≡ numbers_text told)
 
--- a number that goes on with the digits at the front, where it fits 64 bits, and the bytes behind them
-unfoldable pub digits_behind : ℕ → List ℕ → Option (ℕ × List ℕ)
-digits_behind n [] = Some (n, [])
-digits_behind n (b ∷ rest) = if is_ascii_digit b then (if nat_lt (10 * n + (b - 48)) (2 ^ 64) then digits_behind (10 * n + (b - 48)) rest else None) else Some (n, b ∷ rest)
-
--- a number that does not begin with 0, or 0
-unfoldable pub digits_at : List ℕ → Option (ℕ × List ℕ)
-digits_at [] = None
-digits_at (b ∷ rest) = if is_ascii_digit b then (if b == 48 then Some (0, rest) else digits_behind (b - 48) rest) else None
-
 -- a number behind a space
 unfoldable pub spaced_number : List ℕ → Option (ℕ × List ℕ)
-spaced_number bytes = then_or_else (bytes_behind (codes " ") bytes) digits_at None
+spaced_number bytes = then_or_else (after (codes " ") bytes) number_at None

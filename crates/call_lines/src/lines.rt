@@ -1,8 +1,9 @@
 //! The lines of a recording's text.
 ghost use Rattle.std.specs.Prelude.{◌≡◌, ◌↔◌, ◌<◌, ◌++◌, IsTrue, None, Some, IfOk, OnErr, IfSome, ℕ, List, length, option_map};
 ghost use Rattle.call_lines.specs.Lines.{Allows, AreSmall, BeginsWithNumbers, IsLine, numbers_text, word_of, word_text};
-ghost use Rattle.call_lines.specs.LineReading.{ReadsNumbers, bytes_behind, digits_behind, spaced_number, put_word_at, take_word_at, line_word_at};
+ghost use Rattle.call_lines.specs.LineReading.{ReadsNumbers, spaced_number, put_word_at, take_word_at, line_word_at};
 
+use line_parts::{after, number_at};
 use lists::Store;
 use std::alloc::AllocError;
 
@@ -218,14 +219,6 @@ fn take_word_at(bytes: &[u8]) -> Option<(Word, &[u8])>
     Some((Word::TakeSome, rest))
 }
 
-// The bytes behind a text that stands at the front.
-#[inline(always)]
-fn after<'a>(bytes: &'a [u8], text: &str) -> Option<&'a [u8]>
-    ensures { option_map (λ rest. rest.now) result ≡ bytes_behind text.now bytes.now }
-{
-    bytes.strip_prefix(text.as_bytes())
-}
-
 // Reads numbers with a space before each of them, and tells whether the bytes are such.
 fn read_numbers<R: Store<u64>>(bytes: &[u8], numbers: &mut R) -> Result<bool, AllocError>
     ensures read { IfOk result (λ read. ReadsNumbers bytes.now read (R.items numbers.new)) }
@@ -236,7 +229,7 @@ fn read_numbers<R: Store<u64>>(bytes: &[u8], numbers: &mut R) -> Result<bool, Al
     numbers.clear();
     let mut left = bytes;
     while !left.is_empty() {
-        let Some((number, rest)) = number_at(left) else {
+        let Some((number, rest)) = spaced_number(left) else {
             return Ok(false);
         };
         numbers.push(number)?;
@@ -245,36 +238,13 @@ fn read_numbers<R: Store<u64>>(bytes: &[u8], numbers: &mut R) -> Result<bool, Al
     Ok(true)
 }
 
-// The number behind a space at the front, and the bytes behind it.
-#[tactic(auto, unfolding(crate::specs::LineReading::spaced_number, crate::specs::LineReading::digits_at))]
-fn number_at(bytes: &[u8]) -> Option<(u64, &[u8])>
+// The number after a space at the front, and the bytes after it.
+#[tactic(auto, unfolding(crate::specs::LineReading::spaced_number))]
+fn spaced_number(bytes: &[u8]) -> Option<(u64, &[u8])>
     ensures { option_map (λ x. (x.0, x.1.now)) result ≡ spaced_number bytes.now }
 {
     let digits = after(bytes, " ")?;
-    let (first, rest) = digits.split_first()?;
-    if !first.is_ascii_digit() {
-        return None;
-    }
-    if *first == b'0' {
-        return Some((0, rest));
-    }
-    number_after(u64::from(*first - b'0'), rest)
-}
-
-// The number that goes on with the digits at the front, where it fits 64 bits, and the bytes behind them.
-fn number_after(begun: u64, bytes: &[u8]) -> Option<(u64, &[u8])>
-    ensures { option_map (λ x. (x.0, x.1.now)) result ≡ digits_behind begun bytes.now }
-{
-    let mut number = begun;
-    for (i, digit) in bytes.iter().enumerate() {
-        if !digit.is_ascii_digit() {
-            return Some((number, &bytes[i..]));
-        }
-        number = number
-            .checked_mul(10)?
-            .checked_add(u64::from(*digit - b'0'))?;
-    }
-    Some((number, &[]))
+    number_at(digits)
 }
 
 /// Whether these numbers may stand behind the word.

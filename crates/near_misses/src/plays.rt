@@ -4,7 +4,7 @@ ghost use Rattle.bits_core.specs.History.{open_access};
 ghost use Rattle.bits_core.specs.Lawful.{IsLawful};
 ghost use Rattle.bits_core.specs.Made.{opening_event};
 ghost use Rattle.bits_core.specs.Open.{IsOpenRight};
-ghost use Rattle.bits_core.specs.Trace.{AreOfShape};
+ghost use Rattle.bits_core.specs.Shape.{AreOfShape};
 ghost use Rattle.bits_core.specs.declared.events.Side.TheVariants.{P, C};
 ghost use Rattle.near_misses.specs.NearPlays.{IsNearPlay, NearAsked, items_told};
 ghost use Rattle.near_misses.specs.NearSides.{IsInOpenCall, IsNearReady, IsOpenDue, NearHas, NearMoves, ended_event, items_held};

@@ -5,7 +5,8 @@ use Rattle.std.proofs.lemmas.List.{append-nil}
 use Rattle.std.proofs.lemmas.List.Elements.{All-cons, All-head, All-nil, All-tail}
 use Rattle.call_lines.specs.Lines.{line_text, IsLine}
 use Rattle.queue_calls.specs.Recordings.{Line, line, first_word, text_of, lines_text, IsOfFormat, IsFurther, AreLines, capacity_told, events_told, IsRecording, IsBadLine}
-use Rattle.queue_calls.specs.RecordingStates.{HasNoFeed, HasRead, HeardLines}
+use Rattle.line_parts.specs.LineEnds.{HasNoFeed}
+use Rattle.queue_calls.specs.RecordingStates.{HasRead, HeardLines}
 use Rattle.queue_calls.specs.RecordingLaws.{RecordingIsOne, RecordingHasNoBadLine}
 use Rattle.queue_calls.specs.Calls.{Event}
 use Rattle.queue_calls.specs.Queue.{Capacity}
@@ -17,7 +18,8 @@ use Rattle.queue_calls.specs.declared.hearings.Begun.TheVariants.{Nothing}
 use Rattle.queue_calls.specs.declared.hearings.Hearing.{Hearing}
 use Rattle.queue_calls.specs.declared.recordings.RecordingIn.{RecordingIn}
 use Rattle.call_lines.proofs.LineLemmas.{line_same, line_no_feed}
-use Rattle.queue_calls.proofs.RecordingLemmas.{cut_same, feedless, line_and}
+use Rattle.line_parts.proofs.LineFeeds.{feed_nowhere, feed_once}
+use Rattle.queue_calls.proofs.RecordingLemmas.{line_and}
 
 -- lines as they have to be are of the format
 are_of_format : (lines : List Line) → AreLines lines → All IsOfFormat lines
@@ -33,7 +35,7 @@ front_same : (l m : Line) (a b : List ℕ) → IsOfFormat l → IsOfFormat m →
 front_same l m a b one other e =
     let L : List ℕ = line_text l.word l.numbers in
     let M : List ℕ = line_text m.word m.numbers in
-    let same = cut_same L M a b (line_no_feed L l.word l.numbers (its_line l one)) (line_no_feed M m.word m.numbers (its_line m other)) (sym (line_and l a) ∙ e ∙ line_and m b) in
+    let same = feed_once L M a b (line_no_feed L l.word l.numbers (its_line l one)) (line_no_feed M m.word m.numbers (its_line m other)) (sym (line_and l a) ∙ e ∙ line_and m b) in
     let parts = line_same L l.word m.word l.numbers m.numbers (its_line l one) (record { text = same.0; allowed = other.0; small = other.1 }) in
     (ap₂ line parts.0 parts.1, same.1)
 
@@ -100,7 +102,7 @@ module _ {S O T N B : Type 0} (offered : O → List Offered) (last : T → List 
   unfolding cut_first
   one_cut lacks is_cut [] more further first cut heard parts rest none =
       let l : Line = line (first_word is_cut) first in
-      absurd (feedless cut (line_text l.word l.numbers) (lines_text further) none (rest ∙ ap lines_text (sym parts) ∙ line_and l (lines_text further)))
+      absurd (feed_nowhere cut (line_text l.word l.numbers) (lines_text further) none (rest ∙ ap lines_text (sym parts) ∙ line_and l (lines_text further)))
   one_cut lacks is_cut (l ∷ ended) more further first cut heard parts rest none =
       let lines = heard (λ e. absurd (omega (arith, ap length e))) in
       sym (cut_is lacks) ∙ sym (ap cut_first lines.2) ∙ sym (ap cut_first parts) ∙ cut_is is_cut

@@ -7,7 +7,8 @@ use Rattle.call_lines.specs.Lines.{line_text}
 use Rattle.queue_calls.specs.Queue.{Capacity}
 use Rattle.queue_calls.specs.Calls.{Event}
 use Rattle.queue_calls.specs.Recordings.{Line, text_of, lines_text, AreLines, capacity_told, events_told, IsBadLine, RefusesText, IsFoundWithin, IsFindingOf, IsFindingWithin, IsFaultOf}
-use Rattle.queue_calls.specs.RecordingStates.{HasNoFeed, HasLines, HasRead, HeardLines, HasHeard, IsFaultSoFar, RefusesLine}
+use Rattle.line_parts.specs.LineEnds.{HasNoFeed}
+use Rattle.queue_calls.specs.RecordingStates.{HasLines, HasRead, HeardLines, HasHeard, IsFaultSoFar, RefusesLine}
 use Rattle.call_causes.specs.declared.entries.TheConstants.{TAKEN_LIMIT}
 use Rattle.queue_calls.specs.declared.hearings.Begun.TheVariants.{Nothing}
 use Rattle.queue_calls.specs.declared.recordings.CallsFinding.{CallsFinding}
@@ -19,26 +20,12 @@ use Rattle.queue_calls.specs.declared.recordings.Lines.{Lines}
 use Rattle.queue_calls.specs.declared.recordings.RecordingIn.{RecordingIn}
 use Rattle.queue_calls.specs.declared.faults.RecordingFault.{RecordingFault}
 use Rattle.queue_calls.specs.declared.faults.RecordingFault.TheVariants.{BadLine, TooLong, OutOfMemory}
+use Rattle.line_parts.proofs.LineFeeds.{feed_nowhere, feed_once}
 use Rattle.call_lines.proofs.LineLemmas.{line_no_feed}
 use Rattle.queue_calls.proofs.HeardLines.{is_line}
 use Rattle.queue_calls.proofs.HearingLemmas.{report_of, heard_lawful}
 
--- ---- line feeds
-
--- where the first line feed is, is one place
-pub cut_same : (xs ys a b : List ℕ) → HasNoFeed xs → HasNoFeed ys → xs ++ 10 ∷ a ≡ ys ++ 10 ∷ b → (xs ≡ ys) × (a ≡ b)
-cut_same [] [] a b none free e = (refl, ap (λ (t : List ℕ). drop 1 t) e)
-cut_same [] (y ∷ ys) a b none free e = absurd (All-head (λ c. c ≢ 10) y ys free (sym (ap (λ (t : List ℕ). get_or t 0 0) e)))
-cut_same (x ∷ xs) [] a b none free e = absurd (All-head (λ c. c ≢ 10) x xs none (ap (λ (t : List ℕ). get_or t 0 0) e))
-cut_same (x ∷ xs) (y ∷ ys) a b none free e =
-    let later = cut_same xs ys a b (All-tail (λ c. c ≢ 10) x xs none) (All-tail (λ c. c ≢ 10) y ys free) (ap (λ (t : List ℕ). drop 1 t) e) in
-    (ap₂ (λ (c : ℕ) (t : List ℕ). c ∷ t) (ap (λ (t : List ℕ). get_or t 0 0) e) later.0, later.1)
-
-pub feedless : (xs ys b : List ℕ) → HasNoFeed xs → xs ≢ ys ++ 10 ∷ b
-feedless [] [] b none e = absurd (omega (arith, ap length e))
-feedless [] (y ∷ ys) b none e = absurd (omega (arith, ap length e))
-feedless (x ∷ xs) [] b none e = All-head (λ c. c ≢ 10) x xs none (ap (λ (t : List ℕ). get_or t 0 0) e)
-feedless (x ∷ xs) (y ∷ ys) b none e = feedless xs ys b (All-tail (λ c. c ≢ 10) x xs none) (ap (λ (t : List ℕ). drop 1 t) e)
+-- ---- lines
 
 -- the text of a line, and what is behind it
 pub line_and : (l : Line) (more : List ℕ) → text_of l ++ more ≡ line_text l.word l.numbers ++ 10 ∷ more
@@ -91,7 +78,7 @@ end_refused (BadLine number) before bytes cut end more text are none free refuse
   is_number = refused.0;
   is_bad = λ l others on e.
       let is = is_line before (line_text l.word l.numbers) l (on, refl) in
-      let same = cut_same (cut ++ end) (line_text l.word l.numbers) more others (All-append (λ c. c ≢ 10) cut end none free) (line_no_feed (line_text l.word l.numbers) l.word l.numbers is) (e ∙ line_and l others) in
+      let same = feed_once (cut ++ end) (line_text l.word l.numbers) more others (All-append (λ c. c ≢ 10) cut end none free) (line_no_feed (line_text l.word l.numbers) l.word l.numbers is) (e ∙ line_and l others) in
       refused.1 l (on, same.0);
   is_there = λ nothing. absurd (omega (arith, sym (length-append (cut ++ end) (10 ∷ more)) ∙ ap length nothing));
 }
@@ -106,7 +93,7 @@ cut_refused before bytes cut number text are none is there = record {
   text = text;
   are = are;
   is_number = is;
-  is_bad = λ l more on e. feedless cut (line_text l.word l.numbers) more none (e ∙ line_and l more);
+  is_bad = λ l more on e. feed_nowhere cut (line_text l.word l.numbers) more none (e ∙ line_and l more);
   is_there = there;
 }
 

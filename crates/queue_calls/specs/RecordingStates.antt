@@ -1,5 +1,6 @@
 -- What is kept of a recording that is being read.
-use Rattle.std.specs.Prelude.{◌≡◌, ◌≢◌, ℕ, ◌+◌, ◌-◌, ◌^◌, List, [], ◌∷◌, ◌++◌, Bool, Option, Some, None, length, All}
+use Rattle.std.specs.Prelude.{◌≡◌, ◌≢◌, ℕ, ◌+◌, ◌-◌, ◌^◌, List, [], ◌∷◌, ◌++◌, Bool, Option, Some, None, length}
+use Rattle.line_parts.specs.LineEnds.{HasNoFeed}
 use Rattle.queue_calls.specs.Queue.{Capacity}
 use Rattle.queue_calls.specs.Calls.{Event}
 use Rattle.call_lines.specs.Lines.{line_text}
@@ -19,10 +20,6 @@ use Rattle.queue_calls.specs.declared.faults.RecordingFault.TheVariants.{BadLine
 use Rattle.queue_calls.specs.declared.hearings.Hearing.{Hearing}
 use Rattle.queue_calls.specs.declared.recordings.Lines.{Lines}
 use Rattle.queue_calls.specs.declared.recordings.RecordingIn.{RecordingIn}
-
--- no byte is a line feed
-abbrev pub HasNoFeed : List ℕ → Type 0
-HasNoFeed bytes = All (λ b. b ≢ 10) bytes
 
 -- the first fault of a history, or none so far, and what is kept of it for its report
 abbrev pub IsFaultSoFar : {S O T N B : Type 0} → (offered : O → List Offered) → (last : T → List Taken) → Option CallsFinding → Witness S O T N B → Tally → Capacity → List Event → Type 0

@@ -5,7 +5,7 @@ use Rattle.queue_calls.specs.Calls.{Event}
 use Rattle.queue_calls.specs.Noting.{OutgrowsLists}
 use Rattle.call_lines.specs.Lines.{BeginsWithNumbers}
 use Rattle.queue_calls.specs.Recordings.{Line, lines_text, IsRecording}
-use Rattle.queue_calls.specs.RecordingStates.{HasNoFeed}
+use Rattle.line_parts.specs.LineEnds.{HasNoFeed}
 use Rattle.call_causes.specs.declared.entries.TheConstants.{TAKEN_LIMIT}
 use Rattle.queue_calls.specs.declared.recordings.RecordingIn.{RecordingIn}
 

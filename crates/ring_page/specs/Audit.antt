@@ -7,15 +7,15 @@ use Rattle.bits_core.specs.Memory.{EndsOverlappedRead}
 use Rattle.bits_core.specs.Seen.{clashes, sound_count}
 use Rattle.bits_core.specs.Shape.{batch_of, capacity_of, modulus_of, take_batch_of, width_of}
 use Rattle.bits_core.specs.Faults.{shape_fault_number}
-use Rattle.bits_core.specs.Trace.{BeginsWithMore, IsTrace, IsTraceFault}
-use Rattle.bits_core.specs.Faults.{trace_fault_number}
+use Rattle.trace_text.specs.Trace.{BeginsWithMore, IsTrace, IsTraceFault}
+use Rattle.trace_text.specs.Faults.{trace_fault_number}
 use Rattle.bits_core.specs.declared.audits.Seen.{Seen}
 use Rattle.bits_core.specs.declared.audits.Verdict.{Verdict}
 use Rattle.bits_core.specs.declared.audits.Verdict.TheVariants.{Lawful, Fault}
 use Rattle.bits_core.specs.declared.events.Event.{Event}
 use Rattle.bits_core.specs.declared.shapes.Shape.{Shape}
-use Rattle.bits_core.specs.declared.faults.TraceFault.{TraceFault}
-use Rattle.bits_core.specs.declared.faults.TraceFault.TheVariants.{BadShape, BadLine, TooLong, OutOfMemory}
+use Rattle.trace_text.specs.declared.faults.TraceFault.{TraceFault}
+use Rattle.trace_text.specs.declared.faults.TraceFault.TheVariants.{BadShape, BadLine, TooLong, OutOfMemory}
 use Rattle.ring_page.specs.Marks.{act_number, digit_of, index_of, row_of, side_number, value_of}
 use Rattle.ring_page.specs.Programs.{TellsPrograms, unjudged}
 use Rattle.ring_page.specs.Reasons.{TellsSince}

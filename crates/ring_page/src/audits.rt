@@ -1,15 +1,14 @@
 //! The audit of a trace.
 ghost use Rattle.std.specs.Prelude.{◌≡◌, ◌≤◌, ◌⊎◌, ℕ, length};
 ghost use Rattle.bits_core.specs.Shape.{batch_of, capacity_of, modulus_of, take_batch_of, width_of};
-ghost use Rattle.bits_core.specs.Trace.{IsTraceFault};
+ghost use Rattle.trace_text.specs.Trace.{IsTraceFault};
 ghost use Rattle.ring_page.specs.Audit.{IsNothingSeen, TellsText, TellsFault, TellsShape, TellsVerdict};
 
 use crate::marks::{Mark, put_marks};
 use crate::programs::{Judged, tell_programs, unjudged};
 use crate::reasons::since_when;
-use bits_core::{
-    Act, Bit, Event, Seen, Shape, Side, TraceFault, Verdict, audit_bits_into, read_trace_into,
-};
+use bits_core::{Act, Bit, Event, Seen, Shape, Side, Verdict, audit_bits_into};
+use trace_text::{TraceFault, read_trace_into};
 
 /// The most events that a page reads or plays.
 pub const EVENT_ROOM: usize = 10_000;

@@ -9,8 +9,8 @@ use Rattle.queue_calls.specs.Calls.{Event}
 use Rattle.call_lines.specs.Lines.{line_text}
 use Rattle.queue_calls.specs.Queue.{Capacity}
 use Rattle.queue_calls.specs.Recordings.{IsFaultOf, IsRecording, Line, first_word, line, lines_text, text_of}
-use Rattle.queue_calls.specs.RecordingStates.{HasNoFeed}
-use Rattle.queue_calls.proofs.RecordingLemmas.{feedless}
+use Rattle.line_parts.specs.LineEnds.{HasNoFeed}
+use Rattle.line_parts.proofs.LineFeeds.{feed_nowhere}
 use Rattle.ring_program.specs.Readings.{EndsAtFirstFault, IsFaultless, IsOneLine}
 
 head_is : (x y : ℕ) (xs ys : List ℕ) → x ∷ xs ≡ y ∷ ys → x ≡ y
@@ -46,7 +46,7 @@ overlap (x ∷ xs) ys (z ∷ zs) ws e = cons (overlap xs ys zs ws (tail_is x z (
 -- ---- line feeds
 
 pub one_line : (xs : List ℕ) → HasNoFeed xs → IsOneLine xs
-one_line xs none a b e = absurd (feedless xs a b none e)
+one_line xs none a b e = absurd (feed_nowhere xs a b none e)
 
 pub line_behind : (xs ys : List ℕ) → HasNoFeed xs → IsOneLine ys → IsOneLine (xs ++ ys)
 line_behind [] ys none one a b e = one a b e
@@ -55,7 +55,7 @@ line_behind (x ∷ xs) ys none one (c ∷ a) b e = line_behind xs ys (All-tail (
 
 feed_alone : IsOneLine (10 ∷ [])
 feed_alone [] b e = sym (tail_is 10 10 [] b e)
-feed_alone (c ∷ a) b e = absurd (feedless [] a b (All-nil (λ c. c ≢ 10)) (tail_is 10 c [] (a ++ 10 ∷ b) e))
+feed_alone (c ∷ a) b e = absurd (feed_nowhere [] a b (All-nil (λ c. c ≢ 10)) (tail_is 10 c [] (a ++ 10 ∷ b) e))
 
 -- the bytes before a line feed, and it
 pub front_line : (bytes front more line : List ℕ) → HasNoFeed front → bytes ≡ front ++ 10 ∷ more → line ≡ take (length front + 1) bytes → IsOneLine line
@@ -83,13 +83,13 @@ nothing_behind : (front d t : List ℕ) → HasNoFeed d → t ++ 10 ∷ [] ≡ f
 nothing_behind front d t none e = by (overlap t (10 ∷ []) front d e)
   where
     by : Overlap t (10 ∷ []) front d → d ≡ []
-    by (inl ([], longer, rest)) = absurd (feedless d [] [] none (sym rest))
+    by (inl ([], longer, rest)) = absurd (feed_nowhere d [] [] none (sym rest))
     by (inl (x ∷ more, longer, rest)) = short more (tail_is 10 x [] (more ++ d) rest)
       where
         short : (more : List ℕ) → [] ≡ more ++ d → d ≡ []
         short [] e = sym e
         short (y ∷ ys) e = absurd (no_cons y (ys ++ d) e)
-    by (inr (more, longer, rest)) = absurd (feedless d more [] none rest)
+    by (inr (more, longer, rest)) = absurd (feed_nowhere d more [] none rest)
 
 -- ---- the first fault
 

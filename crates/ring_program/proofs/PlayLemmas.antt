@@ -2,12 +2,11 @@
 use Rattle.std.proofs.Common.{◌≡◌, ◌≤◌, ℕ, suc, Some, List, [], ◌∷◌, ◌++◌, true, length, inl, inr, refl, ap, arith}
 use Rattle.std.specs.Prelude.{slice_get}
 use Rattle.std.proofs.lemmas.List.Elements.{All-cons, All-nil}
-use Rattle.bits_core.specs.Shape.{belongs}
-use Rattle.bits_core.specs.Trace.{AreOfShape}
+use Rattle.bits_core.specs.Shape.{AreOfShape, belongs}
 use Rattle.bits_core.specs.declared.events.Event.{Event}
 use Rattle.bits_core.specs.declared.events.Side.{Side}
 use Rattle.bits_core.specs.declared.shapes.Shape.{Shape}
-use Rattle.bits_core.specs.declared.traces.TheConstants.{EVENT_LIMIT}
+use Rattle.trace_text.specs.declared.traces.TheConstants.{EVENT_LIMIT}
 use Rattle.ring_player.specs.Plays.{AreMoves, Plays}
 use Rattle.ring_script.specs.Content.{Content}
 

@@ -5,7 +5,7 @@ use Rattle.clap.specs.Kinds.{IsAmong, Kinds}
 use Rattle.clap.specs.declared.error.kind.ErrorKind.{ErrorKind}
 use Rattle.clap.specs.declared.error.kind.ErrorKind.TheVariants as kind
 use Rattle.bits_core.specs.Audit.{IsVerdict}
-use Rattle.bits_core.specs.Trace.{IsTrace, IsTraceFault, IsTraceText, RefusesTraceText}
+use Rattle.trace_text.specs.Trace.{IsTrace, IsTraceFault, IsTraceText, RefusesTraceText}
 use Rattle.bits_core.specs.declared.audits.Verdict.{Verdict}
 use Rattle.bits_core.specs.declared.audits.Verdict.TheVariants.{Lawful, Fault}
 use Rattle.bits_core.specs.declared.events.Event.{Event}
@@ -13,8 +13,8 @@ use Rattle.bits_core.specs.declared.shapes.Shape.{Shape}
 use Rattle.bits_core.specs.declared.faults.ShapeFault.{ShapeFault}
 use Rattle.bits_core.specs.Shape.{HasBatches, IsRefusedBatches, capacity_of}
 use Rattle.bits_core.specs.Made.{IsPrefix}
-use Rattle.bits_core.specs.declared.faults.TraceFault.{TraceFault}
-use Rattle.bits_core.specs.declared.faults.TraceFault.TheVariants as trace
+use Rattle.trace_text.specs.declared.faults.TraceFault.{TraceFault}
+use Rattle.trace_text.specs.declared.faults.TraceFault.TheVariants as trace
 use Rattle.near_misses.specs.NearPlays.{IsNearPlay}
 use Rattle.queue_calls.specs.Queue.{exactly}
 use Rattle.queue_calls.specs.Recordings.{IsRecording, RefusesText}

@@ -2,8 +2,8 @@
 use Rattle.std.specs.Prelude.{◌≡◌, ◌⊎◌, ℕ, Bool, true, false, List, [], ◌++◌, Option, codes, take}
 use Rattle.std.specs.Io.KnownBytes.{Appends}
 use Rattle.bits_core.specs.Faults.{shape_fault_words}
-use Rattle.bits_core.specs.Faults.{trace_fault_words}
-use Rattle.bits_core.specs.declared.faults.TraceFault.TheVariants as trace
+use Rattle.trace_text.specs.Faults.{trace_fault_words}
+use Rattle.trace_text.specs.declared.faults.TraceFault.TheVariants as trace
 use Rattle.queue_calls.specs.Faults.{recording_fault_words}
 use Rattle.queue_calls.specs.declared.faults.RecordingFault.TheVariants as calls
 use Rattle.ring_script.specs.Faults.{script_fault_words}

@@ -2,7 +2,7 @@
 use Rattle.std.specs.Prelude.{◌≡◌, Bool, true, false, ℕ, List, [], ◌∷◌, ◌++◌, None}
 use Rattle.queue_calls.specs.Calls.{Event}
 use Rattle.queue_calls.specs.Queue.{Capacity}
-use Rattle.queue_calls.specs.RecordingStates.{HasNoFeed}
+use Rattle.line_parts.specs.LineEnds.{HasNoFeed}
 use Rattle.queue_calls.specs.Recordings.{IsFaultOf, IsFindingOf, IsFoundOf, IsRecording}
 use Rattle.queue_calls.specs.declared.recordings.CallsFinding.{CallsFinding}
 use Rattle.queue_calls.specs.declared.recordings.CallsFinding.TheVariants.{Lawful, OutOfTurn, NotLinearizable}

@@ -3,7 +3,7 @@ use Rattle.std.specs.Prelude.{◌≡◌, ◌↔◌, ◌<◌, ◌+◌, ◌++◌, 
 use Rattle.bits_core.specs.Audit.{IsFirstFault}
 use Rattle.bits_core.specs.Made.{opening_event}
 use Rattle.bits_core.specs.Reasons.{IsReasonBehind}
-use Rattle.bits_core.specs.TraceText.{digit_text, event_line}
+use Rattle.trace_text.specs.TraceText.{digit_text, event_line}
 use Rattle.bits_core.specs.declared.faults.Kind.{Kind}
 use Rattle.bits_core.specs.declared.faults.Kind.TheVariants.{WrongSide, OutOfTurn, NotPermitted, NotProgram}
 use Rattle.bits_core.specs.declared.audits.Verdict.{Verdict}

@@ -1,6 +1,6 @@
 //! The audit of a trace that is kept.
 ghost use Rattle.std.specs.Prelude.{◌≡◌, ◌⊎◌, IfErr, IfOk, OnOk, string_bytes};
-ghost use Rattle.bits_core.specs.Trace.{IsTrace};
+ghost use Rattle.trace_text.specs.Trace.{IsTrace};
 ghost use Rattle.ring_program.specs.Answers.{AuditsTrace, IsJudged, IsOutOfMemory, RefusesTrace, TellsJudged, verdict_ending_of};
 ghost use Rattle.ring_program.specs.Why.{IsFaultThere};
 
@@ -9,7 +9,8 @@ use crate::command_line::Audited;
 use crate::faults::{AppFault, Refusal};
 use crate::texts::{audit_text, verdict_text};
 use crate::why::{push_why, verdict_of};
-use bits_core::{Event, Shape, Verdict, audit_bits, read_trace};
+use bits_core::{Event, Shape, Verdict, audit_bits};
+use trace_text::read_trace;
 use ring_audit::audit;
 use std::alloc::Allocator;
 

@@ -7,7 +7,7 @@ use crate::trace_lines::{
     LineFault, Shown, TextLine, fault_of_call, fault_of_line, line_at, looks_like_script,
     looks_like_trace,
 };
-use bits_core::TraceFault;
+use trace_text::TraceFault;
 use queue_calls::RecordingFault;
 use ring_script::{Field, JsonFault, ScriptFault, byte_of_text, json_fault};
 use std::alloc::Global;

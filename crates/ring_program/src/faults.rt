@@ -1,7 +1,8 @@
 //! Why the program refuses.
 ghost use Rattle.std.specs.Prelude.{◌≡◌, Some};
 
-use bits_core::{MemoryFault, ShapeFault, TraceFault};
+use bits_core::{MemoryFault, ShapeFault};
+use trace_text::TraceFault;
 use queue_calls::RecordingFault;
 use ring_script::ScriptFault;
 use std::alloc::AllocError;

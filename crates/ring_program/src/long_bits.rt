@@ -1,7 +1,7 @@
 //! The audit of the bits of a trace of any length.
 ghost use Rattle.std.specs.Prelude.{List, IfOk, IfErr, IfSome, string_bytes};
 ghost use Rattle.bits_core.specs.Audit.{IsVerdict};
-ghost use Rattle.bits_core.specs.Trace.{IsTraceText};
+ghost use Rattle.trace_text.specs.Trace.{IsTraceText};
 ghost use Rattle.bits_core.specs.declared.events.Event.{Event};
 ghost use Rattle.bits_core.specs.declared.shapes.Shape.{Shape};
 ghost use Rattle.ring_program.specs.Answers.{Answers, IsLongBitsCause, IsTrueCause, MayEnd};
@@ -11,7 +11,8 @@ use crate::answers::Answer;
 use crate::audits::verdict_ending;
 use crate::faults::{AppFault, Refusal};
 use crate::texts::verdict_text;
-use bits_core::{TraceAudit, TraceFault, Verdict};
+use bits_core::Verdict;
+use trace_text::{TraceAudit, TraceFault};
 use std::alloc::Allocator;
 use std::io::Read;
 

@@ -1,6 +1,6 @@
 //! The play of a script.
 ghost use Rattle.std.specs.Prelude.{◌≤◌, ◌⊎◌, IfErr, IfOk, None, Some, length, string_bytes};
-ghost use Rattle.bits_core.specs.declared.traces.TheConstants.{EVENT_LIMIT};
+ghost use Rattle.trace_text.specs.declared.traces.TheConstants.{EVENT_LIMIT};
 ghost use Rattle.ring_program.specs.Answers.{IsOutOfMemory, PlaysScript, RefusesScript, ShowsPlay};
 
 use crate::answers::{Answer, Ending};
@@ -8,7 +8,7 @@ use crate::command_line::PlayText;
 use crate::faults::Refusal;
 use crate::reports::report_text;
 use crate::tellings::{calls_text, near_text};
-use bits_core::write_trace;
+use trace_text::write_trace;
 use near_misses::{NearMiss, play_near};
 use ring_player::{Script, play, play_calls};
 use std::alloc::{Allocator, Global};

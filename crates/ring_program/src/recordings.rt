@@ -1,7 +1,8 @@
 //! The audit of recorded calls.
 ghost use Rattle.std.specs.Prelude.{◌≡◌, ◌≢◌, ◌⊎◌, ◌<◌, ◌++◌, List, [], ◌∷◌, ℕ, IfOk, IfErr, IfSome, MatchOption, length, string_bytes, true};
 ghost use Rattle.call_causes.specs.Causes.{cause_words};
-ghost use Rattle.queue_calls.specs.RecordingStates.{HasNoFeed, HasRead};
+ghost use Rattle.line_parts.specs.LineEnds.{HasNoFeed};
+ghost use Rattle.queue_calls.specs.RecordingStates.{HasRead};
 ghost use Rattle.queue_calls.specs.Recordings.{RefusesText};
 ghost use Rattle.ring_program.specs.Answers.{Answers, IsCallsCause, IsTrueCause, MayEnd};
 ghost use Rattle.ring_program.specs.declared.command_line.Request.TheVariants as Request;

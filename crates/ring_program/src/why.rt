@@ -2,12 +2,13 @@
 ghost use Rattle.std.specs.Prelude.{◌≡◌, ◌++◌, ℕ, List, IfErr, OnOk, string_bytes};
 ghost use Rattle.bits_core.specs.Lawful.{IsLawful};
 ghost use Rattle.bits_core.specs.Steps.{MayFollow};
-ghost use Rattle.bits_core.specs.TraceText.{digit_text, event_line};
+ghost use Rattle.trace_text.specs.TraceText.{digit_text, event_line};
 ghost use Rattle.ring_audit.specs.Audit.{statement};
 ghost use Rattle.ring_program.specs.Why.{AreDues, IsFaultThere, TellsReason, TellsWhy, due_line, due_lines, held_line, line_words, only_line, open_line, reason_line, side_letter, since_words, verdict_in};
 
 use crate::faults::AppFault;
-use bits_core::{Access, Event, Kind, Reason, Shape, Side, Verdict, push_event, reason_behind};
+use bits_core::{Access, Event, Kind, Reason, Shape, Side, Verdict, reason_behind};
+use trace_text::push_event;
 use itoa::Buffer;
 use ring_audit::{Dues, Finding, due_behind};
 use std::alloc::Allocator;

@@ -7,7 +7,7 @@ use Rattle.serde_json.specs.Find.{as_object}
 use Rattle.bits_core.specs.Shape.{width_of}
 use Rattle.bits_core.specs.declared.events.Side.{Side}
 use Rattle.bits_core.specs.declared.shapes.Shape.{Shape}
-use Rattle.bits_core.proofs.TraceReadings.{same_shape}
+use Rattle.bits_core.proofs.ShapeLemmas.{same_shape}
 use Rattle.ring_script.proofs.ShapeLemmas.{shape_accepted, shape_made, shape_refused, shape_why}
 use Rattle.ring_script.proofs.GrammarLemmas.{schedule_spells}
 use Rattle.ring_script.proofs.FieldLemmas.{HasValues, all_there, and_then_at, and_then_err, and_then_fails, and_then_ok, missing_told, ok_is, ok_not_err, values_from, values_missing, values_there, values_to}

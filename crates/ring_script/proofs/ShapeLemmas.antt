@@ -6,7 +6,7 @@ use Rattle.bits_core.specs.Shape.{AreBatchSizes, HasBatches, IsRefusedBatches, b
 use Rattle.bits_core.specs.declared.shapes.Shape.{Shape}
 use Rattle.bits_core.specs.declared.faults.ShapeFault.{ShapeFault}
 use Rattle.bits_core.specs.declared.faults.ShapeFault.TheVariants.{Capacity, Modulus, Width, Batch, TakeBatch, ModulusOfBatches}
-use Rattle.bits_core.proofs.TraceTotal.{shape_told}
+use Rattle.bits_core.proofs.ShapeLemmas.{shape_told}
 use Rattle.ring_script.proofs.FieldLemmas.{ok_not_err}
 use Rattle.ring_script.proofs.PartLemmas.{same_err}
 use Rattle.ring_script.specs.ScriptReading.{if_shape, is_modulus, is_within, shape_in}

@@ -1,4 +1,5 @@
-use bits_core::{Act, Bit, Event, Side, read_trace};
+use bits_core::{Act, Bit, Event, Side};
+use trace_text::read_trace;
 use ring_audit::{Dues, due_behind, dues_of_both};
 use std::alloc::AllocGlobal;
 use std::process::Abort;

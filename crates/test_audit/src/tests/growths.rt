@@ -1,5 +1,6 @@
 use crate::tests::expects::{Expected, is_found};
-use bits_core::{Event, Shape, read_trace};
+use bits_core::{Event, Shape};
+use trace_text::read_trace;
 use refusing::Refusing;
 use ring_audit::{AuditFault, audit};
 use std::alloc::AllocGlobal;

@@ -1,6 +1,6 @@
 use crate::tests::expects::{Expected, is_found_in};
 use crate::tests::traces::PLAIN_PATH;
-use bits_core::read_trace;
+use trace_text::read_trace;
 use ring_audit::{AuditFault, audit_into};
 use std::alloc::AllocGlobal;
 use std::process::Abort;

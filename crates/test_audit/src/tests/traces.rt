@@ -1,5 +1,6 @@
 use crate::tests::expects::{Expected, expect_found, is_found};
-use bits_core::{Event, Kind, Shape, read_trace};
+use bits_core::{Event, Kind, Shape};
+use trace_text::read_trace;
 use ring_audit::{Finding, audit};
 use std::alloc::{AllocGlobal, Allocator};
 use std::process::Abort;

@@ -1,4 +1,5 @@
-use bits_core::{Act, Bit, Event, Kind, Shape, Side, Verdict, audit_bits, read_trace};
+use bits_core::{Act, Bit, Event, Kind, Shape, Side, Verdict, audit_bits};
+use trace_text::read_trace;
 use std::alloc::AllocGlobal;
 use std::process::Abort;
 

@@ -1,7 +1,5 @@
-use bits_core::{
-    Access, Always, Bit, Event, Flip, Memory, MemoryFault, Oracle, Shape, Side, Store, Tape,
-    TraceFault, Verdict, audit_bits, read_trace, write_trace,
-};
+use bits_core::{Access, Always, Bit, Event, Flip, Memory, MemoryFault, Oracle, Shape, Side, Store, Tape, Verdict, audit_bits};
+use trace_text::{TraceFault, read_trace, write_trace};
 use refusing::Refusing;
 use std::alloc::AllocGlobal;
 use std::process::Abort;

@@ -1,4 +1,5 @@
-use bits_core::{Bit, Kind, Memory, MemoryFault, Shape, ShapeFault, TraceFault};
+use bits_core::{Bit, Kind, Memory, MemoryFault, Shape, ShapeFault};
+use trace_text::TraceFault;
 use std::alloc::AllocGlobal;
 use std::fmt::Display;
 use std::process::Abort;

@@ -1,6 +1,5 @@
-use bits_core::{
-    Act, Bit, BitAuditor, Event, Kind, Shape, ShapeFault, Side, TraceAudit, TraceFault, Verdict,
-};
+use bits_core::{Act, Bit, BitAuditor, Event, Kind, Shape, ShapeFault, Side, Verdict};
+use trace_text::{TraceAudit, TraceFault};
 use std::process::Abort;
 
 // What an audit finds of a text: a verdict, or the fault of the text.

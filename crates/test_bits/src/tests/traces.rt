@@ -1,4 +1,5 @@
-use bits_core::{Act, Bit, Event, Shape, ShapeFault, Side, TraceFault, read_trace, write_trace};
+use bits_core::{Act, Bit, Event, Shape, ShapeFault, Side};
+use trace_text::{TraceFault, read_trace, write_trace};
 use std::alloc::AllocGlobal;
 use std::process::Abort;
 

@@ -1,7 +1,8 @@
 //! Runs of the program in which a call fails, with what they must write and how they must end.
 use crate::tests::expects::{expect_of, expect_run_on, listed, run_in};
 use crate::tests::fakes::{HaltingReader, HaltingWriter};
-use bits_core::{TraceFault, Verdict, read_trace};
+use bits_core::Verdict;
+use trace_text::{TraceFault, read_trace};
 use refusing::Refusing;
 use ring_audit::Finding;
 use ring_player::Report;

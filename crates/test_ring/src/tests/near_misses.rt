@@ -1,8 +1,6 @@
 // Three rings that are nearly right. Each makes a lawful history of bits, so safe bits are not to blame.
-use bits_core::{
-    Access, Always, Bit, Event, Memory, Oracle, Shape, Side, Store, Tape, Verdict, audit_bits,
-    write_trace,
-};
+use bits_core::{Access, Always, Bit, Event, Memory, Oracle, Shape, Side, Store, Tape, Verdict, audit_bits};
+use trace_text::write_trace;
 use register_core::{UnaryScan, UnaryWriter, WordWriter};
 use ring_core::{Consumer, Producer, PutReply, TakeReply};
 use ring_steps::{Step, next_event};

@@ -1,5 +1,5 @@
 use Rattle.std.proofs.Common.{◌≡◌, ◌<◌, ◌≤◌, ◌∙◌, ℕ, sym, subst, inl, inr, take, length, arith}
-use Rattle.bits_core.specs.Trace.{BeginsWithMore}
+use Rattle.trace_text.specs.Trace.{BeginsWithMore}
 use Rattle.ring_page.specs.Programs.{TellsPrograms}
 use Rattle.ring_page.specs.declared.audits.TheConstants.{EVENT_ROOM}
 use Rattle.ring_page.specs.Reasons.{TellsSince}

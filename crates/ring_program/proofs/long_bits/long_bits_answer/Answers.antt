@@ -1,6 +1,6 @@
 use Rattle.std.proofs.Common.{List, refl, string_bytes}
 use Rattle.bits_core.specs.Audit.{IsVerdict}
-use Rattle.bits_core.specs.Trace.{IsTraceText}
+use Rattle.trace_text.specs.Trace.{IsTraceText}
 use Rattle.bits_core.specs.declared.events.Event.{Event}
 use Rattle.bits_core.specs.declared.shapes.Shape.{Shape}
 use Rattle.ring_program.proofs.ReadingLemmas.{of_input}

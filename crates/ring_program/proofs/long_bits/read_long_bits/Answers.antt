@@ -1,9 +1,9 @@
 use Rattle.std.proofs.Common.{rules, ◌≡◌, ℕ, List, [], Result, Ok, Err, IfErr, inr, subst, sym, refl, append_assoc}
 use Rattle.std.specs.Result.{IsErrAnd}
 use Rattle.std.proofs.KnownBytes.{Consumes-nil, Consumes-trans}
-use Rattle.bits_core.specs.Trace.{RefusesTraceText}
+use Rattle.trace_text.specs.Trace.{RefusesTraceText}
 use Rattle.bits_core.specs.declared.audits.Verdict.{Verdict}
-use Rattle.bits_core.specs.declared.faults.TraceFault.{TraceFault}
+use Rattle.trace_text.specs.declared.faults.TraceFault.{TraceFault}
 use Rattle.ring_program.specs.Answers.{IsLongBitsCause}
 use Rattle.ring_program.specs.declared.faults.Refusal.{Refusal}
 use Rattle.ring_program.specs.declared.faults.Refusal.TheVariants as refusal

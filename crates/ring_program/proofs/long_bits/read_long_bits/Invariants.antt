@@ -1,6 +1,6 @@
 use Rattle.std.specs.Prelude.{List, ℕ, ◌≤◌, length}
 use Rattle.std.specs.Io.KnownBytes.{Consumes}
-use Rattle.bits_core.specs.TraceAudits.{HasReadTrace}
+use Rattle.trace_text.specs.TraceAudits.{HasReadTrace}
 use Rattle.ring_program.proofs.long_bits.read_long_bits.Given as goal
 
 -- the audit has read the bytes that the reader gave, at least one in each turn

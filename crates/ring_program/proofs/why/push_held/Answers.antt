@@ -1,5 +1,5 @@
 use Rattle.std.proofs.Common.{◌++◌, codes, string_bytes}
-use Rattle.bits_core.specs.TraceText.{digit_text}
+use Rattle.trace_text.specs.TraceText.{digit_text}
 use Rattle.ring_program.specs.Why.{line_words, since_words}
 use Rattle.ring_program.proofs.TextLemmas.{behind}
 use Rattle.ring_program.proofs.why.push_held.Goals as goal

@@ -2,7 +2,7 @@ use Rattle.std.proofs.Common.{[], Result, Ok, Err, IfOk, rules, subst}
 use Rattle.std.proofs.lemmas.List.{append-nil}
 use Rattle.queue_calls.specs.Recordings.{RefusesText}
 use Rattle.uses.proofs.findings.found_in_slots.Goals as goal
-use Rattle.bits_core.proofs.TraceTexts.{then_err as if_err}
+use Rattle.queue_calls.proofs.Results.{then_err as if_err}
 
 -- what holds of an answer follows from what else holds of it
 if_ok : {T E : Type 0} {P Q : T → Type 0} (r : Result T E) → IfOk r P → ((x : T) → P x → Q x) → IfOk r Q

@@ -7,7 +7,8 @@ use Rattle.queue_calls.specs.declared.faults.RecordingFault.TheVariants.{OutOfMe
 use Rattle.queue_calls.proofs.Results.{if_err, of_err}
 use Rattle.queue_calls.proofs.NotingLemmas.{rooms_same, too_short_on}
 use Rattle.queue_calls.specs.Recordings.{RefusesText, lines_text}
-use Rattle.queue_calls.specs.RecordingStates.{HasNoFeed, HasRead}
+use Rattle.line_parts.specs.LineEnds.{HasNoFeed}
+use Rattle.queue_calls.specs.RecordingStates.{HasRead}
 use Rattle.queue_calls.proofs.recordings.RecordingIn.read.Goals as goal
 
 -- a piece of which so much was read, and then a line

@@ -1,0 +1,138 @@
+-- Shapes of the same numbers, and what numbers are: those of a shape, or refused for one cause.
+use Rattle.std.proofs.Common.{◌≡◌, ◌⊎◌, ℕ, ◌+◌, ◌<◌, ◌≤◌, inl, inr, refl, arith}
+use Rattle.std.specs.Coded.{le_prop}
+use Rattle.std.proofs.lemmas.Bool.{cases_lt}
+use mathlib.Core.HLevel.{is_prop→PathP}
+use Rattle.bits_core.specs.declared.shapes.Shape.{Shape}
+use Rattle.bits_core.specs.declared.faults.ShapeFault.{ShapeFault}
+use Rattle.bits_core.specs.declared.faults.ShapeFault.TheVariants.{Capacity, Modulus, Width, Batch, TakeBatch, ModulusOfBatches}
+use Rattle.bits_core.specs.Shape.{AreBatchSizes, HasBatches, IsModulusForBoth, IsRefusedBatches, batch_of, capacity_of, modulus_of, take_batch_of, width_of}
+
+-- shapes of the same numbers are one
+pub same_shape : (s t : Shape) → s.capacity ≡ t.capacity → s.modulus ≡ t.modulus → s.width ≡ t.width → s.batch ≡ t.batch → s.take_batch ≡ t.take_batch → s ≡ t
+same_shape s t c m w b h = λ i. record {
+  capacity = c i;
+  modulus = m i;
+  width = w i;
+  batch = b i;
+  take_batch = h i;
+  has_cells = is_prop→PathP (λ j. 0 < c j) (λ j. le_prop) s.has_cells t.has_cells i;
+  few_cells = is_prop→PathP (λ j. c j ≤ 64) (λ j. le_prop) s.few_cells t.few_cells i;
+  room_to_count = is_prop→PathP (λ j. c j + b j < m j) (λ j. le_prop) s.room_to_count t.room_to_count i;
+  room_to_take = is_prop→PathP (λ j. c j + h j < m j) (λ j. le_prop) s.room_to_take t.room_to_take i;
+  small_modulus = is_prop→PathP (λ j. m j ≤ 256) (λ j. le_prop) s.small_modulus t.small_modulus i;
+  has_digits = is_prop→PathP (λ j. 0 < w j) (λ j. le_prop) s.has_digits t.has_digits i;
+  few_digits = is_prop→PathP (λ j. w j ≤ 64) (λ j. le_prop) s.few_digits t.few_digits i;
+  has_batch = is_prop→PathP (λ j. 0 < b j) (λ j. le_prop) s.has_batch t.has_batch i;
+  small_batch = is_prop→PathP (λ j. b j ≤ c j) (λ j. le_prop) s.small_batch t.small_batch i;
+  has_take_batch = is_prop→PathP (λ j. 0 < h j) (λ j. le_prop) s.has_take_batch t.has_take_batch i;
+  small_take_batch = is_prop→PathP (λ j. h j ≤ c j) (λ j. le_prop) s.small_take_batch t.small_take_batch i;
+}
+
+-- the numbers of a shape are not refused, and others for one cause
+pub not_refused : (s : Shape) (fault : ShapeFault) → ¬ IsRefusedBatches (capacity_of s) (modulus_of s) (width_of s) (batch_of s) (take_batch_of s) fault
+not_refused s Capacity refused = refused (s.has_cells, s.few_cells)
+not_refused s Batch refused = refused.1 (s.has_batch, s.small_batch)
+not_refused s TakeBatch refused = refused.2 (s.has_take_batch, s.small_take_batch)
+not_refused s Modulus refused = refused.2 ((s.room_to_count, s.small_modulus), (s.room_to_take, s.small_modulus))
+not_refused s ModulusOfBatches refused = refused.2 ((s.room_to_count, s.small_modulus), (s.room_to_take, s.small_modulus))
+not_refused s Width refused = refused.2 (s.has_digits, s.few_digits)
+
+pub one_refusal : (c m w g h : ℕ) (e f : ShapeFault) → IsRefusedBatches c m w g h e → IsRefusedBatches c m w g h f → e ≡ f
+one_refusal c m w g h Capacity Capacity a b = refl
+one_refusal c m w g h Capacity Batch a b = absurd (a b.0)
+one_refusal c m w g h Capacity TakeBatch a b = absurd (a b.0)
+one_refusal c m w g h Capacity Modulus a b = absurd (a b.0.0)
+one_refusal c m w g h Capacity ModulusOfBatches a b = absurd (a b.0.0)
+one_refusal c m w g h Capacity Width a b = absurd (a b.0.0)
+one_refusal c m w g h Batch Capacity a b = absurd (b a.0)
+one_refusal c m w g h Batch Batch a b = refl
+one_refusal c m w g h Batch TakeBatch a b = absurd (a.1 b.1)
+one_refusal c m w g h Batch Modulus a b = absurd (a.1 b.0.1)
+one_refusal c m w g h Batch ModulusOfBatches a b = absurd (a.1 b.0.1)
+one_refusal c m w g h Batch Width a b = absurd (a.1 b.0.1)
+one_refusal c m w g h TakeBatch Capacity a b = absurd (b a.0)
+one_refusal c m w g h TakeBatch Batch a b = absurd (b.1 a.1)
+one_refusal c m w g h TakeBatch TakeBatch a b = refl
+one_refusal c m w g h TakeBatch Modulus a b = absurd (a.2 b.0.2)
+one_refusal c m w g h TakeBatch ModulusOfBatches a b = absurd (a.2 b.0.2)
+one_refusal c m w g h TakeBatch Width a b = absurd (a.2 b.0.2)
+one_refusal c m w g h Modulus Capacity a b = absurd (b a.0.0)
+one_refusal c m w g h Modulus Batch a b = absurd (b.1 a.0.1)
+one_refusal c m w g h Modulus TakeBatch a b = absurd (b.2 a.0.2)
+one_refusal c m w g h Modulus Modulus a b = refl
+one_refusal c m w g h Modulus ModulusOfBatches a b = absurd (omega (arith, a.1, b.1))
+one_refusal c m w g h Modulus Width a b = absurd (a.2 b.1)
+one_refusal c m w g h ModulusOfBatches Capacity a b = absurd (b a.0.0)
+one_refusal c m w g h ModulusOfBatches Batch a b = absurd (b.1 a.0.1)
+one_refusal c m w g h ModulusOfBatches TakeBatch a b = absurd (b.2 a.0.2)
+one_refusal c m w g h ModulusOfBatches Modulus a b = absurd (omega (arith, a.1, b.1))
+one_refusal c m w g h ModulusOfBatches ModulusOfBatches a b = refl
+one_refusal c m w g h ModulusOfBatches Width a b = absurd (a.2 b.1)
+one_refusal c m w g h Width Capacity a b = absurd (b a.0.0)
+one_refusal c m w g h Width Batch a b = absurd (b.1 a.0.1)
+one_refusal c m w g h Width TakeBatch a b = absurd (b.2 a.0.2)
+one_refusal c m w g h Width Modulus a b = absurd (b.2 a.1)
+one_refusal c m w g h Width ModulusOfBatches a b = absurd (b.2 a.1)
+one_refusal c m w g h Width Width a b = refl
+
+in_range : (low n high : ℕ) → ((low < n) × (n ≤ high)) ⊎ ¬ ((low < n) × (n ≤ high))
+in_range low n high = elim (cases_lt low n) [
+  | inl above ↦ elim (cases_lt high n) [
+    | inl beyond ↦ inr (λ r. omega (arith, beyond, r.1))
+    | inr below ↦ inl (above, below)
+  ]
+  | inr small ↦ inr (λ r. omega (arith, small, r.0))
+]
+
+-- five numbers are those of a shape, or refused
+abbrev pub ShapeTold : ℕ → ℕ → ℕ → ℕ → ℕ → Type 0
+ShapeTold c m w g h = ((shape : Shape) × HasBatches c m w g h shape) ⊎ ((fault : ShapeFault) × IsRefusedBatches c m w g h fault)
+
+-- a modulus that is out of its range is told by the name that the take batch has for it
+bad_modulus : (c m w g h : ℕ) → AreBatchSizes c g h → ¬ IsModulusForBoth c g h m → ShapeTold c m w g h
+bad_modulus c m w g h sizes out = elim (cases_lt 1 h) [
+  | inl over ↦ inr (ModulusOfBatches, (sizes, over, out))
+  | inr single ↦ inr (Modulus, (sizes, (omega (arith, single, sizes.2.0)), out))
+]
+
+pub shape_told : (c m w g h : ℕ) → ShapeTold c m w g h
+shape_told c m w g h = elim (in_range 0 c 64) [
+  | inr out ↦ inr (Capacity, out)
+  | inl cells ↦ elim (in_range 0 g c) [
+    | inr out ↦ inr (Batch, (cells, out))
+    | inl batch ↦ elim (in_range 0 h c) [
+      | inr out ↦ inr (TakeBatch, (cells, batch, out))
+      | inl take_batch ↦ elim (in_range (c + g) m 256) [
+        | inr out ↦ bad_modulus c m w g h (cells, batch, take_batch) (λ both. out both.0)
+        | inl counts ↦ elim (in_range (c + h) m 256) [
+          | inr out ↦ bad_modulus c m w g h (cells, batch, take_batch) (λ both. out both.1)
+          | inl takes ↦ elim (in_range 0 w 64) [
+            | inr out ↦ inr (Width, ((cells, batch, take_batch), (counts, takes), out))
+            | inl digits ↦ inl (
+              record {
+                capacity = c;
+                modulus = m;
+                width = w;
+                batch = g;
+                take_batch = h;
+                has_cells = cells.0;
+                few_cells = cells.1;
+                room_to_count = counts.0;
+                room_to_take = takes.0;
+                small_modulus = counts.1;
+                has_digits = digits.0;
+                few_digits = digits.1;
+                has_batch = batch.0;
+                small_batch = batch.1;
+                has_take_batch = take_batch.0;
+                small_take_batch = take_batch.1;
+              },
+              record { capacity_is = refl; modulus_is = refl; width_is = refl; batch_is = refl; take_batch_is = refl },
+            )
+          ]
+        ]
+      ]
+    ]
+  ]
+]

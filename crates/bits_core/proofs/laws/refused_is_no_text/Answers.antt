@@ -1,5 +1,0 @@
-use Rattle.bits_core.proofs.TraceReadings.{refused_is_no_text as the_law}
-use Rattle.bits_core.proofs.laws.refused_is_no_text.Goals as goal
-
-pub returns : goal.returns
-returns c = the_law

@@ -1,0 +1,5 @@
+use Rattle.trace_text.proofs.TraceReadings.{one_text_reading as the_law}
+use Rattle.trace_text.proofs.laws.one_text_reading.Goals as goal
+
+pub returns : goal.returns
+returns c = the_law

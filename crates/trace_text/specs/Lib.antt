@@ -1,0 +1,7 @@
+pub mod Faults
+pub mod TraceText
+pub mod Trace
+pub mod TraceReading
+pub mod TraceLines
+pub mod TraceAudits
+pub mod Laws
