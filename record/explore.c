@@ -30,9 +30,11 @@
  * sees half of it is told as a data race.
  *
  * Data races: explore_memory.h keeps which accesses come before which by the memory orders that the text gives, as in C11. An execution
- * that is sequentially consistent is one that C11 permits, so a race in it is one of the program: there are no false alarms. Where C11
- * orders less than is kept here (release sequences of C++20, futexes), a race may go unseen. A free counts as a write of the block, up to
- * MOST_WATCHED bytes, so that a step stands before each access of it by the other side; an access of what is free is told as such. */
+ * that is sequentially consistent is one that C11 permits, so a race in it is one of the program as the compiler instrumented it. That may
+ * have an access that the text does not make: gcc's pass reassoc loads a plain variable of a condition before the condition says that it
+ * may be read, so it is turned off (-fno-tree-reassoc). Where C11 orders less than is kept here (release sequences of C++20, futexes), a
+ * race may go unseen. A free counts as a write of the block, up to MOST_WATCHED bytes, so that a step stands before each access of it by
+ * the other side; an access of what is free is reported as such. */
 #define _GNU_SOURCE
 #include <fcntl.h>
 #include <signal.h>

@@ -8,8 +8,9 @@
  *     static void consume(void)  { ring_calls_take(&rec); if (my_take(&q, &v)) ring_calls_item(&rec, v); else ring_calls_empty(&rec); .. }
  *     int main(void) { return explore(reset, produce, consume, "queue 2"); }
  *
- *     gcc -fsanitize=thread -fno-builtin -O1 -gdwarf-4 -Wno-tsan -c my_explore.c        (so that explore.c sees each access;
- *     gcc -O2 my_explore.o explore.c libring_audit.a -o my_explore && ./my_explore          clang has no -Wno-tsan)
+ *     gcc -fsanitize=thread -fno-builtin -O1 -gdwarf-4 -Wno-tsan -fno-tree-reassoc -c my_explore.c        (so that explore.c sees
+ *     gcc -O2 my_explore.o explore.c libring_audit.a -o my_explore && ./my_explore          each access; clang has no -Wno-tsan and
+ *                                                                                           no -fno-tree-reassoc, and needs neither)
  *
  * The recording is the explorer's: rec holds nothing, and ring_calls_init, ring_calls_write and what walks are of no use here. */
 #ifndef EXPLORE_H

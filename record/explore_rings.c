@@ -1,5 +1,6 @@
-/* explore_rings.c: explore_rings WAY: for record/test, a ring and a box for explore.h whose sides spin, a reset that leaves something
- * behind, a call without its end, a put of nothing, no call that is recorded, a thread, and no call of explore. Built as explore.h tells. */
+/* explore_rings.c: explore_rings WAY: for record/test and tests/record, a ring and a box for explore.h whose sides spin, right boxes whose
+ * guards gcc's pass `reassoc` breaks up, a reset that leaves something behind, a call without its end, a put of nothing, no call that is
+ * recorded, a thread, and no call of explore. Built as explore.h says. */
 #include "explore.h"
 #include <pthread.h>
 #include <stdatomic.h>
@@ -32,8 +33,13 @@ static bool my_take(uint64_t *item) {
     return true;
 }
 
+static _Atomic int turn;         /* whose the guarded box is: 0 the producer's, 1 the consumer's */
+static unsigned has_item;        /* plain: read and written by the one whose turn it is */
+
 static void reset(void) {
     head = tail = box = 0;
+    turn = 0;
+    has_item = 0;
     slot[0] = slot[1] = 0;
     place = NULL;
 }
@@ -112,6 +118,46 @@ static void place_take(void) {
     atomic_exchange_explicit(&box, 7, memory_order_acquire);
 }
 
+/* A box that belongs to one side at a time. The conditions read has_item only after turn has said that it is theirs. */
+#define TURN atomic_load_explicit(&turn, memory_order_acquire)
+#define GUARDED(name, may_put, may_take)                                    \
+    static bool name##_put_one(uint64_t item) {                             \
+        bool done = false;                                                  \
+        if (may_put) {                                                      \
+            slot[0] = item;                                                 \
+            has_item = 1;                                                   \
+            atomic_store_explicit(&turn, 1, memory_order_release);          \
+            done = true;                                                    \
+        }                                                                   \
+        return done;                                                        \
+    }                                                                       \
+    static bool name##_take_one(uint64_t *item) {                           \
+        bool done = false;                                                  \
+        if (may_take) {                                                     \
+            *item = slot[0];                                                \
+            has_item = 0;                                                   \
+            atomic_store_explicit(&turn, 0, memory_order_release);          \
+            done = true;                                                    \
+        }                                                                   \
+        return done;                                                        \
+    }                                                                       \
+    static void name##_put(void) {                                          \
+        for (uint64_t item = 1; item <= ITEMS; item++) {                    \
+            ring_calls_put(&rec, item);                                     \
+            if (name##_put_one(item)) ring_calls_stored(&rec); else ring_calls_full(&rec); \
+        }                                                                   \
+    }                                                                       \
+    static void name##_take(void) {                                         \
+        for (int i = 0; i < ITEMS; i++) {                                   \
+            uint64_t item;                                                  \
+            ring_calls_take(&rec);                                          \
+            if (name##_take_one(&item)) ring_calls_item(&rec, item); else ring_calls_empty(&rec); \
+        }                                                                   \
+    }
+GUARDED(and, !TURN && !has_item, TURN && has_item)
+GUARDED(or, !(TURN || has_item), !(!TURN || !has_item))
+GUARDED(choice, TURN ? 0 : !has_item, TURN ? has_item : 0)
+
 /* Those that do not set all back: nothing; all, but once only; all but one count. */
 static void reset_nothing(void) {}
 static void reset_once(void) {
@@ -177,6 +223,9 @@ int main(int argc, char **argv) {
     WAY("spin_long") explore(reset, spin_put, work_then_take, "queue 2");
     WAY("spin_full") explore(reset, spin_put, take_one, "queue 2");
     WAY("place") explore(reset, place_put, place_take, "queue 2");
+    WAY("guard_and") explore(reset, and_put, and_take, "queue 1");
+    WAY("guard_or") explore(reset, or_put, or_take, "queue 1");
+    WAY("guard_choice") explore(reset, choice_put, choice_take, "queue 1");
     WAY("later_fault") explore(reset_at_first, try_put, wrong_later, "queue 2");
     WAY("later_hang") explore(reset_at_first, try_put, hang_later, "queue 2");
     WAY("later_race") explore(reset_at_first, try_put, race_later, "queue 2");

@@ -169,7 +169,8 @@ EXPLORER = "gcc -std=c11 -O2 -Wall -Wextra -Wpedantic -Werror -I. -c explore.c"
 
 
 def explored(name, compiler, source, flags="", linker="gcc", explorer="explore.o"):
-    return f"{compiler} {EXPLORED} {flags} -c {source} -o $ROOM/{name}.o && {linker} $ROOM/{name}.o $ROOM/{explorer} $LIBRARY/libring_audit.a -o $ROOM/{name}"
+    of_gcc = "" if compiler.startswith("clang") else "-fno-tree-reassoc"
+    return f"{compiler} {EXPLORED} {of_gcc} {flags} -c {source} -o $ROOM/{name}.o && {linker} $ROOM/{name}.o $ROOM/{explorer} $LIBRARY/libring_audit.a -o $ROOM/{name}"
 
 
 EXPLORE = Program("explore", "test -e $LIBRARY/libring_audit.a && command -v gcc && command -v g++ && command -v addr2line && command -v nm",

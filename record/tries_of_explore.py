@@ -36,7 +36,7 @@ FOUND = (
 CPP_LAWFUL = ("queue", "wait", "throws")
 CPP_FOUND = (("lost", 4, r"^waits for ever: the producer is over, the consumer waits at explore_test.cpp:\d+\n"),)
 # The same of explore_rings.c.
-RINGS_LAWFUL = ("ring", "place", "spin_both", "spin_box")
+RINGS_LAWFUL = ("ring", "place", "spin_both", "spin_box", "guard_and", "guard_or", "guard_choice")
 RINGS_FOUND = (
     ("spin_put", 4, r"^hangs: the producer goes on at explore_rings.c:\d+, the consumer is over\n"),
     ("no_end", 3, r"^fault: line 7: out of turn\nP put 4 begins before put 3 of line 6 has ended: is an end missing, as full\?\n"),
