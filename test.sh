@@ -1,9 +1,9 @@
 #!/bin/sh
 # The tests: the program on each example, what it prints and how it ends, and what it says of faults in random histories; the launcher,
-# tools/install, the documents; and each #[test], with no proof of its own. The program is the one that ./lamport_ring runs: the shipped
-# one where it is of these sources. With --prove it is first built here by its proof. What cannot be tried here, for want of the kit or of
-# Python, is told and left out. ./gate has the whole: every proof from nothing, the tests' too, and the mutants. The last line is
-# `N passed, M failed`.
+# tools/install, the documents, some of record/; and each #[test], with no proof of its own. The program is the one that ./lamport_ring
+# runs: the shipped one where it is of these sources. With --prove it is first built here by its proof. What cannot be tried here, for want
+# of the kit or of Python, is told and left out. ./gate has the whole: every proof from nothing, the tests' too, and the mutants. The last
+# line is `N passed, M failed`.
 set -u
 name=test.sh
 started=$(date +%s)
@@ -91,7 +91,7 @@ try() {
 }
 
 # These need no program.
-lacks python3 "tests of the launcher, the words of faults, the documents and docs/TRUST.md" || try launcher trust
+lacks python3 "tests of the launcher, the words of faults, the documents, record/ and docs/TRUST.md" || try launcher trust
 if wait "$building"; then
     PROGRAM=$(./lamport_ring --which) || exit 1
     export PROGRAM
@@ -100,7 +100,7 @@ if wait "$building"; then
     examples=$!
     try install
     if command -v python3 >/dev/null; then
-        try docs
+        try docs record
         # (behind the examples, whose runs over two threads want a processor each)
         { while kill -0 "$examples"; do sleep 1; done 2>/dev/null; exec tests/causes; } >"$room/causes" &
         trying="$trying $!"

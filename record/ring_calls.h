@@ -27,6 +27,15 @@
  * the call may come before its begin's stamp; without both there were false alarms. */
 #ifndef RING_CALLS_H
 #define RING_CALLS_H
+#ifdef RING_CALLS_TSC
+#if defined __x86_64__ || defined __i386__
+#include <x86intrin.h>
+#elif defined _M_X64 || defined _M_IX86
+#include <intrin.h>
+#else
+#error "RING_CALLS_TSC needs x86, whose counter of cycles it reads; without it the recorder takes tickets, on any processor"
+#endif
+#endif
 #include <stdint.h>
 #include <stdio.h>
 #include <stdlib.h>
@@ -40,8 +49,9 @@ typedef std::atomic<uint64_t> ring_calls_counter;
 #define RING_CALLS_STD(name) name
 typedef _Atomic uint64_t ring_calls_counter;
 #endif
-#ifdef RING_CALLS_TSC
-#include <x86intrin.h>
+#ifdef _WIN32
+#include <fcntl.h>
+#include <io.h>
 #endif
 
 enum {
@@ -192,9 +202,18 @@ static inline void ring_calls_tell(const ring_calls *r) {
  * is cut, and where it has no call, stderr is told. */
 static inline int ring_calls_write(const ring_calls *r, const char *head, FILE *out) {
     ring_calls_walk w = ring_calls_begin(r);
+    int written;
+#ifdef _WIN32
+    /* a stream of text would end each line in CR LF, which the audit refuses */
+    int mode = fflush(out) == 0 ? _setmode(_fileno(out), _O_BINARY) : -1;
+#endif
     ring_calls_tell(r);
     fprintf(out, "%s%s\n", w.cut == UINT64_MAX ? "" : "cut ", head);
     for (const uint64_t *event; (event = ring_calls_next(&w)) != NULL;) ring_calls_line(event, out);
-    return fflush(out) == 0 && !ferror(out);
+    written = fflush(out) == 0 && !ferror(out);
+#ifdef _WIN32
+    if (mode != -1) _setmode(_fileno(out), mode);
+#endif
+    return written;
 }
 #endif

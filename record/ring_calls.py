@@ -152,5 +152,7 @@ class Recorder(Calls):
         """Writes the recording; head is its first line: "queue 8", "queue 1 512" or "queue". Where the history is cut, and where it has no
         call, stderr is told."""
         self.tell()
+        if hasattr(out, "reconfigure"):
+            out.reconfigure(newline="\n")  # (on Windows a line would end in CR LF, which the audit refuses)
         for line in self.lines(head):
             out.write(line + "\n")

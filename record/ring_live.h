@@ -17,8 +17,8 @@
  * At the first fault stderr has its words and the lines round it, and each side is stopped at its next event: the queue stands
  * as it is then, some calls further on than the line at fault. A side that is blocked in a call stays there, unless the other
  * one wakes it; ring_live_at_fault tells a third thread, which may then call ring_live_end, though not ring_live_free. In the
- * environment RING_LIVE_TRAP=1 raises SIGTRAP at a fault, for a debugger; RING_LIVE_TELL=1 tells each second on stderr how far
- * the run is, 60 each minute: `behind` is how many events the monitor has not heard.
+ * environment RING_LIVE_TRAP=1 raises SIGTRAP at a fault, for a debugger (on Windows it is a breakpoint); RING_LIVE_TELL=1 tells
+ * each second on stderr how far the run is, 60 each minute: `behind` is how many events the monitor has not heard.
  *
  * Why there is no false alarm: tickets are those of ring_calls.h, whose argument holds. Each ticket is of one event, so the
  * monitor, which knows the next one, finds its event at one side or at the other, and waits for no side that has nothing to
@@ -36,6 +36,9 @@
 #include <sched.h>
 #include <signal.h>
 #include <time.h>
+#ifdef _WIN32
+#include <intrin.h>
+#endif
 #include "ring_audit.h"
 #ifndef CLOCK_MONOTONIC
 #error "ring_live.h needs POSIX: -std=gnu11, or -D_POSIX_C_SOURCE=200809L"
@@ -275,12 +278,21 @@ static inline void ring_live_show(const ring_live *r, FILE *out) {
     }
 }
 
+/* Stops for a debugger. */
+static inline void ring_live_trap(void) {
+#ifdef _WIN32
+    __debugbreak();         /* there is no SIGTRAP */
+#else
+    raise(SIGTRAP);
+#endif
+}
+
 /* Stops both sides, and tells why. */
 static inline void ring_live_stop(ring_live *r) {
     ring_live_store(&r->state, RING_LIVE_STOP);
     fprintf(stderr, "%s\n", ring_live_words(r));
     if (r->audit.found.line) ring_live_show(r, stderr);
-    if (r->traps) raise(SIGTRAP);
+    if (r->traps) ring_live_trap();
 }
 
 /* The same, where it is not the audit that has the words. */

@@ -1,5 +1,9 @@
 #!/usr/bin/env python3
-"""logs.py: tests record/convert, on the logs in ../logs. The audit is that of compare.py. The last line is `N passed, M failed`."""
+"""logs.py: tests record/convert, on the logs in ../logs, and words and logs that it refuses. The audit is that of compare.py. The last line is `N passed, M failed`."""
+import contextlib
+import importlib.machinery
+import importlib.util
+import io
 import os
 import subprocess
 import sys
@@ -7,6 +11,9 @@ import sys
 import compare
 
 CONVERT, LOGS = f"{compare.HERE}/convert", f"{compare.HERE}/logs"
+LOADER = importlib.machinery.SourceFileLoader("convert", CONVERT)
+convert = importlib.util.module_from_spec(importlib.util.spec_from_loader("convert", LOADER))
+LOADER.exec_module(convert)
 ANY = f"queue 0 {2**64 - 1}"
 WHOLE = f"{ANY}|P put 1|C take|P stored|C item 1|C take|C empty|P put {2**64 - 1}|P full|P put 3|C take|C item 3|"
 PLAIN = "queue|P put 1|C take|P stored|C item 1|"
@@ -45,8 +52,15 @@ def check(what, seen, wanted):
 
 def converted(words, log=""):
     """Its status, what it prints, and what it says."""
-    done = subprocess.run([CONVERT, *words], input=log, capture_output=True, text=True, check=False)
-    return done.returncode, done.stdout, done.stderr
+    out, said, before = io.StringIO(), io.StringIO(), sys.stdin
+    sys.stdin = io.TextIOWrapper(io.BytesIO(log if isinstance(log, bytes) else log.encode()))
+    try:
+        with contextlib.redirect_stdout(out), contextlib.redirect_stderr(said):
+            status = convert.main(words)
+    except Exception as error:  # pylint: disable=broad-except
+        status = repr(error)
+    sys.stdin = before
+    return status, out.getvalue(), said.getvalue()
 
 
 def main():
@@ -64,10 +78,21 @@ def main():
     check("carriage returns", converted([], log.replace("\n", "\r\n"))[1].count("\n"), 5)
     check("a queue", converted(["--queue", "8", f"{LOGS}/jepsen.edn"])[1].split("\n")[0], "queue 8")
     check("a queue of two numbers", converted(["--queue", "2 8"], log)[1].split("\n")[0], "queue 2 8")
+    done = subprocess.run([CONVERT], input=b"{}\n", capture_output=True, check=False)
+    check("by itself", (done.returncode, done.stdout, done.stderr), (1, b"", b"convert: line 1 is no operation\n"))
     check("an empty log", converted([]), (0, "queue\n", ""))
     check("help", [converted(["--help"])[::2], converted(["-h"])[1].startswith("record/convert")], [(0, ""), True])
     for words in (["a", "b"], ["--queue"]):
         check(f"the command line {words}", converted(words), (2, "", "record/convert [--queue B] [LOG]\n"))
+    for queue in ("nonsense", "0", "08", "8 8", "8 2", "1 2 3", "-1", " 8", "8\n", "8 ", "٣", f"{2**64}", f"1 {2**64}", "cut 8", "queue 8"):
+        status, printed, said = converted(["--queue", queue], log)
+        seen = status, printed, said.count("\n"), said.startswith(f"convert: --queue {ascii(queue)}: a first line has ")
+        check(f"the queue {queue!r}", seen, (2, "", 1, True))
+    for queue in ("", "1", f"{2**64 - 1}", "0 1", f"0 {2**64 - 1}"):
+        check(f"the queue {queue!r}", converted(["--queue", queue], log)[:2], (0, f"queue {queue}".rstrip() + "\nP put 1\nP stored\nC take\nC empty\n"))
+    for begin in ("[", '{"a":', '{"process":0,"type":"invoke","f":"enqueue","value":' + "["):
+        check(f"nested deeply: {begin}", converted([], f"{log}{begin * 100_000}\n"), (1, "", "convert: line 5 is no operation\n"))
+    check("no text", converted([], log.encode() + b"\n\xff\n"), (1, "", "convert: line 6 is no text in UTF-8\n"))
     check("no file", converted([f"{LOGS}/none"]), (1, "", f"convert: {LOGS}/none: No such file or directory\n"))
     print(f"{passed} passed, {failed} failed")
     return failed != 0
