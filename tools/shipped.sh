@@ -23,13 +23,32 @@ is_of() { [ -e "$shipped" ] && [ "$(built_of sources)" = "$1" ]; }
 # is_whole: whether it has the bytes that dist/BUILT names.
 is_whole() { [ "$(built_of program)" = "$(sha_of "$shipped")" ]; }
 
+# may_be_executed FILE: whether it may; if not, it says why.
+may_be_executed() {
+    [ ! -x "$1" ] || return 0
+    if [ "$(find "$1" -prune \( -perm -100 -o -perm -10 -o -perm -1 \))" ]; then
+        say "${1#"$top/"} has the permission to be executed, and still may not be: its file system is mounted with noexec, or the permission is another user's"
+        say "copy the repository to where programs may run; on a mount with noexec the system's loader, ld-linux, does not run it either"
+    else
+        say "${1#"$top/"} may not be executed: chmod +x ${1#"$top/"}"
+    fi
+    return 1
+}
+
+# in_its_folder FILE WORD..: runs the file with these words from the folder that it lies in, under a name without the folder's. (The program
+# asks for text, of its own name too, and a folder's name may be none.)
+in_its_folder() {
+    (
+        file=$1
+        shift
+        cd -- "${file%/*}" && exec "./${file##*/}" "$@"
+    )
+}
+
 # runs_here: whether it runs on this machine; if not, it says why.
 runs_here() {
-    if ! [ -x "$shipped" ]; then
-        say "dist/lamport_ring may not be executed: chmod +x dist/lamport_ring"
-        return 1
-    fi
-    told=$("$shipped" --version 2>&1 >/dev/null) && return 0
+    may_be_executed "$shipped" || return
+    told=$(in_its_folder "$shipped" --version 2>&1 >/dev/null) && return 0
     say "dist/lamport_ring does not run here: it needs Linux on x86-64 with glibc 2.34 or later, as Debian 12, Ubuntu 22.04 and RHEL 9 have"
     say "here is $(uname -s) on $(uname -m) with $(getconf GNU_LIBC_VERSION 2>/dev/null || echo "no glibc")${told:+; it said: $(echo "$told" | head -n 1)}"
     return 1
