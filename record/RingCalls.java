@@ -7,7 +7,7 @@ import java.util.concurrent.atomic.AtomicLong;
  * Records the calls of a queue with one producer and one consumer, for {@code lamport_ring audit --calls}.
  *
  * <pre>
- * RingCalls rec = new RingCalls(1 << 24);      room for so many words of 8 bytes on each side: a put with its end takes 5
+ * RingCalls rec = new RingCalls(1 << 20);      room for so many words of 8 bytes on each side: a put with its end takes 5
  * producer:  rec.put(v);   if (q.offer(v)) rec.stored(); else rec.full();
  *            rec.close();  close();  rec.closed();
  * consumer:  rec.take();   Long v = q.poll();  if (v != null) rec.item(v); else rec.empty();      (rec.told(): empty and closed)

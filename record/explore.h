@@ -3,9 +3,9 @@
  * C11, and C++ from C++11; gcc or clang, Linux on x86-64. README.md, "Every interleaving of a small test", tells the rest.
  *
  *     static ring_calls rec;
- *     static void reset(void)    { my_init(&q); }                           what the two sides change is as at first
- *     static void produce(void)  { ring_calls_put(&rec, 1); if (my_put(&q, 1)) ring_calls_stored(&rec); else ring_calls_full(&rec); .. }
- *     static void consume(void)  { ring_calls_take(&rec); if (my_take(&q, &v)) ring_calls_item(&rec, v); else ring_calls_empty(&rec); .. }
+ *     static void reset(void)    { my_init(); }                             what the two sides change is as at first
+ *     static void produce(void)  { ring_calls_put(&rec, 1); if (my_put(1)) ring_calls_stored(&rec); else ring_calls_full(&rec); .. }
+ *     static void consume(void)  { ring_calls_take(&rec); if (my_take(&v)) ring_calls_item(&rec, v); else ring_calls_empty(&rec); .. }
  *     int main(void) { return explore(reset, produce, consume, "queue 2"); }
  *
  *     gcc -fsanitize=thread -fno-builtin -O1 -gdwarf-4 -Wno-tsan -fno-tree-reassoc -c my_explore.c        (so that explore.c sees

@@ -86,6 +86,7 @@ import (
 	"os"
 	"strconv"
 	"strings"
+	"sync/atomic"
 	"unsafe"
 )
 
@@ -96,6 +97,8 @@ const (
 	ringBefore, ringBehind = 6, 2
 	// Lines are heard so many at a time, with so many numbers at most; one that has more of them is heard alone.
 	ringLines, ringNumbers = 256, 1024
+	// So many calls with none that overlaps are told.
+	ringAlone = 1000
 	// Kinds of lines, by their places in ringWords.
 	ringPut, ringTake, ringItem, ringSome = 0, 2, 9, 10
 	// Verdicts; the last two are this file's.
@@ -137,8 +140,8 @@ func (r RingReport) String() string {
 }
 
 // Lawful judges what r has, once both goroutines have ended; head is the first line of the recording: "queue 8", "queue 1 512" or
-// "queue". The error, nil where it is lawful, is a *RingFault; where it is nil, and no call was recorded or the history is cut, standard
-// error is told.
+// "queue". The error, nil where it is lawful, is a *RingFault; where it is nil, and no call was recorded, the history is cut, or no calls
+// overlap, standard error is told.
 func Lawful(head string, r *RingCalls) error {
 	_, err := Judge(head, r)
 	return err
@@ -149,6 +152,7 @@ func Judge(head string, r *RingCalls) (RingReport, error) {
 	report, fault := r.judge(head)
 	if fault == nil {
 		r.tell()
+		report.count()
 		return report, nil
 	}
 	if fault.Line > 0 {
@@ -160,6 +164,22 @@ func Judge(head string, r *RingCalls) (RingReport, error) {
 		}
 	}
 	return RingReport{}, fault
+}
+
+// Of the lawful recordings of all rounds how many calls there were, and how many of them overlapped.
+var ringCounted, ringOverlapped uint64
+
+// Counts the calls. Where the first ringAlone of them came one after the other, none under way while one of the other side was, standard error
+// says so, once: a single round may do so by chance.
+func (r RingReport) count() {
+	if atomic.AddUint64(&ringOverlapped, r.Overlapped) > 0 {
+		return
+	}
+	now := atomic.AddUint64(&ringCounted, r.Calls)
+	if now-r.Calls < ringAlone && now >= ringAlone {
+		fmt.Fprintf(os.Stderr, "ring_audit: of %d calls none overlapped one of the other side, so they show what one thread shows: let both threads wait "+
+			"for each other first, make more calls, leave two processors free\n", now)
+	}
 }
 
 // Hears what both logs have, in the order in which Write writes it.

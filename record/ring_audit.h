@@ -6,6 +6,7 @@
  *         assert(ring_audit_lawful(&rec, "queue 8"));
  *     Where they are not lawful stderr has `fault: line 5: empty, but item 12 was inside since line 3`, and the lines meant. Where
  *     RING_AUDIT_KEEP names a file in the environment, the recording is written there, for record/shrink and for the page.
+ *     Where of the first 1000 calls that a program has judged so none overlapped one of the other side, stderr says so, once.
  *
  *     many rounds, in the same memory:
  *         ring_audit a = RING_AUDIT_NONE;
@@ -316,13 +317,31 @@ static inline void ring_audit_keep(const ring_calls *rec, const char *head) {
     if (name && *name && !written) fprintf(stderr, "%s: the recording cannot be written\n", name);
 }
 
+/* Counts the calls of lawful recordings, of all rounds of a program. Where the first RING_AUDIT_ALONE of them came one after the other, none
+ * under way while one of the other side was, stderr says so, once: a single round may do so by chance. */
+static inline void ring_audit_count(ring_audit *a) {
+    enum { RING_AUDIT_ALONE = 1000 };
+    static ring_calls_counter calls, overlapped;
+    ring_audit_counts r;
+    uint64_t before;
+    if (!ring_audit_report(&a->state, &r)) return;
+    before = RING_CALLS_STD(atomic_fetch_add_explicit)(&overlapped, (uint64_t)r.overlapped, RING_CALLS_STD(memory_order_relaxed));
+    if (before + r.overlapped > 0) return;
+    before = RING_CALLS_STD(atomic_fetch_add_explicit)(&calls, (uint64_t)r.calls, RING_CALLS_STD(memory_order_relaxed));
+    if (before < RING_AUDIT_ALONE && before + r.calls >= RING_AUDIT_ALONE) {
+        fprintf(stderr, "ring_audit: of %llu calls none overlapped one of the other side, so they show what one thread shows: let both threads wait for "
+                "each other first, make more calls, leave two processors free\n", (unsigned long long)(before + r.calls));
+    }
+}
+
 /* Whether what a recorder has is lawful. Where not, stderr has the words and the lines, and the recording is kept. Where it is, and has no
- * call or is cut, stderr is told so. */
+ * call or is cut, stderr is told so, and where no calls overlap. */
 static inline int ring_audit_lawful(const ring_calls *rec, const char *head) {
     ring_audit a = RING_AUDIT_NONE;
     int lawful = ring_audit_judge(&a, rec, head);
     if (lawful) {
         ring_calls_tell(rec);
+        ring_audit_count(&a);
     } else {
         fprintf(stderr, "%s\n", ring_audit_words(&a));
         if (a.found.line) ring_audit_show(&a, rec, head, stderr);

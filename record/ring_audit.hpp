@@ -42,11 +42,12 @@ public:
     ring_auditor& operator=(const ring_auditor&) = delete;
 
     // Whether what a recorder has is lawful; head is the first line of the recording: "queue 8", "queue 1 512" or "queue". Where it has
-    // no call or is cut, stderr is told so.
+    // no call or is cut, stderr is told so, and where no calls overlap.
     ring_audit_result lawful(const ring_calls& rec, const char* head) {
         ring_audit_result found(ring_audit_judge(&audit, &rec, head) != 0, ring_audit_words(&audit));
         if (found) {
             ring_calls_tell(&rec);
+            ring_audit_count(&audit);
             return found;
         }
         char* text = nullptr;

@@ -28,6 +28,8 @@ import ring_calls
 TAKEN = 65536
 # So many lines are told before the one at fault, and behind it.
 BEFORE, BEHIND = 6, 2
+# Where so many calls came one after the other, none under way while one of the other side was, stderr says so.
+ALONE = 1000
 # The words of each verdict, in order.
 WORDS = ("lawful", "fault: line {line}: out of turn", "fault: line {line}: {cause}", "refused: calls line {line} is not a line of the format",
          "refused: no room for the items of line {line}", "refused: calls have too many lines",
@@ -54,6 +56,8 @@ _State = _struct("_State", (_at, "offered"), (_size, "offered_room"), (_at, "tak
 # What audit --calls counts of a lawful recording; inside: surely at some moment, and at most.
 Report = collections.namedtuple("Report", "calls stored taken full empty nothing told inside overlapped open")
 _loaded = None
+# Of the lawful recordings of all rounds how many calls there were, and how many of them overlapped.
+_counted = [0, 0]
 
 
 def load(path=None):
@@ -161,9 +165,18 @@ def _shown(found, lines):
     return "".join(shown)
 
 
+def _count(report):
+    """Counts the calls of a lawful recording. That none of many overlapped is told once: a single round may be so by chance."""
+    before = _counted[0]
+    _counted[:] = before + report.calls, _counted[1] + report.overlapped
+    if _counted[1] == 0 and before < ALONE <= _counted[0]:
+        print(f"ring_audit: of {_counted[0]} calls none overlapped one of the other side, so they show what one thread shows: let both threads wait "
+              "for each other first, make more calls, leave two processors free", file=sys.stderr)
+
+
 def lawful(recorder, head):
     """Whether what a recorder has is lawful, as a Result. Where not, stderr has the words and the lines, and the recording is kept. Where it
-    is, and has no call or is cut, stderr is told so."""
+    is, and has no call or is cut, stderr is told so, and where no calls overlap."""
     lines, numbers = array.array("Q"), array.array("Q")
     for kind, values in recorder.events():
         lines.append(kind | len(values) << 32)
@@ -171,6 +184,7 @@ def lawful(recorder, head):
     audit = Audit(head, len(numbers), min(TAKEN, len(numbers)))
     if audit.hear(lines, numbers):
         recorder.tell()
+        _count(audit.report())
         return Result("lawful")
     result = Result(audit.fault(), _shown(audit.found, recorder.lines(head)) if audit.found.line else "")
     print(result, file=sys.stderr)

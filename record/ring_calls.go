@@ -2,7 +2,7 @@
 // Copy it into your package and name that in the next line.
 package main
 
-//	rec := NewRingCalls(1 << 24)                     room for so many words of 8 bytes on each side: a put with its end takes 5
+//	rec := NewRingCalls(1 << 20)                     room for so many words of 8 bytes on each side: a put with its end takes 5
 //	producer:  rec.Put(v);    if put(v) { rec.Stored() } else { rec.Full() }
 //	           rec.Close();   close(q);  rec.Closed()
 //	consumer:  rec.Take();    v, ok := take();  if ok { rec.Item(v) } else { rec.Empty() }       (rec.Told(): empty and closed)

@@ -2,11 +2,11 @@
  * C11, and C++ from C++11; nothing but this file is needed.
  *
  *     ring_calls rec;
- *     if (!ring_calls_init(&rec, 1 << 24)) ..      room for so many words of 8 bytes on each side: a put with its end takes 5
- *     producer:  ring_calls_put(&rec, item);   int ok = my_put(q, item);
+ *     if (!ring_calls_init(&rec, 1 << 20)) ..      room for so many words of 8 bytes on each side: a put with its end takes 5
+ *     producer:  ring_calls_put(&rec, item);   int ok = my_put(item);
  *                if (ok) ring_calls_stored(&rec); else ring_calls_full(&rec);
- *                ring_calls_close(&rec);       my_close(q);                 ring_calls_closed(&rec);
- *     consumer:  ring_calls_take(&rec);        int ok = my_take(q, &item);
+ *                ring_calls_close(&rec);       my_close();                  ring_calls_closed(&rec);
+ *     consumer:  ring_calls_take(&rec);        int ok = my_take(&item);
  *                if (ok) ring_calls_item(&rec, item); else ring_calls_empty(&rec);         (ring_calls_told: it was told closed)
  *     when both threads were joined:  ring_calls_write(&rec, "queue 8", file);  ring_calls_free(&rec);
  *                or ring_calls_restart(&rec), and the next round begins.

@@ -1,6 +1,6 @@
 // ring_calls.hpp: ring_calls.h for C++ from C++17: a call of yours in a call of the recorder.
 //
-//     ring_calls_recorder rec(1 << 24);                                              words of 8 bytes for each side
+//     ring_calls_recorder rec(1 << 20);                                              words of 8 bytes for each side
 //     producer:  rec.put(item, [&] { return q.push(item); });                        true: stored, false: full
 //                rec.put_all(items, n, [&] { return q.push(items, n); });            how many were stored
 //                rec.close([&] { q.close(); });

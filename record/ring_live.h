@@ -6,9 +6,9 @@
  *     ring_live live;
  *     if (!ring_live_begin(&live, "queue 8")) ..              before the threads; stderr has why not
  *     producer:  if (!ring_live_put(&live, item)) return;     0: there was a fault; nothing more is recorded, and each answers 0
- *                if (my_put(q, item)) ring_live_stored(&live); else ring_live_full(&live);
+ *                if (my_put(item)) ring_live_stored(&live); else ring_live_full(&live);
  *     consumer:  if (!ring_live_take(&live)) return;
- *                if (my_take(q, &item)) ring_live_item(&live, item); else ring_live_empty(&live);
+ *                if (my_take(&item)) ring_live_item(&live, item); else ring_live_empty(&live);
  *     when both threads were joined:
  *         int lawful = ring_live_end(&live);
  *         ring_live_print(&live, stdout);                     `lawful` and what was seen, or the words of the fault

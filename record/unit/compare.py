@@ -125,6 +125,14 @@ def is_told_of_none(said_of, times):
             and cut[-1].startswith("ring_calls: the consumer's log was full after "))
 
 
+def is_told_alone(said_of):
+    """Whether stderr says it once that of a thousand calls none overlapped, and nothing of fewer calls, or where one pair did."""
+    calls = "P put 1\nP stored\nC take\nC item 1\n"
+    few, many, met = ([line for line in said_of(text).splitlines() if line.startswith("ring_audit: ")]
+                      for text in (f"queue 8\n{calls * 249}", f"queue 8\n{calls * 500}", f"queue 8\nP put 1\nC take\nP stored\nC item 1\n{calls * 500}"))
+    return not few and len(many) == 1 and many[0].startswith("ring_audit: of 1000 calls none overlapped one of the other side, ") and not met
+
+
 def said_by(judge, text):
     with tempfile.NamedTemporaryFile("w", suffix=".calls") as file:
         file.write(text)
@@ -134,6 +142,7 @@ def said_by(judge, text):
 
 def said_by_python(text):
     rec = recorder_of([parts_of(line) for line in text.splitlines()[1:]], text.startswith("cut "))
+    ring_audit._counted[:] = 0, 0  # pylint: disable=protected-access
     with contextlib.redirect_stderr(io.StringIO()) as told:
         ring_audit.lawful(rec, "queue 8")
     return told.getvalue()
@@ -217,6 +226,8 @@ def main(count, seed, *judges):
     for judge in judges:
         judge_by_c(judge, recordings)
         check(f"{judge} tells that there is no call", is_told_of_none(functools.partial(said_by, judge), TELLS.get(os.path.basename(judge), 1)), said_by(judge, "queue 8\n"))
+        check(f"{judge} tells that no calls overlap", is_told_alone(functools.partial(said_by, judge)), "another")
+    check("ring_audit.py tells that no calls overlap", is_told_alone(said_by_python), "another")
     check("ring_audit.py tells that there is no call", is_told_of_none(said_by_python, 1), said_by_python("queue 8\n"))
     with tempfile.TemporaryDirectory() as room:
         judge_by_python(recordings, f"{room}/kept")
