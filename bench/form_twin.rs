@@ -127,6 +127,9 @@ fn cause(text: &[u8], at: usize, line: &[u8], has_feed: bool) -> String {
     if at == 1 && first == Some(&b'{') {
         return "it looks like a script: lamport_ring play reads it".into();
     }
+    if at == 1 && (text.starts_with(b"queue") || text.starts_with(b"cut queue")) {
+        return "it looks like recorded calls: lamport_ring audit --calls reads them".into();
+    }
     let words = if at == 1 && line.starts_with(b"\xef\xbb\xbf") {
         "begins with a byte order mark"
     } else if at == 1 && (line.starts_with(b"\xfe\xff") || line.starts_with(b"\xff\xfe")) {
@@ -141,14 +144,29 @@ fn cause(text: &[u8], at: usize, line: &[u8], has_feed: bool) -> String {
         "begins with a space"
     } else if !has_feed {
         "has no line feed at its end"
+    } else if line.iter().any(u8::is_ascii_control) {
+        "has a tab or another control character: between two words stands one space"
+    } else if at == 1 && has_batch_of_one(line) {
+        "ends in a batch of 1, which is left out"
     } else if at == 1 {
-        "is not: shape CAPACITY MODULUS WIDTH"
+        "is not: shape CAPACITY MODULUS WIDTH [BATCH [TAKE_BATCH]], in numbers of at most 4 digits"
     } else if is_event(line, is_bit_of_some) {
         "names a bit that is not in the shape"
     } else {
         "is none of: S read BIT, S got BIT V, S write BIT V, S wrote BIT"
     };
     format!("line {at} {words}: {}", shown(line))
+}
+
+// Whether a line 1 names four or five numbers of which the last is 1.
+fn has_batch_of_one(line: &[u8]) -> bool {
+    let text = String::from_utf8_lossy(line);
+    let words: Vec<&str> = text.split(' ').collect();
+    let is_number = |word: &&str| {
+        word.bytes().all(|byte| byte.is_ascii_digit())
+            && (*word == "0" || !(word.is_empty() || word.starts_with('0')))
+    };
+    words[0] == "shape" && (words.len() == 5 || words.len() == 6) && words[1..].iter().all(is_number) && words[words.len() - 1] == "1"
 }
 
 // What is said of a trace that is refused, line by line; nothing of one that is read.

@@ -346,6 +346,8 @@ pub fn read(bytes: &[u8]) -> Result<Script, Refusal> {
             )
         } else if bytes.starts_with(b"shape ") {
             Second::Line("  it looks like a trace: lamport_ring audit reads it".into())
+        } else if bytes.starts_with(b"queue") || bytes.starts_with(b"cut queue") {
+            Second::Line("  it looks like recorded calls: lamport_ring audit --calls reads them".into())
         } else {
             Second::Json
         };

@@ -10,9 +10,9 @@ use crate::faults::{AppFault, Refusal};
 use crate::texts::{audit_text, verdict_text};
 use crate::why::{push_why, verdict_of};
 use bits_core::{Event, Shape, Verdict, audit_bits};
-use trace_text::read_trace;
 use ring_audit::audit;
 use std::alloc::Allocator;
+use trace_text::read_trace;
 
 /// How an audit with this verdict ends.
 pub fn verdict_ending(verdict: Verdict) -> Ending

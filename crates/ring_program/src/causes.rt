@@ -4,14 +4,14 @@ ghost use Rattle.ring_program.specs.Faults.{IsInText};
 
 use crate::faults::Refusal;
 use crate::trace_lines::{
-    LineFault, Shown, TextLine, fault_of_call, fault_of_line, line_at, looks_like_script,
-    looks_like_trace,
+    LineFault, Shown, TextLine, fault_of_call, fault_of_line, line_at, looks_like_calls,
+    looks_like_script, looks_like_trace,
 };
-use trace_text::TraceFault;
 use queue_calls::RecordingFault;
 use ring_script::{Field, JsonFault, ScriptFault, byte_of_text, json_fault};
 use std::alloc::Global;
 use std::fmt;
+use trace_text::TraceFault;
 
 /// What is wrong in the text of a trace, of recorded calls or of a script. It is printed in one line, with no line feed.
 #[derive(Drop)]
@@ -24,6 +24,8 @@ pub(crate) enum TextCause<'a> {
     LooksLikeScript,
     /// The text is to be another one, and looks like a trace.
     LooksLikeTrace,
+    /// The text is to be another one, and looks like recorded calls.
+    LooksLikeCalls,
     /// This line of the trace or of the recorded calls has this fault.
     Line(u64, LineFault, Shown<'a>),
     /// The text of the script is empty.
@@ -50,6 +52,9 @@ impl fmt::Display for TextCause<'_> {
             }
             TextCause::LooksLikeTrace => {
                 f.write_str("it looks like a trace: lamport_ring audit reads it")
+            }
+            TextCause::LooksLikeCalls => {
+                f.write_str("it looks like recorded calls: lamport_ring audit --calls reads them")
             }
             TextCause::Line(number, fault, shown) => write!(f, "line {number} {fault}: {shown}"),
             TextCause::NoScript => f.write_str(
@@ -93,6 +98,9 @@ fn cause_in_trace(bytes: &[u8], number: u64) -> TextCause<'_> {
     if number == 1 && looks_like_script(bytes) {
         return TextCause::LooksLikeScript;
     }
+    if number == 1 && looks_like_calls(bytes) {
+        return TextCause::LooksLikeCalls;
+    }
     let line = line_at(bytes, number);
     let fault = fault_of_line(&line, number == 1);
     TextCause::Line(number, fault, Shown { line: line.text })
@@ -122,6 +130,9 @@ fn cause_in_json<'a>(json: Global, bytes: &'a [u8]) -> Option<TextCause<'a>> {
     }
     if looks_like_trace(bytes) {
         return Some(TextCause::LooksLikeTrace);
+    }
+    if looks_like_calls(bytes) {
+        return Some(TextCause::LooksLikeCalls);
     }
     Some(TextCause::NotJson(json_fault(json, bytes)?))
 }

@@ -2,12 +2,12 @@
 ghost use Rattle.std.specs.Prelude.{◌≡◌, Some};
 
 use bits_core::{MemoryFault, ShapeFault};
-use trace_text::TraceFault;
 use queue_calls::RecordingFault;
 use ring_script::ScriptFault;
 use std::alloc::AllocError;
 use std::error::Error;
 use std::fmt;
+use trace_text::TraceFault;
 
 /// A fault of the program's surroundings.
 ///

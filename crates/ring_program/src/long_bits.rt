@@ -12,9 +12,9 @@ use crate::audits::verdict_ending;
 use crate::faults::{AppFault, Refusal};
 use crate::texts::verdict_text;
 use bits_core::Verdict;
-use trace_text::{TraceAudit, TraceFault};
 use std::alloc::Allocator;
 use std::io::Read;
+use trace_text::{TraceAudit, TraceFault};
 
 // How many bytes are read at once.
 const PIECE: usize = 65_536;

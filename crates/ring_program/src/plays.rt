@@ -8,10 +8,10 @@ use crate::command_line::PlayText;
 use crate::faults::Refusal;
 use crate::reports::report_text;
 use crate::tellings::{calls_text, near_text};
-use trace_text::write_trace;
 use near_misses::{NearMiss, play_near};
 use ring_player::{Script, play, play_calls};
 use std::alloc::{Allocator, Global};
+use trace_text::write_trace;
 
 // The report of a play.
 #[tactic(auto, unfolding(crate::specs::Answers::IsOutOfMemory))]

@@ -30,16 +30,28 @@ pub(crate) enum LineFault {
     SpaceAtFront,
     #[error("has no line feed at its end")]
     NoLineFeed,
+    #[error("has a tab or another control character: between two words stands one space")]
+    ControlCharacter,
     #[error("names a bit that is not in the shape")]
     BitOfNoShape,
-    #[error("is not: shape CAPACITY MODULUS WIDTH")]
+    #[error("ends in a batch of 1, which is left out")]
+    BatchOfOne,
+    #[error("is not: shape CAPACITY MODULUS WIDTH [BATCH [TAKE_BATCH]], in numbers of at most 4 digits")]
     NoShape,
     #[error("is none of: S read BIT, S got BIT V, S write BIT V, S wrote BIT")]
     NoEvent,
     #[error("is none of: [cut] queue, [cut] queue B, [cut] queue A B")]
     NoQueue,
+    #[error("has a capacity of 0: it is from 1")]
+    CapacityOfZero,
+    #[error("has two numbers of which the first is not below the second")]
+    BoundsOutOfOrder,
     #[error("has a number that is not from 0 to 18446744073709551615, or begins with 0")]
     BadNumber,
+    #[error("has a count of 0: it is from 1")]
+    CountOfZero,
+    #[error("asks for fewer than 2 items: Q of C take Q is from 2, and C take alone asks for one")]
+    TakeOfOne,
     #[error("is none of: P put ITEM.., P stored [COUNT], P some COUNT, P full, P short, P nothing, P close, P closed")]
     NoPut,
     #[error("is none of: C take [COUNT], C item ITEM.., C some ITEM.., C empty, C short, C nothing, C closed")]
@@ -117,6 +129,11 @@ pub fn looks_like_trace(bytes: &[u8]) -> bool {
     bytes.starts_with(b"shape ")
 }
 
+/// Whether the text begins as recorded calls do.
+pub fn looks_like_calls(bytes: &[u8]) -> bool {
+    bytes.starts_with(b"queue") || bytes.starts_with(b"cut queue")
+}
+
 // What is wrong with the ends of a line, the first line or a further one.
 fn fault_of_ends(line: &TextLine<'_>, is_first: bool) -> Option<LineFault> {
     let text = line.text;
@@ -134,6 +151,8 @@ fn fault_of_ends(line: &TextLine<'_>, is_first: bool) -> Option<LineFault> {
         Some(LineFault::SpaceAtFront)
     } else if !line.has_feed {
         Some(LineFault::NoLineFeed)
+    } else if text.iter().any(|byte| byte.is_ascii_control()) {
+        Some(LineFault::ControlCharacter)
     } else {
         None
     }
@@ -145,7 +164,11 @@ pub fn fault_of_line(line: &TextLine<'_>, is_first: bool) -> LineFault {
         return fault;
     }
     if is_first {
-        LineFault::NoShape
+        if has_batch_of_one(line.text) {
+            LineFault::BatchOfOne
+        } else {
+            LineFault::NoShape
+        }
     } else if has_event_words(line.text) {
         LineFault::BitOfNoShape
     } else {
@@ -161,14 +184,62 @@ pub fn fault_of_call(line: &TextLine<'_>, is_first: bool) -> LineFault {
     if has_bad_number(line.text) {
         LineFault::BadNumber
     } else if is_first {
-        LineFault::NoQueue
-    } else if line.text.starts_with(b"P ") {
-        LineFault::NoPut
-    } else if line.text.starts_with(b"C ") {
-        LineFault::NoTake
+        fault_of_queue(line.text)
+    } else if is_of_side(line.text, b'P') {
+        fault_of_put(line.text)
+    } else if is_of_side(line.text, b'C') {
+        fault_of_take(line.text)
     } else {
         LineFault::NoSide
     }
+}
+
+// What is wrong with a first line of recorded calls whose numbers are numbers.
+fn fault_of_queue(text: &[u8]) -> LineFault {
+    let line = text.strip_prefix(b"cut ").unwrap_or(text);
+    let mut words = line.split(|byte| *byte == b' ');
+    match (words.next(), words.next(), words.next(), words.next()) {
+        (Some(b"queue"), Some(b"0"), None, None) => LineFault::CapacityOfZero,
+        (Some(b"queue"), Some(full), Some(most), None) if is_index(full) && is_index(most) => {
+            LineFault::BoundsOutOfOrder
+        }
+        _ => LineFault::NoQueue,
+    }
+}
+
+// What is wrong with a line of the producer whose numbers are numbers.
+fn fault_of_put(text: &[u8]) -> LineFault {
+    match text {
+        b"P stored 0" | b"P some 0" => LineFault::CountOfZero,
+        _ => LineFault::NoPut,
+    }
+}
+
+// What is wrong with a line of the consumer whose numbers are numbers.
+fn fault_of_take(text: &[u8]) -> LineFault {
+    match text {
+        b"C take 0" | b"C take 1" => LineFault::TakeOfOne,
+        _ => LineFault::NoTake,
+    }
+}
+
+// Whether the first word is the side.
+fn is_of_side(text: &[u8], side: u8) -> bool {
+    match text.split_first() {
+        Some((first, rest)) => *first == side && (rest.is_empty() || rest.starts_with(b" ")),
+        None => false,
+    }
+}
+
+// Whether the words are those of a shape with a batch, or with both, of which the last is 1.
+fn has_batch_of_one(text: &[u8]) -> bool {
+    let Some(numbers) = text.strip_prefix(b"shape ") else {
+        return false;
+    };
+    let count = numbers.split(|byte| *byte == b' ').count();
+    (count == 4 || count == 5)
+        && numbers.split(|byte| *byte == b' ').all(is_index)
+        && numbers.ends_with(b" 1")
 }
 
 // Whether a word has digits alone, and is no number as it is written.

@@ -8,10 +8,10 @@ ghost use Rattle.ring_program.specs.Why.{AreDues, IsFaultThere, TellsReason, Tel
 
 use crate::faults::AppFault;
 use bits_core::{Access, Event, Kind, Reason, Shape, Side, Verdict, reason_behind};
-use trace_text::push_event;
 use itoa::Buffer;
 use ring_audit::{Dues, Finding, due_behind};
 use std::alloc::Allocator;
+use trace_text::push_event;
 
 // The line of an event, behind a text.
 fn push_line<A: Allocator>(text: &mut String<A>, event: Event) -> Result<(), AppFault>

@@ -1,9 +1,9 @@
 use bits_core::{Act, Bit, Event, Side};
-use trace_text::read_trace;
 use ring_audit::{Dues, due_behind, dues_of_both};
 use std::alloc::AllocGlobal;
 use std::process::Abort;
 use std::test::Fail;
+use trace_text::read_trace;
 
 // A trace, a side, and what it may do next.
 type Case<'a> = (&'a str, Side, &'a [(Bit, Act)]);

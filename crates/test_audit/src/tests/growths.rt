@@ -1,11 +1,11 @@
 use crate::tests::expects::{Expected, is_found};
 use bits_core::{Event, Shape};
-use trace_text::read_trace;
 use refusing::Refusing;
 use ring_audit::{AuditFault, audit};
 use std::alloc::AllocGlobal;
 use std::process::Abort;
 use std::test::Fail;
+use trace_text::read_trace;
 
 // An item is put and taken.
 const TRACE: &[u8] =

@@ -1,10 +1,10 @@
 use crate::tests::expects::{Expected, is_found_in};
 use crate::tests::traces::PLAIN_PATH;
-use trace_text::read_trace;
 use ring_audit::{AuditFault, audit_into};
 use std::alloc::AllocGlobal;
 use std::process::Abort;
 use std::test::Fail;
+use trace_text::read_trace;
 
 // Whether one item is found, in so many slots; nothing where they are too few.
 fn found_in(

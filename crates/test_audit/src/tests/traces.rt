@@ -1,10 +1,10 @@
 use crate::tests::expects::{Expected, expect_found, is_found};
 use bits_core::{Event, Kind, Shape};
-use trace_text::read_trace;
 use ring_audit::{Finding, audit};
 use std::alloc::{AllocGlobal, Allocator};
 use std::process::Abort;
 use std::test::Fail;
+use trace_text::read_trace;
 
 // A trace, and what is to be found.
 type Case<'a> = (&'a str, Expected<'a>);

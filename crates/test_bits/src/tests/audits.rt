@@ -1,7 +1,7 @@
 use bits_core::{Act, Bit, Event, Kind, Shape, Side, Verdict, audit_bits};
-use trace_text::read_trace;
 use std::alloc::AllocGlobal;
 use std::process::Abort;
+use trace_text::read_trace;
 
 // A trace, and what the audit says of it.
 type Case<'a> = (&'a str, Verdict);

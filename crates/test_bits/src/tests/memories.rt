@@ -1,8 +1,11 @@
-use bits_core::{Access, Always, Bit, Event, Flip, Memory, MemoryFault, Oracle, Shape, Side, Store, Tape, Verdict, audit_bits};
-use trace_text::{TraceFault, read_trace, write_trace};
+use bits_core::{
+    Access, Always, Bit, Event, Flip, Memory, MemoryFault, Oracle, Shape, Side, Store, Tape,
+    Verdict, audit_bits,
+};
 use refusing::Refusing;
 use std::alloc::AllocGlobal;
 use std::process::Abort;
+use trace_text::{TraceFault, read_trace, write_trace};
 
 // What a side is to do: to end the access that it has open, or else to begin one of the bit, which
 // writes the value where the side is the bit's writer.

@@ -1,8 +1,8 @@
 use bits_core::{Bit, Kind, Memory, MemoryFault, Shape, ShapeFault};
-use trace_text::TraceFault;
 use std::alloc::AllocGlobal;
 use std::fmt::Display;
 use std::process::Abort;
+use trace_text::TraceFault;
 
 // Why numbers are no shape, where they are none, and such numbers.
 type Made<const COUNT: usize> = (Option<ShapeFault>, &'static [[u64; COUNT]]);

@@ -1,8 +1,8 @@
 use crate::tests::memories::{CHOICE_COUNT, CHOICES, expect_made, expect_same, expect_true, make};
 use bits_core::{Act, Bit, Event, Filled, Flip, Memory, Shape, ShapeFault, Side, Store};
-use trace_text::{TraceFault, read_trace, read_trace_into};
 use std::alloc::AllocGlobal;
 use std::process::Abort;
+use trace_text::{TraceFault, read_trace, read_trace_into};
 
 // What a slot holds before it is in use.
 const UNUSED: Event = Event {

@@ -1,6 +1,6 @@
 use bits_core::{Act, Bit, BitAuditor, Event, Kind, Shape, ShapeFault, Side, Verdict};
-use trace_text::{TraceAudit, TraceFault};
 use std::process::Abort;
+use trace_text::{TraceAudit, TraceFault};
 
 // What an audit finds of a text: a verdict, or the fault of the text.
 type Found = Result<Verdict, TraceFault>;

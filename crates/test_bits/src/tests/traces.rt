@@ -1,7 +1,7 @@
 use bits_core::{Act, Bit, Event, Shape, ShapeFault, Side};
-use trace_text::{TraceFault, read_trace, write_trace};
 use std::alloc::AllocGlobal;
 use std::process::Abort;
+use trace_text::{TraceFault, read_trace, write_trace};
 
 // An event: who, which bit, and what.
 type Row = (Side, Bit, Act);

@@ -2,7 +2,6 @@
 use crate::tests::expects::{expect_of, expect_run_on, listed, run_in};
 use crate::tests::fakes::{HaltingReader, HaltingWriter};
 use bits_core::Verdict;
-use trace_text::{TraceFault, read_trace};
 use refusing::Refusing;
 use ring_audit::Finding;
 use ring_player::Report;
@@ -12,6 +11,7 @@ use std::io::ErrorKind;
 use std::process::Abort;
 use std::thread::Threads;
 use std::time::Clock;
+use trace_text::{TraceFault, read_trace};
 
 // Refuses each growth in turn, until the body says that there was none to refuse.
 macro_rules! each_growth {

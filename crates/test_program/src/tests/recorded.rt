@@ -83,7 +83,7 @@ fn stops_wherever_the_input_is_cut(rt: HostRuntime) {
     expect_read(&rt, AUDIT_CALLS, halting(bytes, 100), 0, NOTHING_CUT, "");
 }
 
-static BAD: [(&[u8], &str); 22] = [
+static BAD: [(&[u8], &str); 33] = [
     // no text
     (
         b"",
@@ -152,7 +152,51 @@ static BAD: [(&[u8], &str); 22] = [
     // the words of no line
     (
         b"queue 0\n",
-        "refused: calls line 1 is not a line of the format\n  line 1 is none of: [cut] queue, [cut] queue B, [cut] queue A B: \"queue 0\"\n",
+        "refused: calls line 1 is not a line of the format\n  line 1 has a capacity of 0: it is from 1: \"queue 0\"\n",
+    ),
+    (
+        b"cut queue 0\n",
+        "refused: calls line 1 is not a line of the format\n  line 1 has a capacity of 0: it is from 1: \"cut queue 0\"\n",
+    ),
+    (
+        b"queue 3 2\n",
+        "refused: calls line 1 is not a line of the format\n  line 1 has two numbers of which the first is not below the second: \"queue 3 2\"\n",
+    ),
+    (
+        b"queue 3 3\n",
+        "refused: calls line 1 is not a line of the format\n  line 1 has two numbers of which the first is not below the second: \"queue 3 3\"\n",
+    ),
+    (
+        b"queue 1 2 3\n",
+        "refused: calls line 1 is not a line of the format\n  line 1 is none of: [cut] queue, [cut] queue B, [cut] queue A B: \"queue 1 2 3\"\n",
+    ),
+    (
+        b"queue 1\nC take 1\n",
+        "refused: calls line 2 is not a line of the format\n  line 2 asks for fewer than 2 items: Q of C take Q is from 2, and C take alone asks for one: \"C take 1\"\n",
+    ),
+    (
+        b"queue 1\nP stored 0\n",
+        "refused: calls line 2 is not a line of the format\n  line 2 has a count of 0: it is from 1: \"P stored 0\"\n",
+    ),
+    (
+        b"queue 1\nP some 0\n",
+        "refused: calls line 2 is not a line of the format\n  line 2 has a count of 0: it is from 1: \"P some 0\"\n",
+    ),
+    (
+        b"queue 1\nP\n",
+        "refused: calls line 2 is not a line of the format\n  line 2 is none of: P put ITEM.., P stored [COUNT], P some COUNT, P full, P short, P nothing, P close, P closed: \"P\"\n",
+    ),
+    (
+        b"queue 1\nC\n",
+        "refused: calls line 2 is not a line of the format\n  line 2 is none of: C take [COUNT], C item ITEM.., C some ITEM.., C empty, C short, C nothing, C closed: \"C\"\n",
+    ),
+    (
+        b"queue 1\nPut 1\n",
+        "refused: calls line 2 is not a line of the format\n  line 2 begins with neither P nor C: \"Put 1\"\n",
+    ),
+    (
+        b"queue 1\nP put 1\x0c\n",
+        "refused: calls line 2 is not a line of the format\n  line 2 has a tab or another control character: between two words stands one space: \"P put 1\\x0c\"\n",
     ),
     (
         b"P put 1\n",
@@ -173,7 +217,7 @@ static BAD: [(&[u8], &str); 22] = [
     // bytes that are not printed as they are
     (
         b"queue 1\nP\tput \"\\\x1b\x7f\xc3\xa9\n",
-        "refused: calls line 2 is not a line of the format\n  line 2 begins with neither P nor C: \"P\\tput \\\"\\\\\\x1b\\x7f\\xc3\\xa9\"\n",
+        "refused: calls line 2 is not a line of the format\n  line 2 has a tab or another control character: between two words stands one space: \"P\\tput \\\"\\\\\\x1b\\x7f\\xc3\\xa9\"\n",
     ),
     // more of a line than is shown
     (

@@ -1,6 +1,6 @@
 use crate::tests::expects::{AUDIT, BITS, CALLS, PLAY, TRACE, expect_refusals};
 
-static TRACES: [(&[u8], &str); 47] = [
+static TRACES: [(&[u8], &str); 51] = [
     // no text
     (
         b"",
@@ -107,11 +107,28 @@ static TRACES: [(&[u8], &str); 47] = [
     // the words of no line
     (
         b"shape 1 3\n",
-        "refused: trace line 1 is not a line of the format\n  line 1 is not: shape CAPACITY MODULUS WIDTH: \"shape 1 3\"\n",
+        "refused: trace line 1 is not a line of the format\n  line 1 is not: shape CAPACITY MODULUS WIDTH [BATCH [TAKE_BATCH]], in numbers of at most 4 digits: \"shape 1 3\"\n",
+    ),
+    (
+        b"shape 10000 3 1\n",
+        "refused: trace line 1 is not a line of the format\n  line 1 is not: shape CAPACITY MODULUS WIDTH [BATCH [TAKE_BATCH]], in numbers of at most 4 digits: \"shape 10000 3 1\"\n",
     ),
     (
         b"shape 1 3 1 1\n",
-        "refused: trace line 1 is not a line of the format\n  line 1 is not: shape CAPACITY MODULUS WIDTH: \"shape 1 3 1 1\"\n",
+        "refused: trace line 1 is not a line of the format\n  line 1 ends in a batch of 1, which is left out: \"shape 1 3 1 1\"\n",
+    ),
+    (
+        b"shape 3 7 1 3 1\n",
+        "refused: trace line 1 is not a line of the format\n  line 1 ends in a batch of 1, which is left out: \"shape 3 7 1 3 1\"\n",
+    ),
+    // recorded calls
+    (
+        b"queue 8\nP put 1\n",
+        "refused: trace line 1 is not a line of the format\n  it looks like recorded calls: lamport_ring audit --calls reads them\n",
+    ),
+    (
+        b"cut queue\n",
+        "refused: trace line 1 is not a line of the format\n  it looks like recorded calls: lamport_ring audit --calls reads them\n",
     ),
     (
         b"shape 1 3 1\nQ read r3\n",
@@ -168,7 +185,7 @@ static TRACES: [(&[u8], &str); 47] = [
     // bytes that are not printed as they are
     (
         b"shape 1 3 1\nP\tread \"\\\x1b\x7f\xc3\xa9\n",
-        "refused: trace line 2 is not a line of the format\n  line 2 is none of: S read BIT, S got BIT V, S write BIT V, S wrote BIT: \"P\\tread \\\"\\\\\\x1b\\x7f\\xc3\\xa9\"\n",
+        "refused: trace line 2 is not a line of the format\n  line 2 has a tab or another control character: between two words stands one space: \"P\\tread \\\"\\\\\\x1b\\x7f\\xc3\\xa9\"\n",
     ),
     // as much of a line as is shown, and more
     (
@@ -181,7 +198,7 @@ static TRACES: [(&[u8], &str); 47] = [
     ),
     (
         b"shape 1 3 1\naaaaaaaaaaaaaaaaaaaaaaaaaaaaaaaaaaaaaaaaaaaaaaaaaaaaaaaaaaaaaaaaaaaaaaaaaaaaaaa\t\n",
-        "refused: trace line 2 is not a line of the format\n  line 2 is none of: S read BIT, S got BIT V, S write BIT V, S wrote BIT: \"aaaaaaaaaaaaaaaaaaaaaaaaaaaaaaaaaaaaaaaaaaaaaaaaaaaaaaaaaaaaaaaaaaaaaaaaaaaaaaa\"..\n",
+        "refused: trace line 2 is not a line of the format\n  line 2 has a tab or another control character: between two words stands one space: \"aaaaaaaaaaaaaaaaaaaaaaaaaaaaaaaaaaaaaaaaaaaaaaaaaaaaaaaaaaaaaaaaaaaaaaaaaaaaaaa\"..\n",
     ),
     // numbers of no shape
     (
@@ -204,7 +221,7 @@ fn says_what_is_wrong_in_a_trace(rt: HostRuntime) {
     expect_refusals(&rt, &[AUDIT, BITS], &TRACES);
 }
 
-static SCRIPTS: [(&[u8], &str); 27] = [
+static SCRIPTS: [(&[u8], &str); 28] = [
     // no JSON
     (
         b"",
@@ -213,6 +230,10 @@ static SCRIPTS: [(&[u8], &str); 27] = [
     (
         b"shape 1 3 1\n",
         "refused: script is not JSON\n  it looks like a trace: lamport_ring audit reads it\n",
+    ),
+    (
+        b"queue 8\n",
+        "refused: script is not JSON\n  it looks like recorded calls: lamport_ring audit --calls reads them\n",
     ),
     (
         b"{",

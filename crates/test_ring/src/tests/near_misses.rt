@@ -1,11 +1,13 @@
 // Three rings that are nearly right. Each makes a lawful history of bits, so safe bits are not to blame.
-use bits_core::{Access, Always, Bit, Event, Memory, Oracle, Shape, Side, Store, Tape, Verdict, audit_bits};
-use trace_text::write_trace;
+use bits_core::{
+    Access, Always, Bit, Event, Memory, Oracle, Shape, Side, Store, Tape, Verdict, audit_bits,
+};
 use register_core::{UnaryScan, UnaryWriter, WordWriter};
 use ring_core::{Consumer, Producer, PutReply, TakeReply};
 use ring_steps::{Step, next_event};
 use std::process::Abort;
 use std::test::Fail;
+use trace_text::write_trace;
 
 // The whole of the access that is due, if there is one: its answer. That the memory runs out fails the test.
 fn whole_access<S: Store<Event>, O: Oracle>(
