@@ -49,6 +49,20 @@ fn makes_room<S: Store<u64>>(rt: &impl Abort, mut store: S, more: usize) -> bool
     is_made
 }
 
+// A store with room for this many numbers takes them all, in order.
+fn takes_all<S: Store<u64>>(rt: &impl Abort, mut store: S, count: u64) {
+    for number in 0..count {
+        store.push(number).expect(rt, "room");
+    }
+    let last = store.as_slice().last();
+    expect_true(rt, last.copied() == count.checked_sub(1));
+}
+
+#[test]
+fn a_store_takes_two_million(rt: HostRuntime) {
+    takes_all(&rt, Vec::new(rt.alloc()), 2_000_001);
+}
+
 #[test]
 fn room_is_made_for_several(rt: HostRuntime) {
     let mut slots = [0; 4];
