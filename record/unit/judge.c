@@ -120,10 +120,31 @@ static void try_edges(void) {
     must(!ring_audit_restart(&a, "queue") && strcmp(ring_audit_words(&a), "refused: out of memory") == 0, "differs: its words");
 }
 
+/* A state that is none that the library left: it says so, changes no byte of the state, and so the memory can be freed. */
+static void try_no_state(void) {
+    for (int way = 0; way < 4; way++) {
+        ring_audit a;
+        ring_audit_state before;
+        ring_audit_counts counts, none;
+        memset(&none, 7, sizeof none);
+        memset(&counts, 7, sizeof counts);
+        must(ring_audit_init(&a, "queue", 2) && ring_audit_put(&a, 1), "no memory");
+        size_t *const uses[] = { &a.state.offered_first, &a.state.offered_used, &a.state.taken_first, &a.state.taken_used };
+        *uses[way] = (size_t)RING_AUDIT_TAKEN + 1;
+        memcpy(&before, &a.state, sizeof before);
+        must(!ring_audit_report(&a.state, &counts) && memcmp(&counts, &none, sizeof none) == 0, "differs: a report of no state");
+        must(memcmp(&before, &a.state, sizeof before) == 0, "differs: no state, after a report");
+        must(!ring_audit_stored(&a) && strcmp(ring_audit_words(&a), "refused: the state is none that libring_audit left") == 0, "differs: no state");
+        must(memcmp(&before, &a.state, sizeof before) == 0, "differs: no state, after a line");
+        ring_audit_free(&a);
+    }
+}
+
 int main(int argc, char **argv) {
     ring_audit judged = RING_AUDIT_NONE;
     ring_calls rec;
     try_edges();
+    try_no_state();
     must(ring_calls_init(&rec, 1 << 20) != 0, "no memory");
     for (int i = 1; i < argc; i++) {
         recording r = read_recording(argv[i]);

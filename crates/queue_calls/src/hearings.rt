@@ -1,7 +1,7 @@
 //! A history of calls that is told event by event or line by line, and what is found of it so far.
-ghost use Rattle.std.specs.Prelude.{◌≡◌, ℕ, ◌+◌, ◌∷◌, ◌++◌, [], List, IfErr, None, OnOk, length, option_map};
+ghost use Rattle.std.specs.Prelude.{◌≡◌, ℕ, ◌+◌, ◌∷◌, ◌++◌, [], List, IfErr, IfOk, IfSome, None, OnErr, OnOk, length, option_map};
 ghost use Rattle.queue_calls.specs.Calls as calls;
-ghost use Rattle.queue_calls.specs.Hearings.{HasHeardAll, HearsLine, HearsNext, hearing_of};
+ghost use Rattle.queue_calls.specs.Hearings.{HasHeardAll, HearsLine, HearsNext, IsNotLawful, hearing_of};
 ghost use Rattle.call_lines.specs.Lines.{AllowsQueue};
 ghost use Rattle.queue_calls.specs.Noting.{OutgrowsLists};
 ghost use Rattle.queue_calls.specs.Queue as queues;
@@ -241,6 +241,8 @@ impl<S: Storage> Hearing<S> {
             HasHeardAll S.Offered.items S.Taken.items self.old capacity events
             → OutgrowsLists self.old.witness.limit (S.Offered.room self.old.witness.auditor.inside.list)
             (S.Taken.room self.old.witness.taken) capacity (events ++ told event.entry ∷ [])) }
+        ensures at_fault { self.old.fault ≡ None → IfSome self.new.fault IsNotLawful }
+        ensures fault_kept { OnErr result (self.new.fault ≡ self.old.fault) }
         ensures begun { self.new.begun ≡ self.old.begun }
         ensures limit { self.new.witness.limit ≡ self.old.witness.limit }
         ensures rooms { (S.Offered.room self.new.witness.auditor.inside.list ≡ S.Offered.room
@@ -279,6 +281,8 @@ impl<S: Storage> Hearing<S> {
     ) -> Result<Option<CallsFinding>, RecordingFault>
         ensures heard { HearsLine S.Offered.items S.Taken.items (S.Offered.room self.old.witness.auditor.inside.list)
             (S.Taken.room self.old.witness.taken) self.old line word numbers.now result self.new }
+        ensures at_fault { self.old.fault ≡ None → (self.new.fault ≡ None) ×
+            IfOk result (λ found. IfSome found IsNotLawful) }
         ensures limit { self.new.witness.limit ≡ self.old.witness.limit }
         ensures rooms { (S.Offered.room self.new.witness.auditor.inside.list ≡ S.Offered.room
             self.old.witness.auditor.inside.list) ×
@@ -333,7 +337,8 @@ impl<S: Storage> Hearing<S> {
 
     /// What is kept of it beside its lists, and these. A fault that it has found is not kept.
     pub fn keep(self) -> (HearingState, S::Offered, S::Taken)
-        ensures { self.fault ≡ None → self ≡ hearing_of result.0 result.1 result.2 }
+        ensures kept { self.fault ≡ None → self ≡ hearing_of result.0 result.1 result.2 }
+        ensures lists { (result.1 ≡ self.witness.auditor.inside.list) × (result.2 ≡ self.witness.taken) }
     {
         let witness = self.witness;
         let (auditor, inside) = witness.auditor.keep();

@@ -1,7 +1,8 @@
 -- Lines that are told by numbers.
 use Rattle.std.proofs.Common.{◌≡◌, ◌≢◌, ◌∙◌, ℕ, zero, suc, ◌+◌, ◌<◌, ◌≤◌, false, List, [], ◌∷◌, ◌++◌, Option, Some, None, Result, Ok, Err, length, take, drop, get_or, refl, sym, ap, ap₂, subst, arith}
+use Rattle.std.specs.Prelude.{IfOk, IfSome}
 use Rattle.std.proofs.lemmas.Option.{same_Some}
-use Rattle.queue_calls.specs.Hearings.{FollowsLines, HearsLine}
+use Rattle.queue_calls.specs.Hearings.{FollowsLines, HearsLine, IsNotLawful}
 use Rattle.call_lines.specs.Lines.{line_text, word_of, AllowsQueue, AreSmall}
 use Rattle.queue_calls.specs.Recordings.{Line, line, AreLines, capacity_told}
 use Rattle.queue_calls.specs.RecordingStates.{HasHeard}
@@ -12,10 +13,11 @@ use Rattle.queue_calls.specs.declared.hearings.Begun.TheVariants.{Nothing}
 use Rattle.call_lines.specs.declared.lines.Word.{Word}
 use Rattle.call_lines.specs.declared.lines.Word.TheVariants.{Queue}
 use Rattle.queue_calls.specs.declared.recordings.CallsFinding.{CallsFinding}
+use Rattle.queue_calls.specs.declared.recordings.CallsFinding.TheVariants.{Lawful, OutOfTurn, NotLinearizable}
 use Rattle.queue_calls.specs.declared.faults.RecordingFault.{RecordingFault}
 use Rattle.queue_calls.specs.declared.faults.RecordingFault.TheVariants.{BadLine, TooLong, OutOfMemory}
 use Rattle.queue_calls.proofs.HeardLines.{first_heard, first_line}
-use Rattle.queue_calls_c.specs.Heard.{TellsLine, TellLines, SaysOf, StopsWith, HearsSome}
+use Rattle.queue_calls_c.specs.Heard.{TellsLine, TellLines, SaysOf, StopsWith, HearsSome, found_of}
 use Rattle.queue_calls_c.specs.declared.hearings.WordLine.{WordLine}
 
 -- a line is told in one way
@@ -44,6 +46,16 @@ told_more [] numbers [] rest next l are told = ((told.0, told.1 ∙ ap (λ ns. t
 told_more [] numbers (h ∷ heard) rest next l are told = absurd are
 told_more (first ∷ lines) numbers [] rest next l are told = absurd are
 told_more (first ∷ lines) numbers (h ∷ heard) rest next l are told = (are.0, told_more lines (drop first.count numbers) heard rest next l are.1 told)
+
+-- what is said is not that there is no state, as what is found is not lawful
+pub not_six : (room : ℕ) (said : Result (Option CallsFinding) RecordingFault) → IfOk said (λ found. IfSome found IsNotLawful) → (found_of room said).verdict ≢ 6
+not_six room (Ok None) not e = absurd (omega (arith, e))
+not_six room (Ok (Some (Lawful report))) not e = not
+not_six room (Ok (Some (OutOfTurn number))) not e = absurd (omega (arith, e))
+not_six room (Ok (Some (NotLinearizable number cause))) not e = absurd (omega (arith, e))
+not_six room (Err (BadLine number)) not e = absurd (omega (arith, e))
+not_six room (Err TooLong) not e = absurd (omega (arith, e))
+not_six room (Err OutOfMemory) not e = absurd (omega (arith, e))
 
 -- ---- what is followed
 

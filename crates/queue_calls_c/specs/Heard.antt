@@ -35,6 +35,10 @@ taken_room h = length h.witness.taken.slots.now
 abbrev pub FitsSlots : Audit → Type 0
 FitsSlots a = (a.offered_first ≤ length a.offered.now) × (a.offered_used ≤ length a.offered.now) × (a.taken_first ≤ length a.taken.now) × (a.taken_used ≤ length a.taken.now)
 
+-- the lists of the second have as many slots as those of the first
+abbrev pub HaveSameRoom : Audit → Audit → Type 0
+HaveSameRoom a b = (length b.offered.now ≡ length a.offered.now) × (length b.taken.now ≡ length a.taken.now)
+
 -- it has heard the lines of a recording, and no fault was found
 pub record HasHeardLines (a : Audit) (lines : List Line) : Type 0 where
   pub follows : FollowsLines (λ o. o) (λ t. t) (heard_by a) false lines

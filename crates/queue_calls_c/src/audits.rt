@@ -1,12 +1,12 @@
 //! The audit of recorded calls, line by line.
-ghost use Rattle.std.specs.Prelude.{◌≡◌, ◌∷◌, [], IfSome, IsNone, IsTrue, List, None, false, length};
+ghost use Rattle.std.specs.Prelude.{◌≡◌, ◌∷◌, ◌↔◌, [], IfSome, IsNone, IsTrue, List, None, false, length};
 ghost use Rattle.queue_calls.specs.Hearings.{FollowsLines};
 ghost use Rattle.call_lines.specs.Lines.{AllowsQueue};
 ghost use Rattle.queue_calls.specs.Recordings as recordings;
 ghost use Rattle.queue_calls.specs.Recordings.{line};
 ghost use Rattle.lists.specs.Rings.{ring_items};
 ghost use Rattle.call_lines.specs.declared.lines.Word.TheVariants.{Queue};
-ghost use Rattle.queue_calls_c.specs.Heard.{FitsSlots, HasHeardLines, HearsLines, ReportsOn, heard_by, offered_room, taken_room};
+ghost use Rattle.queue_calls_c.specs.Heard.{FitsSlots, HasHeardLines, HaveSameRoom, HearsLines, ReportsOn, found_as, heard_by, offered_room, taken_room};
 
 use crate::found::{HeardFound, found_of};
 use crate::hearings::{WordLine, hear_lines};
@@ -14,16 +14,31 @@ use crate::states::{Audit, keep_state, state_of};
 use queue_calls::{CallsReport, Hearing, Lent, Slots, Word, allows};
 use std::mem;
 
-// The hearing that goes on from an audit, whose slots it takes. None where these are fewer than it used.
+// Whether what an audit uses of its slots is no more than these.
+fn fits(audit: &Audit<'_>) -> bool
+    ensures { IsTrue result ↔ FitsSlots audit.now }
+{
+    audit.offered_first <= audit.offered.len()
+        && audit.offered_used <= audit.offered.len()
+        && audit.taken_first <= audit.taken.len()
+        && audit.taken_used <= audit.taken.len()
+}
+
+// The hearing that goes on from an audit, whose slots it takes. None if the audit uses more slots than there are: then nothing is
+// taken, and the audit is as it was.
 fn resume<'a>(audit: &mut Audit<'a>) -> Option<Hearing<Lent<'a>>>
     ensures goes_on { IfSome result (λ h. (lines : List recordings.Line) →
         FollowsLines (λ o. o) (λ t. t) (heard_by audit.old) false lines →
         FollowsLines ring_items ring_items h false lines) }
     ensures rooms { IfSome result (λ h. (offered_room h ≡ length audit.old.offered.now) ×
         (taken_room h ≡ length audit.old.taken.now) × (h.witness.limit ≡ audit.old.limit)) }
-    ensures none { IsNone result → ¬ FitsSlots audit.old }
+    ensures fit { IfSome result (λ h. FitsSlots audit.old × (h.fault ≡ None)) }
+    ensures none { IsNone result → ¬ FitsSlots audit.old × (audit.new ≡ audit.old) }
     ensures line { audit.new.line ≡ audit.old.line }
 {
+    if !fits(audit) {
+        return None;
+    }
     let state = state_of(audit);
     let offered = Slots::resume(
         mem::take(&mut audit.offered),
@@ -43,6 +58,8 @@ fn keep<'a>(audit: &mut Audit<'a>, hearing: Hearing<Lent<'a>>)
     ensures follows { (lines : List recordings.Line) → FollowsLines ring_items ring_items hearing.entry false lines →
         FollowsLines (λ o. o) (λ t. t) (heard_by audit.new) false lines }
     ensures fit { FitsSlots audit.new }
+    ensures rooms { (length audit.new.offered.now ≡ offered_room hearing.entry) ×
+        (length audit.new.taken.now ≡ taken_room hearing.entry) }
     ensures limit { hearing.entry.fault ≡ None → audit.new.limit ≡ hearing.entry.witness.limit }
     ensures line { audit.new.line ≡ audit.old.line }
 {
@@ -64,6 +81,7 @@ fn keep<'a>(audit: &mut Audit<'a>, hearing: Hearing<Lent<'a>>)
 pub extern "C" fn ring_audit_begin(audit: &mut Audit<'_>, numbers: &[u64]) -> bool
     ensures begun { IsTrue result → HasHeardLines audit.new (line Queue numbers.now ∷ []) }
     ensures limit { IsTrue result → audit.new.limit ≡ length audit.old.taken.now }
+    ensures rooms { HaveSameRoom audit.old audit.new }
     ensures refused { result ≡ false → ¬ AllowsQueue numbers.now × (audit.new ≡ audit.old) }
 {
     if !allows(Word::Queue, numbers) {
@@ -89,7 +107,11 @@ pub extern "C" fn ring_audit_hear(
     words: &mut [u8],
     found: &mut HeardFound,
 ) -> usize
-    ensures { HearsLines audit.old lines.now numbers.now words.old result audit.new words.new found.new }
+    ensures heard { HearsLines audit.old lines.now numbers.now words.old result audit.new words.new found.new }
+    ensures rooms { HaveSameRoom audit.old audit.new }
+    ensures no_state { (found.new.verdict ≡ 6) ↔ ¬ FitsSlots audit.old }
+    ensures refused { ¬ FitsSlots audit.old → (result ≡ 0) × (audit.new ≡ audit.old) × (words.new ≡ words.old) ×
+        (found.new ≡ found_as 6 0 0 0) }
 {
     let Some(mut hearing) = resume(audit) else {
         *found = HeardFound {
@@ -110,7 +132,10 @@ pub extern "C" fn ring_audit_hear(
 /// Tells the report on the lines that were heard. Whether there is one: not of a state that this library did not leave.
 #[unsafe(no_mangle)]
 pub extern "C" fn ring_audit_report(audit: &mut Audit<'_>, report: &mut CallsReport) -> bool
-    ensures { ReportsOn audit.old result audit.new report.new }
+    ensures reports { ReportsOn audit.old result audit.new report.new }
+    ensures told { IsTrue result ↔ FitsSlots audit.old }
+    ensures rooms { HaveSameRoom audit.old audit.new }
+    ensures refused { result ≡ false → (audit.new ≡ audit.old) × (report.new ≡ report.old) }
 {
     let Some(hearing) = resume(audit) else {
         return false;

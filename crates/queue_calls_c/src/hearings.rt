@@ -1,6 +1,6 @@
 //! Lines that are told by numbers.
-ghost use Rattle.std.specs.Prelude.{◌≡◌, ◌+◌, ◌↔◌, IsTrue, List, None, Ok, false, length, take, drop};
-ghost use Rattle.queue_calls.specs.Hearings.{FollowsLines};
+ghost use Rattle.std.specs.Prelude.{◌≡◌, ◌+◌, ◌↔◌, IfOk, IfSome, IsTrue, List, None, Ok, false, length, take, drop};
+ghost use Rattle.queue_calls.specs.Hearings.{FollowsLines, IsNotLawful};
 ghost use Rattle.queue_calls.specs.Recordings as recordings;
 ghost use Rattle.lists.specs.Rings.{ring_items};
 ghost use Rattle.queue_calls_c.specs.Heard.{HearsSome, SaysOf, offered_room, taken_room};
@@ -40,6 +40,8 @@ fn hear_one(hearing: &mut Hearing<Lent<'_>>, number: u64, line: &WordLine, numbe
         (FollowsLines ring_items ring_items hearing.new false) before line.now numbers.now result }
     ensures rooms { (offered_room hearing.new ≡ offered_room hearing.old) ×
         (taken_room hearing.new ≡ taken_room hearing.old) × (hearing.new.witness.limit ≡ hearing.old.witness.limit) }
+    ensures at_fault { hearing.old.fault ≡ None → (hearing.new.fault ≡ None) ×
+        IfOk result (λ found. IfSome found IsNotLawful) }
 {
     match Word::of_number(line.word) {
         Some(word) => hearing.hear_line(number, word, own_numbers(line, numbers)),
@@ -70,6 +72,9 @@ pub fn hear_lines(
         (λ ls. FollowsLines ring_items ring_items hearing.new false ls × (result.1 ≡ length ls)) earlier lines.now
         numbers.now result.0 result.2 }
     ensures limit { hearing.new.witness.limit ≡ hearing.old.witness.limit }
+    ensures rooms { (offered_room hearing.new ≡ offered_room hearing.old) ×
+        (taken_room hearing.new ≡ taken_room hearing.old) }
+    ensures at_fault { hearing.old.fault ≡ None → IfOk result.2 (λ found. IfSome found IsNotLawful) }
 {
     let mut rest = numbers;
     let mut number = before;

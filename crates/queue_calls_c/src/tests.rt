@@ -216,18 +216,27 @@ fn too_few_slots_are_told(rt: HostRuntime) {
 }
 
 #[test]
-fn a_state_of_another_is_refused(rt: HostRuntime) {
-    let mut offered = [NO_ENTRY; 1];
-    let mut taken = [NOT_TAKEN; 1];
+fn a_state_of_another_is_refused_and_kept(rt: HostRuntime) {
+    let mut offered = [NO_ENTRY; 3];
+    let mut taken = [NOT_TAKEN; 2];
     let mut audit = zeroed(&mut offered, &mut taken);
-    audit.taken_used = 2;
-    let (count, found, _) = heard(&mut audit, &[TAKE], &[]);
+    audit.taken_used = 3;
+    let (count, found, words) = heard(&mut audit, &[TAKE], &[]);
     assert_eq!(rt; (count, found), (0, fault(6, 0, 0, 0)));
+    assert!(rt; words == [7; CAUSE_WORDS]);
+    assert_eq!(rt;
+        (audit.offered.len(), audit.taken.len(), audit.taken_used),
+        (3, 2, 3)
+    );
+    audit.taken_used = 0;
+    audit.offered_first = 4;
     let mut report = NO_REPORT;
-    let mut audit = zeroed(&mut [], &mut []);
-    audit.offered_first = 1;
     assert!(rt; !ring_audit_report(&mut audit, &mut report));
     assert_eq!(rt; report, NO_REPORT);
+    assert_eq!(rt;
+        (audit.offered.len(), audit.taken.len(), audit.offered_first),
+        (3, 2, 4)
+    );
 }
 
 #[test]

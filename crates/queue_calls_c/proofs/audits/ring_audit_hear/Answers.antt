@@ -1,16 +1,23 @@
-use Rattle.std.proofs.Common.{◌≡◌, ◌∙◌, List, false, length, refl, subst}
+use Rattle.std.proofs.Common.{◌≡◌, ◌∙◌, List, ap, false, length, refl, subst, sym}
 use Rattle.queue_calls.specs.Hearings.{FollowsLines}
 use Rattle.queue_calls.specs.Recordings as recordings
 use Rattle.lists.specs.Rings.{ring_items}
 use Rattle.queue_calls_c.specs.Heard.{HearsSome, taken_room}
-use Rattle.queue_calls_c.proofs.ToldLines.{some_map}
+use Rattle.queue_calls_c.proofs.ToldLines.{not_six, some_map}
+use Rattle.queue_calls_c.specs.declared.found.HeardFound.{HeardFound}
 use Rattle.queue_calls_c.proofs.audits.ring_audit_hear.Goals as goal
 
-pub returns-in_default : goal.returns-in_default
-returns-in_default c before has = absurd (c.in_default.ensures.none refl has.fit)
+pub returns-in_default-clause-heard : goal.returns-in_default-clause-heard
+returns-in_default-clause-heard c before has = absurd ((c.in_default.ensures.none refl).0 has.fit)
 
-pub returns : goal.returns
-returns c before has =
+pub returns-clause-no_state : goal.returns-clause-no_state
+returns-clause-no_state c = (
+  λ six. absurd (not_six _ c.hear_lines-heard.result.2 (c.hear_lines-heard.ensures.at_fault c.in-Some.ensures.fit.1) (sym (ap (λ (f : HeardFound). f.verdict) c.found_of.ensures.found) ∙ six)),
+  λ none. absurd (none c.in-Some.ensures.fit.0),
+)
+
+pub returns-clause-heard : goal.returns-clause-heard
+returns-clause-heard c before has =
     let h = c.in-Some.hearing in
     let n = c.hear_lines-heard.new.hearing in
     let said = c.hear_lines-heard.result.2 in

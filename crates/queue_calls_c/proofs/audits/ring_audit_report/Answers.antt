@@ -6,11 +6,11 @@ use Rattle.queue_calls.specs.declared.recordings.CallsFinding.TheVariants.{Lawfu
 use Rattle.queue_calls.proofs.RecordingLemmas.{found}
 use Rattle.queue_calls_c.proofs.audits.ring_audit_report.Goals as goal
 
-pub returns-in_default : goal.returns-in_default
-returns-in_default c lines has = absurd (c.in_default.ensures.none refl has.fit)
+pub returns-in_default-clause-reports : goal.returns-in_default-clause-reports
+returns-in_default-clause-reports c lines has = absurd ((c.in_default.ensures.none refl).0 has.fit)
 
-pub returns : goal.returns
-returns c lines has =
+pub returns-clause-reports : goal.returns-clause-reports
+returns-clause-reports c lines has =
     let h = c.in-Some.hearing in
     let follows = c.in-Some.ensures.goes_on lines has.follows in (
       refl,

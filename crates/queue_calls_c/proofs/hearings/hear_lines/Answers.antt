@@ -20,6 +20,7 @@ loop-heard-init c = (
     subst (FollowsLines ring_items ring_items c.args.hearing.now false) (sym (append-nil earlier)) follows,
     is ∙ ap length (sym (append-nil earlier)),
   ),
+  λ none. none,
 )
 
 pub returns-in_default-clause-hears : goal.returns-in_default-clause-hears
@@ -36,7 +37,7 @@ returns-clause-hears c earlier follows is =
 
 pub returns-then-not-is_heard-clause-hears : goal.returns-then-not-is_heard-clause-hears
 returns-then-not-is_heard-clause-hears c earlier follows is =
-    let (few, o, t, m, inv) = c.loop-heard.invariant in
+    let (few, o, t, m, inv, none) = c.loop-heard.invariant in
     let (heard, told, still, number) = inv earlier follows is in
     let n = c.hear_one-said.new.hearing in
     let G : List recordings.Line → Type 0 = λ ls. FollowsLines ring_items ring_items n false ls in
@@ -55,7 +56,7 @@ returns-then-not-is_heard-clause-hears c earlier follows is =
 
 pub loop-heard-preserved : goal.loop-heard-preserved
 loop-heard-preserved c =
-    let (few, o, t, m, inv) = c.loop-heard.invariant in
+    let (few, o, t, m, inv, none) = c.loop-heard.invariant in
     let n = c.hear_one-said.new.hearing in
     let G : List recordings.Line → Type 0 = λ ls. FollowsLines ring_items ring_items n false ls in
     let said_none : c.hear_one-said.result ≡ Ok None = c.is_heard.ensures.0 c.if-not-is_heard.false in
@@ -78,4 +79,5 @@ loop-heard-preserved c =
             subst G (append_assoc earlier heard (l ∷ [])) here.2,
             omega (arith, number, c.in-Some.ensures, long, ap length (append_assoc earlier heard (l ∷ []))),
           ),
+      λ begun. (c.hear_one-said.ensures.at_fault (none begun)).0,
     )

@@ -1,4 +1,4 @@
-use Rattle.std.proofs.Common.{length, ◌-◌, ◌≡◌, ◌≤◌, List, ◌++◌, false, take}
+use Rattle.std.proofs.Common.{length, ◌-◌, ◌≡◌, ◌≤◌, List, ◌++◌, None, false, take}
 use Rattle.queue_calls.specs.Hearings.{FollowsLines}
 use Rattle.queue_calls.specs.Recordings as recordings
 use Rattle.lists.specs.Rings.{ring_items}
@@ -11,6 +11,7 @@ invariant-loop-heard l =
     (l.heard ≤ length l.lines) × (offered_room l.hearing ≡ offered_room l.initial.hearing) × (taken_room l.hearing ≡ taken_room l.initial.hearing) × (l.hearing.witness.limit ≡ l.initial.hearing.witness.limit) ×
     ((earlier : List recordings.Line) → FollowsLines ring_items ring_items l.initial.hearing false earlier → l.before ≡ length earlier →
     (heard : List recordings.Line) × TellLines (take l.heard l.lines) l.numbers heard l.rest × FollowsLines ring_items ring_items l.hearing false (earlier ++ heard) × (l.number ≡ length (earlier ++ heard)))
+    × (l.initial.hearing.fault ≡ None → l.hearing.fault ≡ None)
 
 abbrev pub decreases-loop-heard : goal.decreases-loop-heard
 decreases-loop-heard l = length l.lines - l.heard
