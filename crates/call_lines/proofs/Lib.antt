@@ -1,2 +1,3 @@
 mod LineReadings
 pub mod LineLemmas
+pub mod BeginningLemmas

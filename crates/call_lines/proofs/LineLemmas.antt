@@ -57,7 +57,7 @@ side-text front bytes reads other x is later e =
       | inr k ↦ later k
     ]
 
-word_at-text : (bytes : List ℕ) (x : Word × List ℕ) → line_word_at bytes ≡ Some x → bytes ≡ word_text x.0 ++ x.1
+pub word_at-text : (bytes : List ℕ) (x : Word × List ℕ) → line_word_at bytes ≡ Some x → bytes ≡ word_text x.0 ++ x.1
 word_at-text bytes x =
     side-text (codes "P ") bytes put_word_at _ x (λ rest. put_word_at-text rest x)
     (side-text (codes "C ") bytes take_word_at _ x (λ rest. take_word_at-text rest x)

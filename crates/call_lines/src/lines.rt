@@ -150,7 +150,7 @@ pub fn read_line<R: Store<u64>>(bytes: &[u8], numbers: &mut R) -> Result<Option<
 }
 
 // The word at the front, and the bytes behind it.
-fn word_at(bytes: &[u8]) -> Option<(Word, &[u8])>
+pub(crate) fn word_at(bytes: &[u8]) -> Option<(Word, &[u8])>
     ensures { option_map (λ x. (x.0, x.1.now)) result ≡ line_word_at bytes.now }
 {
     if let Some(rest) = after(bytes, "P ") {
@@ -240,7 +240,7 @@ fn read_numbers<R: Store<u64>>(bytes: &[u8], numbers: &mut R) -> Result<bool, Al
 
 // The number after a space at the front, and the bytes after it.
 #[tactic(auto, unfolding(crate::specs::LineReading::spaced_number))]
-fn spaced_number(bytes: &[u8]) -> Option<(u64, &[u8])>
+pub(crate) fn spaced_number(bytes: &[u8]) -> Option<(u64, &[u8])>
     ensures { option_map (λ x. (x.0, x.1.now)) result ≡ spaced_number bytes.now }
 {
     let digits = after(bytes, " ")?;
