@@ -18,6 +18,7 @@ pub mod NotingLemmas
 pub mod HeardLines
 pub mod RecordingLemmas
 pub mod RecordingLaws
+pub mod KeptLines
 pub mod NextLines
 pub mod CountedHistories
 pub mod CountsFollow

@@ -1,5 +1,6 @@
 -- The text of a recording, line by line: where a line ends, and what its end shows.
-use Rattle.std.proofs.Common.{◌≡◌, ◌≢◌, Bool, Option, Some, None, ℕ, ◌+◌, ◌-◌, ◌^◌, ◌≤◌, List, [], ◌∷◌, ◌++◌, length, get_or, drop, refl, ap, ap₂, sym, subst, ◌∙◌, append_assoc, length-append, arith}
+use Rattle.std.proofs.Common.{◌≡◌, ◌≢◌, Bool, true, Option, Some, None, ℕ, ◌+◌, ◌-◌, ◌^◌, ◌≤◌, List, [], ◌∷◌, ◌++◌, length, get_or, drop, refl, ap, ap₂, sym, subst, ◌∙◌, append_assoc, length-append, arith}
+use Rattle.std.specs.Prelude.{◌==◌}
 use Rattle.std.proofs.lemmas.Grind.{flat_map-append}
 use Rattle.std.proofs.lemmas.List.{append-nil}
 use Rattle.std.proofs.lemmas.List.Elements.{All-append, All-head, All-nil, All-tail}
@@ -8,7 +9,7 @@ use Rattle.queue_calls.specs.Queue.{Capacity}
 use Rattle.queue_calls.specs.Calls.{Event}
 use Rattle.queue_calls.specs.Recordings.{Line, text_of, lines_text, AreLines, capacity_told, events_told, IsBadLine, RefusesText, IsFoundWithin, IsFindingOf, IsFindingWithin, IsFaultOf}
 use Rattle.line_parts.specs.LineEnds.{HasNoFeed}
-use Rattle.queue_calls.specs.RecordingStates.{HasLines, HasRead, HeardLines, HasHeard, IsFaultSoFar, RefusesLine}
+use Rattle.queue_calls.specs.RecordingStates.{HasLines, HasRead, HeardLines, HasHeard, IsFaultSoFar, KeepsBeginning, RefusesLine}
 use Rattle.call_causes.specs.declared.entries.TheConstants.{TAKEN_LIMIT}
 use Rattle.queue_calls.specs.declared.hearings.Begun.TheVariants.{Nothing}
 use Rattle.queue_calls.specs.declared.recordings.CallsFinding.{CallsFinding}
@@ -21,6 +22,7 @@ use Rattle.queue_calls.specs.declared.recordings.RecordingIn.{RecordingIn}
 use Rattle.queue_calls.specs.declared.faults.RecordingFault.{RecordingFault}
 use Rattle.queue_calls.specs.declared.faults.RecordingFault.TheVariants.{BadLine, TooLong, OutOfMemory}
 use Rattle.line_parts.proofs.LineFeeds.{feed_nowhere, feed_once}
+use Rattle.call_lines.proofs.BeginningLemmas.{nothing_begun}
 use Rattle.call_lines.proofs.LineLemmas.{line_no_feed}
 use Rattle.queue_calls.proofs.HeardLines.{is_line}
 use Rattle.queue_calls.proofs.HearingLemmas.{report_of, heard_lawful}
@@ -55,15 +57,32 @@ ended_text before bytes cut end more text =
     ap (λ (t : List ℕ). t ++ (end ++ 10 ∷ more)) text ∙ append_assoc (lines_text before) cut (end ++ 10 ∷ more)
     ∙ ap (λ (t : List ℕ). lines_text before ++ t) (sym (append_assoc cut end (10 ∷ more)))
 
+-- no byte of a line
+none_begins : (is_first : Bool) (begun : ℕ) (cut : List ℕ) → begun ≡ 0 → cut ≡ [] → KeepsBeginning is_first begun cut
+none_begins is_first begun cut zero none =
+    subst (λ (n : ℕ). KeepsBeginning is_first n cut) (sym zero)
+    (subst (λ (b : List ℕ). KeepsBeginning is_first 0 b) (sym none) (record { within = omega arith; begins = nothing_begun is_first; few = omega arith }))
+
+-- nothing was read
+pub nothing_read : {S O T N B : Type 0} (offered : O → List Offered) (last : T → List Taken) (bytes_of : B → List ℕ) (new : RecordingIn S O T N B) → bytes_of new.cut ≡ [] → new.begun ≡ 0 → HasLines offered last new.lines [] → HasRead offered last bytes_of new []
+nothing_read offered last bytes_of new none zero lines = record {
+  ended = [];
+  text = sym none;
+  no_feed = subst HasNoFeed (sym none) (All-nil (λ b. b ≢ 10));
+  lines = lines;
+  begins = none_begins true new.begun (bytes_of new.cut) zero none;
+}
+
 -- a line was read, and no byte of another one
 pub line_ended : {S O T N B : Type 0} (offered : O → List Offered) (last : T → List Taken) (bytes_of : B → List ℕ) (old new : RecordingIn S O T N B) (bytes end : List ℕ) (has : HasRead offered last bytes_of old bytes) (l : Line)
-    → bytes_of old.cut ++ end ≡ line_text l.word l.numbers → bytes_of new.cut ≡ [] → HasLines offered last new.lines (has.ended ++ l ∷ []) → HasRead offered last bytes_of new (bytes ++ end ++ 10 ∷ [])
-line_ended offered last bytes_of old new bytes end has l is none lines = record {
+    → bytes_of old.cut ++ end ≡ line_text l.word l.numbers → bytes_of new.cut ≡ [] → new.begun ≡ 0 → HasLines offered last new.lines (has.ended ++ l ∷ []) → HasRead offered last bytes_of new (bytes ++ end ++ 10 ∷ [])
+line_ended offered last bytes_of old new bytes end has l is none zero lines = record {
   ended = has.ended ++ l ∷ [];
   text = append_assoc bytes end (10 ∷ []) ∙ ended_text has.ended bytes (bytes_of old.cut) end [] has.text ∙ ap (λ (t : List ℕ). lines_text has.ended ++ (t ++ 10 ∷ [])) is ∙ sym (lines_more has.ended l)
       ∙ sym (append-nil (lines_text (has.ended ++ l ∷ []))) ∙ ap (λ (t : List ℕ). lines_text (has.ended ++ l ∷ []) ++ t) (sym none);
   no_feed = subst HasNoFeed (sym none) (All-nil (λ b. b ≢ 10));
   lines = lines;
+  begins = none_begins (length (has.ended ++ l ∷ []) == 0) new.begun (bytes_of new.cut) zero none;
 }
 
 -- ---- refusals

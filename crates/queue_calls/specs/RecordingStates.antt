@@ -1,8 +1,9 @@
 -- What is kept of a recording that is being read.
-use Rattle.std.specs.Prelude.{◌≡◌, ◌≢◌, ℕ, ◌+◌, ◌-◌, ◌^◌, List, [], ◌∷◌, ◌++◌, Bool, Option, Some, None, length}
+use Rattle.std.specs.Prelude.{◌≡◌, ◌≢◌, ◌==◌, ℕ, ◌+◌, ◌-◌, ◌*◌, ◌^◌, ◌<◌, ◌≤◌, take, List, [], ◌∷◌, ◌++◌, Bool, Option, Some, None, length}
 use Rattle.line_parts.specs.LineEnds.{HasNoFeed}
 use Rattle.queue_calls.specs.Queue.{Capacity}
 use Rattle.queue_calls.specs.Calls.{Event}
+use Rattle.call_lines.specs.Beginnings.{BeginsLine}
 use Rattle.call_lines.specs.Lines.{line_text}
 use Rattle.queue_calls.specs.Witnesses.{Remembers}
 use Rattle.queue_calls.specs.Tallying.{IsTallied}
@@ -55,9 +56,17 @@ RefusesLine (BadLine number) before bytes = (length before + 1 ≡ number) × ((
 RefusesLine TooLong before bytes = length before ≡ 2 ^ 64 - 1
 RefusesLine OutOfMemory before bytes = Unit {0}
 
+-- Of the bytes of a line that has not ended, in front of which no line or some line has, so many begin a line that may stand there; and
+-- in all there are less than twice as many and 65,536 more.
+pub record KeepsBeginning (is_first : Bool) (begun : ℕ) (bytes : List ℕ) : Type 0 where
+  pub within : begun ≤ length bytes
+  pub begins : BeginsLine is_first (take begun bytes)
+  pub few : length bytes < 2 * begun + 65536
+
 -- these bytes were read, by a recording whose lists have these entries and these bytes
 pub record HasRead {S O T N B : Type 0} (offered : O → List Offered) (last : T → List Taken) (bytes_of : B → List ℕ) (recording : RecordingIn S O T N B) (bytes : List ℕ) : Type 0 where
   pub ended : List Line
   pub text : bytes ≡ lines_text ended ++ bytes_of recording.cut
   pub no_feed : HasNoFeed (bytes_of recording.cut)
   pub lines : HasLines offered last recording.lines ended
+  pub begins : KeepsBeginning (length ended == 0) recording.begun (bytes_of recording.cut)

@@ -19,14 +19,14 @@ mod witnesses;
 
 pub use auditors::{AuditorState, CallAuditor};
 pub use call_causes::{CAUSE_WORDS, Cause, Next, Offered, Said, TAKEN_LIMIT, Taken, write_cause};
-pub use call_lines::{Word, allows};
+pub use call_lines::{Word, allows, may_begin};
 pub use capacities::{Capacity, exactly};
 pub use events::{CallEvent, Event};
 pub use faults::{Fault, RecordingFault};
 pub use hearings::{Begun, Hearing, HearingState, begun_after, event_told};
 pub use insides::Inside;
 pub use lists::{Fifo, Filled, Slots, Store};
-pub use recordings::{CallsFinding, Recording, RecordingIn};
+pub use recordings::{CallsFinding, Recording, RecordingIn, UNSEEN_LIMIT};
 pub use reports::CallsReport;
 pub use storage::{Lent, Lists, Owned, Storage};
 pub use turns::{PutTurn, TakeTurn};

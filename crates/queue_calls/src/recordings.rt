@@ -15,7 +15,7 @@ use crate::hearings::{Hearing, begun_after, event_told};
 use crate::reports::CallsReport;
 use crate::storage::{Lists, Owned, Storage};
 use call_causes::{Cause, TAKEN_LIMIT};
-use call_lines::{Word, read_line};
+use call_lines::{Word, may_begin, read_line};
 use lists::Store;
 use memchr::memchr;
 use std::alloc::Allocator;
@@ -34,6 +34,13 @@ pub enum CallsFinding {
     /// With the event of this line the history stops being linearizable.
     NotLinearizable { line: u64, cause: Cause },
 }
+
+/// How many bytes of a line that has not ended are kept before the recording looks whether they may begin a line.
+///
+/// It looks again when the line has grown to twice as many as it found to begin one, and by as many as this.
+///
+/// In use: the tests of recordings in pieces.
+pub const UNSEEN_LIMIT: usize = 65_536;
 
 // The lines that have ended.
 #[derive(Drop)]
@@ -95,8 +102,9 @@ impl<S: Storage> Lines<S> {
 /// A recording of the calls of a queue, as far as it was read.
 ///
 /// The text comes in pieces, cut anywhere, and is not kept: the memory is that of the items inside, of the longest line and of
-/// the last [`TAKEN_LIMIT`](crate::TAKEN_LIMIT) items taken; in lists of an allocator, or of the caller. A piece takes time linear in
-/// its bytes.
+/// the last [`TAKEN_LIMIT`](crate::TAKEN_LIMIT) items taken; in lists of an allocator, or of the caller. Of a line that has not ended
+/// less than twice as many bytes are kept, and [`UNSEEN_LIMIT`](crate::UNSEEN_LIMIT) more, as begin a line. The pieces of a text take
+/// time linear in its bytes.
 ///
 /// In use: `uses::findings::found_in`.
 #[derive(Drop)]
@@ -104,6 +112,8 @@ pub struct RecordingIn<S: Storage> {
     lines: Lines<S>,
     // the bytes of a line that has not ended
     cut: S::Bytes,
+    // how many of these were found to begin a line
+    begun: usize,
 }
 
 /// A recording in memory of an allocator.
@@ -160,15 +170,17 @@ impl<S: Storage> RecordingIn<S> {
                 hearing: Hearing::new(offered, taken, TAKEN_LIMIT),
             },
             cut,
+            begun: 0,
         }
     }
 
     /// Reads the next piece of the text.
     ///
-    /// `BadLine` at the first line that is not of the format, whatever comes behind it, and though the history has a
-    /// fault before it; `TooLong` past 2^64 - 1 lines; `OutOfMemory` where a growth was refused, or a list in slots is too short: for
-    /// the items that are inside or offered, for the last [`TAKEN_LIMIT`](crate::TAKEN_LIMIT) taken, for the numbers of a line, or for
-    /// its bytes. A recording that gave one of these is of no further use.
+    /// `BadLine` at the first line that is not of the format, whatever comes behind it, and though the history has a fault before it: at
+    /// its end, or before its end if it outgrew what is kept of a line that has not ended; `TooLong` past 2^64 - 1 lines; `OutOfMemory`
+    /// where a growth was refused, or a list in slots is too short: for the items that are inside or offered, for the last
+    /// [`TAKEN_LIMIT`](crate::TAKEN_LIMIT) taken, for the numbers of a line, or for its bytes. A recording that gave one of these is of no
+    /// further use.
     pub fn read(&mut self, piece: &[u8]) -> Result<(), RecordingFault>
         ensures read { OnOk result ((bytes : List ℕ) →
             HasRead S.Offered.items S.Taken.items S.Bytes.items self.old bytes →
@@ -188,8 +200,42 @@ impl<S: Storage> RecordingIn<S> {
             self.read_end(end)?;
             rest = more;
         }
-        self.cut.extend_from_slice(rest)?;
-        Ok(())
+        self.keep(rest)
+    }
+
+    // Keeps the bytes of a line that has not ended. If it has grown to twice what was found to begin a line, and by UNSEEN_LIMIT,
+    // looks whether all of it begins one.
+    fn keep(&mut self, bytes: &[u8]) -> Result<(), RecordingFault>
+        requires { HasNoFeed bytes.now }
+        ensures read { OnOk result ((text : List ℕ) →
+            HasRead S.Offered.items S.Taken.items S.Bytes.items self.old text →
+            HasRead S.Offered.items S.Taken.items S.Bytes.items self.new (text ++ bytes.now)) }
+        ensures refused { IfErr result (λ e. (text more : List ℕ) →
+            HasRead S.Offered.items S.Taken.items S.Bytes.items self.old text →
+            RefusesText e (text ++ (bytes.now ++ more))) }
+        ensures full { IfErr result (λ e. e ≡ OutOfMemory → (text : List ℕ) →
+            HasRead S.Offered.items S.Taken.items S.Bytes.items self.old text →
+            AreTooShort (rooms_in S.Offered.room S.Taken.room S.Numbers.room S.Bytes.room self.old)
+            (text ++ bytes.now)) }
+        ensures rooms { (S.Offered.room self.new.lines.hearing.witness.auditor.inside.list ≡ S.Offered.room
+            self.old.lines.hearing.witness.auditor.inside.list) ×
+            (S.Taken.room self.new.lines.hearing.witness.taken ≡ S.Taken.room self.old.lines.hearing.witness.taken) ×
+            (S.Numbers.room self.new.lines.numbers ≡ S.Numbers.room self.old.lines.numbers) ×
+            (S.Bytes.room self.new.cut ≡ S.Bytes.room self.old.cut) }
+    {
+        self.cut.extend_from_slice(bytes)?;
+        let length = self.cut.as_slice().len();
+        if length.saturating_sub(self.begun) < self.begun.saturating_add(UNSEEN_LIMIT) {
+            return Ok(());
+        }
+        if may_begin(self.cut.as_slice(), self.lines.count == 0) {
+            self.begun = length;
+            return Ok(());
+        }
+        match self.lines.count.checked_add(1) {
+            Some(number) => Err(RecordingFault::BadLine(number)),
+            None => Err(RecordingFault::TooLong),
+        }
     }
 
     // Reads the end of a line, without its line feed.
@@ -224,6 +270,7 @@ impl<S: Storage> RecordingIn<S> {
         self.cut.extend_from_slice(end)?;
         self.lines.read(self.cut.as_slice())?;
         self.cut.clear();
+        self.begun = 0;
         Ok(())
     }
 

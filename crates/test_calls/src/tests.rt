@@ -1,3 +1,4 @@
+mod beginnings;
 mod cases;
 mod growths;
 mod histories;

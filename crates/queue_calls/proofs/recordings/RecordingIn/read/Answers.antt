@@ -1,13 +1,11 @@
-use Rattle.std.proofs.Common.{◌≡◌, ◌≢◌, inr, length-append, arith, ◌∙◌, ◌++◌, ◌∷◌, [], List, ℕ, refl, ap, sym, subst, append_assoc, rules}
+use Rattle.std.proofs.Common.{◌≡◌, ◌∙◌, ◌++◌, ◌∷◌, [], List, ℕ, refl, ap, sym, subst, append_assoc, rules}
 use Rattle.std.proofs.lemmas.List.{append-nil}
-use Rattle.std.proofs.lemmas.List.Elements.{All-append}
 use Rattle.queue_calls.specs.Rooms.{AreTooShort, rooms_in}
 use Rattle.queue_calls.specs.declared.faults.RecordingFault.{RecordingFault}
 use Rattle.queue_calls.specs.declared.faults.RecordingFault.TheVariants.{OutOfMemory}
-use Rattle.queue_calls.proofs.Results.{if_err, of_err}
+use Rattle.queue_calls.proofs.Results.{of_err, then_err, then_ok}
 use Rattle.queue_calls.proofs.NotingLemmas.{rooms_same, too_short_on}
-use Rattle.queue_calls.specs.Recordings.{RefusesText, lines_text}
-use Rattle.line_parts.specs.LineEnds.{HasNoFeed}
+use Rattle.queue_calls.specs.Recordings.{RefusesText}
 use Rattle.queue_calls.specs.RecordingStates.{HasRead}
 use Rattle.queue_calls.proofs.recordings.RecordingIn.read.Goals as goal
 
@@ -45,19 +43,6 @@ loop-end-preserved g c =
       (let r = c.read_end.ensures.rooms in rooms_same _ _ _ _ _ _ _ _ r.0 r.1 r.2 r.3) ∙ read.3,
     )
 
-pub returns-clause-read : goal.returns-clause-read
-returns-clause-read g c bytes has =
-    let read = c.loop-end.invariant in
-    let so_far = read.2 bytes has in
-    let cut : g.S.Bytes.Store.items c.extend_from_slice.new.self ≡ g.S.Bytes.Store.items c.loop-end.self.cut ++ c.loop-end.rest.now = c.in_ok-extend_from_slice.ensures.items in
-    record {
-      ended = so_far.ended;
-      text = ap (λ (t : List ℕ). bytes ++ t) read.1 ∙ sym (append_assoc bytes read.0 c.loop-end.rest.now) ∙ ap (λ (t : List ℕ). t ++ c.loop-end.rest.now) so_far.text
-          ∙ append_assoc (lines_text so_far.ended) (g.S.Bytes.Store.items c.loop-end.self.cut) c.loop-end.rest.now ∙ ap (λ (t : List ℕ). lines_text so_far.ended ++ t) (sym cut);
-      no_feed = subst HasNoFeed (sym cut) (All-append (λ b. b ≢ 10) (g.S.Bytes.Store.items c.loop-end.self.cut) c.loop-end.rest.now so_far.no_feed c.in_default.ensures);
-      lines = so_far.lines;
-    }
-
 pub returns-in_err-read_end-clause-full : goal.returns-in_err-read_end-clause-full
 returns-in_err-read_end-clause-full g c =
     let read = c.loop-end.invariant in
@@ -73,21 +58,24 @@ returns-in_err-read_end-clause-full g c =
     subst (λ r. AreTooShort r (bytes ++ c.args.piece.now)) read.3 (subst (AreTooShort _) text (too_short_on _ ((bytes ++ read.0) ++ end) c.in-Some.more.now so_far)) in
     of_err Short c.from_residual.result c.in_err-read_end.field-0.0 (search rules) full
 
-pub returns-in_err-extend_from_slice-clause-full : goal.returns-in_err-extend_from_slice-clause-full
-returns-in_err-extend_from_slice-clause-full g c = if_err c.from_residual-in_err-extend_from_slice.result (λ e short bytes has.
+pub returns-clause-read : goal.returns-clause-read
+returns-clause-read g c = then_ok c.keep.result c.keep.ensures.read (λ kept bytes has.
     let read = c.loop-end.invariant in
-    let so_far = read.2 bytes has in
-    let cut : List ℕ = g.S.Bytes.Store.items c.loop-end.self.cut in
+    subst (HasRead g.S.Offered.Fifo.items g.S.Taken.Fifo.items g.S.Bytes.Store.items c.keep.new.self) (append_assoc bytes read.0 c.loop-end.rest.now ∙ ap (λ (t : List ℕ). bytes ++ t) (sym read.1)) (kept (bytes ++ read.0) (read.2 bytes has)))
+
+pub returns-clause-refused : goal.returns-clause-refused
+returns-clause-refused g c = then_err c.keep.result c.keep.ensures.refused (λ e refused bytes more has.
+    let read = c.loop-end.invariant in
     let rest : List ℕ = c.loop-end.rest.now in
-    subst (λ r. AreTooShort r (bytes ++ c.args.piece.now)) read.3 (inr (inr (record {
-      lines = so_far.ended;
-      bytes = cut ++ rest;
-      rest = [];
-      parts = ap (λ (t : List ℕ). bytes ++ t) read.1 ∙ sym (append_assoc bytes read.0 rest) ∙ ap (λ (t : List ℕ). t ++ rest) so_far.text
-          ∙ append_assoc (lines_text so_far.ended) cut rest ∙ ap (λ (t : List ℕ). lines_text so_far.ended ++ t) (sym (append-nil (cut ++ rest)));
-      no_feed = All-append (λ b. b ≢ 10) cut rest so_far.no_feed c.in_default.ensures;
-      more = omega (arith, c.in_err-extend_from_slice.ensures.full, length-append cut rest);
-    }))))
+    let text : (bytes ++ read.0) ++ (rest ++ more) ≡ bytes ++ (c.args.piece.now ++ more) =
+    append_assoc bytes read.0 (rest ++ more) ∙ ap (λ (t : List ℕ). bytes ++ t) (sym (append_assoc read.0 rest more) ∙ ap (λ (t : List ℕ). t ++ more) (sym read.1)) in
+    subst (RefusesText e) text (refused (bytes ++ read.0) more (read.2 bytes has)))
+
+pub returns-clause-full : goal.returns-clause-full
+returns-clause-full g c = then_err c.keep.result c.keep.ensures.full (λ e full short bytes has.
+    let read = c.loop-end.invariant in
+    subst (λ r. AreTooShort r (bytes ++ c.args.piece.now)) read.3
+    (subst (AreTooShort _) (append_assoc bytes read.0 c.loop-end.rest.now ∙ ap (λ (t : List ℕ). bytes ++ t) (sym read.1)) (full short (bytes ++ read.0) (read.2 bytes has))))
 
 pub returns-clause-rooms : goal.returns-clause-rooms
-returns-clause-rooms g c = rooms_same _ _ _ _ _ _ _ _ refl refl refl c.in_ok-extend_from_slice.ensures.kept ∙ c.loop-end.invariant.3
+returns-clause-rooms g c = (let r = c.keep.ensures.rooms in rooms_same _ _ _ _ _ _ _ _ r.0 r.1 r.2 r.3) ∙ c.loop-end.invariant.3

@@ -1,4 +1,4 @@
-use Rattle.std.proofs.Common.{◌≡◌, ◌≢◌, inr, length-append, arith, ◌∙◌, ◌++◌, ◌∷◌, [], List, ℕ, ap, sym, subst, rules}
+use Rattle.std.proofs.Common.{◌≡◌, ◌≢◌, inr, length-append, arith, ◌∙◌, ◌++◌, ◌∷◌, [], List, ℕ, ap, length, refl, sym, subst, rules}
 use Rattle.std.proofs.lemmas.Bool.{eqb-true}
 use Rattle.std.proofs.lemmas.List.{nil_from_length}
 use Rattle.std.proofs.lemmas.List.Elements.{All-append}
@@ -17,12 +17,12 @@ returns-in-Ok-clause-read g c bytes has =
     let cut : List ℕ = g.S.Bytes.Store.items c.args.self.now.cut in
     let none : cut ≡ [] = nil_from_length cut (eqb-true _ 0 (sym c.is_empty.ensures ∙ c.if-is_empty.true)) in
     let (l, on, lines) = c.in-Ok.ensures.read has.ended has.lines in
-    line_ended g.S.Offered.Fifo.items g.S.Taken.Fifo.items g.S.Bytes.Store.items c.args.self.now _ bytes c.args.end.now has l (ap (λ (t : List ℕ). t ++ c.args.end.now) none ∙ on.1) none lines
+    line_ended g.S.Offered.Fifo.items g.S.Taken.Fifo.items g.S.Bytes.Store.items c.args.self.now _ bytes c.args.end.now has l (ap (λ (t : List ℕ). t ++ c.args.end.now) none ∙ on.1) none (omega (arith, has.begins.within, ap length none)) lines
 
 pub returns-clause-read : goal.returns-clause-read
 returns-clause-read g c bytes has =
     let (l, on, lines) = c.in_ok-read.ensures.read has.ended has.lines in
-    line_ended g.S.Offered.Fifo.items g.S.Taken.Fifo.items g.S.Bytes.Store.items c.args.self.now _ bytes c.args.end.now has l (sym (c.as_slice.ensures ∙ c.in_ok-extend_from_slice.ensures.items) ∙ on.1) c.clear.ensures.items lines
+    line_ended g.S.Offered.Fifo.items g.S.Taken.Fifo.items g.S.Bytes.Store.items c.args.self.now _ bytes c.args.end.now has l (sym (c.as_slice.ensures ∙ c.in_ok-extend_from_slice.ensures.items) ∙ on.1) c.clear.ensures.items refl lines
 
 pub returns-in-Err-clause-refused : goal.returns-in-Err-clause-refused
 returns-in-Err-clause-refused g c bytes more has =
