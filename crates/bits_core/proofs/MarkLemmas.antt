@@ -33,6 +33,7 @@ use Rattle.bits_core.proofs.LawfulLemmas.{IsLawful-to}
 use Rattle.bits_core.proofs.LawProofs.{empty_is_lawful, lawful_by_one_more}
 use Rattle.bits_core.proofs.OpenAccesses.{open_right}
 use Rattle.bits_core.proofs.StepLemmas.{EachMayFollow-take}
+use Rattle.bits_core.proofs.OwnOpen.{not_open as none_when}
 
 -- ---- the table
 
@@ -121,10 +122,6 @@ not_other P P = refl
 not_other P C = refl
 not_other C P = refl
 not_other C C = refl
-
-none_when : {A : Type 0} (o : Option A) → is_some o ≡ false → o ≡ None
-none_when None e = refl
-none_when (Some x) e = absurd (false≢true (sym e))
 
 abbrev Quiet : Bit → List Event → Type 0
 Quiet b h = is_overlapped (reader b) b h ≡ false → (open_write b h ≡ None) × (held_at_begin (reader b) b h ≡ held b h)

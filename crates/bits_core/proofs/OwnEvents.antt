@@ -20,6 +20,10 @@ subhistory_changes s h e =
     filter-append (is_by s) h (e ∷ [])
     ∙ elim (is_by s e) as (λ t. subhistory s h ++ cond t (e ∷ []) [] ≡ (if t then subhistory s h ++ e ∷ [] else subhistory s h)) [ true ↦ refl | false ↦ append-nil (subhistory s h) ]
 
+-- the own events of two histories, one behind the other
+pub subhistory-append : (s : Side) (h more : List Event) → subhistory s (h ++ more) ≡ subhistory s h ++ subhistory s more
+subhistory-append s h more = filter-append (is_by s) h more
+
 -- the own events behind a first event, and the clock
 pub own-yes : (s : Side) (e : Event) (h : List Event) → is_by s e ≡ true → subhistory s (e ∷ h) ≡ e ∷ subhistory s h
 own-yes s e h by = rw by refl

@@ -1,13 +1,19 @@
 -- Where the elements of a list stand, in parts of it and in what it is part of.
-use Rattle.std.proofs.Common.{◌≡◌, ℕ, zero, suc, ◌⊎◌, inl, inr, Some, List, [], ◌∷◌, ◌++◌, ◌+◌, ◌<◌, length, take, drop, refl, ap, sym, ◌∙◌, arith}
+use Rattle.std.proofs.Common.{◌≡◌, ℕ, zero, suc, ◌⊎◌, inl, inr, Some, List, [], ◌∷◌, ◌++◌, ◌+◌, ◌<◌, length, take, drop, refl, ap, sym, ◌∙◌, arith, ◌≤◌, length-append}
 use Rattle.std.specs.Prelude.{slice_get}
 use Rattle.std.proofs.lemmas.Option.{none-some}
+use Rattle.bits_core.specs.Made.{IsPrefix}
 
 -- places of a list with more at its end
 pub slice_get-append : {A : Type 0} (xs ys : List A) (p : ℕ) (e : A) → slice_get xs p ≡ Some e → slice_get (xs ++ ys) p ≡ Some e
 slice_get-append [] ys p e at = cc
 slice_get-append (x ∷ xs) ys zero e at = at
 slice_get-append (x ∷ xs) ys (suc p) e at = slice_get-append xs ys p e at
+
+-- places of what stands behind it
+pub slice_get-behind : {A : Type 0} (xs ys : List A) (i : ℕ) → slice_get (xs ++ ys) (length xs + i) ≡ slice_get ys i
+slice_get-behind [] ys i = let e : 0 + i ≡ i = omega arith in ap (slice_get ys) e
+slice_get-behind (x ∷ xs) ys i = let e : suc (length xs) + i ≡ suc (length xs + i) = omega arith in ap (slice_get (x ∷ (xs ++ ys))) e ∙ slice_get-behind xs ys i
 
 pub slice_get-last : {A : Type 0} (xs : List A) (e : A) → slice_get (xs ++ e ∷ []) (length xs) ≡ Some e
 slice_get-last [] e = refl
@@ -19,6 +25,10 @@ slice_get-push_cases [] e (suc p) f at = inl at
 slice_get-push_cases (x ∷ xs) e zero f at = inl at
 slice_get-push_cases (x ∷ xs) e (suc p) f at =
     elim (slice_get-push_cases xs e p f at) [ inl q ↦ inl q | inr q ↦ inr (ap suc q.0, q.1) ]
+
+-- a beginning is no longer than the whole
+pub prefix_no_longer : {A : Type 0} (xs ys : List A) → IsPrefix xs ys → length xs ≤ length ys
+prefix_no_longer xs ys (rest, e) = omega (arith, ap length e, length-append xs rest)
 
 -- places of a part of a list
 pub slice_get-take : {A : Type 0} (h : List A) (q p : ℕ) (e : A) → slice_get h p ≡ Some e → p < q → slice_get (take q h) p ≡ Some e

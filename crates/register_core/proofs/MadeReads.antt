@@ -1,5 +1,6 @@
 -- The reads of a side are those of the accesses that it made.
 use Rattle.std.proofs.Common.{◌≡◌, ℕ, zero, suc, ◌+◌, ◌*◌, ◌<◌, Bool, true, false, Some, List, [], ◌∷◌, ◌++◌, length, append_assoc, refl, sym, ap, subst, ◌∙◌, arith, ◌⊎◌, inl, inr}
+use Rattle.std.proofs.lemmas.Bool.{cases_lt}
 use Rattle.std.specs.Prelude.{slice_get}
 use Rattle.bits_core.specs.declared.events.Side.{Side}
 use Rattle.bits_core.specs.declared.events.Side.TheVariants.{P, C}
@@ -15,22 +16,15 @@ use Rattle.register_core.specs.ScanState.{zero_reads, scan_phrase, row_read_by}
 use Rattle.register_core.specs.MadeReads.{begin_place, end_place, ScansAreMade, ZerosAreMade, WordReadsAreMade}
 use Rattle.register_core.proofs.Digits.{length-reads}
 use Rattle.register_core.proofs.ScanMachine.{length-zeros}
-use Rattle.bits_core.proofs.Places.{slice_get-append as get_before}
+use Rattle.bits_core.proofs.Places.{slice_get-append as get_before, slice_get-behind as get_behind}
 use Rattle.bits_core.proofs.LawLemmas.{clock_counts_places, made_is_access, subhistory_has_one_place, subhistory_has_place}
-
--- elements of lists
-get_behind : {A : Type 0} (xs ys : List A) (i : ℕ) → slice_get (xs ++ ys) (length xs + i) ≡ slice_get ys i
-get_behind [] ys i = let e : 0 + i ≡ i = omega arith in ap (slice_get ys) e
-get_behind (x ∷ xs) ys i = let e : suc (length xs) + i ≡ suc (length xs + i) = omega arith in ap (slice_get (x ∷ (xs ++ ys))) e ∙ get_behind xs ys i
-
-split : (i n : ℕ) → i < suc n → (i < n) ⊎ (i ≡ n)
-split i n l = grind arith
 
 get_zero : (row : ℕ → Bit) (n i : ℕ) → i < n → slice_get (zero_reads row n) i ≡ Some (Read (row i) false)
 get_zero row zero i l = absurd (omega arith)
-get_zero row (suc n) i l = elim (split i n l) [
+get_zero row (suc n) i l = elim (cases_lt i n) [
   | inl m ↦ get_before (zero_reads row n) (Read (row n) false ∷ []) i (Read (row i) false) (get_zero row n i m)
-  | inr e ↦
+  | inr past ↦
+      let e : i ≡ n = omega (arith, l, past) in
       let at : length (zero_reads row n) + 0 ≡ i = omega (arith, length-zeros row n, e) in
       ap (slice_get (zero_reads row n ++ Read (row n) false ∷ [])) (sym at) ∙ get_behind (zero_reads row n) (Read (row n) false ∷ []) 0 ∙ ap (λ k. Some (Read (row k) false)) (sym e)
 ]
@@ -42,9 +36,10 @@ get_one row c =
 
 get_digit : (j item n i : ℕ) → i < n → slice_get (digit_reads j item n) i ≡ Some (Read (Cell j i) (digit i item))
 get_digit j item zero i l = absurd (omega arith)
-get_digit j item (suc n) i l = elim (split i n l) [
+get_digit j item (suc n) i l = elim (cases_lt i n) [
   | inl m ↦ get_before (digit_reads j item n) (Read (Cell j n) (digit n item) ∷ []) i (Read (Cell j i) (digit i item)) (get_digit j item n i m)
-  | inr e ↦
+  | inr past ↦
+      let e : i ≡ n = omega (arith, l, past) in
       let at : length (digit_reads j item n) + 0 ≡ i = omega (arith, length-reads j item n, e) in
       ap (slice_get (digit_reads j item n ++ Read (Cell j n) (digit n item) ∷ [])) (sym at) ∙ get_behind (digit_reads j item n) (Read (Cell j n) (digit n item) ∷ []) 0 ∙ ap (λ k. Some (Read (Cell j k) (digit k item))) (sym e)
 ]

@@ -66,7 +66,7 @@ cons_le : {W : Type 0} (o : Option W) (xs ys : List W) → length xs ≤ length 
 cons_le None xs ys l = l
 cons_le (Some w) xs ys l = omega arith
 
-cons_lt : {W : Type 0} (o : Option W) (xs ys : List W) → length xs < length ys → length (cons_option o xs) < length (cons_option o ys)
+pub cons_lt : {W : Type 0} (o : Option W) (xs ys : List W) → length xs < length ys → length (cons_option o xs) < length (cons_option o ys)
 cons_lt None xs ys l = l
 cons_lt (Some w) xs ys l = omega arith
 
