@@ -46,7 +46,7 @@ items_offered : (line : ℕ) (items : List ℕ) → items_of (map (offered_at li
 items_offered line [] = refl
 items_offered line (item ∷ items) = ap (λ z. item ∷ z) (items_offered line items)
 
-items_stored : (line : ℕ) (entries : List Offered) → items_of (map (stored_at line) entries) ≡ items_of entries
+pub items_stored : (line : ℕ) (entries : List Offered) → items_of (map (stored_at line) entries) ≡ items_of entries
 items_stored line [] = refl
 items_stored line (o ∷ entries) = ap (λ z. o.item ∷ z) (items_stored line entries)
 

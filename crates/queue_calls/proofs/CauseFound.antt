@@ -1,6 +1,6 @@
 -- Nothing speaks against an event behind a past just where the event can be counted.
 use Rattle.std.proofs.Common.{◌≡◌, ◌↔◌, ◌⊎◌, inl, inr, ℕ, suc, ◌+◌, ◌-◌, ◌<◌, ◌≤◌, nat_lt, Bool, true, false, ◌==◌, not, ◌&&◌, Some, None, List, [], ◌∷◌, ◌++◌, map, length, take, drop, reverse, refl, sym, ap, subst, ◌∙◌, arith, length-append, append_assoc, append-nil}
-use Rattle.std.proofs.lemmas.Bool.{false_from_ne_true, or_left, or_right, or_from, or_parts, not-false, not_from_true, ltb-true, ltb-false, lt-ltb, le-ltb, eqb-true, eqb-false, eq-eqb, ne_eqb}
+use Rattle.std.proofs.lemmas.Bool.{false_from_ne_true, or_left, or_right, or_from, or_parts, not-false, not_from_true, ltb-true, ltb-false, lt-ltb, le-ltb, eqb-true, eqb-false, eq-eqb, ne_eqb, cond-true, cases_Bool}
 use Rattle.std.proofs.lemmas.Option.{none-some}
 use Rattle.queue_calls.specs.Queue.{Capacity, Unbounded, Between, LacksRoom}
 use Rattle.queue_calls.specs.Calls.{Event, PutBegin, PutStored, PutFull, PutShort, PutNothing, PutClosed, CloseBegin, CloseEnd, TakeBegin, TakeItems, TakeEmpty, TakeShort, TakeNothing, TakeClosed, IsLinearizable}
@@ -16,7 +16,7 @@ use Rattle.queue_calls.specs.declared.turns.TakeTurn.{TakeTurn}
 use Rattle.queue_calls.specs.declared.turns.TakeTurn.TheVariants.{Rests, Waits}
 use Rattle.queue_calls.proofs.Agrees.{Agrees}
 use Rattle.queue_calls.proofs.Agreeing.{both, long, offered_is, asked_is, coming_is, begun_is, as_put, as_take, closing, turned_behind, step, at_first, offers_none, ended_grows}
-use Rattle.queue_calls.proofs.CauseTests.{can_hold_tells, can_lack_tells, and_off, and_of, and_told, if_on, none_off, off, none_on, some_else, some_both, some_or}
+use Rattle.queue_calls.proofs.CauseTests.{can_hold_tells, can_lack_tells, and_off, and_of, and_told, none_off, off, none_on, some_else, some_both, some_or}
 use Rattle.queue_calls.proofs.CountedHistories.{Stands, counts_keeps}
 use Rattle.queue_calls.proofs.CountsFollow.{counts_are_exact}
 use Rattle.queue_calls.proofs.Ends.TakeBegins.{keeps_nothing}
@@ -69,10 +69,6 @@ rest_of : (turn : TakeTurn) → call_of_take turn ≡ NoCall → turn ≡ Rests
 rest_of Rests e = refl
 rest_of (Waits wants inside closed) e = absurd cc
 
-bool_or : (b : Bool) → (b ≡ true) ⊎ (b ≡ false)
-bool_or true = inl refl
-bool_or false = inr refl
-
 -- nothing speaks against items just where they are the next ones, and nothing against so few
 pub items_next :
     (limit : ℕ) (capacity : Capacity) (why : Bool) (past : List Event) (first items : List ℕ) (rest : List Offered) → items_cause limit capacity why past first items rest ≡ None →
@@ -98,7 +94,7 @@ items_unspoken limit capacity why past first (item ∷ items) (next ∷ rest) (l
     let same : next.item ≡ item = cc in
     let others : items_of rest ≡ items ++ left = cc in
     let count : length first + suc (length items) ≡ length (first ++ item ∷ []) + length items = omega (arith, length-append first (item ∷ [])) in
-    if_on _ _ _ (eq-eqb next.item item same) ∙ items_unspoken limit capacity why past (first ++ item ∷ []) items rest (left, others) (subst (λ z. fewer_cause capacity z why past ≡ None) count e)
+    cond-true _ _ _ (eq-eqb next.item item same) ∙ items_unspoken limit capacity why past (first ++ item ∷ []) items rest (left, others) (subst (λ z. fewer_cause capacity z why past ≡ None) count e)
 
 module _ (capacity : Capacity) (past : List Event) (k : Kept) (a : Agrees past k) where
   -- the numbers that a cause tells, by what is kept
@@ -183,7 +179,7 @@ module _ (capacity : Capacity) (past : List Event) (k : Kept) (a : Agrees past k
   left_fit count =
       let least : ℕ = n_of past - (k_of past + count) in (
         λ e. subst (λ z. MayHold capacity z) (least_left count) ((can_hold_tells capacity least).0 (none_on (can_hold capacity least) None _ e).0),
-        λ h. if_on (can_hold capacity least) None _ ((can_hold_tells capacity least).1 (subst (λ z. MayHold capacity z) (sym (least_left count)) h)),
+        λ h. cond-true (can_hold capacity least) None _ ((can_hold_tells capacity least).1 (subst (λ z. MayHold capacity z) (sym (least_left count)) h)),
       )
 
   -- where the take wanted more, it found no more
@@ -235,7 +231,7 @@ module _ (capacity : Capacity) (past : List Event) (k : Kept) (a : Agrees past k
       let known : late ≡ true → closed ≡ true = λ e. f.2 ∙ or_left late (has_told past) e in
       let all_of : late ≡ true → k_of past + length k.inside ≡ n_of past = λ e.
       omega (arith, long past k a, ap length (offers_none past k a (a.ended (ended_grows past e)))) in (
-        λ e. λ c. elim (bool_or late) [
+        λ e. λ c. elim (cases_Bool late) [
           | inl g ↦ omega (arith, all_of g, a.steady g, stored_grows past, f.1, eqb-false (n_of past) (k_of past) (and_of late (n_of past == k_of past) e g))
           | inr g ↦ both (0 < inside) closed c (f.2 ∙ or_from late (has_told past) g not_told)
         ],
@@ -294,7 +290,7 @@ module _ (capacity : Capacity) (past : List Event) (k : Kept) (a : Agrees past k
     | inl b ↦ (let (n, inside, is, fits) = b in off _ _ _ ((all_inside n inside is).1 fits.0.0) refl)
     | inr b ↦ (let (n, is, e) = b in off _ _ _ (late_inside n is) refl)
   ]
-  unspoken limit PutClosed after (n, is, e) = if_on _ _ _ (as_put past k a (Late n) is).1
+  unspoken limit PutClosed after (n, is, e) = cond-true _ _ _ (as_put past k a (Late n) is).1
   unspoken limit CloseBegin after c = refl
   unspoken limit CloseEnd after c = refl
   unspoken limit (TakeBegin count) after c = refl
@@ -311,7 +307,7 @@ module _ (capacity : Capacity) (past : List Event) (k : Kept) (a : Agrees past k
       off _ _ _ not_told
       (off _ _ _ ((fewer_found n inside closed is (omega (arith, several))).1 less) (off _ _ _ ((drained n inside closed is not_told).1 found) ((left_fit 0).1 fits.0)))
   unspoken limit TakeNothing after (n, inside, closed, is, fits) = (left_fit 0).1 fits.0
-  unspoken limit TakeClosed after (n, inside, closed, is, none, begun, e) = if_on _ _ _ (begun_is past k a begun) ∙ none_inside.1 none
+  unspoken limit TakeClosed after (n, inside, closed, is, none, begun, e) = cond-true _ _ _ (begun_is past k a begun) ∙ none_inside.1 none
 
 module _ (capacity : Capacity) (past : List Event) (k : Kept) (a : Agrees past k) (few : MayHold capacity (length k.inside - (offered_by k.put + asked_by k.take))) where
   abbrev pub Counted : Event → Type 0
@@ -464,7 +460,7 @@ module _ (capacity : Capacity) (past : List Event) (k : Kept) (a : Agrees past k
   -- ---- an event in its turn, against which nothing speaks, can be counted
 
   pub counted : (limit : ℕ) (event : Event) (next : Sides) → MovesSides (sides_of k.put k.take) event next → cause_of limit capacity event past ≡ None → Counted event
-  counted limit (PutBegin items) next (free, some, m) e = elim (bool_or k.shut) [
+  counted limit (PutBegin items) next (free, some, m) e = elim (cases_Bool k.shut) [
     | inl g ↦ (kept k.inside (Late (length items)) k.take true, (free_of k.put free, some, inr (g, refl)))
     | inr g ↦ (kept (k.inside ++ items) (Offers (length items) (length k.inside)) k.take false, (free_of k.put free, some, inl (g, refl)))
   ]

@@ -32,11 +32,6 @@ pub and_told : (why b : Bool) (A : Type 0) → (b ≡ false) ↔ A → ((why && 
 and_told true b A tells = (λ e. λ g. tells.0 e, λ h. tells.1 (h refl))
 and_told false b A tells = (λ e. λ g. absurd cc, λ h. refl)
 
--- a value by a test
-pub if_on : {A : Type 0} (b : Bool) (x y : A) → b ≡ true → (if b then x else y) ≡ x
-if_on true x y e = refl
-if_on false x y e = absurd cc
-
 module _ {A : Type 0} where
   -- where the first of several tests holds, there is something
   pub none_off : (b : Bool) (x : A) (y : Option A) → (if b then Some x else y) ≡ None → (b ≡ false) × (y ≡ None)

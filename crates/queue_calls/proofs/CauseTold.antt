@@ -1,10 +1,10 @@
 -- What is told by what is kept is what the past tells.
-use Rattle.std.proofs.Common.{◌≡◌, ◌≢◌, ◌⊎◌, inl, inr, ℕ, suc, ◌+◌, ◌-◌, ◌<◌, ◌≤◌, nat_lt, Bool, true, false, ◌==◌, not, ◌&&◌, ◌||◌, if◌then◌else◌, Option, Some, None, List, [], ◌∷◌, ◌++◌, length, take, drop, get_or, refl, sym, ap, subst, ◌∙◌, arith, append_assoc, append-nil}
+use Rattle.std.proofs.Common.{◌≡◌, ◌≢◌, inl, inr, ℕ, suc, ◌+◌, ◌-◌, ◌<◌, ◌≤◌, nat_lt, Bool, true, false, ◌==◌, not, ◌&&◌, ◌||◌, if◌then◌else◌, Option, Some, None, List, [], ◌∷◌, ◌++◌, length, take, drop, get_or, refl, sym, ap, subst, ◌∙◌, arith, append_assoc, append-nil}
 use Rattle.std.specs.List.{list_any}
 use Rattle.std.specs.Prelude.{unwrap_or, find, map, nat_eq}
 use Rattle.std.proofs.Math.Seq.{drop-cons}
 use Rattle.std.proofs.lemmas.List.{drop_all, length-take-le, take_all}
-use Rattle.std.proofs.lemmas.Bool.{or_from, or_left, eqb-true, lt-ltb, eq-eqb, ne_eqb, false_from_ne_true}
+use Rattle.std.proofs.lemmas.Bool.{or_from, or_left, eqb-true, lt-ltb, eq-eqb, ne_eqb, false_from_ne_true, cond-true, cases_Bool}
 use Rattle.queue_calls.specs.Queue.{Capacity}
 use Rattle.queue_calls.specs.Calls.{Event}
 use Rattle.queue_calls.specs.Counting.{Kept}
@@ -20,13 +20,9 @@ use Rattle.queue_calls.specs.declared.turns.TakeTurn.TheVariants.{Waits}
 use Rattle.queue_calls.proofs.Agrees.{Agrees}
 use Rattle.queue_calls.proofs.Agreeing.{as_put, as_take, both, begun_is, closing, ended_grows, long, offers_none}
 use Rattle.queue_calls.proofs.CauseFound.{all_inside, least_left, least_stored, most_inside, no_more, none_found, fewer_found, rest_inside, stored_fit}
-use Rattle.queue_calls.proofs.CauseTests.{cannot_hold_tells, if_on}
+use Rattle.queue_calls.proofs.CauseTests.{cannot_hold_tells}
 
 -- ---- chains of tests
-
-bool_or : (b : Bool) → (b ≡ true) ⊎ (b ≡ false)
-bool_or true = inl refl
-bool_or false = inr refl
 
 module _ {A : Type 0} where
   pub told_on : (b : Bool) (x : A) (y : Option A) (z : A) → b ≡ true → (if b then Some x else y) ≡ Some z → x ≡ z
@@ -154,7 +150,7 @@ module _ (capacity : Capacity) {past : List Event} {k : Kept} (a : Agrees past k
       empty_inside l e = told_on _ _ _ _ (lt-ltb (k_of past) (n_of (before_take past)) (omega (arith, l, left))) (told_off _ _ _ _ open' e)
 
       late : closed ≡ true → has_ended (before_take past) ≡ true
-      late e = elim (bool_or (has_ended (before_take past))) [
+      late e = elim (cases_Bool (has_ended (before_take past))) [
         | inl f ↦ f
         | inr f ↦ absurd (both ⊥ closed e (ends ∙ or_from (has_ended (before_take past)) (has_told past) f open'))
       ]
@@ -190,7 +186,7 @@ module _ (capacity : Capacity) {past : List Event} {k : Kept} (a : Agrees past k
       pub short_early :
           {z : Cause} → 0 < n → before < n → (closed ≡ true → 0 < length k.inside) → take_short_cause capacity past ≡ Some z → not_taken_cause capacity 0 past ≡ Some z
       short_early some l inside f =
-          let test : (has_ended (before_take past) && (n_of past == k_of past)) ≡ false = elim (bool_or (has_ended (before_take past))) [
+          let test : (has_ended (before_take past) && (n_of past == k_of past)) ≡ false = elim (cases_Bool (has_ended (before_take past))) [
             | inl e ↦ (
                 let is_closed : closed ≡ true = ends ∙ or_left (has_ended (before_take past)) (has_told past) e in
                 let no_offers : offers past ≡ [] = offers_none past k a (a.ended (ended_grows past e)) in
@@ -230,7 +226,7 @@ passed limit capacity why past first (item ∷ items) (next ∷ rest) =
     (drop (if v then suc (agreed items rest) else 0) (next ∷ rest))) [
       | true ↦ λ e.
           let p : ℕ = agreed items rest in
-          let on : items_cause limit capacity why past first (item ∷ items) (next ∷ rest) ≡ items_cause limit capacity why past (first ++ item ∷ []) items rest = if_on _ _ _ e in
+          let on : items_cause limit capacity why past first (item ∷ items) (next ∷ rest) ≡ items_cause limit capacity why past (first ++ item ∷ []) items rest = cond-true _ _ _ e in
           on ∙ passed limit capacity why past (first ++ item ∷ []) items rest ∙
           ap (λ z. items_cause limit capacity why past z (drop p items) (drop p rest)) (append_assoc first (item ∷ []) (take p items))
       | false ↦ λ e. ap (λ z. items_cause limit capacity why past z (item ∷ items) (next ∷ rest)) (sym (append-nil first))

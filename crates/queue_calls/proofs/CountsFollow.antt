@@ -1,5 +1,6 @@
 -- The events of a linearizable history can be counted.
 use Rattle.std.proofs.Common.{◌≡◌, ◌⊎◌, inl, inr, ℕ, zero, suc, ◌+◌, ◌-◌, ◌<◌, ◌≤◌, Bool, true, false, List, [], ◌∷◌, ◌++◌, length, drop, refl, sym, ap, subst, ◌∙◌, arith, length-append, append_assoc}
+use Rattle.std.proofs.lemmas.Bool.{cases_Bool}
 use Rattle.queue_calls.specs.Queue.{Capacity, LacksRoom, Queue, IsDrained}
 use Rattle.queue_calls.specs.Calls.{Event, PutBegin, PutStored, PutFull, PutShort, PutNothing, PutClosed, CloseBegin, CloseEnd, TakeBegin, TakeItems, TakeEmpty, TakeShort, TakeNothing, TakeClosed, Happens, Producer, Idle, Putting, FoundShut, Closing, Consumer, Resting, Taking, FoundClosed, short_of, Point, point, Leads, IsLinearizable}
 use Rattle.queue_calls.specs.declared.turns.PutTurn.{PutTurn}
@@ -16,10 +17,6 @@ use Rattle.queue_calls.proofs.Ends.PutEnds.{few_taken}
 use Rattle.queue_calls.proofs.Ends.TakeBegins.{keeps_nothing}
 use Rattle.queue_calls.proofs.Ends.TakeEnds.{closed_left}
 use Rattle.queue_calls.proofs.CountedHistories.{Stands, counts_keeps, counted_is_linearizable}
-
-shut_or_not : (b : Bool) → (b ≡ false) ⊎ (b ≡ true)
-shut_or_not false = inl refl
-shut_or_not true = inr refl
 
 -- a reason that was found, of a put that left some of its items, and of a take that wanted more than it took
 pub lacks_room : (capacity : Capacity) (before count : ℕ) → 0 < count → MayLack capacity before count → LacksRoom capacity before count
@@ -134,9 +131,9 @@ module _ (capacity : Capacity) (k : Kept) (sound : IsSoundPut (length k.inside) 
   pub leads_counts : (event : Event) → Leads capacity s (Happens event) t → CanCount event
   leads_counts (PutBegin items) m =
       let (ep, some, ep') = m.producer in
-      elim (shut_or_not k.shut) [
-        | inl e ↦ (kept (k.inside ++ items) (Offers (length items) (length k.inside)) k.take false, (free ep, some, inl (e, refl)))
-        | inr e ↦ (kept k.inside (Late (length items)) k.take true, (free ep, some, inr (e, refl)))
+      elim (cases_Bool k.shut) [
+        | inl e ↦ (kept k.inside (Late (length items)) k.take true, (free ep, some, inr (e, refl)))
+        | inr e ↦ (kept (k.inside ++ items) (Offers (length items) (length k.inside)) k.take false, (free ep, some, inl (e, refl)))
       ]
   leads_counts (PutStored count why) m =
       let (left, some, ep, ep') = m.producer in
@@ -216,9 +213,9 @@ module _ (capacity : Capacity) (k : Kept) (sound : IsSoundPut (length k.inside) 
       let (wanted, ec, ec') = m.consumer in
       let (before, ended, is, fewer, fits) = ends_none 1 wanted ec in
       let (less, found) = finds_fewer before 1 ended (omega arith) fewer in
-      elim (shut_or_not ended) [
-        | inl e ↦ (kept (drop 0 k.inside) k.put Rests k.shut, (wanted, before, is ∙ ap (λ z. Waits wanted before z) e, omega (arith, less), (fits, refl)))
-        | inr e ↦ absurd (omega (arith, less, found e))
+      elim (cases_Bool ended) [
+        | inl e ↦ absurd (omega (arith, less, found e))
+        | inr e ↦ (kept (drop 0 k.inside) k.put Rests k.shut, (wanted, before, is ∙ ap (λ z. Waits wanted before z) e, omega (arith, less), (fits, refl)))
       ]
   leads_counts TakeShort m =
       let (wanted, several, ec, ec') = m.consumer in

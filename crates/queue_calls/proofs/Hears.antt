@@ -22,7 +22,7 @@ use Rattle.queue_calls.specs.declared.turns.TakeTurn.{TakeTurn}
 use Rattle.queue_calls.specs.declared.turns.TakeTurn.TheVariants.{Rests}
 use Rattle.queue_calls.specs.declared.witnesses.Witness.{Witness}
 use Rattle.queue_calls.proofs.Agrees.{Agrees}
-use Rattle.queue_calls.proofs.Agreeing.{long_coming, turned, turned_behind}
+use Rattle.queue_calls.proofs.Agreeing.{long_coming, turned, turned_behind, items_stored}
 use Rattle.queue_calls.proofs.Coming.{late_begins, late_stored, none_stored, open_begins, some_stored, took}
 use Rattle.queue_calls.proofs.Remembering.{agrees_of, count_more, kept_of, stands}
 
@@ -50,12 +50,8 @@ first_ones kept count entries left inside moves are same few =
     let also : length (take count entries) ≡ count = length-take-le count entries (omega (arith, same, few)) in
     moves ∙ take_same kept count entries (sym (ap length moves) ∙ (long ∙ sym also))
 
-marked_items : (line : ℕ) (entries : List Offered) → items_of (map (stored_at line) entries) ≡ items_of entries
-marked_items line [] = refl
-marked_items line (x ∷ entries) = ap (λ z. x.item ∷ z) (marked_items line entries)
-
 marked_behind : (n line : ℕ) (entries : List Offered) → items_of (take n entries ++ map (stored_at line) (drop n entries)) ≡ items_of entries
-marked_behind zero line entries = marked_items line entries
+marked_behind zero line entries = items_stored line entries
 marked_behind (suc n) line [] = refl
 marked_behind (suc n) line (x ∷ entries) = ap (λ z. x.item ∷ z) (marked_behind n line entries)
 

@@ -1,6 +1,7 @@
 -- What an auditor keeps describes some point; and how it accepts or refuses an event.
-use Rattle.std.proofs.Common.{◌≡◌, ◌⊎◌, inl, inr, ℕ, ◌+◌, ◌-◌, ◌<◌, ◌≤◌, Bool, true, false, List, [], ◌∷◌, ◌++◌, length, take, drop, refl, sym, ap, subst, ◌∙◌, arith, length-append, length-drop}
+use Rattle.std.proofs.Common.{◌≡◌, inl, inr, ℕ, ◌+◌, ◌-◌, ◌≤◌, Bool, true, false, List, [], ◌∷◌, ◌++◌, length, take, drop, refl, sym, ap, subst, ◌∙◌, arith, length-append, length-drop}
 use Rattle.std.proofs.lemmas.List.{append-nil, take-append-drop, length-take-le}
+use Rattle.std.proofs.lemmas.Bool.{cases_lt}
 use Rattle.queue_calls.specs.Queue.{Capacity, Queue, queue}
 use Rattle.queue_calls.specs.Calls.{Event, Happens, Idle, Putting, FoundShut, Closing, Producer, Consumer, Resting, Taking, Point, point, Leads, CanLeadTo, IsLinearizable}
 use Rattle.queue_calls.specs.declared.turns.PutTurn.{PutTurn}
@@ -13,9 +14,6 @@ use Rattle.queue_calls.proofs.Rooms.{holds_fewer, holds_none}
 use Rattle.queue_calls.proofs.TurnLemmas.{one_turn_more, last_turn, same_turns, linearizable_in_turn}
 use Rattle.queue_calls.proofs.Points.{last_event}
 use Rattle.queue_calls.proofs.Effects.{stays}
-
-pub at_most_or_above : (a b : ℕ) → (a ≤ b) ⊎ (b < a)
-at_most_or_above a b = grind arith
 
 -- a list's first part, and its last part of so many
 pub record Split (xs : List ℕ) (n : ℕ) : Type 0 where
@@ -52,8 +50,8 @@ some_put :
     ((q : Queue) → FitsTake take c q) → inside ≡ taken_by c ++ rest → MayHold capacity (length rest - offered_by put) → Some capacity inside put take shut
 some_put capacity inside rest Free take shut c fits e l =
     (point (queue rest shut) Idle c, whole_queue capacity inside rest Free take shut shut Idle c fits e l refl refl, λ late. tt)
-some_put capacity inside rest (Offers offered before) take shut c fits e l = elim (at_most_or_above offered (length rest)) [
-  | inl few ↦ (
+some_put capacity inside rest (Offers offered before) take shut c fits e l = elim (cases_lt (length rest) offered) [
+  | inr few ↦ (
       let s : Split rest offered = split rest offered few in (
         point (queue s.front false) (Putting 0 0 s.back) c,
         record {
@@ -64,7 +62,7 @@ some_put capacity inside rest (Offers offered before) take shut c fits e l = eli
         },
         λ late. tt,
       ))
-  | inr many ↦ (
+  | inl many ↦ (
     point (queue [] false) (Putting 0 (offered - length rest) rest) c,
     record { items = e; room = holds_none capacity; producer = (omega (arith, many), refl, inl refl); consumer = fits (queue [] false) },
     λ late. tt,
@@ -81,14 +79,14 @@ pub some :
 some capacity inside put Rests shut l =
     some_put capacity inside inside put Rests shut Resting (λ q. tt) refl
     (holds_fewer capacity (length inside - offered_by put) (length inside - (offered_by put + 0)) (omega arith) l)
-some capacity inside put (Waits wanted before ended) shut l = elim (at_most_or_above wanted (length inside)) [
-  | inl few ↦ (
+some capacity inside put (Waits wanted before ended) shut l = elim (cases_lt (length inside) wanted) [
+  | inr few ↦ (
       let rest : List ℕ = drop wanted inside in
       let long : length rest ≡ length inside - wanted = length-drop wanted inside in
       some_put capacity inside rest put (Waits wanted before ended) shut (Taking 0 (take wanted inside) 0)
       (λ q. (omega (arith, length-take-le wanted inside few), inl refl)) (sym (take-append-drop wanted inside))
       (holds_fewer capacity (length rest - offered_by put) (length inside - (offered_by put + wanted)) (omega (arith, long)) l))
-  | inr many ↦
+  | inl many ↦
       some_put capacity inside [] put (Waits wanted before ended) shut (Taking 0 inside (wanted - length inside))
       (λ q. (omega (arith, many), inl refl)) (sym (append-nil inside))
       (holds_fewer capacity (0 - offered_by put) 0 (omega arith) (holds_none capacity))

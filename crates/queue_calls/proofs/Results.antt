@@ -1,11 +1,16 @@
 -- What holds of a result by what else holds of it.
-use Rattle.std.proofs.Common.{◌≡◌, Result, Ok, Err, OnOk, IfErr, sym, subst}
+use Rattle.std.proofs.Common.{◌≡◌, Result, Ok, Err, OnOk, IfErr, sym, subst, IfOk}
 
 module _ {T E : Type 0} where
   -- on success
   pub then_ok : {P Q : Type 0} (r : Result T E) → OnOk r P → (P → Q) → OnOk r Q
   then_ok (Ok x) p q = q p
   then_ok (Err e) p q = tt
+
+  -- of the value
+  pub then_value : {P Q : T → Type 0} (r : Result T E) → IfOk r P → ((x : T) → P x → Q x) → IfOk r Q
+  then_value (Ok x) p q = q x p
+  then_value (Err e) p q = tt
 
   -- of an error
   pub then_err : {P Q : E → Type 0} (r : Result T E) → IfErr r P → ((e : E) → P e → Q e) → IfErr r Q

@@ -1,6 +1,6 @@
 -- How a put or a take ends: by how many items it passed, and for how many it found no room, or no items.
 use Rattle.std.proofs.Common.{◌≡◌, ◌⊎◌, inl, inr, ℕ, zero, suc, ◌-◌, ◌<◌, ◌≤◌, nat_lt, nat_le, ◌&&◌, Bool, true, false, if◌then◌else◌, Some, None, List, length, refl, sym, ap, subst, ◌∙◌, arith}
-use Rattle.std.proofs.lemmas.Bool.{and_parts, ltb-true, lt-ltb, leb-true, le-leb}
+use Rattle.std.proofs.lemmas.Bool.{and_parts, ltb-true, lt-ltb, leb-true, le-leb, and_from}
 use Rattle.std.proofs.Math.Seq.{take-length}
 use Rattle.std.proofs.lemmas.Option.{none-some, same_Some}
 use Rattle.queue_calls.specs.Queue.{Capacity, LacksRoom}
@@ -30,12 +30,8 @@ passes why count most x e =
     let (some, few) = and_parts (nat_lt 0 count) (nat_le count most) holds in
     (ltb-true 0 count some, leb-true count most few, same)
 
-both_hold : (a b : Bool) → a ≡ true → b ≡ true → (a && b) ≡ true
-both_hold true b e f = f
-both_hold false b e f = absurd cc
-
 passes_so : (why : Bool) (count most : ℕ) → 0 < count → count ≤ most → passed why count most ≡ Some (count, short_of why count (most - count))
-passes_so why count most some few = if_true (nat_lt 0 count && nat_le count most) _ (both_hold (nat_lt 0 count) (nat_le count most) (lt-ltb 0 count some) (le-leb count most few))
+passes_so why count most some few = if_true (nat_lt 0 count && nat_le count most) _ (and_from (nat_lt 0 count) (nat_le count most) (lt-ltb 0 count some) (le-leb count most few))
 
 -- the number that is lacked: of a call that says why and left some, one more than it passed; else none
 lacked_more : (why : Bool) (count left : ℕ) → 0 < short_of why count left → (why ≡ true) × (0 < left) × (short_of why count left ≡ suc count)

@@ -1,6 +1,7 @@
 -- The takes: how they begin.
 use Rattle.std.proofs.Common.{◌≡◌, ◌⊎◌, inl, inr, ℕ, ◌+◌, ◌-◌, ◌<◌, ◌≤◌, Bool, true, false, List, [], ◌∷◌, ◌++◌, length, refl, sym, ap, subst, ◌∙◌, arith, length-append}
 use Rattle.std.proofs.lemmas.List.{append-nil}
+use Rattle.std.proofs.lemmas.Bool.{cases_lt}
 use Rattle.queue_calls.specs.Queue.{Capacity, Queue, queue, IsDrained, Close, FindFewer, FindClosed}
 use Rattle.queue_calls.specs.Calls.{Event, TakeBegin, Producer, Idle, Putting, FoundShut, Closing, Consumer, Resting, Taking, FoundClosed, Point, point, CanLeadTo}
 use Rattle.queue_calls.specs.declared.turns.PutTurn.{PutTurn}
@@ -10,7 +11,7 @@ use Rattle.queue_calls.specs.State.{IsProper, MayHold, taken_by, left_by, MayLac
 use Rattle.queue_calls.proofs.Rooms.{holds_fewer, holds_none}
 use Rattle.queue_calls.proofs.Points.{start, goes, happens, only_start}
 use Rattle.queue_calls.proofs.Effects.{described_at, stays}
-use Rattle.queue_calls.proofs.Keeping.{Accepts, accept, at_most_or_above, split, Split}
+use Rattle.queue_calls.proofs.Keeping.{Accepts, accept, split, Split}
 use Rattle.queue_calls.proofs.Sides.{free_idle, rests_resting, with_consumer}
 use Rattle.queue_calls.proofs.Ends.Batches.{dequeues, moves}
 
@@ -90,12 +91,12 @@ module _ (capacity : Capacity) (h : List Event) (inside : List ℕ) (shut : Bool
         After (point (queue xs false) (Putting lacked m left) (Taking found taken rest))
     took_of_put xs left lacked m found taken rest e room sum lacks total finds =
         let whole : length inside ≡ length taken + (length xs + length left) = omega (arith, ap length e, length-append taken (xs ++ left), length-append xs left) in
-        elim (at_most_or_above offered (length inside)) [
-          | inl few ↦ (
+        elim (cases_lt (length inside) offered) [
+          | inr few ↦ (
               let s : Split inside offered = split inside offered few in
               took_from s.front s.back 0 s.parts (omega (arith, s.long)) (omega (arith, s.long, ap length s.parts, length-append s.front s.back)) xs left lacked m found taken rest e room sum
               (omega (arith, s.long, sum)) lacks total finds)
-          | inr many ↦
+          | inl many ↦
               took_from [] inside (offered - length inside) refl (omega (arith, many)) (omega (arith, many)) xs left lacked m found taken rest e room sum (omega (arith, whole)) lacks total finds
         ]
 

@@ -1,9 +1,10 @@
-use Rattle.std.proofs.Common.{◌≡◌, length, sym, [], Result, Err, IfErr, rules, subst}
+use Rattle.std.proofs.Common.{◌≡◌, length, [], rules, subst}
 use Rattle.std.proofs.lemmas.List.{append-nil}
 use Rattle.queue_calls.specs.Recordings.{IsFindingOf, RefusesText}
 use Rattle.queue_calls.specs.Rooms.{AreTooShort, Rooms}
 use Rattle.queue_calls.specs.declared.faults.RecordingFault.{RecordingFault}
 use Rattle.queue_calls.specs.declared.faults.RecordingFault.TheVariants.{OutOfMemory}
+use Rattle.queue_calls.proofs.Results.{of_err}
 use Rattle.ring_page.specs.Calls.{slots_for}
 use Rattle.ring_page.proofs.calls.found_in.Goals as goal
 
@@ -24,10 +25,6 @@ returns-clause-found c =
     let read = c.in_ok-read.ensures.read [] c.within-recording.ensures.read in
     let found : IsFindingOf c.args.text.now c.in_ok-finding.finding = c.in_ok-finding.ensures.found c.args.text.now read in
     (found.0, found.1, found.2, found.3, c.is_cut.ensures c.args.text.now read found.0 found.1 found.2)
-
--- what holds of the error that is answered
-of_err : {T E : Type 0} (Q : E → Type 0) (r : Result T E) (e : E) → r ≡ Err e → Q e → IfErr r Q
-of_err Q r e is q = subst (λ z. IfErr z Q) (sym is) q
 
 pub returns-in_err-read-clause-full : goal.returns-in_err-read-clause-full
 returns-in_err-read-clause-full c =

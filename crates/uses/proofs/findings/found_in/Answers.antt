@@ -1,16 +1,12 @@
-use Rattle.std.proofs.Common.{◌≡◌, ◌<◌, ◌+◌, ◌++◌, ◌∷◌, [], ℕ, List, Bor, Result, Ok, Err, IfOk, length, take, drop, slice_index_or, refl, ap, sym, rules, subst, ◌∙◌, arith}
+use Rattle.std.proofs.Common.{◌≡◌, ◌<◌, ◌+◌, ◌++◌, ◌∷◌, [], ℕ, List, Bor, length, take, drop, slice_index_or, refl, ap, sym, rules, subst, ◌∙◌, arith}
 use Rattle.std.specs.Prelude.{flat_map}
 use Rattle.std.proofs.lemmas.Grind.{flat_map-append}
 use Rattle.std.proofs.lemmas.List.{append-nil, append_assoc, take-append-drop, take_all, take_more}
 use Rattle.queue_calls.specs.Recordings.{IsFindingOf, RefusesText}
 use Rattle.queue_calls.specs.RecordingStates.{HasRead}
+use Rattle.queue_calls.proofs.Results.{then_value as if_ok}
 use Rattle.uses.proofs.findings.found_in.Goals as goal
 use Rattle.queue_calls.proofs.Results.{then_err as if_err}
-
--- what holds of an answer follows from what else holds of it
-if_ok : {T E : Type 0} {P Q : T → Type 0} (r : Result T E) → IfOk r P → ((x : T) → P x → Q x) → IfOk r Q
-if_ok (Ok x) p q = q x p
-if_ok (Err e) p q = tt
 
 -- the bytes of one piece more
 one_more : (pieces : List (Bor (List ℕ))) (index : ℕ) (d : Bor (List ℕ)) → index < length pieces

@@ -1,13 +1,9 @@
-use Rattle.std.proofs.Common.{[], Result, Ok, Err, IfOk, rules, subst}
+use Rattle.std.proofs.Common.{[], rules, subst}
 use Rattle.std.proofs.lemmas.List.{append-nil}
 use Rattle.queue_calls.specs.Recordings.{RefusesText}
+use Rattle.queue_calls.proofs.Results.{then_value as if_ok}
 use Rattle.uses.proofs.findings.found_in_slots.Goals as goal
 use Rattle.queue_calls.proofs.Results.{then_err as if_err}
-
--- what holds of an answer follows from what else holds of it
-if_ok : {T E : Type 0} {P Q : T → Type 0} (r : Result T E) → IfOk r P → ((x : T) → P x → Q x) → IfOk r Q
-if_ok (Ok x) p q = q x p
-if_ok (Err e) p q = tt
 
 pub returns-in_err-read-clause-refused : goal.returns-in_err-read-clause-refused
 returns-in_err-read-clause-refused c =
