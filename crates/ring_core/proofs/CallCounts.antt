@@ -37,8 +37,9 @@ stored_ended_is shape c (Full seen ∷ puts) t =
     same_count (nat_le (events_in (put_phrase shape c (Full seen))) t) (nat_le (whole y) t) 0 _ _ (ap (λ k. nat_le k t) long)
     (ap (λ k. stored_ended shape c puts (t - k)) long ∙ stored_ended_is shape c puts (t - whole y))
 
-two_begun : (a b t : ℕ) → nat_lt (a + b) t ≡ nat_lt b (t - a)
-two_begun a b t = grind (arith, nat_tests)
+-- a test behind so many
+pub lt-behind : (a b t : ℕ) → nat_lt (a + b) t ≡ nat_lt b (t - a)
+lt-behind a b t = grind (arith, nat_tests)
 
 -- the takes whose count write has begun
 pub taken_begun_is :
@@ -71,7 +72,7 @@ taken_begun_is shape c (ItemAfterClose seen again items ∷ takes) end t =
     let long : events_in (take_phrase shape c x) ≡ whole y + whole z = take_phrase-after shape c seen again items in
     let later : t - events_in (take_phrase shape c x) ≡ t - whole y - whole z = omega (arith, long) in
     same_count (nat_lt (events_in (take_before_count shape c x)) t) (nat_lt (before_count z) (t - whole y)) (length items) _ _
-    (ap (λ j. nat_lt j t) front ∙ two_begun (whole y) (before_count z) t)
+    (ap (λ j. nat_lt j t) front ∙ lt-behind (whole y) (before_count z) t)
     (ap (λ j. taken_begun shape next takes j) later ∙ taken_begun_is shape next takes end (t - whole y - whole z)) ∙
     no_count (nat_lt (before_count y) t) ((if nat_lt (before_count z) (t - whole y) then length items else 0) + counts_begun zs (t - whole y - whole z))
 taken_begun_is shape c (Empty seen ∷ takes) end t =

@@ -1,9 +1,9 @@
 -- Which put an access to a cell belongs to, and where the accesses of a put's word stand.
 use Rattle.std.proofs.Common.{◌≡◌, inl, inr, ℕ, zero, suc, ◌+◌, ◌-◌, ◌*◌, ◌%◌, ◌<◌, ◌≤◌, Bool, true, cond, nat_eq, Some, List, [], ◌∷◌, ◌++◌, length, refl, sym, ap, subst, ◌∙◌, arith, append_assoc, length-append}
 use Rattle.std.specs.Prelude.{slice_get}
-use Rattle.std.proofs.lemmas.Bool.Decides.{nat_tests}
 use Rattle.std.proofs.lemmas.List.{map-append}
 use Rattle.std.proofs.Math.Nat.{add-mul, suc-mul}
+use Rattle.std.proofs.lemmas.Bool.{eq-eqb}
 use Rattle.bits_core.specs.declared.events.Side.{Side}
 use Rattle.bits_core.specs.declared.events.Side.TheVariants.{P, C}
 use Rattle.bits_core.specs.declared.events.Bit.TheVariants.{X, Cell}
@@ -11,14 +11,16 @@ use Rattle.bits_core.specs.declared.events.Access.TheVariants as begins
 use Rattle.bits_core.specs.declared.shapes.Shape.{Shape}
 use Rattle.bits_core.specs.Shape.{capacity_of, width_of}
 use Rattle.bits_core.specs.Made.{Made, Read, Write, access_of}
+use Rattle.bits_core.proofs.Places.{slice_get-append, slice_get-behind}
 use Rattle.register_core.specs.Row.{RowWrite, writes_in}
 use Rattle.register_core.specs.Word.{digit, digit_writes, word_write, word_writes, word_read}
 use Rattle.register_core.specs.ScanState.{scan_phrase, row_read_by}
+use Rattle.register_core.proofs.WordMachines.{writer-feeds as digits-snoc}
 use Rattle.ring_core.specs.Counts.{Count}
 use Rattle.ring_core.specs.Puts.{words_phrase}
 use Rattle.ring_core.proofs.OverSpans.Spans.{Outcome, Passes, Stops, Asks, Span, counts, items_of, whole, IsSpanAt}
 use Rattle.ring_core.proofs.OverSpans.LookSpans.{Look, words_read, word_part, count_part, after_look, look_accesses, span_of, spans}
-use Rattle.ring_core.proofs.Readings.Phrases.{length-digit_writes, at_or_below}
+use Rattle.ring_core.proofs.Readings.Phrases.{length-digit_writes, digits_split}
 use Rattle.ring_core.proofs.Machines.Lengths.{length-word_write, length-word_read}
 use Rattle.ring_core.proofs.Cells.CellTimes.{to_cell, to_cell-append, to_cell-there, where_in, none_there, none_to_cell, no_cells-scan, no_cells-count, own_cell, look_to_cell, word_to_cell, length-word_writes, stored_to, items_here, cell_items}
 use Rattle.ring_core.proofs.OverSpans.Looks.{after_counts, word_length as length-part}
@@ -103,10 +105,6 @@ only_one : (y : Made) (before : List Made) (x : Made) (after : List Made) → y 
 only_one y [] x after e = (refl, cc)
 only_one y (z ∷ []) x after e = absurd (cc)
 only_one y (z ∷ w ∷ before) x after e = absurd (cc)
-
--- the writes of the first w digits, and of the next one
-digits-snoc : (c item w : ℕ) → writes_in (Cell c) (digit_writes item (suc w)) ≡ writes_in (Cell c) (digit_writes item w) ++ Write (Cell c w) (digit w item) ∷ []
-digits-snoc c item w = map-append (λ (r : RowWrite). Write (Cell c r.bit) r.value) (digit_writes item w) (record { bit = w; value = digit w item } ∷ [])
 
 length-digits : (c item w : ℕ) → length (writes_in (Cell c) (digit_writes item w)) ≡ w
 length-digits c item w = length-word_write w c item
@@ -262,12 +260,6 @@ pub record WordTime (shape : Shape) (looks : List Look) (behind : List Made) (c 
   pub written : length (to_cell j front) ≡ nth * width_of shape
   pub listed : slice_get (cell_items shape j c.number looks) nth ≡ Some item
 
-slice_get-past : {A : Type 0} → (xs ys : List A) (i : ℕ) → slice_get (xs ++ ys) (length xs + i) ≡ slice_get ys i
-slice_get-past [] ys i = ap (slice_get ys) (omega arith)
-slice_get-past (x ∷ xs) ys i =
-    let e : suc (length xs) + i ≡ suc (length xs + i) = omega arith in
-    ap (slice_get (x ∷ (xs ++ ys))) e ∙ slice_get-past xs ys i
-
 -- the same among the words of one look
 pub record WordIn (shape : Shape) (n : ℕ) (items : List ℕ) (j index item : ℕ) : Type 0 where
   pub front : List Made
@@ -278,9 +270,6 @@ pub record WordIn (shape : Shape) (n : ℕ) (items : List ℕ) (j index item : �
   pub written : length (to_cell j front) ≡ nth * width_of shape
   pub listed : slice_get (stored_to shape j n items) nth ≡ Some item
 
-same_yes : (a b : ℕ) → a ≡ b → nat_eq a b ≡ true
-same_yes a b h = grind (arith, nat_tests)
-
 pub word_in :
     (shape : Shape) (n : ℕ) (items : List ℕ) (j index item : ℕ) → slice_get items index ≡ Some item → (n + index) % capacity_of shape ≡ j →
     WordIn shape n items j index item
@@ -290,7 +279,7 @@ word_in shape n (x ∷ items) j zero item e f =
     let cells : n % capacity_of shape ≡ j = ap (λ k. k % capacity_of shape) (sym none) ∙ f in
     let same : x ≡ item = cc in
     let rest : List Made = words_phrase shape (suc n) items in
-    let own : nat_eq j (n % capacity_of shape) ≡ true = same_yes j (n % capacity_of shape) (sym cells) in
+    let own : nat_eq j (n % capacity_of shape) ≡ true = eq-eqb j (n % capacity_of shape) (sym cells) in
     record {
       front = [];
       back = rest;
@@ -322,7 +311,7 @@ word_in shape n (x ∷ items) j (suc index) item e f =
         r.written,
         add-mul (length here) r.nth w,
       );
-      listed = slice_get-past here (stored_to shape j (suc n) items) r.nth ∙ r.listed;
+      listed = slice_get-behind here (stored_to shape j (suc n) items) r.nth ∙ r.listed;
     }
 
 -- the words that follow a scan
@@ -333,11 +322,6 @@ word_part_in :
 word_part_in shape n (Passes items) j index item e f = (word_in shape n items j index item e f, refl, refl)
 word_part_in shape n Stops j index item e f = absurd (cc)
 word_part_in shape n (Asks answer) j index item e f = absurd (cc)
-
-pub slice_get-before : {A : Type 0} → (xs ys : List A) (i : ℕ) (x : A) → slice_get xs i ≡ Some x → slice_get (xs ++ ys) i ≡ Some x
-slice_get-before [] ys i x e = absurd (cc)
-slice_get-before (y ∷ xs) ys zero x e = e
-slice_get-before (y ∷ xs) ys (suc i) x e = slice_get-before xs ys i x e
 
 -- four lists, one after the other
 past_three : (a b c r t : List Made) → a ++ (b ++ (c ++ (r ++ t))) ≡ (a ++ (b ++ (c ++ r))) ++ t
@@ -374,7 +358,7 @@ word_time shape c (l ∷ looks) behind j start number index put item (inl st) e 
         ap length (none_to_cell j us (no_cells-scan l.seen)),
         r.written,
       );
-      listed = slice_get-before (items_here shape j c.number l.outcome) (cell_items shape j next.number looks) r.nth item
+      listed = slice_get-append (items_here shape j c.number l.outcome) (cell_items shape j next.number looks) r.nth item
           (ap (λ z. slice_get z r.nth) here ∙ r.listed);
     }
 word_time shape c (l ∷ looks) behind j start number index put item (inr st) e f =
@@ -401,7 +385,7 @@ word_time shape c (l ∷ looks) behind j start number index put item (inr st) e 
         r.written,
         add-mul (length here) r.nth (width_of shape),
       );
-      listed = slice_get-past here (cell_items shape j next.number looks) r.nth ∙ r.listed;
+      listed = slice_get-behind here (cell_items shape j next.number looks) r.nth ∙ r.listed;
     }
 
 -- the write of digit d of the word, behind so many writes to the cell
@@ -412,23 +396,12 @@ pub record DigitTime (all : List Made) (j d item place count : ℕ) : Type 0 whe
   pub place_is : 2 * length before ≡ place + 2 * d
   pub written : length (to_cell j before) ≡ count + d
 
--- the digits before digit d, and those after it
-digits_at : (item d w : ℕ) → d < w → (more : List RowWrite) × (digit_writes item w ≡ digit_writes item d ++ record { bit = d; value = digit d item } ∷ more)
-digits_at item d zero l = absurd (omega arith)
-digits_at item d (suc w) l = elim (at_or_below d w l) [
-  | inl e ↦ ([], ap (λ k. digit_writes item k ++ record { bit = k; value = digit k item } ∷ []) (sym e))
-  | inr below ↦ (
-      let (more, is) = digits_at item d w below in
-      let last : List RowWrite = record { bit = w; value = digit w item } ∷ [] in
-      (more ++ last, ap (λ l. l ++ last) is ∙ append_assoc (digit_writes item d) (record { bit = d; value = digit d item } ∷ more) last))
-]
-
 -- each digit of a word is written there
 pub digit_time :
     (width : ℕ) (all front back : List Made) (j item place count d : ℕ) → all ≡ front ++ (word_write width j item ++ back) →
     2 * length front ≡ place → length (to_cell j front) ≡ count → d < width → DigitTime all j d item place count
 digit_time width all front back j item place count d is place_is written l =
-    let (more, digits) = digits_at item d width l in
+    let (more, digits) = digits_split item d width l in
     let done : List Made = writes_in (Cell j) (digit_writes item d) in
     let x : Made = Write (Cell j d) (digit d item) in
     let ws : List Made = writes_in (Cell j) more in

@@ -24,6 +24,7 @@ use Rattle.ring_core.proofs.Machines.Following.{events_of-append, length-events}
 use Rattle.ring_core.proofs.Readings.Cuts.{cut}
 use Rattle.ring_core.proofs.Cells.CellTimes.{to_cell, own_number}
 use Rattle.register_core.proofs.RowWrites.{row_write-got as no_row-answer, row_write-read as no_row-read, row_write-wrote as no_row-end}
+use Rattle.register_core.proofs.Numbers.{cons_lt as more_by_one}
 
 -- ---- only the producer writes cells
 
@@ -98,10 +99,6 @@ writes_before shape h lawful j before behind t follows count =
     ap (cell_writes j) (own_before P h before behind t follows count) ∙ events_write j before
 
 -- ---- the order of the writes
-
-more_by_one : {A : Type 0} → (o : Option A) (xs ys : List A) → length xs < length ys → length (cons_option o xs) < length (cons_option o ys)
-more_by_one None xs ys l = l
-more_by_one (Some x) xs ys l = omega (arith, l)
 
 some_more : {A : Type 0} → (o : Option A) (x : A) (xs : List A) → o ≡ Some x → 0 < length (cons_option o xs)
 some_more None x xs e = absurd (cc)

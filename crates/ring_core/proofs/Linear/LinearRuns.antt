@@ -1,6 +1,6 @@
 -- Every run of the ring is linearizable.
 use Rattle.std.proofs.Common.{◌≡◌, inl, inr, ℕ, ◌+◌, ◌-◌, ◌<◌, ◌≤◌, Bool, true, false, nat_le, if◌then◌else◌, List, [], ◌∷◌, ◌++◌, length, refl, sym, ap, subst, ◌∙◌, arith, length-append}
-use Rattle.std.proofs.lemmas.Bool.Decides.{nat_tests}
+use Rattle.std.proofs.lemmas.Bool.{le-leb}
 use Rattle.queue_calls.specs.Queue.{queue}
 use Rattle.bits_core.specs.declared.events.Side.TheVariants.{P, C}
 use Rattle.bits_core.specs.declared.events.Event.{Event}
@@ -44,11 +44,9 @@ keeps_time : (h : List Event) (order : List TimedOperation) → IsTimely h order
 keeps_time h order r a b front between rest e = timely_at h a b front between rest (subst (IsTimely h) e r)
 
 -- once all takes have ended, as many items were taken as they take
-le_is : (a b : ℕ) → a ≤ b → nat_le a b ≡ true
-le_is a b l = grind (arith, nat_tests)
 
 some_taken : (long t : ℕ) (these items : List ℕ) → long ≤ t → length ((if nat_le long t then these else []) ++ items) ≡ length these + length items
-some_taken long t these items l = ap (λ (b : Bool). length ((if b then these else []) ++ items)) (le_is long t l) ∙ length-append these items
+some_taken long t these items l = ap (λ (b : Bool). length ((if b then these else []) ++ items)) (le-leb long t l) ∙ length-append these items
 
 all_taken : (shape : Shape) (c : Count) (takes : List Take) (t : ℕ) → events_in (take_phrases shape c takes) ≤ t → c.number + length (items_taken shape c takes t) ≡ taken_in c.number takes
 all_taken shape c [] t l = omega arith

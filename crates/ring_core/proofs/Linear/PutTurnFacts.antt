@@ -1,6 +1,6 @@
 -- What holds of the operations of the producer's calls in a run.
 use Rattle.std.proofs.Common.{◌≡◌, inl, inr, ℕ, suc, ◌+◌, ◌-◌, ◌<◌, ◌≤◌, Bool, true, false, nat_lt, nat_le, if◌then◌else◌, List, [], ◌∷◌, ◌++◌, length, refl, sym, ap, subst, ◌∙◌, arith, length-append}
-use Rattle.std.proofs.lemmas.Bool.Decides.{nat_tests}
+use Rattle.std.proofs.lemmas.Bool.{ltb-true, ltb-false, leb-true, lt-ltb}
 use Rattle.bits_core.specs.declared.events.Side.{Side}
 use Rattle.bits_core.specs.declared.events.Side.TheVariants.{P, C}
 use Rattle.bits_core.specs.declared.events.Event.{Event}
@@ -19,12 +19,13 @@ use Rattle.ring_core.proofs.Readings.Cuts.{at_most_or_above}
 use Rattle.ring_core.proofs.CountRow.{past_is}
 use Rattle.ring_core.proofs.OverSpans.Timeline.{AllProper, begun_at, begun_up, begun_all, ended_up, in_all}
 use Rattle.ring_core.proofs.OverSpans.CallSpans.{three, stands_at}
-use Rattle.ring_core.proofs.CallCounts.{ended_counts}
+use Rattle.ring_core.proofs.CallCounts.{ended_counts, lt-behind}
 use Rattle.ring_core.proofs.OwnEvents.{clock_rises}
 use Rattle.ring_core.proofs.Linear.Turns.{In, Misses, Ends, IsMove, Op, PutFact, move_not_miss, move_not_end}
 use Rattle.ring_core.proofs.Linear.OneOrder.{PutsNumbered, items_put_by, IsClosedBy}
-use Rattle.ring_core.proofs.Linear.PutTurns.{if_yes, if_no, by_test, in_append, in_if, lt_says, lt_denies, le_says, begun_past_count, begun_before_count, begun_of_none, begun_counts, put_turn, enqueue_turns, put_long, until_count, put_turns, put_turns-none, put_some, before_put_ends, enqueue_of}
+use Rattle.ring_core.proofs.Linear.PutTurns.{if_yes, if_no, in_append, in_if, begun_past_count, begun_before_count, begun_of_none, begun_counts, put_turn, enqueue_turns, put_long, until_count, put_turns, put_turns-none, put_some, before_put_ends, enqueue_of}
 use Rattle.bits_core.proofs.LawLemmas.{subhistory_has_place}
+use Rattle.bits_core.proofs.OwnEvents.{by_case}
 
 -- the place of an own event is the last at which no more events have come
 pub last_place : (s : Side) (h : List Event) (i place t : ℕ) → IsPlaceOf s h i place → clock s h t ≤ i → t ≤ place
@@ -51,7 +52,7 @@ pub put_turns-numbered :
     (shape : Shape) (c : Count) (start : ℕ) (puts : List Put) (closes : Bool) (t last : ℕ) →
     c.number + counts_begun (spans P shape c (put_looks puts)) (t - start) ≡ last → PutsNumbered last c.number (put_turns shape c start puts closes t)
 put_turns-numbered shape c start [] false t last e = omega (arith, e)
-put_turns-numbered shape c start [] true t last e = by_test (nat_lt start t)
+put_turns-numbered shape c start [] true t last e = by_case (nat_lt start t)
     (λ f. subst (PutsNumbered last c.number) (sym (if_yes (nat_lt start t) (put_turn c.number Ends start (start + 2) ∷ []) f)) (refl, omega (arith, e)))
     (λ f. subst (PutsNumbered last c.number) (sym (if_no (nat_lt start t) (put_turn c.number Ends start (start + 2) ∷ []) f)) (omega (arith, e)))
 put_turns-numbered shape c start (Stored seen items ∷ puts) closes t last e =
@@ -63,15 +64,15 @@ put_turns-numbered shape c start (Stored seen items ∷ puts) closes t last e =
     let ys : List Span = spans P shape next (put_looks puts) in
     let long = long_is shape c seen items in
     let front = until_is shape c seen items in
-    by_test test
+    by_case test
     (λ f.
-    (let past_count = begun_past_count y ys (t - start) (omega (arith, lt_says (start + until_count shape c seen items) t f, front)) in
+    (let past_count = begun_past_count y ys (t - start) (omega (arith, ltb-true (start + until_count shape c seen items) t f, front)) in
     let later : t - start - whole y ≡ t - stop = omega (arith, long) in
     let e' : next.number + counts_begun ys (t - stop) ≡ last = omega (arith, e, past_count, past_is c.number items, ap (counts_begun ys) later) in
     subst (λ l. PutsNumbered last c.number (l ++ rest)) (sym (if_yes test (enqueue_turns c.number start stop items) f))
     (enqueues_numbered last c.number start stop items rest (put_turns-numbered shape next stop puts closes t last e'))))
     (λ f.
-    (let early = lt_denies (start + until_count shape c seen items) t f in
+    (let early = ltb-false (start + until_count shape c seen items) t f in
     let none : rest ≡ [] = put_turns-none shape next stop puts closes t (omega (arith, early, before_put_ends shape c seen items)) in
     let e' : c.number ≡ last = omega (arith, e, begun_before_count y ys (t - start) (omega (arith, early, front))) in
     subst (λ l. PutsNumbered last c.number (l ++ rest)) (sym (if_no test (enqueue_turns c.number start stop items) f))
@@ -84,7 +85,7 @@ put_turns-numbered shape c start (Full seen ∷ puts) closes t last e =
     let later : t - start - whole y ≡ t - stop = omega arith in
     let e' : c.number + counts_begun ys (t - stop) ≡ last = omega (arith, e, begun_of_none y ys (t - start) refl, ap (counts_begun ys) later) in
     let r = put_turns-numbered shape c stop puts closes t last e' in
-    by_test (nat_le stop t)
+    by_case (nat_le stop t)
     (λ f. subst (λ l. PutsNumbered last c.number (l ++ rest)) (sym (if_yes (nat_le stop t) (put_turn c.number Misses start stop ∷ []) f)) (refl, r))
     (λ f. subst (λ l. PutsNumbered last c.number (l ++ rest)) (sym (if_no (nat_le stop t) (put_turn c.number Misses start stop ∷ []) f)) r)
 
@@ -108,9 +109,6 @@ close_items : (test : Bool) (n start stop : ℕ) → items_put_by (if test then 
 close_items true n start stop = refl
 close_items false n start stop = refl
 
-pub lt_behind : (a b t : ℕ) → nat_lt (a + b) t ≡ nat_lt b (t - a)
-lt_behind a b t = grind (arith, nat_tests)
-
 pub put_turns-items :
     (shape : Shape) (c : Count) (start : ℕ) (puts : List Put) (closes : Bool) (t : ℕ) →
     items_put_by (put_turns shape c start puts closes t) ≡ items_put shape c puts (t - start)
@@ -121,7 +119,7 @@ put_turns-items shape c start (Stored seen items ∷ puts) closes t =
     let next : Count = stored_after shape c (Stored seen items) in
     let later : t - stop ≡ t - start - put_long shape c (Stored seen items) = omega arith in
     join_items (nat_lt (start + until_count shape c seen items) t) (nat_lt (until_count shape c seen items) (t - start)) c.number start stop items _ _
-    (lt_behind start (until_count shape c seen items) t)
+    (lt-behind start (until_count shape c seen items) t)
     (put_turns-items shape next stop puts closes t ∙ ap (items_put shape next puts) later)
 put_turns-items shape c start (Full seen ∷ puts) closes t =
     let stop : ℕ = start + put_long shape c (Full seen) in
@@ -137,24 +135,21 @@ closed_enqueues b n start stop (item ∷ items) xs r = closed_enqueues b (suc n)
 pub put_turns-closed :
     (shape : Shape) (c : Count) (start : ℕ) (puts : List Put) (t : ℕ) → start + events_in (put_phrases shape c puts) < t → IsClosedBy false (put_turns shape c start puts true t)
 put_turns-closed shape c start [] t l =
-    subst (IsClosedBy false) (sym (if_yes (nat_lt start t) (put_turn c.number Ends start (start + 2) ∷ []) (lt_is_here start t (omega (arith, l))))) refl
-  where
-    lt_is_here : (a b : ℕ) → a < b → nat_lt a b ≡ true
-    lt_is_here a b m = grind (arith, nat_tests)
+    subst (IsClosedBy false) (sym (if_yes (nat_lt start t) (put_turn c.number Ends start (start + 2) ∷ []) (lt-ltb start t (omega (arith, l))))) refl
 put_turns-closed shape c start (Stored seen items ∷ puts) t l =
     let stop : ℕ = start + put_long shape c (Stored seen items) in
     let next : Count = stored_after shape c (Stored seen items) in
     let rest : List Op = put_turns shape next stop puts true t in
     let test : Bool = nat_lt (start + until_count shape c seen items) t in
     let r = put_turns-closed shape next stop puts t (omega (arith, l, length-append (put_phrase shape c (Stored seen items)) (put_phrases shape next puts))) in
-    by_test test
+    by_case test
     (λ f. subst (λ l. IsClosedBy false (l ++ rest)) (sym (if_yes test (enqueue_turns c.number start stop items) f)) (closed_enqueues false c.number start stop items rest r))
     (λ f. subst (λ l. IsClosedBy false (l ++ rest)) (sym (if_no test (enqueue_turns c.number start stop items) f)) r)
 put_turns-closed shape c start (Full seen ∷ puts) t l =
     let stop : ℕ = start + put_long shape c (Full seen) in
     let rest : List Op = put_turns shape c stop puts true t in
     let r = put_turns-closed shape c stop puts t (omega (arith, l, length-append (put_phrase shape c (Full seen)) (put_phrases shape c puts))) in
-    by_test (nat_le stop t)
+    by_case (nat_le stop t)
     (λ f. subst (λ l. IsClosedBy false (l ++ rest)) (sym (if_yes (nat_le stop t) (put_turn c.number Misses start stop ∷ []) f)) r)
     (λ f. subst (λ l. IsClosedBy false (l ++ rest)) (sym (if_no (nat_le stop t) (put_turn c.number Misses start stop ∷ []) f)) r)
 
@@ -222,7 +217,7 @@ module _ (shape : Shape) (h : List Event) (puts : Puts) (takes : Takes) (law : L
         | inl j ↦ (
             let (holds, k) = in_if x test (enqueue_turns c.number start stop items) j in
             let r = enqueue_of c.number start stop items x k in
-            let begun = begun_counts (put_spans shape puts) start c.number y t st (omega (arith, lt_says (start + until_count shape c seen items) t holds, front)) in (
+            let begun = begun_counts (put_spans shape puts) start c.number y t st (omega (arith, ltb-true (start + until_count shape c seen items) t holds, front)) in (
               record {
                 some = omega (arith, r.starts, r.stops, before_put_ends shape c seen items);
                 begins = omega (arith, r.starts, e);
@@ -248,7 +243,7 @@ module _ (shape : Shape) (h : List Event) (puts : Puts) (takes : Takes) (law : L
       elim (in_append x (if nat_le stop t then put_turn c.number Misses start stop ∷ [] else []) (put_turns shape c stop rest closes t) i) [
         | inl j ↦ (
             let (holds, k) = in_if x (nat_le stop t) (put_turn c.number Misses start stop ∷ []) j in
-            let over : stop ≤ t = le_says stop t holds in
+            let over : stop ≤ t = leb-true stop t holds in
             let first : ℕ = place_of P h start in
             let is_first : IsPlaceOf P h start first = subhistory_has_place P h start (omega (arith, over, some)) in
             let few = law.full start c.number y st refl (omega (arith, over)) first is_first in

@@ -1,9 +1,11 @@
 -- The operations of the producer's calls, with their numbers: their order, and what holds of each.
 use Rattle.std.proofs.Common.{◌≡◌, ◌⊎◌, inl, inr, ℕ, suc, ◌+◌, ◌-◌, ◌<◌, ◌≤◌, Bool, true, false, nat_lt, nat_le, if◌then◌else◌, List, [], ◌∷◌, ◌++◌, length, refl, sym, ap, ap₂, subst, ◌∙◌, arith, length-append, map}
 use Rattle.std.proofs.lemmas.Bool.Decides.{nat_tests}
+use Rattle.std.proofs.lemmas.Bool.{lt-ltb, le-ltb, lt-leb}
 use Rattle.bits_core.specs.declared.events.Side.TheVariants.{P}
 use Rattle.bits_core.specs.declared.shapes.Shape.{Shape}
 use Rattle.bits_core.specs.Made.{Made}
+use Rattle.bits_core.proofs.OwnEvents.{by_case}
 use Rattle.register_core.specs.ScanState.{scan_phrase, row_read_by}
 use Rattle.ring_core.specs.Counts.{number_past, Count, batch_phrase}
 use Rattle.ring_core.specs.Puts.{Put, Stored, Full, stored_after, accesses_before_count, words_phrase, put_phrase}
@@ -25,10 +27,6 @@ if_yes t xs e = rw e refl
 pub if_no : {A : Type 0} (t : Bool) (xs : List A) → t ≡ false → (if t then xs else []) ≡ []
 if_no t xs e = rw e refl
 
-pub by_test : {G : Type 0} (t : Bool) → (t ≡ true → G) → (t ≡ false → G) → G
-by_test true f g = f refl
-by_test false f g = g refl
-
 pub in_append : {A : Type 0} (x : A) (xs ys : List A) → In x (xs ++ ys) → In x xs ⊎ In x ys
 in_append x [] ys i = inr i
 in_append x (z ∷ xs) ys (inl e) = inl (inl e)
@@ -38,39 +36,18 @@ pub in_if : {A : Type 0} (x : A) (t : Bool) (xs : List A) → In x (if t then xs
 in_if x true xs i = (refl, i)
 in_if x false xs i = absurd i
 
-pub lt_says : (a b : ℕ) → nat_lt a b ≡ true → a < b
-lt_says a b e = grind (arith, nat_tests)
-
-pub lt_denies : (a b : ℕ) → nat_lt a b ≡ false → b ≤ a
-lt_denies a b e = grind (arith, nat_tests)
-
-pub le_says : (a b : ℕ) → nat_le a b ≡ true → a ≤ b
-le_says a b e = grind (arith, nat_tests)
-
-pub le_denies : (a b : ℕ) → nat_le a b ≡ false → b < a
-le_denies a b e = grind (arith, nat_tests)
-
-pub lt_is : (a b : ℕ) → a < b → nat_lt a b ≡ true
-lt_is a b l = grind (arith, nat_tests)
-
-pub lt_not : (a b : ℕ) → b ≤ a → nat_lt a b ≡ false
-lt_not a b l = grind (arith, nat_tests)
-
-pub le_not : (a b : ℕ) → b < a → nat_le a b ≡ false
-le_not a b l = grind (arith, nat_tests)
-
 -- ---- counts that have begun, by the first span
 
 pub begun_past_count : (y : Span) (ys : List Span) (i : ℕ) → before_count y < i → counts_begun (y ∷ ys) i ≡ counts y.outcome + counts_begun ys (i - whole y)
-begun_past_count y ys i l = ap (λ (b : Bool). (if b then counts y.outcome else 0) + counts_begun ys (i - whole y)) (lt_is (before_count y) i l)
+begun_past_count y ys i l = ap (λ (b : Bool). (if b then counts y.outcome else 0) + counts_begun ys (i - whole y)) (lt-ltb (before_count y) i l)
 
 pub begun_before_count : (y : Span) (ys : List Span) (i : ℕ) → i ≤ before_count y → counts_begun (y ∷ ys) i ≡ 0
 begun_before_count y ys i l =
     let none : i - whole y ≡ 0 = omega arith in
-    ap (λ (b : Bool). (if b then counts y.outcome else 0) + counts_begun ys (i - whole y)) (lt_not (before_count y) i l) ∙ ap (λ j. 0 + counts_begun ys j) none ∙ omega (arith, begun_zero ys)
+    ap (λ (b : Bool). (if b then counts y.outcome else 0) + counts_begun ys (i - whole y)) (le-ltb (before_count y) i l) ∙ ap (λ j. 0 + counts_begun ys j) none ∙ omega (arith, begun_zero ys)
 
 pub begun_of_none : (y : Span) (ys : List Span) (i : ℕ) → counts y.outcome ≡ 0 → counts_begun (y ∷ ys) i ≡ counts_begun ys (i - whole y)
-begun_of_none y ys i e = by_test (nat_lt (before_count y) i)
+begun_of_none y ys i e = by_case (nat_lt (before_count y) i)
     (λ f. ap (λ (b : Bool). (if b then counts y.outcome else 0) + counts_begun ys (i - whole y)) f ∙ omega (arith, e))
     (λ f. ap (λ (b : Bool). (if b then counts y.outcome else 0) + counts_begun ys (i - whole y)) f ∙ omega arith)
 
@@ -168,16 +145,16 @@ no_turns xs ys e f = ap₂ (λ a b. a ++ b) e f
 pub put_turns-none :
     (shape : Shape) (c : Count) (start : ℕ) (puts : List Put) (closes : Bool) (t : ℕ) → t ≤ start → put_turns shape c start puts closes t ≡ []
 put_turns-none shape c start [] false t l = refl
-put_turns-none shape c start [] true t l = if_no (nat_lt start t) (put_turn c.number Ends start (start + 2) ∷ []) (lt_not start t l)
+put_turns-none shape c start [] true t l = if_no (nat_lt start t) (put_turn c.number Ends start (start + 2) ∷ []) (le-ltb start t l)
 put_turns-none shape c start (Stored seen items ∷ puts) closes t l =
     let stop : ℕ = start + put_long shape c (Stored seen items) in
     no_turns _ (put_turns shape (stored_after shape c (Stored seen items)) stop puts closes t)
-    (if_no (nat_lt (start + until_count shape c seen items) t) (enqueue_turns c.number start stop items) (lt_not (start + until_count shape c seen items) t (omega (arith, l))))
+    (if_no (nat_lt (start + until_count shape c seen items) t) (enqueue_turns c.number start stop items) (le-ltb (start + until_count shape c seen items) t (omega (arith, l))))
     (put_turns-none shape (stored_after shape c (Stored seen items)) stop puts closes t (omega (arith, l)))
 put_turns-none shape c start (Full seen ∷ puts) closes t l =
     let stop : ℕ = start + put_long shape c (Full seen) in
     no_turns _ (put_turns shape c stop puts closes t)
-    (if_no (nat_le stop t) (put_turn c.number Misses start stop ∷ []) (le_not stop t (omega (arith, l, put_some shape c seen))))
+    (if_no (nat_le stop t) (put_turn c.number Misses start stop ∷ []) (lt-leb stop t (omega (arith, l, put_some shape c seen))))
     (put_turns-none shape c stop puts closes t (omega (arith, l)))
 
 -- ---- their order
@@ -282,7 +259,7 @@ enqueues_sorted n start stop (item ∷ items) xs l from s = (
 pub put_turns-sorted :
     (shape : Shape) (c : Count) (start : ℕ) (puts : List Put) (closes : Bool) (t : ℕ) → PutsSorted (put_turns shape c start puts closes t)
 put_turns-sorted shape c start [] false t = tt
-put_turns-sorted shape c start [] true t = by_test (nat_lt start t)
+put_turns-sorted shape c start [] true t = by_case (nat_lt start t)
     (λ e. subst PutsSorted (sym (if_yes (nat_lt start t) (put_turn c.number Ends start (start + 2) ∷ []) e)) ((λ x i. absurd i), tt))
     (λ e. subst PutsSorted (sym (if_no (nat_lt start t) (put_turn c.number Ends start (start + 2) ∷ []) e)) tt)
 put_turns-sorted shape c start (Stored seen items ∷ puts) closes t =
@@ -290,7 +267,7 @@ put_turns-sorted shape c start (Stored seen items ∷ puts) closes t =
     let next : Count = stored_after shape c (Stored seen items) in
     let rest : List Op = put_turns shape next stop puts closes t in
     let test : Bool = nat_lt (start + until_count shape c seen items) t in
-    by_test test
+    by_case test
     (λ e. subst (λ l. PutsSorted (l ++ rest)) (sym (if_yes test (enqueue_turns c.number start stop items) e))
     (enqueues_sorted c.number start stop items rest (omega arith) (put_turns-from shape next stop puts closes t) (put_turns-sorted shape next stop puts closes t)))
     (λ e. subst (λ l. PutsSorted (l ++ rest)) (sym (if_no test (enqueue_turns c.number start stop items) e)) (put_turns-sorted shape next stop puts closes t))
@@ -298,7 +275,7 @@ put_turns-sorted shape c start (Full seen ∷ puts) closes t =
     let stop : ℕ = start + put_long shape c (Full seen) in
     let rest : List Op = put_turns shape c stop puts closes t in
     let test : Bool = nat_le stop t in
-    by_test test
+    by_case test
     (λ e. subst (λ l. PutsSorted (l ++ rest)) (sym (if_yes test (put_turn c.number Misses start stop ∷ []) e)) (
       (λ x i. (let r = put_turns-from shape c stop puts closes t x i in
           (record { start = omega (arith, r.starts); stop = omega (arith, r.starts, r.some); number = r.behind; miss = λ a b. absurd a; ends = λ a. absurd a }, λ a. absurd a))),

@@ -6,6 +6,7 @@ use Rattle.bits_core.specs.declared.events.Event.{Event}
 use Rattle.bits_core.specs.declared.shapes.Shape.{Shape}
 use Rattle.bits_core.specs.Shape.{take_batch_of, width_of}
 use Rattle.std.proofs.lemmas.Option.{slice_get_within}
+use Rattle.std.proofs.lemmas.Bool.{leb-true}
 use Rattle.ring_core.proofs.OverSpans.Looks.{words_are}
 use Rattle.ring_core.proofs.Cells.CellPlaces.{multiple_up}
 use Rattle.ring_core.proofs.CountRow.{past_is}
@@ -23,7 +24,7 @@ use Rattle.ring_core.proofs.OverSpans.CallSpans.{stands_at, take_phrase-item, ta
 use Rattle.ring_core.proofs.CallCounts.{ended_counts, phrase_some}
 use Rattle.ring_core.proofs.OwnEvents.{clock_end}
 use Rattle.ring_core.proofs.Linear.Turns.{In, Misses, Ends, IsEnd, TakeOp, TakeFact}
-use Rattle.ring_core.proofs.Linear.PutTurns.{in_append, in_if, le_says}
+use Rattle.ring_core.proofs.Linear.PutTurns.{in_append, in_if}
 use Rattle.ring_core.proofs.Linear.PutTurnFacts.{last_place}
 use Rattle.ring_core.proofs.Linear.TakeTurns.{take_turn, dequeue_turns, dequeue_of, take_long, end_long, take_turns, item_until, after_until, end_some, ItemIs}
 use Rattle.bits_core.proofs.LawLemmas.{subhistory_has_place}
@@ -119,8 +120,8 @@ module _ (shape : Shape) (h : List Event) (puts : Puts) (takes : Takes) (law : L
       let z : Span = span_of C shape c (look again Stops) in
       let st = stand_first u (z ∷ []) start k stand in
       let (over, j) = in_if y (nat_le stop t) (take_turn h k Ends start stop ∷ []) i in
-      let q = first_at start (omega (arith, le_says stop t over, end_some seen again)) in
-      let at_last = told (length h) tt (omega (arith, le_says stop t over, clock_end C h)) in
+      let q = first_at start (omega (arith, leb-true stop t over, end_some seen again)) in
+      let at_last = told (length h) tt (omega (arith, leb-true stop t over, clock_end C h)) in
       elim j [
         | inl e ↦ subst IsTake (sym e) ((
           record {
@@ -153,7 +154,7 @@ module _ (shape : Shape) (h : List Event) (puts : Puts) (takes : Takes) (law : L
         | inl j ↦ (
             let (over, m) = in_if y test (dequeue_turns h k start stop items) j in
             dequeue_holds k start stop start items u u st st refl (omega (arith, long))
-            (omega (arith, le_says (start + take_effect shape c x) t over, item_until shape c seen items)) (omega (arith, phrase_some shape c x)) (omega arith) y m)
+            (omega (arith, leb-true (start + take_effect shape c x) t over, item_until shape c seen items)) (omega (arith, phrase_some shape c x)) (omega arith) y m)
         | inr j ↦ takes_hold next stop rest end (stand_on u us start stop k next.number (omega (arith, long)) (past_is k items) stand) (told_on c start x rest end told) y j
       ]
   takes_hold c start (ItemAfterClose seen again items ∷ rest) end stand told y i =
@@ -174,7 +175,7 @@ module _ (shape : Shape) (h : List Event) (puts : Puts) (takes : Takes) (law : L
         | inl j ↦ (
             let (over, m) = in_if y test (dequeue_turns h k start stop items) j in
             dequeue_holds k start stop (start + whole u) items u z st st' refl (omega (arith, long))
-            (omega (arith, le_says (start + take_effect shape c x) t over, after_until shape c seen again items)) (omega (arith, phrase_some shape c x)) (omega arith) y m)
+            (omega (arith, leb-true (start + take_effect shape c x) t over, after_until shape c seen again items)) (omega (arith, phrase_some shape c x)) (omega arith) y m)
         | inr j ↦ takes_hold next stop rest end (stand_on z us (start + whole u) stop k next.number (omega (arith, long)) (past_is k items) stand')
             (told_on c start x rest end told) y j
       ]
@@ -191,8 +192,8 @@ module _ (shape : Shape) (h : List Event) (puts : Puts) (takes : Takes) (law : L
       elim (in_append y (if nat_le stop t then take_turn h k Misses start stop ∷ [] else []) (take_turns h shape (count_after shape c x) stop rest end t) i) [
         | inl j ↦ (
             let (over, m) = in_if y (nat_le stop t) (take_turn h k Misses start stop ∷ []) j in
-            let q = first_at start (omega (arith, le_says stop t over, some)) in
-            let (few, not_closed) = law.empty start k u st refl (omega (arith, le_says stop t over, long)) (place_of C h start) q in
+            let q = first_at start (omega (arith, leb-true stop t over, some)) in
+            let (few, not_closed) = law.empty start k u st refl (omega (arith, leb-true stop t over, long)) (place_of C h start) q in
             let early = (ended_begun (take_batch_of shape) (take_spans shape takes) proper_takes (clock C h (place_of C h start))).0 in
             let here = begun_there start k u st (clock C h (place_of C h start)) (omega (arith, q.before)) in
             elim m [

@@ -2,11 +2,13 @@
 use Rattle.std.proofs.Common.{◌≡◌, inl, inr, ℕ, suc, ◌+◌, ◌-◌, ◌<◌, ◌≤◌, Bool, true, false, nat_lt, nat_le, if◌then◌else◌, Some, List, [], ◌∷◌, ◌++◌, length, drop, refl, sym, ap, ap₂, subst, ◌∙◌, arith, length-append, drop-cons}
 use Rattle.std.specs.Prelude.{slice_get, map}
 use Rattle.std.proofs.lemmas.Option.{slice_get_within, get_or_from_slice_get}
+use Rattle.std.proofs.lemmas.Bool.{lt-ltb, le-ltb, leb-true, leb-false, lt-leb}
 use Rattle.bits_core.specs.declared.events.Side.TheVariants.{C}
 use Rattle.bits_core.specs.declared.events.Bit.TheVariants.{X}
 use Rattle.bits_core.specs.declared.events.Event.{Event}
 use Rattle.bits_core.specs.declared.shapes.Shape.{Shape}
 use Rattle.bits_core.specs.Made.{Made, Read, place_of}
+use Rattle.bits_core.proofs.OwnEvents.{by_case}
 use Rattle.register_core.specs.ScanState.{scan_phrase, row_read_by}
 use Rattle.ring_core.specs.Takes.{Take, Item, ItemAfterClose, Empty, End, Open, Closed, taken_after, count_after, words_read, take_phrase, end_phrase}
 use Rattle.ring_core.specs.Counts.{Count, number_past}
@@ -22,7 +24,7 @@ use Rattle.ring_core.proofs.OverSpans.CallSpans.{take_phrase-item, take_phrase-a
 use Rattle.ring_core.proofs.CallCounts.{phrase_some}
 use Rattle.ring_core.proofs.Linear.Turns.{In, Kind, Moves, Misses, Ends, IsMiss, TakeOp, take_op}
 use Rattle.ring_core.proofs.Linear.OneOrder.{take_ops, TakesSorted, TakesNumbered, next_number, with_item, items_taken_by}
-use Rattle.ring_core.proofs.Linear.PutTurns.{if_yes, if_no, by_test, in_append, in_if, lt_is, lt_not, le_says, le_denies, le_not}
+use Rattle.ring_core.proofs.Linear.PutTurns.{if_yes, if_no, in_append, in_if}
 
 abbrev pub take_turn : List Event → ℕ → Kind → ℕ → ℕ → TakeOp
 take_turn h k kind start stop = record { number = k; kind = kind; start = start; stop = stop; place = place_of C h start }
@@ -121,12 +123,12 @@ pub take_turns-none :
     (h : List Event) (shape : Shape) (c : Count) (start : ℕ) (takes : List Take) (end : End) (t : ℕ) → t ≤ start → take_turns h shape c start takes end t ≡ []
 take_turns-none h shape c start [] Open t l = refl
 take_turns-none h shape c start [] (Closed seen again) t l =
-    if_no (nat_le (start + end_long seen again) t) (take_turn h c.number Ends start (start + end_long seen again) ∷ []) (le_not (start + end_long seen again) t (omega (arith, l, end_some seen again)))
+    if_no (nat_le (start + end_long seen again) t) (take_turn h c.number Ends start (start + end_long seen again) ∷ []) (lt-leb (start + end_long seen again) t (omega (arith, l, end_some seen again)))
 take_turns-none h shape c start (x ∷ takes) end t l =
     let stop : ℕ = start + take_long shape c x in
     no_turns _ (take_turns h shape (count_after shape c x) stop takes end t)
     (if_no (nat_le (start + take_effect shape c x) t) (turns_of h c.number x start stop)
-    (le_not (start + take_effect shape c x) t (omega (arith, l, (effect_within shape c x).0))))
+    (lt-leb (start + take_effect shape c x) t (omega (arith, l, (effect_within shape c x).0))))
     (take_turns-none h shape (count_after shape c x) stop takes end t (omega (arith, l)))
 
 -- ---- their order
@@ -246,7 +248,7 @@ take_turns-sorted h shape c start [] Open t = tt
 take_turns-sorted h shape c start [] (Closed seen again) t =
     let test : Bool = nat_le (start + end_long seen again) t in
     let y : TakeOp = take_turn h c.number Ends start (start + end_long seen again) in
-    by_test test
+    by_case test
     (λ e. subst TakesSorted (sym (if_yes test (y ∷ []) e)) ((λ x i. absurd i), tt))
     (λ e. subst TakesSorted (sym (if_no test (y ∷ []) e)) tt)
 take_turns-sorted h shape c start (x ∷ takes) end t =
@@ -256,7 +258,7 @@ take_turns-sorted h shape c start (x ∷ takes) end t =
     let rest : List TakeOp = take_turns h shape next stop takes end t in
     let test : Bool = nat_le (start + take_effect shape c x) t in
     let sorted = take_turns-sorted h shape next stop takes end t in
-    by_test test
+    by_case test
     (λ e. subst (λ l. TakesSorted (l ++ rest)) (sym (if_yes test these e))
     (turn_sorted h c.number x start stop rest (omega arith) (take_turns-from h shape next stop takes end t) sorted))
     (λ e. subst (λ l. TakesSorted (l ++ rest)) (sym (if_no test these e)) sorted)
@@ -269,10 +271,10 @@ dequeues_numbered h last k start stop [] ys r = r
 dequeues_numbered h last k start stop (item ∷ items) ys r = (refl, dequeues_numbered h last (suc k) start stop items ys r)
 
 counted_yes : (a b n m : ℕ) → a < b → (if nat_lt a b then n else 0) + m ≡ n + m
-counted_yes a b n m l = ap (λ (t : Bool). (if t then n else 0) + m) (lt_is a b l)
+counted_yes a b n m l = ap (λ (t : Bool). (if t then n else 0) + m) (lt-ltb a b l)
 
 counted_no : (a b n m : ℕ) → b ≤ a → (if nat_lt a b then n else 0) + m ≡ 0 + m
-counted_no a b n m l = ap (λ (t : Bool). (if t then n else 0) + m) (lt_not a b l)
+counted_no a b n m l = ap (λ (t : Bool). (if t then n else 0) + m) (le-ltb a b l)
 
 counted_none : (t : Bool) (m : ℕ) → (if t then 0 else 0) + m ≡ m
 counted_none true m = omega arith
@@ -298,20 +300,20 @@ items_numbered h shape c next start takes end t last before long items within ne
     let test : Bool = nat_le (start + suc before) t in
     let these : List TakeOp = dequeue_turns h c.number start (start + long) items in
     let rest : List TakeOp = take_turns h shape next (start + long) takes end t in
-    by_test test
+    by_case test
     (λ f.
     (let r = goes_on (omega (
       arith,
       e,
       next_is,
       past_is c.number items,
-      counted_yes before (t - start) (length items) (taken_begun shape next takes (t - start - long)) (omega (arith, le_says (start + suc before) t f)),
+      counted_yes before (t - start) (length items) (taken_begun shape next takes (t - start - long)) (omega (arith, leb-true (start + suc before) t f)),
       ap (taken_begun shape next takes) later,
     )) in
     subst (λ l. TakesNumbered last c.number (l ++ rest)) (sym (if_yes test these f))
     (dequeues_numbered h last c.number start (start + long) items rest (subst (λ n. TakesNumbered last n rest) next_is r))))
     (λ f.
-    (let early : t < start + suc before = le_denies (start + suc before) t f in
+    (let early : t < start + suc before = leb-false (start + suc before) t f in
     let none : t - start - long ≡ 0 = omega (arith, early, within) in
     subst (λ l. TakesNumbered last c.number (l ++ rest)) (sym (if_no test these f))
     (subst (TakesNumbered last c.number) (sym (take_turns-none h shape next (start + long) takes end t (omega (arith, early, within))))
@@ -330,7 +332,7 @@ take_turns-numbered h shape c start [] Open t last e = omega (arith, e)
 take_turns-numbered h shape c start [] (Closed seen again) t last e =
     let test : Bool = nat_le (start + end_long seen again) t in
     let y : TakeOp = take_turn h c.number Ends start (start + end_long seen again) in
-    by_test test
+    by_case test
     (λ f. subst (TakesNumbered last c.number) (sym (if_yes test (y ∷ []) f)) (refl, omega (arith, e)))
     (λ f. subst (TakesNumbered last c.number) (sym (if_no test (y ∷ []) f)) (omega (arith, e)))
 take_turns-numbered h shape c start (Item seen items ∷ takes) end t last e =
@@ -359,7 +361,7 @@ take_turns-numbered h shape c start (Empty seen ∷ takes) end t last e =
       ap (taken_begun shape next takes) later,
     ) in
     let r : TakesNumbered last c.number rest = take_turns-numbered h shape next (start + long) takes end t last e' in
-    by_test test
+    by_case test
     (λ f. subst (λ l. TakesNumbered last c.number (l ++ rest)) (sym (if_yes test (y ∷ []) f)) (refl, r))
     (λ f. subst (λ l. TakesNumbered last c.number (l ++ rest)) (sym (if_no test (y ∷ []) f)) r)
 

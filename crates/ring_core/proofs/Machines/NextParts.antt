@@ -103,11 +103,11 @@ next_write side row values old writes count due of_side some due_is next all =
 -- ---- whose access is due
 
 -- a side's own accesses to bits of the shape
-scan_bit_right : (shape : Shape) (side : Side) (i : ℕ) → i < modulus_of shape → IsOpenRight shape side (begins.Read (row_read_by side i))
+pub scan_bit_right : (shape : Shape) (side : Side) (i : ℕ) → i < modulus_of shape → IsOpenRight shape side (begins.Read (row_read_by side i))
 scan_bit_right shape P i l = (grind (arith, nat_tests), refl)
 scan_bit_right shape C i l = (grind (arith, nat_tests), refl)
 
-row_bit_right : (shape : Shape) (side : Side) (i : ℕ) (v : Bool) → i < modulus_of shape → IsOpenRight shape side (begins.Write (row_bit side i) v)
+pub row_bit_right : (shape : Shape) (side : Side) (i : ℕ) (v : Bool) → i < modulus_of shape → IsOpenRight shape side (begins.Write (row_bit side i) v)
 row_bit_right shape P i v l = (grind (arith, nat_tests), refl)
 row_bit_right shape C i v l = (grind (arith, nat_tests), refl)
 

@@ -1,5 +1,5 @@
 -- A program of puts with one put more.
-use Rattle.std.proofs.Common.{◌≡◌, ℕ, ◌%◌, Option, Some, List, [], ◌∷◌, ◌++◌, refl, ap, ◌∙◌, append-nil}
+use Rattle.std.proofs.Common.{◌≡◌, ℕ, ◌%◌, Option, Some, List, [], ◌∷◌, ◌++◌, refl, ap, ◌∙◌, append-nil, sym, append_assoc}
 use Rattle.bits_core.specs.declared.shapes.Shape.{Shape}
 use Rattle.bits_core.specs.Shape.{modulus_of}
 use Rattle.register_core.specs.Row.{bits_after}
@@ -8,6 +8,7 @@ use Rattle.ring_core.specs.declared.replies.BatchReply.{BatchReply}
 use Rattle.ring_core.specs.Counts.{number_past, Count, first_count, IsCount}
 use Rattle.ring_core.specs.Puts.{Put, Puts, Stored, Full, stored_after, stored_count, put_values, put_phrase, put_phrases, put_program, IsPut, ArePuts}
 use Rattle.ring_core.specs.ProducerCalls.{count_of, and_put, put_reply_to, last_put_reply}
+use Rattle.ring_core.specs.Items.{all_put}
 use Rattle.ring_core.proofs.CountRow.{value_held, first_is_count, counted_is_count}
 use Rattle.ring_core.proofs.Readings.ByCalls.{puts_go_by_calls, calls-push, state-push}
 
@@ -65,6 +66,17 @@ values-full shape c (Full u ∷ xs) seen = values-full shape c xs seen
 pub reply-push : (first : Option BatchReply) (xs : List Put) (x : Put) → last_put_reply first (xs ++ x ∷ []) ≡ Some (put_reply_to x)
 reply-push first [] x = refl
 reply-push first (y ∷ xs) x = reply-push (Some (put_reply_to y)) xs x
+
+-- the items that puts have put, and one put more
+pub all_put-push : (xs : List Put) (seen : ℕ) (items : List ℕ) → all_put (xs ++ Stored seen items ∷ []) ≡ all_put xs ++ items
+all_put-push [] seen items = append-nil items
+all_put-push (Stored u i ∷ xs) seen items = ap (λ l. i ++ l) (all_put-push xs seen items) ∙ sym (append_assoc i (all_put xs) items)
+all_put-push (Full u ∷ xs) seen items = all_put-push xs seen items
+
+pub all_put-full : (xs : List Put) (seen : ℕ) → all_put (xs ++ Full seen ∷ []) ≡ all_put xs
+all_put-full [] seen = refl
+all_put-full (Stored u i ∷ xs) seen = ap (λ l. i ++ l) (all_put-full xs seen)
+all_put-full (Full u ∷ xs) seen = all_put-full xs seen
 
 -- the accesses of the calls and one put more
 pub program-push :

@@ -14,7 +14,7 @@ use Rattle.ring_core.specs.Counts.{LeavesRoom, LeavesRoomFor, number_past, Count
 use Rattle.ring_core.specs.Puts.{Put, Stored, Full, stored_after, stored_count, words_phrase, put_phrase, put_phrases, close_phrase, IsBatch, IsPut, ArePuts}
 use Rattle.ring_core.specs.PutParts.{GoesBehind, count_behind, count_access, ScansOrCloses, ScansOn, StoresOrCounts, StoresOn, CountsOn}
 use Rattle.ring_core.specs.GoingOn.{LastPutsReadOne}
-use Rattle.ring_core.proofs.Readings.Phrases.{scan-front, scan_begins, same_scan, same_word_write, same_writes, length-digit_writes, at_or_below}
+use Rattle.ring_core.proofs.Readings.Phrases.{scan-front, scan_begins, same_scan, same_word_write, same_writes, length-digit_writes, digits_split}
 use Rattle.ring_core.proofs.Readings.PutsRead.{no_close, puts_stored, puts_full, no_room, NoCellFirst, count_first, words_first, digits_first, word_first}
 use Rattle.ring_core.proofs.CountRow.{batch_below, first_is_count, bits_long}
 use Rattle.ring_core.proofs.Readings.ItemsRead.{same_stored, same_full, stored_is_count}
@@ -170,17 +170,6 @@ words_go_on shape n (x ∷ xs) (y ∷ ys) zs tail f g none e =
       fit = left.fit;
       rest_is = left.rest_is;
     }
-
--- the digits of a word, up to one of them
-digits_split : (y n w : ℕ) → n < w → (rest : List RowWrite) × (digit_writes y w ≡ digit_writes y n ++ record { bit = n; value = digit n y } ∷ rest)
-digits_split y n zero l = absurd (omega (arith, l))
-digits_split y n (suc w) l = elim (at_or_below n w l) [
-  | inl e ↦ ([], ap (λ k. digit_writes y k ++ record { bit = k; value = digit k y } ∷ []) (sym e))
-  | inr below ↦
-      let (rest, is) = digits_split y n w below in
-      let last : List RowWrite = record { bit = w; value = digit w y } ∷ [] in
-      (rest ++ last, ap (λ l. l ++ last) is ∙ append_assoc (digit_writes y n) (record { bit = n; value = digit n y } ∷ rest) last)
-]
 
 word_next :
     (cell n w value y : ℕ) (x : Made) (rest zs : List Made) → n < w →

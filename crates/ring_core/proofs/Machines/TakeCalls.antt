@@ -4,15 +4,19 @@ use Rattle.std.proofs.lemmas.Nat.{pow_pos}
 use Rattle.bits_core.specs.declared.shapes.Shape.{Shape}
 use Rattle.bits_core.specs.Shape.{AllFit, capacity_of, modulus_of, width_of}
 use Rattle.bits_core.specs.Made.{Made}
+use Rattle.bits_core.specs.declared.events.Access.{Access}
 use Rattle.register_core.specs.Row.{bits_after}
 use Rattle.register_core.specs.Unary.{unary_writes, row_writes}
 use Rattle.register_core.specs.Phrases.{word_read}
 use Rattle.ring_core.specs.declared.replies.TakeReply.{TakeReply}
 use Rattle.ring_core.specs.Counts.{number_past, Count, first_count, IsCount}
-use Rattle.ring_core.specs.Takes.{Take, Takes, Item, ItemAfterClose, Empty, Open, Closed, count_after, taken_count, words_read, items_phrase, take_phrase, take_phrases, take_program, IsTake, SeesNone, IsTakeBatch, AreTakes}
-use Rattle.ring_core.specs.Items.{taken_of}
+use Rattle.ring_core.specs.Takes.{Take, Takes, Item, ItemAfterClose, Empty, Open, Closed, count_after, taken_count, words_read, items_phrase, take_phrase, take_phrases, take_program, IsTake, SeesNone, IsTakeBatch, AreTakes, End}
 use Rattle.ring_core.proofs.Machines.OneWordMore.{WordsGoOn}
-use Rattle.ring_core.specs.ConsumerCalls.{Finding, Once, Twice, finding_phrase, Finds, IsTakeOf, count_taken, take_values, and_take, items_reply, take_reply_to, last_take_reply, last_items, reply_at_end, take_batch_reply, IsReplyToTake, AreItemsOfTake, IsBatchReplyToTake}
+use Rattle.ring_core.specs.ConsumerCalls.{Finding, Once, Twice, finding_phrase, Finds, IsTakeOf, count_taken, take_values, and_take, items_reply, take_reply_to, last_take_reply, last_items, reply_at_end, take_batch_reply, IsReplyToTake, AreItemsOfTake, IsBatchReplyToTake, ends_closed}
+use Rattle.ring_core.specs.Items.{Tells, all_taken, taken_of}
+use Rattle.ring_core.specs.ConsumerState.{ConsumerState, consumer_due_at, takes_at}
+use Rattle.ring_core.specs.declared.consumers.Stage.{Stage}
+use Rattle.ring_core.specs.declared.consumers.Stage.TheVariants.{Idle, Scanning, Checking, Rescanning, Loading, Counting}
 use Rattle.ring_core.proofs.CountRow.{value_held, first_is_count, counted_is_count}
 use Rattle.ring_core.proofs.Readings.ByCalls.{takes_go_by_calls, calls-push}
 
@@ -56,6 +60,24 @@ reply-push first (y ∷ xs) x = reply-push (Some (take_reply_to y)) xs x
 pub items-push : (first : List ℕ) (xs : List Take) (x : Take) → last_items first (xs ++ x ∷ []) ≡ taken_of x
 items-push first [] x = refl
 items-push first (y ∷ xs) x = items-push (taken_of y) xs x
+
+pub all_taken-push : (xs : List Take) (x : Take) → all_taken (xs ++ x ∷ []) ≡ all_taken xs ++ taken_of x
+all_taken-push [] x = append-nil (taken_of x)
+all_taken-push (y ∷ xs) x = ap (λ l. taken_of y ++ l) (all_taken-push xs x) ∙ sym (append_assoc (taken_of y) (all_taken xs) (taken_of x))
+
+-- the last take was told that the ring is closed
+pub closed_tells : (end : End) → ends_closed end ≡ true → Tells end
+closed_tells Open e = absurd (cc)
+closed_tells (Closed seen again) e = record {}
+
+-- a take is under way while an access is due
+pub due_at-takes : (st : Stage) (p : ConsumerState) (a : Access) → consumer_due_at st p ≡ Some a → takes_at st ≡ true
+due_at-takes Idle p a e = absurd (cc)
+due_at-takes Scanning p a e = refl
+due_at-takes Checking p a e = refl
+due_at-takes Rescanning p a e = refl
+due_at-takes Loading p a e = refl
+due_at-takes Counting p a e = refl
 
 -- ---- the count's writes
 

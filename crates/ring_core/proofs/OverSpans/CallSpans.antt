@@ -148,6 +148,11 @@ pub taken_number : (shape : Shape) (c : Count) (takes : List Take) → (taken_co
 taken_number shape c [] = refl
 taken_number shape c (x ∷ takes) = taken_number shape (count_after shape c x) takes
 
+-- and behind puts
+pub stored_number : (shape : Shape) (c : Count) (puts : List Put) → (stored_count shape c puts).number ≡ stored_in c.number puts
+stored_number shape c [] = refl
+stored_number shape c (x ∷ puts) = stored_number shape (stored_after shape c x) puts
+
 -- the accesses of a take, by the spans of its looks
 pub take_phrase-item :
     (shape : Shape) (c : Count) (seen : ℕ) (items : List ℕ) → events_in (take_phrase shape c (Item seen items)) ≡ whole (span_of C shape c (look seen (Passes items)))

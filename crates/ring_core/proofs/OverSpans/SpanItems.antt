@@ -1,8 +1,8 @@
 -- What follows from the counts: cells at rest, the items in order, what a full and an empty ring tell, and the close.
 use Rattle.std.specs.Prelude.{slice_get, Some}
 use Rattle.std.proofs.Math.Nat.{suc-mul, mul-le-mul_right}
-use Rattle.std.proofs.lemmas.Option.{slice_get_within}
-use Rattle.std.proofs.Common.{◌≡◌, inl, inr, ℕ, zero, suc, ◌+◌, ◌-◌, ◌*◌, ◌<◌, ◌≤◌, ◌%◌, true, false, List, [], ◌∷◌, ◌++◌, length, get_or, drop, append-nil, drop_of_length-le, refl, sym, ap, ◌∙◌, add-zero, arith}
+use Rattle.std.proofs.lemmas.Option.{slice_get_within, get_or_from_slice_get}
+use Rattle.std.proofs.Common.{◌≡◌, inl, inr, ℕ, suc, ◌+◌, ◌-◌, ◌*◌, ◌<◌, ◌≤◌, ◌%◌, true, false, List, [], ◌++◌, length, get_or, drop, append-nil, drop_of_length-le, refl, sym, ap, ◌∙◌, add-zero, arith}
 use Rattle.std.proofs.lemmas.List.Prefix.{front_from_reads}
 use Rattle.ring_core.proofs.OverSpans.Spans.{Span, Outcome, Asks, counts, items_of, before_count, whole, counts_begun, counts_ended, begun_items, ended_items, all_items, total, IsSpanAt}
 use Rattle.ring_core.proofs.OverSpans.Clocks.{IsPlace, CellOverlap, word_end, Ring}
@@ -20,12 +20,6 @@ within_items o i item e = omega (arith, counts-items o, slice_get_within (items_
 up_to : (i m word : ℕ) → i < m → suc i * word ≤ m * word
 up_to i m word l = mul-le-mul_right word l
 
--- what stands in a list is what is got there
-got_there : (xs : List ℕ) (k item : ℕ) → slice_get xs k ≡ Some item → get_or xs k 0 ≡ item
-got_there [] k item e = absurd (cc)
-got_there (x ∷ xs) zero item e = cc
-got_there (x ∷ xs) (suc k) item e = got_there xs k item e
-
 module _ (modulus capacity batch more word : ℕ) (p c : ℕ → ℕ) (puts takes : List Span) (ring : Ring modulus capacity batch more word p c puts takes)
     (proper_puts : AllProper batch puts) (proper_takes : AllProper more takes) where
   up_p : (t u : ℕ) → t ≤ u → p t ≤ p u
@@ -35,9 +29,11 @@ module _ (modulus capacity batch more word : ℕ) (p c : ℕ → ℕ) (puts take
   up_c = clock_up c (clock_c p c ring.clocks)
 
   -- the gates of a take and of a put, from the end of its scan on
+  -- again, for the sides of this module
   behind : (t s k : ℕ) (x : Span) → IsSpanAt takes s k x → 1 ≤ counts x.outcome → s + x.scan ≤ c t → k + counts x.outcome ≤ counts_begun puts (p t)
   behind = has_begun modulus capacity batch more word p c puts takes ring proper_puts proper_takes
 
+  -- again, for the sides of this module
   ahead : (t s n : ℕ) (x : Span) → IsSpanAt puts s n x → 1 ≤ counts x.outcome → s + x.scan ≤ p t → n + counts x.outcome ≤ counts_begun takes (c t) + capacity
   ahead = has_room modulus capacity batch more word p c puts takes ring proper_puts proper_takes
 
@@ -157,8 +153,8 @@ module _ (modulus capacity batch more word : ℕ) (p c : ℕ → ℕ) (puts take
             absurd (omega (arith, l, bound, at_end, f.is_k)))
       ] in
       let there = taken_item t f.start f.number f.index f.span f.item f.stands f.stored (omega (arith, over, w, whole_words)) in
-      got_there (begun_items puts (p t)) k f.item (ap (slice_get (begun_items puts (p t))) f.is_k ∙ there) ∙
-      sym (got_there (ended_items takes (c t)) k f.item f.listed)
+      get_or_from_slice_get (begun_items puts (p t)) k f.item 0 (ap (slice_get (begun_items puts (p t))) f.is_k ∙ there) ∙
+      sym (get_or_from_slice_get (ended_items takes (c t)) k f.item 0 f.listed)
 
   -- the items taken are a beginning of the items put
   pub prefix : (t : ℕ) → begun_items puts (p t) ≡ ended_items takes (c t) ++ drop (length (ended_items takes (c t))) (begun_items puts (p t))

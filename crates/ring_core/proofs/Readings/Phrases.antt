@@ -101,6 +101,17 @@ same_parts (u ∷ us) (v ∷ vs) xs ys n e =
 pub at_or_below : (i n : ℕ) → i < suc n → (i ≡ n) ⊎ (i < n)
 at_or_below i n l = grind arith
 
+-- the digits of a word, up to one of them
+pub digits_split : (y n w : ℕ) → n < w → (rest : List RowWrite) × (digit_writes y w ≡ digit_writes y n ++ record { bit = n; value = digit n y } ∷ rest)
+digits_split y n zero l = absurd (omega (arith, l))
+digits_split y n (suc w) l = elim (at_or_below n w l) [
+  | inl e ↦ ([], ap (λ k. digit_writes y k ++ record { bit = k; value = digit k y } ∷ []) (sym e))
+  | inr below ↦
+      let (rest, is) = digits_split y n w below in
+      let last : List RowWrite = record { bit = w; value = digit w y } ∷ [] in
+      (rest ++ last, ap (λ l. l ++ last) is ∙ append_assoc (digit_writes y n) (record { bit = n; value = digit n y } ∷ rest) last)
+]
+
 digits_read : (cell n a b : ℕ) → digit_reads cell a n ≡ digit_reads cell b n → (i : ℕ) → i < n → digit i a ≡ digit i b
 digits_read cell zero a b e i l = absurd (omega arith)
 digits_read cell (suc n) a b e i l =

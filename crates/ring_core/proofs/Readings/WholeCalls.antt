@@ -1,6 +1,6 @@
 -- Whole calls: all their items are put or taken, and are counted by count writes that have begun.
 use Rattle.std.proofs.Common.{◌≡◌, ℕ, zero, ◌+◌, ◌-◌, ◌<◌, ◌≤◌, Bool, true, false, nat_lt, nat_le, if◌then◌else◌, List, [], ◌∷◌, ◌++◌, length, refl, ap, ◌∙◌, arith, length-append}
-use Rattle.std.proofs.lemmas.Bool.Decides.{nat_tests}
+use Rattle.std.proofs.lemmas.Bool.{cond-true, lt-ltb, le-leb}
 use Rattle.bits_core.specs.declared.events.Side.TheVariants.{P, C}
 use Rattle.bits_core.specs.declared.shapes.Shape.{Shape}
 use Rattle.bits_core.specs.Shape.{batch_of}
@@ -18,15 +18,6 @@ use Rattle.ring_core.proofs.OverSpans.Looks.{puts_items, all_proper, puts_pass}
 use Rattle.ring_core.proofs.RingHolds.{all_is, put_total}
 use Rattle.ring_core.proofs.OverSpans.Spans.{total}
 use Rattle.ring_core.proofs.OverSpans.Timeline.{all_begun}
-
-is_below : (a b : ℕ) → a < b → nat_lt a b ≡ true
-is_below a b l = grind (arith, nat_tests)
-
-is_within : (a b : ℕ) → a ≤ b → nat_le a b ≡ true
-is_within a b l = grind (arith, nat_tests)
-
-chosen : {A : Type 0} → (t : Bool) (x y : A) → t ≡ true → (if t then x else y) ≡ x
-chosen t x y e = rw e refl
 
 either : (t : Bool) (n : ℕ) → (if t then n else n) ≡ n
 either true n = refl
@@ -56,14 +47,14 @@ all-taken shape c (Item seen items ∷ takes) t l =
     let x : Take = Item seen items in
     let here : ℕ = events_in (take_phrase shape c x) in
     let parts = two_parts (take_phrase shape c x) (take_phrases shape (count_after shape c x) takes) t l in
-    let first = chosen (nat_le here t) items [] (is_within here t parts.0) in
+    let first = cond-true (nat_le here t) items [] (le-leb here t parts.0) in
     let rest = all-taken shape (count_after shape c x) takes (t - here) parts.1 in
     (λ i. first i ++ rest i)
 all-taken shape c (ItemAfterClose seen again items ∷ takes) t l =
     let x : Take = ItemAfterClose seen again items in
     let here : ℕ = events_in (take_phrase shape c x) in
     let parts = two_parts (take_phrase shape c x) (take_phrases shape (count_after shape c x) takes) t l in
-    let first = chosen (nat_le here t) items [] (is_within here t parts.0) in
+    let first = cond-true (nat_le here t) items [] (le-leb here t parts.0) in
     let rest = all-taken shape (count_after shape c x) takes (t - here) parts.1 in
     (λ i. first i ++ rest i)
 all-taken shape c (Empty seen ∷ takes) t l =
@@ -76,7 +67,7 @@ counted_first : (shape : Shape) (c : Count) (items : List ℕ) (looks : List Mad
     (if nat_lt (events_in (looks ++ words_read shape c.number items)) t then length items else 0) + more ≡ length (items ++ all)
 counted_first shape c items looks t more all is batch whole rest =
     let begun : ℕ = events_in (looks ++ words_read shape c.number items) in
-    let first = chosen {A = ℕ} (nat_lt begun t) (length items) 0 (is_below begun t (omega (arith, whole, before_whole shape c items looks is batch))) in
+    let first = cond-true {A = ℕ} (nat_lt begun t) (length items) 0 (lt-ltb begun t (omega (arith, whole, before_whole shape c items looks is batch))) in
     omega (arith, first, rest, length-append items all)
 
 pub all-counted : (shape : Shape) (c : Count) (takes : List Take) (end : End) (t : ℕ) → IsCount shape c → AreTakes shape c.number takes end →

@@ -1,6 +1,6 @@
 -- The calls of each side behind its first ones: what their own events tell.
-use Rattle.std.proofs.Common.{◌≡◌, ℕ, suc, ◌+◌, ◌-◌, ◌<◌, ◌≤◌, Bool, true, false, nat_eq, if◌then◌else◌, List, [], ◌∷◌, ◌++◌, length, refl, sym, ap, subst, ◌∙◌, arith, append_assoc, append-nil, length-append}
-use Rattle.std.proofs.lemmas.Bool.Decides.{nat_tests}
+use Rattle.std.proofs.Common.{◌≡◌, ℕ, suc, ◌+◌, ◌-◌, ◌<◌, Bool, true, false, nat_eq, if◌then◌else◌, List, [], ◌∷◌, ◌++◌, length, refl, sym, ap, subst, ◌∙◌, arith, append_assoc, append-nil, length-append}
+use Rattle.std.proofs.lemmas.Bool.{lt-ltb, eq-eqb}
 use Rattle.queue_calls.specs.Calls as calls
 use Rattle.queue_calls.specs.Calls.{PutBegin, TakeBegin}
 use Rattle.bits_core.specs.declared.events.Side.TheVariants.{P, C}
@@ -19,55 +19,28 @@ use Rattle.ring_core.proofs.OverSpans.Looks.{proper_puts, proper_takes}
 use Rattle.ring_core.proofs.CountRow.{past_is}
 use Rattle.ring_core.proofs.OverSpans.CallSpans.{take_phrase-item, take_phrase-after, take_phrase-empty}
 pub use Rattle.ring_core.proofs.OverSpans.CallSpans.{put_items}
-use Rattle.ring_core.proofs.Linear.PutTurns.{lt_is, lt_not, put_long}
+use Rattle.ring_core.proofs.Linear.PutTurns.{put_long}
 use Rattle.ring_core.proofs.Linear.PutTurnFacts.{long_is}
 use Rattle.ring_core.proofs.Linear.TakeTurns.{take_long}
 use Rattle.ring_core.proofs.Recorded.RecordedSpans.{SpansBehind, spans_first, spans_past}
+use Rattle.ring_core.proofs.Recorded.TellsByOne.{behind_told}
 
 -- ---- what the events of one call tell
 
-eq_is : (a b : ℕ) → a ≡ b → nat_eq a b ≡ true
-eq_is a b e = grind (arith, nat_tests)
-
-eq_not : (a b : ℕ) → ¬ (a ≡ b) → nat_eq a b ≡ false
-eq_not a b e = grind (arith, nat_tests)
-
 told_in : (long : ℕ) (begins ends : calls.Event) (i : ℕ) (behind : List calls.Event) → i < long → told_or_behind long begins ends i behind ≡ call_told long begins ends i
-told_in long begins ends i behind l = ap (λ (b : Bool). if b then call_told long begins ends i else behind) (lt_is i long l)
+told_in long begins ends i behind l = ap (λ (b : Bool). if b then call_told long begins ends i else behind) (lt-ltb i long l)
 
 -- the first tells the begin
 pub told_first : (long : ℕ) (begins ends : calls.Event) (behind : List calls.Event) → 0 < long → told_or_behind long begins ends 0 behind ≡ begins ∷ []
 told_first long begins ends behind l =
-    told_in long begins ends 0 behind l ∙ ap (λ (b : Bool). if b then begins ∷ [] else if nat_eq (suc 0) long then ends ∷ [] else []) (eq_is 0 0 refl)
-
-not_first : (long : ℕ) (begins ends : calls.Event) (i : ℕ) → 0 < i → call_told long begins ends i ≡ (if nat_eq (suc i) long then ends ∷ [] else [])
-not_first long begins ends i some =
-    ap (λ (b : Bool). if b then begins ∷ [] else if nat_eq (suc i) long then ends ∷ [] else []) (eq_not i 0 (λ e. omega (arith, e, some)))
-
--- those between nothing
-pub told_between : (long : ℕ) (begins ends : calls.Event) (i : ℕ) (behind : List calls.Event) → 0 < i → suc i < long →
-    told_or_behind long begins ends i behind ≡ []
-told_between long begins ends i behind some l =
-    told_in long begins ends i behind (omega (arith, l)) ∙ not_first long begins ends i some ∙
-    ap (λ (b : Bool). if b then ends ∷ [] else []) (eq_not (suc i) long (λ e. omega (arith, e, l)))
-
--- the last tells the end
-pub told_last : (long : ℕ) (begins ends : calls.Event) (i : ℕ) (behind : List calls.Event) → 0 < i → suc i ≡ long →
-    told_or_behind long begins ends i behind ≡ ends ∷ []
-told_last long begins ends i behind some e =
-    told_in long begins ends i behind (omega (arith, e)) ∙ not_first long begins ends i some ∙
-    ap (λ (b : Bool). if b then ends ∷ [] else []) (eq_is (suc i) long e)
-
--- and those past them what is behind
-told_past : (long : ℕ) (begins ends : calls.Event) (i : ℕ) (behind : List calls.Event) → long ≤ i → told_or_behind long begins ends i behind ≡ behind
-told_past long begins ends i behind l = ap (λ (b : Bool). if b then call_told long begins ends i else behind) (lt_not i long l)
+    told_in long begins ends 0 behind l ∙ ap (λ (b : Bool). if b then begins ∷ [] else if nat_eq (suc 0) long then ends ∷ [] else []) (eq-eqb 0 0 refl)
 
 -- so they tell what comes behind, from its first event on
 told_behind :
     (long : ℕ) (begins ends : calls.Event) (next : ℕ → List calls.Event) (j : ℕ) → told_or_behind long begins ends (long + j) (next (long + j - long)) ≡ next j
 told_behind long begins ends next j =
     let back : long + j - long ≡ j = omega arith in
-    told_past long begins ends (long + j) (next (long + j - long)) (omega arith) ∙ ap next back
+    behind_told long begins ends (long + j) (next (long + j - long)) (omega arith) ∙ ap next back
 
 -- ---- the calls of a side
 

@@ -12,6 +12,7 @@ use Rattle.bits_core.specs.declared.events.Event.{Event}
 use Rattle.bits_core.specs.declared.shapes.Shape.{Shape}
 use Rattle.bits_core.specs.Shape.{batch_of, capacity_of, modulus_of}
 use Rattle.bits_core.specs.Made.{subhistory, clock, IsPlaceOf}
+use Rattle.bits_core.proofs.OwnEvents.{by_case}
 use Rattle.ring_core.specs.Counts.{distance, Count, first_count}
 use Rattle.ring_core.specs.Puts.{Put, Stored, Full, Puts, stored_after, put_phrase, put_phrases, close_phrase, room_in}
 use Rattle.ring_core.specs.Takes.{Takes}
@@ -22,12 +23,13 @@ use Rattle.ring_core.proofs.OverSpans.Spans.{Passes, Stops, counts_ended}
 use Rattle.ring_core.proofs.OverSpans.LookSpans.{look, span_of, put_spans, take_spans}
 use Rattle.ring_core.proofs.Readings.Cuts.{at_most_or_above}
 use Rattle.ring_core.proofs.OverSpans.RingOfSpans.{LawOfSpans}
-use Rattle.ring_core.proofs.Linear.PutTurns.{by_test, put_long, put_some, before_put_ends}
+use Rattle.ring_core.proofs.Linear.PutTurns.{put_long, put_some, before_put_ends}
 use Rattle.ring_core.proofs.Linear.PutTurnFacts.{long_is}
 use Rattle.ring_core.proofs.Recorded.RecordedSpans.{stands_next, begun_here, counted_here}
-use Rattle.ring_core.proofs.Recorded.RecordedCalls.{told_first, told_between, told_last, put_items, PutsBehind, puts_past}
+use Rattle.ring_core.proofs.Recorded.RecordedCalls.{told_first, put_items, PutsBehind, puts_past}
 use Rattle.ring_core.proofs.Recorded.RecordedStates.{before_close, PutRuns, PutCloses, first_stored, take_view}
 use Rattle.ring_core.proofs.Recorded.RecordedMoments.{at_q, past_p, next_p, place_p, few_puts, within_at, prefix_at, Now, Stepped, by_events}
+use Rattle.ring_core.proofs.Recorded.TellsByOne.{between_told, last_told}
 
 -- a put has two events
 put_two : (shape : Shape) (c : Count) (x : Put) → 2 ≤ put_long shape c x
@@ -95,7 +97,7 @@ module _ (shape : Shape) (offers : ℕ → List ℕ) (wants : ℕ → ℕ) (h : 
       let here : p ≡ p + 0 = omega arith in
       let past : before_close shape puts ≡ p + events_in (put_phrases shape c (x ∷ more)) = b.all in
       let some : put_long shape c x ≤ events_in (put_phrases shape c (x ∷ more)) = omega (arith, length-append (put_phrase shape c x) (put_phrases shape (stored_after shape c x) more)) in
-      let opened : k.shut ≡ false = by_test k.shut (λ s. absurd (omega (arith, now.shut s, past))) (λ s. s) in
+      let opened : k.shut ≡ false = by_case k.shut (λ s. absurd (omega (arith, now.shut s, past))) (λ s. s) in
       let same : now.taken ++ k.inside ≡ now.stored = now.items ∙ ap (λ l. now.stored ++ l) none ∙ append-nil now.stored in
       by_events shape offers wants h puts takes (suc t) (suc p) q rest k (PutBegin items ∷ []) (told p)
       (ap told here ∙ b.told 0 ∙ told_first (put_long shape c x) (PutBegin items) (put_answer x) _ (omega (arith, two)))
@@ -167,7 +169,7 @@ module _ (shape : Shape) (offers : ℕ → List ℕ) (wants : ℕ → ℕ) (h : 
       let b = r.behind in
       by_events shape offers wants h puts takes (suc t) (suc p) q rest k (CloseEnd ∷ []) (told p)
       (ap told r.place_is ∙ b.told 1 ∙ ap (λ d. put_told shape offers b.made r.count [] d 1) r.closes ∙
-      told_last (events_in (close_phrase true)) CloseBegin CloseEnd 1 [] (omega arith) (omega arith))
+      last_told (events_in (close_phrase true)) CloseBegin CloseEnd 1 [] (omega arith) (omega arith))
       (record {
         after = kept k.inside Free k.take true;
         moves = (r.again, r.put_is, refl);
@@ -193,7 +195,7 @@ module _ (shape : Shape) (offers : ℕ → List ℕ) (wants : ℕ → ℕ) (h : 
       let j : ℕ = p - r.start in
       let on : p ≡ r.start + j = omega (arith, r.begun) in
       by_events shape offers wants h puts takes (suc t) (suc p) q rest k [] (told p)
-      (ap told on ∙ r.behind.told j ∙ told_between (put_long shape r.count r.call) (PutBegin (offers r.behind.made)) (put_answer r.call) j _ (omega (arith, r.begun)) (omega (arith, l, r.begun)))
+      (ap told on ∙ r.behind.told j ∙ between_told (put_long shape r.count r.call) (PutBegin (offers r.behind.made)) (put_answer r.call) j _ (omega (arith, r.begun)) (omega (arith, l, r.begun)))
       (record {
         after = k;
         moves = refl;
@@ -293,7 +295,7 @@ module _ (shape : Shape) (offers : ℕ → List ℕ) (wants : ℕ → ℕ) (h : 
       let (gone, left_is) = first_stored shape r.count.number (offers r.behind.made) r.call r.behind.offered.1 in
       let size = ap length (r.left_is ∙ sym left_is) ∙ length-append (put_items r.call) gone in
       by_events shape offers wants h puts takes (suc t) (suc p) q rest k (put_answer r.call ∷ []) (told p)
-      (ap told on ∙ r.behind.told j ∙ told_last (put_long shape r.count r.call) (PutBegin (offers r.behind.made)) (put_answer r.call) j _ (omega (arith, r.begun)) (omega (arith, stop, r.begun)))
+      (ap told on ∙ r.behind.told j ∙ last_told (put_long shape r.count r.call) (PutBegin (offers r.behind.made)) (put_answer r.call) j _ (omega (arith, r.begun)) (omega (arith, stop, r.begun)))
       (put_told_end (suc t) (suc p) q rest k now.stored now.left r.count r.start r.before r.call r.rest r.behind r.put_is
       (omega (arith, r.behind.offered.0, ap length r.left_is)) (omega (arith, size)) (r.no_room (omega (arith, stop, next_p h t p q e rest by now.moment)))
       (put_leaves t p q e rest k by now r stop))

@@ -31,13 +31,14 @@ use Rattle.ring_core.proofs.Machines.Lengths.{length-scan}
 use Rattle.ring_core.proofs.OwnEvents.{clock_rises}
 use Rattle.ring_core.proofs.OverSpans.CallSpans.{stands_at, take_phrase-item, take_phrase-after, take_phrase-empty}
 use Rattle.ring_core.proofs.CallCounts.{phrase_some}
-use Rattle.ring_core.proofs.Linear.PutTurns.{by_test}
 use Rattle.ring_core.proofs.Linear.TakeTurns.{take_long, end_long, end_some}
 use Rattle.ring_core.proofs.Recorded.RecordedSpans.{stands_next, counted_here}
-use Rattle.ring_core.proofs.Recorded.RecordedCalls.{told_first, told_between, told_last, TakesBehind, takes_past}
+use Rattle.ring_core.proofs.Recorded.RecordedCalls.{told_first, TakesBehind, takes_past}
 use Rattle.ring_core.proofs.Recorded.RecordedStates.{before_close, IsClosing, TakeAt, TakeRuns, TakeEnds, put_view, end_ended}
 use Rattle.ring_core.proofs.Recorded.RecordedMoments.{at_p, at_q, past_q, next_q, place_q, few_takes, within_at, prefix_at, Now, Stepped, by_events}
+use Rattle.ring_core.proofs.Recorded.TellsByOne.{between_told, last_told}
 use Rattle.bits_core.proofs.LawLemmas.{subhistory_has_place}
+use Rattle.bits_core.proofs.OwnEvents.{by_case}
 
 -- a take has two events
 take_two : (shape : Shape) (c : Count) (x : Take) → 2 ≤ take_long shape c x
@@ -157,7 +158,7 @@ module _ (shape : Shape) (offers : ℕ → List ℕ) (wants : ℕ → ℕ) (h : 
       absurd (omega (arith, b.are.0.2.some, ap length none))
   opened c taken (Empty seen) more t p q stored inside shut b place ep eq ended l is_shut next over none =
       let early = (none_inside c taken seen more t p q stored inside b place ep eq ended l over).1 in
-      by_test shut
+      by_case shut
       (λ s. elim (is_shut s).1 [
         | inl m ↦ absurd (omega (arith, m, early))
         | inr m ↦ absurd (omega (arith, m, next, few_takes shape h takes run.takes_follow))
@@ -205,7 +206,7 @@ module _ (shape : Shape) (offers : ℕ → List ℕ) (wants : ℕ → ℕ) (h : 
       let j : ℕ = q - r.start in
       let on : q ≡ r.start + j = omega (arith, r.begun) in
       by_events shape offers wants h puts takes (suc t) p (suc q) rest k [] (told q)
-      (ap told on ∙ r.behind.told j ∙ told_between (take_long shape r.count r.call) (TakeBegin (wants r.behind.made)) (take_answer r.call) j _ (omega (arith, r.begun)) (omega (arith, l, r.begun)))
+      (ap told on ∙ r.behind.told j ∙ between_told (take_long shape r.count r.call) (TakeBegin (wants r.behind.made)) (take_answer r.call) j _ (omega (arith, r.begun)) (omega (arith, l, r.begun)))
       (record {
         after = k;
         moves = refl;
@@ -301,7 +302,7 @@ module _ (shape : Shape) (offers : ℕ → List ℕ) (wants : ℕ → ℕ) (h : 
       let over : r.start + take_long shape r.count r.call ≤ length (subhistory C h) = omega (arith, stop, next_q h t p q e rest by now.moment) in
       by_events shape offers wants h puts takes (suc t) p (suc q) rest k (take_answer r.call ∷ []) (told q)
       (ap told on ∙ r.behind.told j ∙
-      told_last (take_long shape r.count r.call) (TakeBegin (wants r.behind.made)) (take_answer r.call) j _ (omega (arith, r.begun)) (omega (arith, stop, r.begun)))
+      last_told (take_long shape r.count r.call) (TakeBegin (wants r.behind.made)) (take_answer r.call) j _ (omega (arith, r.begun)) (omega (arith, stop, r.begun)))
       (take_told_end (suc t) p (suc q) rest k r.count r.start now.taken r.before r.shut r.call r.rest r.behind r.take_is (some_wanted r.behind.made)
       (r.no_more over) (r.open_then over) (take_leaves t p q e rest k by now r stop))
 
@@ -346,7 +347,7 @@ module _ (shape : Shape) (offers : ℕ → List ℕ) (wants : ℕ → ℕ) (h : 
       let on : q ≡ r.start + j = omega (arith, r.begun) in
       by_events shape offers wants h puts takes (suc t) p (suc q) rest k [] (told q)
       (ap told on ∙ r.behind.told j ∙ end_told r.behind.made r.count takes.end r.seen r.again j r.end_is ∙
-      told_between (end_long r.seen r.again) (TakeBegin (wants r.behind.made)) TakeClosed j [] (omega (arith, r.begun)) (omega (arith, l, r.begun)))
+      between_told (end_long r.seen r.again) (TakeBegin (wants r.behind.made)) TakeClosed j [] (omega (arith, r.begun)) (omega (arith, l, r.begun)))
       (record {
         after = k;
         moves = refl;
@@ -394,7 +395,7 @@ module _ (shape : Shape) (offers : ℕ → List ℕ) (wants : ℕ → ℕ) (h : 
       nothing now.taken k.inside (now.items ∙ ap (λ l. now.stored ++ l) none ∙ append-nil now.stored ∙ stored_all ∙ sym taken_is) in
       by_events shape offers wants h puts takes (suc t) p (suc q) rest k (TakeClosed ∷ []) (told q)
       (ap told on ∙ r.behind.told j ∙ end_told r.behind.made r.count takes.end r.seen r.again j r.end_is ∙
-      told_last (end_long r.seen r.again) (TakeBegin (wants r.behind.made)) TakeClosed j [] (omega (arith, r.begun)) (omega (arith, stop, r.begun)))
+      last_told (end_long r.seen r.again) (TakeBegin (wants r.behind.made)) TakeClosed j [] (omega (arith, r.begun)) (omega (arith, stop, r.begun)))
       (record {
         after = kept [] k.put Rests true;
         moves = (wants r.behind.made, r.before, r.shut, r.take_is, empty, is_closed k p closing now.closed, refl);

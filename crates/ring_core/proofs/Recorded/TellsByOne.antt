@@ -1,6 +1,7 @@
 -- What one event tells of calls that follow one another, by those of them that are over before it and with it.
-use Rattle.std.proofs.Common.{◌≡◌, ◌⊎◌, inl, inr, ℕ, suc, ◌+◌, ◌-◌, ◌<◌, ◌≤◌, Bool, true, false, nat_eq, nat_le, nat_lt, if◌then◌else◌, List, [], ◌∷◌, ◌++◌, length, refl, ap, ◌∙◌, arith}
+use Rattle.std.proofs.Common.{◌≡◌, ◌⊎◌, inl, inr, ℕ, suc, ◌+◌, ◌-◌, ◌<◌, ◌≤◌, Bool, false, nat_eq, if◌then◌else◌, List, [], ◌∷◌, ◌++◌, length, refl, ap, ◌∙◌, arith}
 use Rattle.std.proofs.lemmas.Bool.Decides.{nat_tests}
+use Rattle.std.proofs.lemmas.Bool.{le-leb, lt-leb, lt-ltb, le-ltb, eq-eqb}
 use Rattle.queue_calls.specs.Calls.{Event}
 use Rattle.ring_core.specs.Over.{over}
 use Rattle.ring_core.specs.Recorded.{call_told, told_or_behind}
@@ -8,21 +9,6 @@ use Rattle.ring_core.proofs.Readings.Cuts.{at_most_or_above}
 use Rattle.ring_core.proofs.Readings.Over.{total}
 
 -- ---- tests
-
-le_is : (a b : ℕ) → a ≤ b → nat_le a b ≡ true
-le_is a b l = grind (arith, nat_tests)
-
-le_not : (a b : ℕ) → b < a → nat_le a b ≡ false
-le_not a b l = grind (arith, nat_tests)
-
-lt_is : (a b : ℕ) → a < b → nat_lt a b ≡ true
-lt_is a b l = grind (arith, nat_tests)
-
-lt_not : (a b : ℕ) → b ≤ a → nat_lt a b ≡ false
-lt_not a b l = grind (arith, nat_tests)
-
-eq_is : (a b : ℕ) → a ≡ b → nat_eq a b ≡ true
-eq_is a b e = grind (arith, nat_tests)
 
 eq_not : (a b : ℕ) → a < b → nat_eq a b ≡ false
 eq_not a b l = grind (arith, nat_tests)
@@ -50,25 +36,25 @@ place long i some = elim (at_most_or_above long i) [
 
 pub first_told : (long : ℕ) (begins ends : Event) (i : ℕ) (behind : List Event) → 2 ≤ long → i ≡ 0 → told_or_behind long begins ends i behind ≡ begins ∷ []
 first_told long begins ends i behind some e =
-    ap (λ (b : Bool). if b then call_told long begins ends i else behind) (lt_is i long (omega (arith, some, e))) ∙
-    ap (λ (b : Bool). if b then begins ∷ [] else if nat_eq (suc i) long then ends ∷ [] else []) (eq_is i 0 e)
+    ap (λ (b : Bool). if b then call_told long begins ends i else behind) (lt-ltb i long (omega (arith, some, e))) ∙
+    ap (λ (b : Bool). if b then begins ∷ [] else if nat_eq (suc i) long then ends ∷ [] else []) (eq-eqb i 0 e)
 
 pub between_told :
     (long : ℕ) (begins ends : Event) (i : ℕ) (behind : List Event) → 0 < i → suc i < long → told_or_behind long begins ends i behind ≡ []
 between_told long begins ends i behind l m =
-    ap (λ (b : Bool). if b then call_told long begins ends i else behind) (lt_is i long (omega (arith, m))) ∙
+    ap (λ (b : Bool). if b then call_told long begins ends i else behind) (lt-ltb i long (omega (arith, m))) ∙
     ap (λ (b : Bool). if b then begins ∷ [] else if nat_eq (suc i) long then ends ∷ [] else []) (not_first i l) ∙
     ap (λ (b : Bool). if b then ends ∷ [] else []) (eq_not (suc i) long m)
 
 pub last_told :
     (long : ℕ) (begins ends : Event) (i : ℕ) (behind : List Event) → 0 < i → suc i ≡ long → told_or_behind long begins ends i behind ≡ ends ∷ []
 last_told long begins ends i behind l e =
-    ap (λ (b : Bool). if b then call_told long begins ends i else behind) (lt_is i long (omega (arith, e))) ∙
+    ap (λ (b : Bool). if b then call_told long begins ends i else behind) (lt-ltb i long (omega (arith, e))) ∙
     ap (λ (b : Bool). if b then begins ∷ [] else if nat_eq (suc i) long then ends ∷ [] else []) (not_first i l) ∙
-    ap (λ (b : Bool). if b then ends ∷ [] else []) (eq_is (suc i) long e)
+    ap (λ (b : Bool). if b then ends ∷ [] else []) (eq-eqb (suc i) long e)
 
 pub behind_told : (long : ℕ) (begins ends : Event) (i : ℕ) (behind : List Event) → long ≤ i → told_or_behind long begins ends i behind ≡ behind
-behind_told long begins ends i behind l = ap (λ (b : Bool). if b then call_told long begins ends i else behind) (lt_not i long l)
+behind_told long begins ends i behind l = ap (λ (b : Bool). if b then call_told long begins ends i else behind) (le-ltb i long l)
 
 -- ---- what an event of calls that follow one another tells
 
@@ -87,11 +73,11 @@ module _ {S X : Type 0} (events : S → X → ℕ) (after : S → X → S) (begi
     Behind : with_it ≡ before → before ≡ xs → total events after s xs ≤ i → tells ≡ last (i - total events after s xs) → Tells j s xs i before with_it tells
 
   none_over : (s : S) (x : X) (xs : List X) (t : ℕ) → t < events s x → over events after s (x ∷ xs) t ≡ []
-  none_over s x xs t l = ap (λ (b : Bool). if b then x ∷ over events after (after s x) xs (t - events s x) else []) (le_not (events s x) t l)
+  none_over s x xs t l = ap (λ (b : Bool). if b then x ∷ over events after (after s x) xs (t - events s x) else []) (lt-leb (events s x) t l)
 
   one_over : (s : S) (x : X) (xs : List X) (t n : ℕ) → events s x ≤ t → t - events s x ≡ n → over events after s (x ∷ xs) t ≡ x ∷ over events after (after s x) xs n
   one_over s x xs t n l e =
-      ap (λ (b : Bool). if b then x ∷ over events after (after s x) xs (t - events s x) else []) (le_is (events s x) t l) ∙
+      ap (λ (b : Bool). if b then x ∷ over events after (after s x) xs (t - events s x) else []) (le-leb (events s x) t l) ∙
       ap (λ n. x ∷ over events after (after s x) xs n) e
 
   -- within no event no call is over
