@@ -1,9 +1,9 @@
 -- The names, values and kinds that are read, and what the object has.
 use Rattle.std.proofs.Common.{◌≡◌, ◌⊎◌, ◌∙◌, ◌<◌, ℕ, zero, suc, Bool, true, false, List, Option, Some, None, Result, Ok, Err, refl, sym, ap, subst, arith, true≢false, inl, inr}
-use Rattle.std.specs.Prelude.{◌&&◌, ◌||◌}
+use Rattle.std.specs.Prelude.{◌||◌}
 use Rattle.std.specs.Str.{bytes_eq}
 use Rattle.serde_json.specs.Data.{Data, object, Members, no_members, member}
-use Rattle.std.proofs.lemmas.Bool.{cases_lt}
+use Rattle.std.proofs.lemmas.Bool.{cases_lt, and_parts}
 use Rattle.std.proofs.lemmas.Slice.Eq.{bytes_eq-Decides}
 use Rattle.ring_script.specs.Faults.{IsFirst, IsMissing, field_place, is_needed}
 use Rattle.ring_script.specs.Results.{result_and_then}
@@ -81,15 +81,11 @@ is_name_of field.Oracle = refl
 is_name_of field.Batch = refl
 is_name_of field.TakeBatch = refl
 
-both : (a b : Bool) → (a && b) ≡ true → (a ≡ true) × (b ≡ true)
-both true b e = (refl, e)
-both false b e = cc
-
 pub known_from : (ms : Members) → has_known_names ms ≡ true → HasKnownNames ms
 unfolding has_known_names
 known_from no_members e = tt
 known_from (member name value rest) e =
-    let parts = both (is_name name) (has_known_names rest) e in
+    let parts = and_parts (is_name name) (has_known_names rest) e in
     (name_is name parts.0, known_from rest parts.1)
 
 pub known_to : (ms : Members) → HasKnownNames ms → has_known_names ms ≡ true
@@ -128,14 +124,11 @@ abbrev pub Before : (Field → Type 0) → ℕ → Type 0
 Before P zero = Unit {0}
 Before P (suc n) = Before P n × P (field_at n)
 
-order : (m n : ℕ) → m < suc n → (m < n) ⊎ (m ≡ n)
-order m n l = elim (cases_lt m n) [ inl a ↦ inl a | inr b ↦ inr (omega arith) ]
-
 before_all : (P : Field → Type 0) (n : ℕ) → Before P n → (f : Field) → field_place f < n → P f
 before_all P zero h f less = absurd (omega arith)
-before_all P (suc n) h f less = elim (order (field_place f) n less) [
+before_all P (suc n) h f less = elim (cases_lt (field_place f) n) [
   | inl below ↦ before_all P n h.0 f below
-  | inr same ↦ subst P (ap field_at (sym same) ∙ at_place f) h.1
+  | inr past ↦ let same : field_place f ≡ n = omega (arith, less, past) in subst P (ap field_at (sym same) ∙ at_place f) h.1
 ]
 
 first_of : (P : Field → Type 0) (f : Field) → Before (λ g. ¬ P g) (field_place f) → P f → IsFirst P f

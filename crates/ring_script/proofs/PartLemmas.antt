@@ -3,6 +3,7 @@ use Rattle.std.proofs.Common.{◌≡◌, ◌≢◌, ◌⊎◌, ◌∙◌, ◌≤
 use Rattle.std.specs.Prelude.{position, nat_lt, if◌then◌else◌, ⊤}
 use Rattle.std.specs.Str.{is_utf8}
 use Rattle.std.proofs.lemmas.Str.{IsUtf8-from_is_utf8}
+use Rattle.std.proofs.lemmas.Bool.{ltb-true, ltb-false, lt-ltb, le-ltb}
 use Rattle.serde_json.specs.Data.{Data, null, boolean, number, string, array, object, Members}
 use Rattle.serde_json.specs.Read.{read}
 use Rattle.serde_json.specs.Find.{as_object}
@@ -22,18 +23,6 @@ use Rattle.ring_script.specs.declared.faults.ScriptFault.{ScriptFault}
 use Rattle.ring_script.specs.declared.faults.ScriptFault.TheVariants as fault
 use Rattle.ring_script.specs.declared.schedules.TheConstants.{LETTER_LIMIT}
 use Rattle.ring_script.specs.declared.scripts.TheConstants.{ITEM_LIMIT}
-
-not_over : (m n : ℕ) → nat_lt m n ≡ false → n ≤ m
-not_over m n e = grind arith
-
-under : (m n : ℕ) → n ≤ m → nat_lt m n ≡ false
-under m n h = grind arith
-
-over : (m n : ℕ) → m < n → nat_lt m n ≡ true
-over m n h = grind arith
-
-is_over : (m n : ℕ) → nat_lt m n ≡ true → m < n
-is_over m n e = grind arith
 
 pub same_err : {A : Type 0} (x y : ScriptFault) → (let r : Result A ScriptFault = Err x in r ≡ Err y) → x ≡ y
 same_err x y e = cc
@@ -136,7 +125,7 @@ fits_at most w items (Some p) is e = cc
 
 few_at : (most w : ℕ) (t : Bool) (items : List ℕ) → nat_lt most (length items) ≡ t → (if t then Err fault.TooManyItems else if_fits (position (is_too_wide w) items)) ≡ Ok tt → (length items ≤ most) × Fit w items
 few_at most w true items is e = cc
-few_at most w false items is e = (not_over _ _ is, fits_at most w items _ refl e)
+few_at most w false items is e = (ltb-false _ _ is, fits_at most w items _ refl e)
 
 pub items_from : (w : ℕ) (items : List ℕ) → items_within w items ≡ Ok tt → (length items ≤ ITEM_LIMIT) × Fit w items
 unfolding items_within
@@ -144,15 +133,15 @@ items_from w items e = few_at ITEM_LIMIT w (nat_lt ITEM_LIMIT (length items)) it
 
 pub items_to : (w : ℕ) (items : List ℕ) → length items ≤ ITEM_LIMIT → Fit w items → items_within w items ≡ Ok tt
 unfolding items_within
-items_to w items few fit = rw (under ITEM_LIMIT (length items) few) (ap if_fits (none_position (is_too_wide w) items ((fit_tested w).to items fit)))
+items_to w items few fit = rw (le-ltb ITEM_LIMIT (length items) few) (ap if_fits (none_position (is_too_wide w) items ((fit_tested w).to items fit)))
 
 wide_at : (w : ℕ) (items : List ℕ) (o : Option ℕ) (x : ScriptFault) → position (is_too_wide w) items ≡ o → if_fits o ≡ Err x → (p : ℕ) × (x ≡ fault.ItemTooWide p) × IsFirstStray (Fit w) items p
 wide_at w items None x is e = cc
 wide_at w items (Some p) x is e = (p, sym (same_err _ x e), position_first (Fit w) (is_too_wide w) (fit_tested w) items p is)
 
 many_at : (w : ℕ) (t : Bool) (items : List ℕ) (x : ScriptFault) → nat_lt ITEM_LIMIT (length items) ≡ t → (if t then Err fault.TooManyItems else if_fits (position (is_too_wide w) items)) ≡ Err x → ItemsFault w items x
-many_at w true items x is e = inl (sym (same_err _ x e), is_over _ _ is)
-many_at w false items x is e = let f = wide_at w items _ x refl e in inr (f.0, f.1, not_over _ _ is, f.2)
+many_at w true items x is e = inl (sym (same_err _ x e), ltb-true _ _ is)
+many_at w false items x is e = let f = wide_at w items _ x refl e in inr (f.0, f.1, ltb-false _ _ is, f.2)
 
 pub items_why : (w : ℕ) (items : List ℕ) (x : ScriptFault) → items_within w items ≡ Err x → ItemsFault w items x
 unfolding items_within
@@ -160,11 +149,11 @@ items_why w items x e = many_at w (nat_lt ITEM_LIMIT (length items)) items x ref
 
 pub many_told : (w : ℕ) (items : List ℕ) → ITEM_LIMIT < length items → items_within w items ≡ Err fault.TooManyItems
 unfolding items_within
-many_told w items h = rw (over ITEM_LIMIT (length items) h)
+many_told w items h = rw (lt-ltb ITEM_LIMIT (length items) h)
 
 pub wide_told : (w : ℕ) (items : List ℕ) (p : ℕ) → length items ≤ ITEM_LIMIT → IsFirstStray (Fit w) items p → items_within w items ≡ Err (fault.ItemTooWide p)
 unfolding items_within
-wide_told w items p few first = rw (under ITEM_LIMIT (length items) few) (ap if_fits (first_position (Fit w) (is_too_wide w) (fit_tested w) items p first))
+wide_told w items p few first = rw (le-ltb ITEM_LIMIT (length items) few) (ap if_fits (first_position (Fit w) (is_too_wide w) (fit_tested w) items p first))
 
 -- ---- the schedule
 
@@ -174,7 +163,7 @@ stands_is None all letters e = (refl, e)
 
 short_at : (most : ℕ) (t : Bool) (all letters : List Side) (x : ScriptFault) → nat_lt most (length all) ≡ t → (if t then Err x else Ok all) ≡ Ok letters → (letters ≡ all) × (length all ≤ most)
 short_at most true all letters x is e = cc
-short_at most false all letters x is e = (sym (ok_is _ _ e), not_over _ _ is)
+short_at most false all letters x is e = (sym (ok_is _ _ e), ltb-false _ _ is)
 
 short_moved : (most : ℕ) (a b : List Side) → a ≡ b → length b ≤ most → length a ≤ most
 short_moved most a b e h = omega (arith, ap length e)
@@ -190,7 +179,7 @@ pub schedule_to : (text : List ℕ) (letters : List Side) → IsSchedule text le
 unfolding schedule_of
 schedule_to text letters s short =
     let spells = schedule_spells text letters s in
-    rw (schedule_clean text letters s) (rw (under LETTER_LIMIT (length (letters_of text)) (short_moved _ _ _ (sym spells) short)) (ap Ok (sym spells)))
+    rw (schedule_clean text letters s) (rw (le-ltb LETTER_LIMIT (length (letters_of text)) (short_moved _ _ _ (sym spells) short)) (ap Ok (sym spells)))
 
 abbrev pub ScheduleFault : List ℕ → ScriptFault → Type 0
 ScheduleFault text x =
@@ -199,7 +188,7 @@ ScheduleFault text x =
 
 long_at : (text : List ℕ) (t : Bool) (x : ScriptFault) → stray_in text ≡ None → nat_lt LETTER_LIMIT (length (letters_of text)) ≡ t
     → (if t then Err fault.ScheduleTooLong else Ok (letters_of text)) ≡ Err x → ScheduleFault text x
-long_at text true x clean is e = inr (letters_of text, sym (same_err _ x e), clean_schedule text clean, is_over _ _ is)
+long_at text true x clean is e = inr (letters_of text, sym (same_err _ x e), clean_schedule text clean, ltb-true _ _ is)
 long_at text false x clean is e = cc
 
 bad_at : (text : List ℕ) (o : Option ℕ) (x : ScriptFault) → stray_in text ≡ o → if_stands o (letters_of text) ≡ Err x → ScheduleFault text x
@@ -218,7 +207,7 @@ pub long_told : (text : List ℕ) (letters : List Side) → IsSchedule text lett
 unfolding schedule_of
 long_told text letters s long =
     let spells = schedule_spells text letters s in
-    rw (schedule_clean text letters s) (rw (over LETTER_LIMIT (length (letters_of text)) (omega (arith, long, ap length spells))))
+    rw (schedule_clean text letters s) (rw (lt-ltb LETTER_LIMIT (length (letters_of text)) (omega (arith, long, ap length spells))))
 
 -- ---- the oracle
 
