@@ -1,9 +1,9 @@
 #!/bin/sh
 # The tests: the program on each example, what it prints and how it ends, and what it says of faults in random histories; the launcher,
-# tools/install, the documents, some of record/; and each #[test], with no proof of its own. The program is the one that ./lamport_ring
-# runs: the shipped one where it is of these sources. With --prove it is first built here by its proof. What cannot be tried here, for want
-# of the kit or of Python, is told and left out. ./gate has the whole: every proof from nothing, the tests' too, and the mutants. The last
-# line is `N passed, M failed`.
+# tools/install, the documents, the steps of docs/USING.md, some of record/; and each #[test], with no proof of its own. The program is the
+# one that ./lamport_ring runs: the shipped one where it is of these sources. With --prove it is first built here by its proof. What cannot
+# be tried here, for want of the kit or of Python, is told and left out. ./gate has the whole: every proof from nothing, the tests' too, and
+# the mutants. The last line is `N passed, M failed`.
 set -u
 name=test.sh
 started=$(date +%s)
@@ -70,7 +70,9 @@ rank_tests() {
 
 # The tests need no proof. They run beside the last crates of a build, which leave processors idle, and after it in rank; in a process
 # group of their own, so that an end of this script ends them too.
-if ! lacks rt "each #[test]"; then
+using=
+if ! lacks rt "each #[test], the steps of docs/USING.md"; then
+    using=using
     # shellcheck disable=SC2016
     setsid nice -n 19 sh -c '
         while kill -0 "$0" 2>/dev/null && [ ! -e crates/lamport_ring/out/rlib/ring_run.sum ]; do sleep 1; done
@@ -91,7 +93,8 @@ try() {
 }
 
 # These need no program.
-lacks python3 "tests of the launcher, the words of faults, the documents, record/ and docs/TRUST.md" || try launcher trust
+# shellcheck disable=SC2086
+lacks python3 "tests of the launcher, the words of faults, the documents, record/ and docs/TRUST.md" || try launcher trust $using
 if wait "$building"; then
     PROGRAM=$(./lamport_ring --which) || exit 1
     export PROGRAM
