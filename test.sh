@@ -1,6 +1,6 @@
 #!/bin/sh
 # The tests: the program on each example, what it prints and how it ends, and what it says of faults in random histories; the launcher,
-# tools/install, the documents, the steps of docs/USING.md, some of record/; and each #[test], with no proof of its own. The program is the
+# tools/install, the documents, the steps of docs/USING.md, some of record/, calls of the system that fail; and each #[test], with no proof of its own. The program is the
 # one that ./lamport_ring runs: the shipped one where it is of these sources. With --prove it is first built here by its proof. What cannot
 # be tried here, for want of the kit or of Python, is told and left out. ./gate has the whole: every proof from nothing, the tests' too, and
 # the mutants. The last line is `N passed, M failed`.
@@ -92,6 +92,19 @@ try() {
     done
 }
 
+# try_after_examples PART: the same after the examples, whose runs over two threads need a processor each.
+try_after_examples() {
+    {
+        while kill -0 "$examples"; do sleep 1; done 2>/dev/null
+        exec "tests/$1"
+    } >"$room/$1" &
+    trying="$trying $!"
+    tried="$tried $1"
+}
+
+# compiler: the C compilers that are there.
+compiler() { for each in "${CC-}" cc gcc clang; do [ -z "$each" ] || command -v "$each"; done; }
+
 # These need no program.
 # shellcheck disable=SC2086
 lacks python3 "tests of the launcher, the words of faults, the documents, record/ and docs/TRUST.md" || try launcher trust $using
@@ -104,10 +117,13 @@ if wait "$building"; then
     try install
     if command -v python3 >/dev/null; then
         try docs record
-        # (behind the examples, whose runs over two threads want a processor each)
-        { while kill -0 "$examples"; do sleep 1; done 2>/dev/null; exec tests/causes; } >"$room/causes" &
-        trying="$trying $!"
-        tried="$tried causes"
+        try_after_examples causes
+        if [ "$(compiler)" ]; then
+            try_after_examples faults
+        else
+            missing="$missing
+left out, as there is no C compiler on the PATH: calls of the system that fail (tests/faults)"
+        fi
     fi
 else
     failed=1

@@ -1,5 +1,5 @@
 //! The text of recorded calls, read in pieces, and what is found.
-ghost use Rattle.std.specs.Prelude.{◌≡◌, ◌≢◌, ◌+◌, ◌⊎◌, List, [], ◌∷◌, ℕ, ◌++◌, None, IfErr, IfOk, OnOk, MatchOption};
+ghost use Rattle.std.specs.Prelude.{◌≡◌, ◌≢◌, ◌+◌, ◌⊎◌, List, [], ◌∷◌, ℕ, ◌++◌, None, IfErr, IfOk, OnOk, MatchOption, IfSome, ◌↔◌, true};
 ghost use Rattle.queue_calls.specs.Calls as calls;
 ghost use Rattle.queue_calls.specs.Queue as queues;
 ghost use Rattle.queue_calls.specs.Told.{told};
@@ -114,6 +114,8 @@ pub struct RecordingIn<S: Storage> {
     cut: S::Bytes,
     // how many of these were found to begin a line
     begun: usize,
+    // whether there was no room for a bad line, so that it cannot be shown
+    is_lost: bool,
 }
 
 /// A recording in memory of an allocator.
@@ -171,6 +173,7 @@ impl<S: Storage> RecordingIn<S> {
             },
             cut,
             begun: 0,
+            is_lost: false,
         }
     }
 
@@ -261,8 +264,8 @@ impl<S: Storage> RecordingIn<S> {
             return match self.lines.read(end) {
                 Ok(()) => Ok(()),
                 Err(fault) => {
-                    // (kept to be shown, where there is room)
-                    let _ = self.cut.extend_from_slice(end);
+                    // (kept to be shown, if there is room)
+                    self.is_lost = self.cut.extend_from_slice(end).is_err();
                     Err(fault)
                 }
             };
@@ -274,11 +277,15 @@ impl<S: Storage> RecordingIn<S> {
         Ok(())
     }
 
-    /// The bytes of the line that has not ended; behind a `BadLine` those of the bad line, as far as there was room for them.
-    pub fn line(&self) -> &[u8]
-        ensures { result.now ≡ S.Bytes.items self.now.cut }
+    /// The bytes of the line that has not ended; after a `BadLine` those of the bad line, or `None` if there was no room for them.
+    pub fn line(&self) -> Option<&[u8]>
+        ensures kept { IfSome result (λ line. line.now ≡ S.Bytes.items self.now.cut) }
+        ensures lost { (result ≡ None) ↔ (self.now.is_lost ≡ true) }
     {
-        self.cut.as_slice()
+        if self.is_lost {
+            return None;
+        }
+        Some(self.cut.as_slice())
     }
 
     /// Whether its first line tells that the calls behind the last line are missing, as a log was full. It is told of a text that has a

@@ -138,11 +138,14 @@ fn answer_calls<A: Allocator + Copy, I: Read, O: Write, E: Write>(
     let mut recording = Recording::new(alloc);
     let mut at_end = false;
     let answered = calls_answer(alloc, &mut recording, &mut at_end, stop, input);
-    let line = TextLine {
-        text: recording.line(),
-        has_feed: !at_end,
+    let source = match recording.line() {
+        Some(text) => Source::Line(TextLine {
+            text,
+            has_feed: !at_end,
+        }),
+        None => Source::Unkept,
     };
-    deliver(json, Source::Line(line), answered, out, err)
+    deliver(json, source, answered, out, err)
 }
 
 /// The program on a request: answers it, and writes the answer after it is complete.

@@ -64,10 +64,10 @@ fn refused_after<A: Allocator + Copy>(
     recording.read(text)?;
     for count in 0..most {
         if recording.read(piece) == Err(RecordingFault::BadLine(2)) {
-            return Ok((count, recording.line().len()));
+            return Ok((count, recording.line().map_or(0, |line| line.len())));
         }
     }
-    Ok((most, recording.line().len()))
+    Ok((most, recording.line().map_or(0, |line| line.len())))
 }
 
 #[test]

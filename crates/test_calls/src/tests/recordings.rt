@@ -181,7 +181,7 @@ fn a_bad_line_is_kept(rt: HostRuntime) -> Result<(), Fail> {
         let (front, rest) = text.split_at(at);
         let read = recording.read(front).and_then(|()| recording.read(rest));
         assert!(rt; read == Err(RecordingFault::BadLine(2)));
-        assert!(rt; recording.line() == b"P stor".as_slice());
+        assert!(rt; recording.line() == Some(b"P stor".as_slice()));
     }
     Ok(())
 }
