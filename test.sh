@@ -1,9 +1,9 @@
 #!/bin/sh
-# The tests: the program on each example, what it prints and how it ends, and what it says of faults in random histories; the launcher,
-# tools/install, the documents, the steps of docs/USING.md, some of record/, calls of the system that fail; and each #[test], with no proof of its own. The program is the
-# one that ./lamport_ring runs: the shipped one where it is of these sources. With --prove it is first built here by its proof. What cannot
-# be tried here, for want of the kit or of Python, is told and left out. ./gate has the whole: every proof from nothing, the tests' too, and
-# the mutants. The last line is `N passed, M failed`.
+# The tests: the program on each example, what it prints and how it ends, and what it says of faults in random histories; calls of the
+# system that fail; the launcher, tools/install, the documents, the steps of docs/USING.md, some of record/; and each #[test], with no proof
+# of its own. The program is the one that ./lamport_ring runs: the shipped one if it is of these sources. With --prove it is first built
+# here by its proof. What cannot be tried here, for lack of the kit, of Python or of a C compiler, is left out, and the end says so. ./gate
+# has the whole: every proof from nothing, the tests' too, and the mutants. The last line is `N passed, M failed`.
 set -u
 name=test.sh
 started=$(date +%s)
