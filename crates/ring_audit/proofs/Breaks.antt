@@ -1,7 +1,6 @@
 -- The first place up to and with which a history is not of the programs.
 use Rattle.std.proofs.Common.{◌≡◌, ◌↔◌, ℕ, suc, ◌+◌, ◌<◌, Bool, IsTrue, List, [], ◌∷◌, ◌++◌, length, take, drop, get_or, refl, sym, ap, subst, ◌∙◌, arith, append_assoc}
 use Rattle.std.proofs.lemmas.Option.{slice_get_within}
-use Rattle.std.proofs.lemmas.List.Elements.{filter-append}
 use Rattle.std.proofs.lemmas.List.{take-append-drop, take_more, take_at}
 use Rattle.bits_core.specs.declared.events.Side.TheVariants.{P, C}
 use Rattle.bits_core.specs.declared.events.Event.{Event}
@@ -11,13 +10,13 @@ use Rattle.bits_core.specs.declared.shapes.Shape.{Shape}
 use Rattle.bits_core.specs.Audit.{IsFirstFault}
 use Rattle.bits_core.specs.Lawful.{IsLawful}
 use Rattle.bits_core.specs.declared.events.Side.{Side}
-use Rattle.bits_core.specs.Bits.{is_by}
 use Rattle.bits_core.specs.Made.{subhistory, IsPrefix}
 use Rattle.ring_audit.specs.Audit.{IsOfPrograms, IsFound, IsKindAt, IsFirstBreak, Statement, Lawful, Fault, IsFinding, tells_lawful}
 use Rattle.ring_audit.specs.PutReading.{PutsStand, WerePut}
 use Rattle.ring_audit.specs.TakeReading.{TakesStand, WereTaken}
 use Rattle.ring_audit.specs.Reading.{Reading, ReadingStands, BothFollow}
 use Rattle.bits_core.proofs.LawLemmas.{beginning_is_lawful, fault_breaks}
+use Rattle.bits_core.proofs.OwnEvents.{subhistory-append}
 
 pub of_programs : (shape : Shape) (h : List Event) → IsLawful shape h → BothFollow shape h → IsOfPrograms shape h
 of_programs shape h lawful ((puts, are, events), (takes, are', events')) =
@@ -92,13 +91,10 @@ found shape r told put puts_so takes_so kept h lawful st =
 
 -- ---- exactly
 
-own-append : (s : Side) (h g : List Event) → subhistory s (h ++ g) ≡ subhistory s h ++ subhistory s g
-own-append s h g = filter-append (is_by s) h g
-
 pub begins_take : (s : Side) (h : List Event) (n : ℕ) (all : List Event) → IsPrefix (subhistory s h) all → IsPrefix (subhistory s (take n h)) all
 begins_take s h n all (rest, e) = (
   subhistory s (drop n h) ++ rest,
-  sym (append_assoc (subhistory s (take n h)) (subhistory s (drop n h)) rest) ∙ ap (λ l. l ++ rest) (sym (own-append s (take n h) (drop n h)) ∙ ap (subhistory s) (take-append-drop n h)) ∙ e,
+  sym (append_assoc (subhistory s (take n h)) (subhistory s (drop n h)) rest) ∙ ap (λ l. l ++ rest) (sym (subhistory-append s (take n h) (drop n h)) ∙ ap (subhistory s) (take-append-drop n h)) ∙ e,
 )
 
 -- a beginning of a history of the programs is of the programs

@@ -1,6 +1,6 @@
 -- No event but a few may come next.
 use Rattle.std.proofs.Common.{◌≡◌, ◌≢◌, ◌⊎◌, ◌↔◌, IsTrue, inl, inr, ℕ, ◌+◌, ◌<◌, Bool, true, false, Option, Some, None, List, [], ◌∷◌, ◌++◌, take, length, get_or, nat_lt, if◌then◌else◌, refl, sym, ap, subst, ◌∙◌, arith}
-use Rattle.std.proofs.lemmas.Bool.{cases_order}
+use Rattle.std.proofs.lemmas.Bool.{cases_eq}
 use Rattle.std.proofs.lemmas.List.{take_more, take-append-le}
 use Rattle.bits_core.specs.declared.events.Side.{Side}
 use Rattle.bits_core.specs.declared.events.Side.TheVariants.{P, C}
@@ -70,15 +70,6 @@ follow_before shape h i d e within stops ((puts, are, events), (takes, are', eve
 
 -- ---- whether an event is another
 
-same_number : (a b : ℕ) → (a ≡ b) ⊎ (a ≢ b)
-same_number a b = elim (cases_order a b) [
-  | inl same ↦ inl same
-  | inr other ↦ elim other [
-    | inl below ↦ inr (λ same. omega (arith, below, same))
-    | inr above ↦ inr (λ same. omega (arith, above, same))
-  ]
-]
-
 same_truth : (a b : Bool) → (a ≡ b) ⊎ (a ≢ b)
 same_truth true true = inl refl
 same_truth false false = inl refl
@@ -92,7 +83,7 @@ same_side P C = inr (λ same. (absurd (cc)))
 same_side C P = inr (λ same. (absurd (cc)))
 
 one_of : (f : ℕ → Bit) (a b : ℕ) → (f a ≡ f b → a ≡ b) → (f a ≡ f b) ⊎ (f a ≢ f b)
-one_of f a b back = elim (same_number a b) [
+one_of f a b back = elim (cases_eq a b) [
   | inl same ↦ inl (ap f same)
   | inr other ↦ inr (λ same. other (back same))
 ]
@@ -102,8 +93,8 @@ same_bit (S i) (S k) = one_of S i k (λ same. cc)
 same_bit (R i) (R k) = one_of R i k (λ same. cc)
 same_bit X X = inl refl
 same_bit (Cell j i) (Cell l k) =
-    elim (same_number j l) [
-      | inl row ↦ elim (same_number i k) [
+    elim (cases_eq j l) [
+      | inl row ↦ elim (cases_eq i k) [
         | inl digit ↦ inl (ap (λ z. Cell z i) row ∙ ap (Cell l) digit)
         | inr other ↦ inr (λ same. other (cc))
       ]

@@ -21,9 +21,9 @@ use Rattle.ring_core.specs.Puts.{Put, Stored, stored_after, words_phrase, put_ph
 use Rattle.ring_core.specs.PutParts.{count_behind}
 use Rattle.ring_audit.specs.declared.puts.Stage.TheVariants.{Resting, Choosing, Storing, Counting}
 use Rattle.ring_audit.specs.PutReading.{PutReading, RowHolds, IsMost, has_items, InPut, InCount, PutsStand}
-use Rattle.ring_core.proofs.Machines.PutCalls.{phrases-push, stored-push, are-push}
+use Rattle.ring_core.proofs.Machines.PutCalls.{phrases-push, stored-push, are-push, all_put-push}
 use Rattle.ring_audit.proofs.PutReads.{made_at}
-use Rattle.ring_audit.proofs.PutSteps.{put-push, counts_on, ended_so}
+use Rattle.ring_audit.proofs.PutSteps.{counts_on, ended_so}
 pub use Rattle.ring_core.proofs.Machines.ConsumerMoves.{item_fits as fit-push}
 
 -- ---- words
@@ -261,7 +261,7 @@ ends_count shape r es items stored row a v st some stage side due left goes over
       record {
         holds = subst (λ (z : Count). RowHolds row z.bits) (sym after) (subst (λ ws. RowHolds row (bits_after c.bits ws)) (sym whole) s.holds);
         cell_is = s.cell_is ∙ ap (λ (z : Count). z.number % capacity_of shape) (sym after);
-        items_are = s.items_are ∙ sym (put-push st.puts s.seen s.batch);
+        items_are = s.items_are ∙ sym (all_put-push st.puts s.seen s.batch);
         none_stored = s.none_stored;
       },
       made_so ∙ ap (λ ws. front ++ (scan ++ (words ++ writes_in (row_bit P) ws))) (sym whole)

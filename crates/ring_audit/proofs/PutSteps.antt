@@ -14,28 +14,17 @@ use Rattle.register_core.specs.WordState.{ReaderState, ReaderStands}
 use Rattle.register_core.specs.UnaryState.{UnaryState, due_writes, UnaryStands}
 use Rattle.register_core.specs.ScanState.{ScanState, scan_read, zero_reads, scan_phrase, row_read_by}
 use Rattle.ring_core.specs.Counts.{LeavesRoom, LeavesRoomFor, Count, first_count, count_bits}
-use Rattle.ring_core.specs.Puts.{Put, Stored, Full, words_phrase, put_phrases, ArePuts}
-use Rattle.ring_core.specs.Items.{all_put}
+use Rattle.ring_core.specs.Puts.{Put, Full, words_phrase, put_phrases, ArePuts}
 use Rattle.ring_core.specs.PutParts.{count_behind}
 use Rattle.ring_audit.specs.declared.puts.Stage.{Stage}
 use Rattle.ring_audit.specs.declared.puts.Stage.TheVariants.{Resting, Scanning, Choosing, Storing, Counting, Closing, Closed}
 use Rattle.ring_audit.specs.Sides.{open_events}
 use Rattle.ring_audit.specs.PutReading.{PutReading, RowHolds, IsMost, has_items, AtRest, InCount, MadeWhile, PutsStand}
-use Rattle.ring_core.proofs.Machines.PutCalls.{phrases-push, stored-push, are-push}
+use Rattle.ring_core.proofs.Machines.PutCalls.{phrases-push, stored-push, are-push, all_put-full}
 use Rattle.ring_audit.proofs.Readers.{opened, ended}
 use Rattle.ring_audit.proofs.PutReads.{made_at, count_due}
 
 -- ---- one put more
-
-pub put-push : (xs : List Put) (seen : ℕ) (items : List ℕ) → all_put (xs ++ Stored seen items ∷ []) ≡ all_put xs ++ items
-put-push [] seen items = append-nil items
-put-push (Stored u i ∷ xs) seen items = ap (λ l. i ++ l) (put-push xs seen items) ∙ sym (append_assoc i (all_put xs) items)
-put-push (Full u ∷ xs) seen items = put-push xs seen items
-
-pub full-push : (xs : List Put) (seen : ℕ) → all_put (xs ++ Full seen ∷ []) ≡ all_put xs
-full-push [] seen = refl
-full-push (Stored u i ∷ xs) seen = ap (λ l. i ++ l) (full-push xs seen)
-full-push (Full u ∷ xs) seen = full-push xs seen
 
 -- ---- a begin
 
@@ -268,7 +257,7 @@ ends_full shape r es items stored scan a v seen st some is stage not_found fed g
       record {
         holds = subst (λ (z : Count). RowHolds r.row z.bits) (sym left) rests.holds;
         cell_is = rests.cell_is ∙ ap (λ (z : Count). z.number % capacity_of shape) (sym left);
-        items_are = rests.items_are ∙ sym (full-push st.puts seen);
+        items_are = rests.items_are ∙ sym (all_put-full st.puts seen);
         none_stored = rests.none_stored;
       },
       made_so ∙ sym (phrases-push shape first_count st.puts (Full seen)),

@@ -24,6 +24,7 @@ use Rattle.ring_audit.specs.Reading.{ReadingStands, NeedsRoom, reading}
 use Rattle.ring_audit.proofs.Readings.{put_stores, take_takes}
 use Rattle.ring_audit.proofs.TakeEnds.{few_taken}
 
+-- again, as no crate below has it for this one
 pub on_err : {A E : Type 0} {G : Type 0} (r : Result A E) → G → OnErr r G
 on_err (Ok a) g = tt
 on_err (Err x) g = g

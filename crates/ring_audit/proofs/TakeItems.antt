@@ -1,5 +1,5 @@
 -- The items that a reader of takes was brought are those that the takes took.
-use Rattle.std.proofs.Common.{◌≡◌, inl, inr, ℕ, Bool, true, false, Option, Some, None, List, [], ◌∷◌, ◌++◌, refl, sym, ap, ap₂, ◌∙◌, append_assoc, append-nil}
+use Rattle.std.proofs.Common.{◌≡◌, inl, inr, ℕ, Bool, true, false, Option, Some, None, List, [], ◌∷◌, ◌++◌, refl, sym, ap, ap₂, ◌∙◌, append-nil}
 use Rattle.bits_core.specs.declared.shapes.Shape.{Shape}
 use Rattle.ring_core.specs.declared.replies.TakeReply.{TakeReply}
 use Rattle.ring_core.specs.declared.replies.TakeReply.TheVariants as replies
@@ -7,7 +7,7 @@ use Rattle.ring_core.specs.Takes.{Take, Item, ItemAfterClose, Empty, Takes}
 use Rattle.ring_core.specs.ConsumerCalls.{take_reply_to, reply_at_end, items_at_end, IsReplyToTake, AreItemsOfTake, IsAfterTake, items_reply}
 use Rattle.ring_core.specs.Items.{taken_of, all_taken}
 use Rattle.ring_audit.specs.TakeReading.{brought, step_by}
-use Rattle.ring_core.proofs.Machines.TakeCalls.{reply-push, items-push}
+use Rattle.ring_core.proofs.Machines.TakeCalls.{reply-push, items-push, all_taken-push}
 
 -- the items that a reply tells of those kept
 abbrev pub replied : Option TakeReply → List ℕ → List ℕ
@@ -23,10 +23,6 @@ take_replied (Item seen items) = some_replied items
 take_replied (ItemAfterClose seen again items) = some_replied items
 take_replied (Empty seen) = refl
 
-pub taken-push : (xs : List Take) (x : Take) → all_taken (xs ++ x ∷ []) ≡ all_taken xs ++ taken_of x
-taken-push [] x = append-nil (taken_of x)
-taken-push (y ∷ xs) x = ap (λ l. taken_of y ++ l) (taken-push xs x) ∙ sym (append_assoc (taken_of y) (all_taken xs) (taken_of x))
-
 -- once an access was made, the items are those before it and those of the reply
 pub items-after :
     (shape : Shape) (wanted : ℕ) (taking : Bool) (calls more : Takes) (reply : Option TakeReply) (kept : List ℕ) → IsAfterTake shape wanted true taking calls more →
@@ -38,7 +34,7 @@ items-after shape wanted false calls more reply kept has is are =
       | inl (x, of, more_is) ↦
           let reply_is : reply ≡ Some (take_reply_to x) = is ∙ ap (λ (t : Takes). reply_at_end t.end t.takes) more_is ∙ reply-push None calls.takes x in
           let kept_is : kept ≡ taken_of x = are ∙ ap (λ (t : Takes). items_at_end t.end t.takes) more_is ∙ items-push [] calls.takes x in
-          ap (λ (t : Takes). all_taken t.takes) more_is ∙ taken-push calls.takes x ∙ ap (λ l. all_taken calls.takes ++ l) (sym (ap₂ replied reply_is kept_is ∙ take_replied x))
+          ap (λ (t : Takes). all_taken t.takes) more_is ∙ all_taken-push calls.takes x ∙ ap (λ l. all_taken calls.takes ++ l) (sym (ap₂ replied reply_is kept_is ∙ take_replied x))
       | inr (seen, again, more_is) ↦
           let reply_is : reply ≡ Some replies.Closed = is ∙ ap (λ (t : Takes). reply_at_end t.end t.takes) more_is in
           ap (λ (t : Takes). all_taken t.takes) more_is ∙ sym (append-nil (all_taken calls.takes)) ∙ ap (λ r. all_taken calls.takes ++ replied r kept) (sym reply_is)

@@ -18,13 +18,13 @@ use Rattle.bits_core.specs.Shape.{take_batch_of}
 use Rattle.ring_core.specs.Counts.{first_count}
 use Rattle.ring_core.specs.declared.replies.TakeReply.{TakeReply}
 use Rattle.ring_core.specs.Calls.{LastBitIsDue}
-use Rattle.ring_core.specs.Takes.{Takes, End, Open, Closed, words_read, take_phrases, end_phrase, take_program, AreTakes}
+use Rattle.ring_core.specs.Takes.{Takes, words_read, take_phrases, end_phrase, take_program, AreTakes}
 use Rattle.ring_core.specs.Items.{Tells}
 use Rattle.ring_core.specs.GoingOn.{WritesTakeCount, EndInCellRead, TakesPart}
 use Rattle.ring_core.specs.declared.consumers.Stage.{Stage}
 use Rattle.ring_core.specs.declared.consumers.Stage.TheVariants.{Idle, Scanning, Checking, Rescanning, Loading, Counting}
-use Rattle.ring_core.specs.ConsumerState.{ConsumerState, IsBetweenWords, consumer_due_at, due_take, takes_at, is_taking}
-use Rattle.ring_core.specs.ConsumerCalls.{Finding, Once, Twice, finding_phrase, count_taken, TakeGoesOn, ConsumerMadeAt, ConsumerStands, ends_closed}
+use Rattle.ring_core.specs.ConsumerState.{ConsumerState, IsBetweenWords, consumer_due_at, due_take, is_taking}
+use Rattle.ring_core.specs.ConsumerCalls.{Finding, Once, Twice, finding_phrase, count_taken, TakeGoesOn, ConsumerMadeAt, ConsumerStands}
 use Rattle.ring_audit.specs.Sides.{AreOfTakes}
 use Rattle.ring_audit.specs.TakeReading.{TakeReading, TakesStand}
 use Rattle.ring_core.proofs.Readings.Phrases.{same_made}
@@ -33,6 +33,7 @@ use Rattle.ring_core.proofs.Machines.GoingOn.{access_back}
 use Rattle.ring_audit.proofs.Readers as readers
 use Rattle.ring_audit.proofs.Beginnings.{begin_is, same_access, GoesOnWith, GoesOnBy}
 use Rattle.ring_core.proofs.LawLemmas.{calls_are_first_takes, last_reads_are_one_takes, takes_go_on}
+use Rattle.ring_core.proofs.Machines.TakeCalls.{closed_tells, due_at-takes}
 
 -- calls whose events go on so
 rest_on :
@@ -64,21 +65,9 @@ zero_at_last shape r es items a st some due (i, reads, last) of_takes =
     absurd (cc)
 
 -- a take is under way while an access is due
-due_at-takes : (st : Stage) (p : ConsumerState) (a : Access) → consumer_due_at st p ≡ Some a → takes_at st ≡ true
-due_at-takes Idle p a e = absurd (cc)
-due_at-takes Scanning p a e = refl
-due_at-takes Checking p a e = refl
-due_at-takes Rescanning p a e = refl
-due_at-takes Loading p a e = refl
-due_at-takes Counting p a e = refl
 
 pub due_takes : (p : ConsumerState) (a : Access) → due_take p ≡ Some a → is_taking p ≡ true
 due_takes p a e = due_at-takes p.stage p a e
-
--- the last take was told that the ring is closed
-pub told-tells : (end : End) → ends_closed end ≡ true → Tells end
-told-tells Open e = absurd (cc)
-told-tells (Closed seen again) e = record {}
 
 -- ---- an access that is not due
 
@@ -216,7 +205,7 @@ not_due shape r es items p None a st none same stands due_is goes rests wants ov
     by_told : (on : GoesOnWith C st.made (take_program shape of_takes.0) (opening_event C a)) → is_taking p ≡ false → st.made ≡ take_program shape st.calls → (is_taking p ≡ true) ⊎ (p.told ≡ true) → ⊥
     by_told on idle made_so (inl is) = let clash : true ≡ false = sym is ∙ idle in absurd (cc)
     by_told on idle made_so (inr told) =
-        let tells_end : Tells st.calls.end = told-tells st.calls.end (sym stands.told_is ∙ told) in
+        let tells_end : Tells st.calls.end = closed_tells st.calls.end (sym stands.told_is ∙ told) in
         let are : AreTakes shape 0 st.calls.takes st.calls.end = subst (λ s. AreTakes s 0 st.calls.takes st.calls.end) same stands.are in
         let more : List Made = on.next ∷ on.rest in
         let whole : take_program shape st.calls ++ more ≡ take_program shape of_takes.0 = ap (λ l. l ++ more) (sym made_so) ∙ sym on.whole_is in
