@@ -1,18 +1,16 @@
 -- What a whole access of an end leaves as it was.
-use Rattle.std.proofs.Common.{Bool, ◌<◌, [], ◌∷◌, length, ap, ◌∙◌, arith}
+use Rattle.std.proofs.Common.{Bool, ◌<◌, [], ◌∷◌, length, ap, arith}
 use Rattle.std.proofs.lemmas.List.{length-append}
 use Rattle.bits_core.specs.declared.events.Access.{Access}
 use Rattle.ring_seats.specs.Programs.{begin_of, ending_event}
 use Rattle.ring_seats.specs.Ring.{RingEnd}
 use Rattle.ring_seats.specs.Steppers.{HasMade, IsSameEnd}
-
-pub same_on : {a b c : RingEnd} → IsSameEnd a b → IsSameEnd b c → IsSameEnd a c
-same_on s t = record { ring = t.ring ∙ s.ring; side = t.side ∙ s.side; known = t.known ∙ s.known }
+use Rattle.ring_seats.proofs.CounterSteps.{same_end}
 
 -- the end is the same but for its list, which is longer
 module _ (e b : RingEnd) (a : Access) (v : Bool) (h : HasMade e b a v) where
   pub same : IsSameEnd e b
-  same = same_on h.1.same h.2.same
+  same = same_end e h.0 b h.1.same h.2.same
 
   pub longer : length e.list < length b.list
   longer = omega (arith, ap length h.1.list, length-append e.list (begin_of e.side a ∷ []), ap length h.2.list, length-append (h.0).list (ending_event e.side a v ∷ []))

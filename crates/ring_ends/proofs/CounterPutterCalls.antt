@@ -7,6 +7,7 @@ use Rattle.bits_core.specs.declared.events.Side.TheVariants.{P}
 use Rattle.bits_core.specs.declared.events.Event.{Event}
 use Rattle.bits_core.specs.Shape.{capacity_of, modulus_of}
 use Rattle.bits_core.specs.Made.{Made, events_of}
+use Rattle.bits_core.proofs.Fitting.{AllFit-take}
 use Rattle.register_core.specs.ScanState.{scan_phrase, row_read_by}
 use Rattle.ring_core.specs.Counts.{Count, distance, number_past, LeavesRoom, LeavesRoomFor}
 use Rattle.ring_core.specs.Puts.{Put, Puts, Stored, Full, number_after, words_phrase, IsPut, IsBatch}
@@ -17,7 +18,7 @@ use Rattle.ring_seats.specs.Steppers.{IsSameEnd, StandsAs}
 use Rattle.ring_seats.specs.Calls.{HasPuts}
 use Rattle.ring_seats.specs.Counters.{GrowsBy, unary_over}
 use Rattle.ring_ends.specs.CounterEnds.{CountedList, PutterList, put_of, PutMade, PutKept}
-use Rattle.ring_seats.proofs.CounterPuts.{length-first, first_all, first_fit, past_is, words_same, can_scan, full_is, can_store, can_count, stored_is}
+use Rattle.ring_seats.proofs.CounterPuts.{length-first, first_all, past_is, words_same, can_scan, full_is, can_store, can_count, stored_is}
 use Rattle.ring_seats.proofs.CounterSteps.{same_shape, same_end, stands_as}
 use Rattle.ring_core.proofs.LawLemmas.{programs_by_one_call_puts}
 
@@ -95,7 +96,7 @@ module _ (a : RingEnd) (count cell : ℕ) (items : List ℕ) (calls : Puts) (p :
         lt,
         subst (λ (n : ℕ). LeavesRoomFor a.ring.shape n seen (length (take most items))) p.count_is
             (subst (λ (m : ℕ). LeavesRoomFor a.ring.shape count seen m) (sym long) (leaves (capacity_of a.ring.shape) (distance (modulus_of a.ring.shape) count seen) most some fit.room)),
-        record { some = omega (arith, some, long); few = omega (arith, batch.few, long, fit.few); fit = first_fit a.ring.shape most items batch.fit },
+        record { some = omega (arith, some, long); few = omega (arith, batch.few, long, fit.few); fit = AllFit-take a.ring.shape most items batch.fit },
       )
 
       cell_same : cell % capacity_of a.ring.shape ≡ n_of % capacity_of a.ring.shape

@@ -12,12 +12,13 @@ use Rattle.ring_seats.specs.Programs.{begin_of, ending_event}
 use Rattle.ring_seats.specs.Steppers.{AreAnswered, answers_in, CanMake, Grows, HasMade, HasStepped, IsSameEnd, StandsAs}
 use Rattle.ring_ends.specs.Machines.{Machine, MachineAt, MachineReady, MachineGoes, MachineOver, MachineIn, MachineBusy, MachineWent, MachineEnded, IsMachine, IsMarked, without_last}
 use Rattle.ring_ends.specs.Moves.{Due, Fed, MachineLaws, MayFeed}
-use Rattle.ring_ends.proofs.Accesses.{longer, same, same_on}
+use Rattle.ring_ends.proofs.Accesses.{longer, same}
 use Rattle.ring_ends.proofs.Lists.{begun_open, length-events_of}
 use Rattle.ring_ends.proofs.MachineMoves.{right_there, at_begun, at_ended, can_make, list_ended, moved, one_there}
 use Rattle.ring_ends.proofs.MachineCalls.{Begun, list_rests, rest_list, rest_marked, at_one}
 use Rattle.ring_ends.proofs.Steps.{none-some}
 use Rattle.ring_seats.proofs.Answered.{answered_then}
+use Rattle.ring_seats.proofs.CounterSteps.{same_end as same_on}
 use Rattle.bits_core.proofs.LawLemmas.{made_leave_none_open}
 
 -- ---- one access of a call that goes on, by what a machine tells of the one that is due
@@ -73,7 +74,7 @@ went_same k e m said is = subst (λ (z : k.State). MachineWent k e m e z said sa
 
 pub went_then : (k : Machine) {e a b : RingEnd} {m n o : k.State} {old mid now : ℕ → Bool} → MachineWent k e m a n old mid → MachineWent k a n b o mid now → MachineWent k e m b o old now
 went_then k w v = record {
-  same = same_on w.same v.same;
+  same = same_on _ _ _ w.same v.same;
   longer = omega (arith, w.longer, v.longer);
   kind = v.kind ∙ w.kind;
   rests = λ none. (let first = w.rests none in let then = v.rests (subst k.Rests (sym first.0) none) in (then.0 ∙ first.0, then.1 ∙ first.1));

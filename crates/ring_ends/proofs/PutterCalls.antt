@@ -1,5 +1,5 @@
 -- The producer's machine, and a step call of its end.
-use Rattle.std.proofs.Common.{◌≡◌, cond, ◌≢◌, ◌⊎◌, inl, inr, ⊎_elim, ℕ, ◌+◌, ◌<◌, ◌≤◌, Bool, true, false, true≢false, Option, Some, None, List, [], ◌∷◌, ◌++◌, length, refl, ap, sym, subst, ◌∙◌, arith, mul-le-mul_right}
+use Rattle.std.proofs.Common.{◌≡◌, cond, ◌≢◌, ◌⊎◌, inl, inr, ⊎_elim, ℕ, ◌+◌, ◌<◌, ◌≤◌, Bool, true, false, true≢false, Option, Some, None, List, [], ◌∷◌, length, refl, ap, sym, subst, ◌∙◌, arith, mul-le-mul_right}
 use Rattle.std.specs.Prelude.{IfSome, IfNone, is_some, not}
 use Rattle.bits_core.specs.declared.events.Side.TheVariants.{P}
 use Rattle.bits_core.specs.declared.events.Access.{Access}
@@ -15,10 +15,11 @@ use Rattle.ring_core.specs.declared.replies.PutReply as items_replies
 use Rattle.ring_core.specs.declared.replies.PutReply.TheVariants as item_reply_is
 use Rattle.ring_core.specs.declared.replies.BatchReply as replies
 use Rattle.ring_core.specs.declared.replies.BatchReply.TheVariants as reply
-use Rattle.ring_core.specs.Puts.{IsBatch, Put, Puts, put_program, ArePuts}
+use Rattle.ring_core.specs.Puts.{IsBatch, Puts, put_program, ArePuts}
 use Rattle.ring_core.specs.ProducerState as producer
 use Rattle.ring_core.specs.ProducerState.{ProducerState, Call, Close, due_put, call_of, call_at, producer_due_at}
-use Rattle.ring_core.specs.ProducerCalls.{ProducerStands, PutGoesOn, longest_of, ProducerMadeAt, HasCallMore, IsAfterCall, IsReplyToCall, longest, put_reply_to, last_put_reply, and_put}
+use Rattle.ring_core.specs.ProducerCalls.{ProducerStands, PutGoesOn, longest_of, ProducerMadeAt, HasCallMore, IsAfterCall, IsReplyToCall, longest, put_reply_to, and_put}
+use Rattle.ring_core.proofs.Machines.PutCalls.{reply-push as last-snoc}
 use Rattle.ring_seats.specs.Ring.{RingEnd}
 use Rattle.ring_seats.specs.Steppers.{Grows}
 use Rattle.ring_ends.specs.Ends.{HasPuts, HasPut, HasPutAll, HasPutPart, HasClosed, PutAdds, CloseAdds, PutterState, whole_put, puts_whole}
@@ -109,10 +110,6 @@ few_marked shape o c n list marked here few = ⊎_elim
     here
 
 -- ---- replies
-
-last-snoc : (first : Option replies.BatchReply) (puts : List Put) (x : Put) → last_put_reply first (puts ++ x ∷ []) ≡ Some (put_reply_to x)
-last-snoc first [] x = refl
-last-snoc first (y ∷ puts) x = last-snoc (Some (put_reply_to y)) puts x
 
 -- the reply of a put that is over
 pub over_reply : (shape : Shape) (items : List ℕ) (calls more : Puts) (r : Option replies.BatchReply) → (is_more : HasCallMore shape (producer.Put items) calls more) → IsReplyToCall more None r → r ≡ Some (put_reply_to is_more.0)

@@ -1,6 +1,7 @@
 -- The consumer's machine, and a step call of its end.
 use Rattle.std.proofs.Common.{◌≡◌, ◌⊎◌, inl, inr, ⊎_elim, ℕ, zero, suc, ◌+◌, ◌<◌, ◌≤◌, Bool, true, false, true≢false, Option, Some, None, List, [], ◌∷◌, ◌++◌, length, refl, ap, sym, subst, ◌∙◌, arith}
 use Rattle.std.proofs.Math.Nat.{mul-le-mul_right}
+use Rattle.std.proofs.lemmas.Bool.{cases_Bool}
 use Rattle.std.specs.Prelude.{IfSome, IfNone}
 use Rattle.bits_core.specs.declared.events.Side.TheVariants.{C}
 use Rattle.bits_core.specs.declared.events.Access.{Access}
@@ -15,9 +16,10 @@ use Rattle.ring_core.specs.declared.consumers.Stage.TheVariants.{Idle, Scanning,
 use Rattle.ring_core.specs.declared.replies.TakeReply as replies
 use Rattle.ring_core.specs.declared.replies.TakeReply.TheVariants as reply
 use Rattle.ring_core.specs.Lengths.{longest_taking}
-use Rattle.ring_core.specs.Takes.{Take, Takes, take_program, AreTakes}
+use Rattle.ring_core.specs.Takes.{Takes, take_program, AreTakes}
 use Rattle.ring_core.specs.ConsumerState.{due_take, ConsumerState, is_taking, takes_at, consumer_due_at}
-use Rattle.ring_core.specs.ConsumerCalls.{ConsumerHasMoved, ConsumerStands, ConsumerMadeAt, TakeGoesOn, HasTakeMore, IsAfterTake, IsReplyToTake, last_take_reply, reply_at_end, take_reply_to, ends_closed}
+use Rattle.ring_core.specs.ConsumerCalls.{ConsumerHasMoved, ConsumerStands, ConsumerMadeAt, TakeGoesOn, HasTakeMore, IsAfterTake, IsReplyToTake, reply_at_end, take_reply_to, ends_closed}
+use Rattle.ring_core.proofs.Machines.TakeCalls.{due_at-takes, reply-push as last-snoc}
 use Rattle.ring_seats.specs.Ring.{RingEnd}
 use Rattle.ring_seats.specs.Steppers.{Grows}
 use Rattle.ring_ends.specs.Ends.{HasTakes, HasTakenOf, HasTakePart, TakeAdds, TakerState, wants_next, whole_take, takes_whole}
@@ -36,29 +38,17 @@ rest_at Rescanning m calls made is at = absurd (true≢false is)
 rest_at Loading m calls made is at = absurd (true≢false is)
 rest_at Counting m calls made is at = absurd (true≢false is)
 
-either_way : (b : Bool) → (b ≡ false) ⊎ (b ≡ true)
-either_way false = inl refl
-either_way true = inr refl
-
 -- what a take comes to by one access more, as the machine's states tell it
 after_so :
     (shape : Shape) (wanted : ℕ) (a b c d : Bool) (calls more : Takes) → a ≡ c → b ≡ d → IsAfterTake shape wanted a b calls more → IsAfterTake shape wanted c d calls more
 after_so shape wanted a b c d calls more e f after = subst (λ (z : Bool × Bool). IsAfterTake shape wanted z.0 z.1 calls more) (λ i. (e i, f i)) after
 
-busy_due : (s : Stage) (m : ConsumerState) (a : Access) → consumer_due_at s m ≡ Some a → takes_at s ≡ true
-busy_due Idle m a is = absurd (none-some a is)
-busy_due Scanning m a is = refl
-busy_due Checking m a is = refl
-busy_due Rescanning m a is = refl
-busy_due Loading m a is = refl
-busy_due Counting m a is = refl
-
 pub take_laws : MachineLaws consuming
 take_laws = record {
-  either = λ m. ⊎_elim (λ none. inl none) (λ is. inr (m.wanted, (is, refl))) (either_way (is_taking m));
+  either = λ m. ⊎_elim (λ is. inr (m.wanted, (is, refl))) (λ none. inl none) (cases_Bool (is_taking m));
   never = λ m c none is. true≢false (sym is.0 ∙ none);
   one = λ m c d is on. sym is.1 ∙ on.1;
-  due_busy = λ m a is. (m.wanted, (busy_due m.stage m a is, refl));
+  due_busy = λ m a is. (m.wanted, (due_at-takes m.stage m a is, refl));
   at_rest = λ m calls made st none. rest_at m.stage m calls made none st.made_is;
   follows = λ shape c calls more list is_more begins. (more, is_more.are, begins);
   part = λ m c calls more made list stands is_more begins. record { calls = calls; before = record { are = stands.are; list_is = refl }; more = more; is_more = is_more; part = begins };
@@ -110,10 +100,6 @@ pub take_fed :
 take_fed m m' v shape kept moved = record { shape = shape; kind = refl; moved = λ calls made a st due. (let t = moved calls made a st due in (t.0, t.1, (t.2, kept))) }
 
 -- ---- replies
-
-pub last-snoc : (first : Option replies.TakeReply) (takes : List Take) (x : Take) → last_take_reply first (takes ++ x ∷ []) ≡ Some (take_reply_to x)
-last-snoc first [] x = refl
-last-snoc first (y ∷ takes) x = last-snoc (Some (take_reply_to y)) takes x
 
 -- a call that is over has a reply
 pub over_reply : (shape : Shape) (wanted : ℕ) (calls more : Takes) → HasTakeMore shape wanted calls more → (x : replies.TakeReply) × (reply_at_end more.end more.takes ≡ Some x)

@@ -1,6 +1,6 @@
 -- What a take that finds the ring empty says of the puts that its taker knows.
-use Rattle.std.proofs.lemmas.Bool.Decides.{nat_tests}
 use Rattle.std.proofs.Common.{◌≡◌, ⊎_elim, ℕ, zero, suc, ◌+◌, ◌-◌, ◌*◌, ◌<◌, ◌≤◌, nat_le, if◌then◌else◌, Bool, true, false, Option, Some, None, List, [], ◌∷◌, ◌++◌, length, take, refl, ap, sym, subst, ◌∙◌, arith, append-nil, append_assoc, length-append}
+use Rattle.std.proofs.lemmas.Bool.{le-leb}
 use Rattle.std.specs.Prelude.{slice_get}
 use native.Mathlib.Decide.{dec_lt}
 use Rattle.bits_core.specs.declared.events.Side.{Side}
@@ -29,10 +29,10 @@ use Rattle.ring_seats.specs.Rule.{Stands}
 use Rattle.ring_ends.specs.Ends.{HasPuts, HasTakes, HasTakenAll, HasTakenOf, TakeAdds, TakeAllAdds}
 use Rattle.ring_run.specs.Laws.{EmptyAfterMeeting, ItemEmptyAfterMeeting, ItemTakesAdd, TakesAdd}
 use Rattle.ring_ends.proofs.Lists.{events_of-append, length-events_of}
-use Rattle.ring_run.proofs.Lists.{by_case, last-snoc}
-use Rattle.bits_core.proofs.OwnEvents.{own-no as own_theirs, own-yes as own_mine}
+use Rattle.bits_core.proofs.OwnEvents.{own-no as own_theirs, own-yes as own_mine, by_case, subhistory-append}
 use Rattle.ring_core.proofs.RingHolds.{there}
 pub use Rattle.ring_core.proofs.CountRow.{past_is}
+use Rattle.ring_core.proofs.Machines.TakeCalls.{reply-push as last-snoc}
 
 -- ---- how many items calls store and take that have ended
 
@@ -44,9 +44,6 @@ at_most : (b : Bool) (xs ys : List ℕ) → length ((if b then xs else []) ++ ys
 at_most true xs ys = omega (arith, length-append xs ys)
 at_most false xs ys = omega arith
 
-pub within_le : (a b : ℕ) → a ≤ b → nat_le a b ≡ true
-within_le a b l = grind (arith, nat_tests)
-
 -- puts that have all ended have stored all their items
 ended_least :
     (shape : Shape) (c : Count) (puts more : List Put) (t : ℕ) → events_in (put_phrases shape c puts) ≤ t →
@@ -56,7 +53,7 @@ ended_least shape c (x ∷ puts) more t l =
     let next : Count = stored_after shape c x in
     let phrase : ℕ = events_in (put_phrase shape c x) in
     let parts = length-append (put_phrase shape c x) (put_phrases shape next puts) in
-    let here = by_true (nat_le phrase t) (all_put (x ∷ [])) (items_ended shape next (puts ++ more) (t - phrase)) (within_le phrase t (omega (arith, l, parts))) in
+    let here = by_true (nat_le phrase t) (all_put (x ∷ [])) (items_ended shape next (puts ++ more) (t - phrase)) (le-leb phrase t (omega (arith, l, parts))) in
     omega (arith, here, ended_least shape next puts more (t - phrase) (omega (arith, l, parts)), one_more_put x puts)
   where
     one_more_put : (x : Put) (puts : List Put) → length (all_put (x ∷ puts)) ≡ length (all_put (x ∷ [])) + length (all_put puts)
@@ -81,12 +78,6 @@ none_more [] seen = refl
 none_more (x ∷ xs) seen = ap (λ l. taken_of x ++ l) (none_more xs seen)
 
 -- ---- own events
-
-own_append : (s : Side) (h more : List Event) → subhistory s (h ++ more) ≡ subhistory s h ++ subhistory s more
-own_append s [] more = refl
-own_append s (e ∷ h) more = by_case (is_by s e)
-    (λ by. own_mine s e (h ++ more) by ∙ ap (λ l. e ∷ l) (own_append s h more) ∙ sym (ap (λ l. l ++ subhistory s more) (own_mine s e h by)))
-    (λ by. own_theirs s e (h ++ more) by ∙ own_append s h more ∙ sym (ap (λ l. l ++ subhistory s more) (own_theirs s e h by)))
 
 -- before a place of a beginning of the history a side has no more events than in that, and behind it no fewer
 inside : (s : Side) (known more : List Event) (place : ℕ) → place ≤ length known → clock s (known ++ more) place ≤ length (subhistory s known)
@@ -133,7 +124,7 @@ module _ {shape : Shape} {known : List Event} (x : Side) {after : List Event} (s
 
   -- and what is known of a side's calls begins them
   pub own_known : (y : Side) → IsPrefix (subhistory y known) (subhistory y st.history)
-  own_known y = (subhistory y st.begins.0, sym (own_append y known st.begins.0) ∙ ap (subhistory y) st.begins.1)
+  own_known y = (subhistory y st.begins.0, sym (subhistory-append y known st.begins.0) ∙ ap (subhistory y) st.begins.1)
 
   pub known_first :
       (y : Side) {whole program : List Event} → subhistory y known ≡ whole → IsPrefix (subhistory y st.history) program → IsPrefix whole program

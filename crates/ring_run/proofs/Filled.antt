@@ -1,5 +1,6 @@
 -- What a put that finds the ring full says of the takes that its putter knows.
 use Rattle.std.proofs.Common.{◌≡◌, ℕ, ◌+◌, ◌-◌, ◌*◌, ◌≤◌, Bool, true, false, Some, List, [], ◌∷◌, ◌++◌, length, refl, ap, sym, subst, ◌∙◌, arith, append-nil, length-append}
+use Rattle.std.proofs.lemmas.Bool.{le-leb}
 use Rattle.std.specs.Prelude.{nat_le}
 use Rattle.bits_core.specs.declared.events.Side.TheVariants.{P, C}
 use Rattle.bits_core.specs.declared.events.Event.{Event}
@@ -23,7 +24,7 @@ use Rattle.ring_seats.specs.Rule.{Stands}
 use Rattle.ring_ends.specs.Ends.{HasPuts, HasTakes, PutAdds, HasPutAll}
 use Rattle.ring_run.specs.Laws.{FullAfterMeeting, ItemFullAfterMeeting, PutsAdd}
 use Rattle.ring_ends.proofs.Lists.{events_of-append, length-events_of}
-use Rattle.ring_run.proofs.Emptied.{all_made, behind_known, by_true, known_first, later, past_is, within_le}
+use Rattle.ring_run.proofs.Emptied.{all_made, behind_known, by_true, known_first, later, past_is}
 use Rattle.ring_core.proofs.Readings.Over.{puts-append as put_phrases-append}
 
 -- ---- how many items are stored, and how many are taken by takes that have ended
@@ -44,14 +45,14 @@ all_ended shape c (Item seen items ∷ xs) more t le =
     let long = length-append first (take_phrases shape next xs) in
     let rest : List ℕ = items_taken shape next (xs ++ more) (t - events_in first) in
     let ended : length (all_taken xs) ≤ length rest = all_ended shape next xs more (t - events_in first) (omega (arith, le, long)) in
-    omega (arith, ended, length-append items (all_taken xs), by_true (nat_le (events_in first) t) items rest (within_le (events_in first) t (omega (arith, le, long))))
+    omega (arith, ended, length-append items (all_taken xs), by_true (nat_le (events_in first) t) items rest (le-leb (events_in first) t (omega (arith, le, long))))
 all_ended shape c (ItemAfterClose seen again items ∷ xs) more t le =
     let first : List Made = take_phrase shape c (ItemAfterClose seen again items) in
     let next : Count = count_after shape c (ItemAfterClose seen again items) in
     let long = length-append first (take_phrases shape next xs) in
     let rest : List ℕ = items_taken shape next (xs ++ more) (t - events_in first) in
     let ended : length (all_taken xs) ≤ length rest = all_ended shape next xs more (t - events_in first) (omega (arith, le, long)) in
-    omega (arith, ended, length-append items (all_taken xs), by_true (nat_le (events_in first) t) items rest (within_le (events_in first) t (omega (arith, le, long))))
+    omega (arith, ended, length-append items (all_taken xs), by_true (nat_le (events_in first) t) items rest (le-leb (events_in first) t (omega (arith, le, long))))
 all_ended shape c (Empty seen ∷ xs) more t le =
     let first : List Made = take_phrase shape c (Empty seen) in
     let next : Count = count_after shape c (Empty seen) in

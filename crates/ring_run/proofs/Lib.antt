@@ -1,6 +1,5 @@
 pub mod Emptied
 pub mod Filled
-pub mod Lists
 pub mod OneTake
 pub mod RelayLemmas
 pub mod RelayTakes

@@ -9,8 +9,8 @@ use Rattle.ring_core.specs.declared.replies.TakeBatchReply.TheVariants as batch_
 use Rattle.ring_core.specs.OneCallMore.{TakesOfOne}
 use Rattle.ring_core.specs.Takes.{Take, Takes, Open, AreTakes}
 use Rattle.ring_core.specs.ConsumerCalls.{and_take, HasTakeMore, ends_closed, items_at_end, reply_at_end, reply_items, take_batch_reply, take_reply_to}
+use Rattle.ring_core.proofs.Machines.TakeCalls.{reply-push as last-snoc}
 use Rattle.ring_ends.specs.Ends.{HasTaken, HasTakenAll, IsTakeReply, TakeAdds, TakeAllAdds, number_brought}
-use Rattle.ring_run.proofs.Lists.{last-snoc}
 use Rattle.ring_run.proofs.RelayTakes.{items_snoc}
 
 -- the items of the last take are those that its reply tells

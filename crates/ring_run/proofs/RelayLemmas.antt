@@ -1,5 +1,5 @@
 -- One put or take more of a relay.
-use Rattle.std.proofs.Common.{◌≡◌, ◌⊎◌, ⊎_elim, ℕ, zero, suc, ◌+◌, ◌-◌, ◌<◌, ◌≤◌, Bool, false, List, [], ◌∷◌, ◌++◌, length, take, ◌%◌, append_assoc, refl, ap, sym, subst, ◌∙◌, arith, append-nil, Result, Ok, Err}
+use Rattle.std.proofs.Common.{◌≡◌, ◌⊎◌, ⊎_elim, ℕ, zero, suc, ◌+◌, ◌-◌, ◌<◌, ◌≤◌, Bool, false, List, [], ◌∷◌, ◌++◌, length, take, ◌%◌, refl, ap, sym, subst, ◌∙◌, arith, Result, Ok, Err}
 use Rattle.std.specs.Prelude.{IfErr}
 use Rattle.std.proofs.lemmas.List.{length-append, length-drop, length-take-le}
 use Rattle.std.proofs.Math.Seq.{take-add, take-length, drop-nil}
@@ -7,9 +7,10 @@ use Rattle.std.proofs.Math.ListN.{drop}
 use Rattle.bits_core.specs.declared.shapes.Shape.{Shape}
 use Rattle.bits_core.specs.Shape.{AllFit, batch_of, modulus_of}
 use Rattle.bits_core.specs.declared.events.Event.{Event}
+use Rattle.bits_core.proofs.Fitting.{AllFit-take, AllFit-drop}
 use Rattle.ring_core.specs.declared.replies.BatchReply as batch_replies
 use Rattle.ring_core.specs.declared.replies.BatchReply.TheVariants as batch_reply
-use Rattle.ring_core.specs.Counts.{Count, first_count}
+use Rattle.ring_core.specs.Counts.{first_count}
 use Rattle.ring_core.specs.Puts as puts
 use Rattle.ring_core.specs.Puts.{Put, Puts, IsBatch}
 use Rattle.ring_core.specs.Items.{all_put}
@@ -17,11 +18,12 @@ use Rattle.ring_core.specs.Over.{fulls}
 use Rattle.ring_core.specs.Readings.{PutsAreRead}
 use Rattle.ring_core.specs.ProducerCalls.{and_put, no_puts, IsPutOf}
 use Rattle.ring_core.specs.ProducerCalls as put_calls
+use Rattle.ring_core.proofs.Machines.PutCalls.{all_put-push, all_put-full}
+use Rattle.ring_core.proofs.OverSpans.CallSpans.{stored_number}
 use Rattle.ring_seats.specs.Ring.{Ring, RingEnd}
 use Rattle.ring_seats.specs.Steppers.{IsSameEnd}
 use Rattle.ring_ends.specs.Ends.{HasPuts, HasPutAll, PutAdds}
 use Rattle.ring_run.specs.Relays.{AreGiven, PutsAre, TakesAre}
-pub use Rattle.ring_seats.proofs.CounterPuts.{first_fit as fit_first}
 pub use Rattle.ring_seats.proofs.CounterSteps.{same_end as same_trans}
 
 -- ---- lists
@@ -37,16 +39,6 @@ first_of (suc a) zero (x ∷ xs) = (refl, omega arith)
 first_of (suc a) (suc b) [] = (refl, omega arith)
 first_of (suc a) (suc b) (x ∷ xs) = let r = first_of a b xs in (ap (λ (l : List ℕ). x ∷ l) r.0, omega (arith, r.1))
 
-stored_snoc : (xs : List Put) (seen : ℕ) (items : List ℕ) → all_put (xs ++ puts.Stored seen items ∷ []) ≡ all_put xs ++ items
-stored_snoc [] seen items = append-nil items
-stored_snoc (puts.Stored s i ∷ xs) seen items = ap (λ (l : List ℕ). i ++ l) (stored_snoc xs seen items) ∙ sym (append_assoc i (all_put xs) items)
-stored_snoc (puts.Full s ∷ xs) seen items = stored_snoc xs seen items
-
-full_snoc : (xs : List Put) (seen : ℕ) → all_put (xs ++ puts.Full seen ∷ []) ≡ all_put xs
-full_snoc [] seen = refl
-full_snoc (puts.Stored s i ∷ xs) seen = ap (λ (l : List ℕ). i ++ l) (full_snoc xs seen)
-full_snoc (puts.Full s ∷ xs) seen = full_snoc xs seen
-
 fulls_stored : (xs : List Put) (seen : ℕ) (items : List ℕ) → fulls (xs ++ puts.Stored seen items ∷ []) ≡ fulls xs
 fulls_stored [] seen items = refl
 fulls_stored (puts.Stored s i ∷ xs) seen items = fulls_stored xs seen items
@@ -60,18 +52,13 @@ fulls_full (puts.Full s ∷ xs) seen = omega (arith, fulls_full xs seen)
 one_longer : (xs : List Put) (x : Put) → length (xs ++ x ∷ []) ≡ suc (length xs)
 one_longer xs x = omega (arith, length-append xs (x ∷ []))
 
-pub fit_left : (shape : Shape) (n : ℕ) (xs : List ℕ) → AllFit shape xs → AllFit shape (drop n xs)
-fit_left shape zero xs fit = fit
-fit_left shape (suc n) [] fit = tt
-fit_left shape (suc n) (x ∷ xs) fit = fit_left shape n xs fit.1
-
 pub offers : (shape : Shape) (items : List ℕ) (put n : ℕ) → AllFit shape items → put < length items → 0 < n → n ≤ batch_of shape → put + n ≤ length items → IsBatch shape (take n (drop put items))
 offers shape items put n all more some few left =
     let long : length (take n (drop put items)) ≡ n = length-take-le n (drop put items) (omega (arith, left, more, length-drop put items)) in
     record {
       some = omega (arith, long, some);
       few = omega (arith, long, few);
-      fit = fit_first shape n (drop put items) (fit_left shape put items all);
+      fit = AllFit-take shape n (drop put items) (AllFit-drop shape put items all);
     }
 
 -- what a put is given is a batch of the items left, or all of them
@@ -115,10 +102,6 @@ given_more shape n items (puts.Stored seen few ∷ xs) x are is =
     )
 given_more shape n items (puts.Full seen ∷ xs) x are is = (are.0, given_more shape n items xs x are.1 is)
 
-counted_is : (shape : Shape) (c : Count) (xs : List Put) → (puts.stored_count shape c xs).number ≡ puts.stored_in c.number xs
-counted_is shape c [] = refl
-counted_is shape c (x ∷ xs) = counted_is shape (puts.stored_after shape c x) xs
-
 same_puts : PutsAreRead → (shape : Shape) (list : List Event) (a b : Puts) → HasPuts shape list a → HasPuts shape list b → a ≡ b
 same_puts read shape list a b ha hb = read shape a b ha.are hb.are (sym ha.list_is ∙ hb.list_is)
 
@@ -145,7 +128,7 @@ module _ (read : PutsAreRead) (shape : Shape) (list list' : List Event) (items :
   more_given given is x of =
       let long : put ≡ length (all_put p.calls.puts) = sym (ap length p.in_order ∙ length-take-le put items p.within) in
       given_more shape 0 items p.calls.puts x p.given
-      (subst (λ (z : ℕ × List ℕ). IsPutOf shape z.0 z.1 x) (λ i. (counted_is shape first_count p.calls.puts i, (is ∙ ap (λ k. take (batch_of shape) (drop k items)) long) i)) of)
+      (subst (λ (z : ℕ × List ℕ). IsPutOf shape z.0 z.1 x) (λ i. (stored_number shape first_count p.calls.puts i, (is ∙ ap (λ k. take (batch_of shape) (drop k items)) long) i)) of)
 
   -- how many a put that stored has stored
   pub stored : (given : List ℕ) (n m : ℕ) → given ≡ take n (drop put items) → given ≡ take (batch_of shape) (drop put items) → HasPutAll shape given list list' (batch_reply.Stored m) →
@@ -165,7 +148,7 @@ module _ (read : PutsAreRead) (shape : Shape) (list list' : List Event) (items :
               calls = and_put p.calls (puts.Stored seen few);
               list_is = has;
               given = more_given given whole (puts.Stored seen few) of;
-              in_order = stored_snoc p.calls.puts seen few ∙ (λ j. p.in_order j ++ these j) ∙ sym (take-add put m items);
+              in_order = all_put-push p.calls.puts seen few ∙ (λ j. p.in_order j ++ these j) ∙ sym (take-add put m items);
               within = fits;
               made_is = one_longer p.calls.puts (puts.Stored seen few) ∙ ap suc p.made_is;
               full_is = fulls_stored p.calls.puts seen few ∙ p.full_is;
@@ -183,7 +166,7 @@ module _ (read : PutsAreRead) (shape : Shape) (list list' : List Event) (items :
         calls = and_put p.calls (puts.Full seen);
         list_is = has;
         given = more_given given whole (puts.Full seen) of;
-        in_order = full_snoc p.calls.puts seen ∙ p.in_order;
+        in_order = all_put-full p.calls.puts seen ∙ p.in_order;
         within = p.within;
         made_is = one_longer p.calls.puts (puts.Full seen) ∙ ap suc p.made_is;
         full_is = fulls_full p.calls.puts seen ∙ ap suc p.full_is;

@@ -1,5 +1,5 @@
 -- One take more of a relay.
-use Rattle.std.proofs.Common.{◌≡◌, ◌≢◌, ⊎_elim, ℕ, ◌+◌, ◌-◌, ◌≤◌, Bool, true, false, Some, None, List, [], ◌∷◌, ◌++◌, length, take, append_assoc, refl, ap, sym, subst, ◌∙◌, arith, append-nil}
+use Rattle.std.proofs.Common.{◌≡◌, ◌≢◌, ⊎_elim, ℕ, ◌+◌, ◌-◌, ◌≤◌, Bool, true, false, Some, None, List, [], ◌∷◌, ◌++◌, length, take, refl, ap, sym, subst, ◌∙◌, arith, append-nil}
 use Rattle.std.specs.Prelude.{min}
 use Rattle.std.proofs.lemmas.List.{length-append}
 use Rattle.bits_core.specs.declared.shapes.Shape.{Shape}
@@ -15,10 +15,10 @@ use Rattle.ring_core.specs.Over.{empties}
 use Rattle.ring_core.specs.Readings.{TakesAreRead}
 use Rattle.ring_core.specs.ConsumerCalls.{and_take, and_end, no_takes, ends_closed, IsTakeOf, items_at_end, reply_at_end, take_batch_reply, take_reply_to}
 use Rattle.ring_ends.specs.Ends.{HasTakenAll, HasTakes, TakeAllAdds, number_brought}
-use Rattle.ring_run.proofs.Lists.{last-snoc}
 use Rattle.ring_run.specs.Relays.{AreAsked, TakesAre, used_by}
 use Rattle.ring_core.proofs.OverSpans.CallSpans.{taken_number as counted_is}
 pub use Rattle.ring_core.proofs.Machines.TakeCalls.{items-push as items_snoc}
+use Rattle.ring_core.proofs.Machines.TakeCalls.{all_taken-push, reply-push as last-snoc}
 
 same_takes : TakesAreRead → (shape : Shape) (list : List Event) (a b : Takes) → HasTakes shape list a → HasTakes shape list b → a ≡ b
 same_takes read shape list a b ha hb = read shape a b ha.are hb.are (sym ha.list_is ∙ hb.list_is)
@@ -46,10 +46,6 @@ empty_one : replies.TakeBatchReply → ℕ
 empty_one (reply.Taken n) = 0
 empty_one reply.Empty = 1
 empty_one reply.Closed = 0
-
-taken_snoc : (xs : List Take) (x : Take) → all_taken (xs ++ x ∷ []) ≡ all_taken xs ++ taken_of x
-taken_snoc [] x = append-nil (taken_of x)
-taken_snoc (y ∷ xs) x = ap (λ (l : List ℕ). taken_of y ++ l) (taken_snoc xs x) ∙ sym (append_assoc (taken_of y) (all_taken xs) (taken_of x))
 
 empties_snoc : (xs : List Take) (x : Take) → empties (xs ++ x ∷ []) ≡ empties xs + empty_of x
 unfolding empty_of
@@ -150,7 +146,7 @@ module _ (read : TakesAreRead) (shape : Shape) (list list' : List Event) (limit 
     list_is = m.has;
     asked = asked_more shape 0 limit p.calls.takes m.x p.asked
         (subst (λ n. IsTakeOf shape (taken_in 0 p.calls.takes) n m.x) (wanted_is ∙ (λ i. min (take_batch_of shape) (limit - (length (sym p.taken_is i) + sym p.empty_is i)))) m.of);
-    taken_is = taken_snoc p.calls.takes m.x ∙ (λ i. p.taken_is i ++ sym m.brought i);
+    taken_is = all_taken-push p.calls.takes m.x ∙ (λ i. p.taken_is i ++ sym m.brought i);
     made_is = omega (arith, p.made_is, length-append p.calls.takes (m.x ∷ []));
     empty_is = empties_snoc p.calls.takes m.x ∙ (λ i. p.empty_is i + empty_told m.x y m.told i);
     told_is = refl;

@@ -1,5 +1,5 @@
 -- What the law of the ring says of a relay.
-use Rattle.std.proofs.Common.{Bool, false, List, [], ap, append-nil, arith, eqb-true, length, subst, sym, take, true, true≢false, ℕ, ◌+◌, ◌==◌, ◌∙◌, ◌≡◌, ◌≤◌}
+use Rattle.std.proofs.Common.{Bool, false, List, [], ap, append-nil, arith, eqb-true, length, subst, sym, take, true, ℕ, ◌+◌, ◌==◌, ◌∙◌, ◌≡◌, ◌≤◌}
 use Rattle.std.proofs.lemmas.List.{length-append, length-take-le}
 use Rattle.std.proofs.Math.Seq.{take-length}
 use Rattle.bits_core.specs.declared.shapes.Shape.{Shape}
@@ -9,11 +9,10 @@ use Rattle.bits_core.specs.Shape.{capacity_of}
 use Rattle.bits_core.specs.Made.{subhistory, clock, IsPrefix}
 use Rattle.ring_core.specs.Counts.{first_count}
 use Rattle.ring_core.specs.Puts.{Puts}
-use Rattle.ring_core.specs.Takes.{Takes, End, Open, Closed, take_program}
-use Rattle.ring_core.specs.Items.{items_put, items_taken, events_in, Tells, IsTold}
+use Rattle.ring_core.specs.Takes.{Takes, take_program}
+use Rattle.ring_core.specs.Items.{items_put, items_taken, events_in, IsTold}
 use Rattle.ring_core.specs.CallsAt.{puts_begun, takes_begun}
 use Rattle.ring_core.specs.Whole.{WholePutsCount, WholeTakesCount}
-use Rattle.ring_core.specs.ConsumerCalls.{ends_closed}
 use Rattle.ring_core.specs.RingLaw.{IsRun, InEveryRun, IsWithin, TakenArePrefix, ClosedIsTrue}
 use Rattle.ring_seats.specs.Ring.{Ring, RingEnd}
 use Rattle.ring_ends.specs.Meetings.{Meets}
@@ -22,10 +21,7 @@ use Rattle.ring_core.specs.Linear.{EachReadingIsLinearizable}
 use Rattle.ring_run.specs.Relays.{HasMadePuts, HasRelayedPuts, HasRelayedTakes, HasTakenMore, IsRelayed, PutsAre, TakesAre}
 use Rattle.ring_ends.proofs.Lists.{length-events_of}
 use Rattle.ring_core.proofs.OwnEvents.{clock_end as clock_at_end}
-
-tells_true : (end : End) → ends_closed end ≡ true → Tells end
-tells_true Open e = absurd (true≢false (sym e))
-tells_true (Closed seen again) e = tt
+use Rattle.ring_core.proofs.Machines.TakeCalls.{closed_tells}
 
 -- one history of these puts and takes
 module _ (shape : Shape) (items : List ℕ) (put made full : ℕ) (closes : Bool) (limit : ℕ) (taken : List ℕ) (made_takes empty : ℕ) (told : Bool) (h : List Event) (ring : IsRing shape h)
@@ -78,7 +74,7 @@ module _ (within : InEveryRun IsWithin) (prefix : InEveryRun TakenArePrefix) (cl
   pub relayed_all : closed ≡ true → (put ≡ length items) × (taken ≡ items)
   relayed_all e =
       let told : IsTold shape takes (clock C h (length h)) = (
-        tells_true takes.end (r.takes.takes.told_is ∙ e),
+        closed_tells takes.end (r.takes.takes.told_is ∙ e),
         subst (λ (n : ℕ). events_in (take_program shape takes) ≤ n) (sym (clock_at_end C h ∙ ap length r.takes.takes.list_is.list_is ∙ length-events_of C (take_program shape takes))) (omega arith),
       ) in
       let all = closed_law shape h puts takes run (length h) (length h) told (omega arith) in

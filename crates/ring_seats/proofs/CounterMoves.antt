@@ -3,6 +3,7 @@ use Rattle.std.proofs.Common.{◌≡◌, ◌≢◌, ◌⊎◌, inl, inr, ⊎_eli
 use Rattle.std.proofs.lemmas.Bool.Decides.{nat_tests}
 use Rattle.std.proofs.lemmas.List.{length-replicate, get_or-replicate}
 use Rattle.std.proofs.lemmas.Nat.{pow_pos}
+use Rattle.std.proofs.lemmas.Bool.{cases_eq}
 use mathlib.Core.Option.{some}
 use lib.ListN.{get_elem?}
 use Rattle.atomic_table.specs.Table.{Me, keeps, opening, Allows}
@@ -217,9 +218,6 @@ module _ (shape : Shape) where
   far_cells : (j k i l : ℕ) → k ≢ j → same_bit (Cell k i) (Cell j l) ≡ false
   far_cells j k i l ne = grind (arith, nat_tests)
 
-  same_or_not : (k j : ℕ) → (k ≡ j) ⊎ (k ≢ j)
-  same_or_not k j = grind arith
-
   -- ---- after a store of a count, of a cell, and of the close word
 
   counted : (x : Side) (v : ℕ) (old : ℕ → Bool) (h : List Event) (words : List ℕ) → v < modulus_of shape → ((i : ℕ) → value_left (subhistory x h) (row_bit x i) ≡ old i) → length words ≡ words_of shape → ShowsWords shape words h
@@ -272,11 +270,11 @@ module _ (shape : Shape) where
     cell = λ k below. ⊎_elim
         (λ (same : k ≡ j). subst (λ (l : ℕ). IsLastItem (width_of shape) l (subhistory P h') (slice_index words' (cell_place l))) (sym same) mine)
         (λ (ne : k ≢ j). other_cell P acts h words (cell_place j) item shows blocked k below (λ (e : cell_place k ≡ cell_place j). ne (omega (arith, e))) (spares_writes (Cell k) (Cell j) (λ i l. far_cells j k i l ne) ws))
-        (same_or_not k j);
+        (cases_eq k j);
     fits = λ k below. ⊎_elim
         (λ (same : k ≡ j). subst (λ (l : ℕ). slice_index words' (cell_place l) < 2 ^ width_of shape) (sym same) (subst (λ (n : ℕ). n < 2 ^ width_of shape) (sym now) fits))
         (λ (ne : k ≢ j). other_fits P acts h words (cell_place j) item shows blocked k below (λ (e : cell_place k ≡ cell_place j). ne (omega (arith, e))))
-        (same_or_not k j);
+        (cases_eq k j);
     close = other_close P acts h words (cell_place j) item shows blocked (λ (e : 0 ≡ cell_place j). omega (arith, e)) (spares_writes (λ _. X) (Cell j) (λ i k. refl) ws);
   }
     where

@@ -40,11 +40,6 @@ first_all zero (x ∷ xs) le = absurd (omega (arith, le))
 first_all (suc n) [] le = refl
 first_all (suc n) (x ∷ xs) le = ap (λ (l : List ℕ). x ∷ l) (first_all n xs (omega (arith, le)))
 
-pub first_fit : (shape : Shape) (n : ℕ) (xs : List ℕ) → AllFit shape xs → AllFit shape (take n xs)
-first_fit shape zero xs fit = tt
-first_fit shape (suc n) [] fit = tt
-first_fit shape (suc n) (x ∷ xs) fit = (fit.0, first_fit shape n xs fit.1)
-
 pub fit_at : (shape : Shape) (xs : List ℕ) (i : ℕ) → AllFit shape xs → i < length xs → slice_index xs i < 2 ^ width_of shape
 fit_at shape [] i fit lt = absurd (omega (arith, lt))
 fit_at shape (x ∷ xs) zero fit lt = fit.0

@@ -1,7 +1,8 @@
 -- Each step keeps the rule of the ring.
-use Rattle.std.proofs.Common.{arith, ◌≡◌, ◌≢◌, ℕ, zero, suc, ◌<◌, Bool, true, false, true≢false, ◌⊎◌, List, [], ◌∷◌, ◌++◌, replicate, length, get_or, set, slice_index, Some, None, sym, refl, ap, ◌∙◌, subst, inl, inr, ⊎_elim, append_assoc, append-nil, length-set, get_or-set_same, get_or-set_other}
+use Rattle.std.proofs.Common.{◌≡◌, ◌≢◌, ℕ, zero, suc, ◌<◌, Bool, true, false, true≢false, ◌⊎◌, List, [], ◌∷◌, ◌++◌, replicate, length, get_or, set, slice_index, Some, None, sym, refl, ap, ◌∙◌, subst, inl, inr, ⊎_elim, append_assoc, append-nil, length-set, get_or-set_same, get_or-set_other}
 use Rattle.std.specs.Prelude.{if◌then◌else◌}
 use Rattle.std.proofs.lemmas.List.{length-replicate}
+use Rattle.std.proofs.lemmas.Bool.{cases_eq}
 use mathlib.Core.Option.{some, some-injective, some-ne-none}
 use lib.ListN.{get_elem?}
 use Rattle.atomic_table.specs.Table.{Me, State, keeps, opening, Allows, Enters, Splits, Joins}
@@ -21,7 +22,6 @@ use Rattle.bits_core.specs.History.{open_access}
 use Rattle.bits_core.specs.Lawful.{IsLawful}
 use Rattle.bits_core.specs.Steps.{MayFollow}
 use Rattle.bits_core.specs.Made.{subhistory, IsPrefix}
-use Rattle.ring_core.specs.Takes.{Takes}
 use Rattle.ring_seats.specs.declared.views.View.{View}
 use Rattle.ring_seats.specs.declared.layout.TheConstants.{FIRST_S}
 use Rattle.ring_seats.specs.Words.{value_word, shown, answer_of, first_r, word_place, word_count, first_words, Shows}
@@ -71,9 +71,6 @@ may_step-more x C e got v = refl
 
 -- ---- for each side there is a seat that may step for it
 
-same_or_not : (a b : ℕ) → (a ≡ b) ⊎ (a ≢ b)
-same_or_not a b = grind arith
-
 set_there : (views : List View) (id : ℕ) (v w : View) → get_elem? views id ≡ some v → get_elem? (set views id w) id ≡ some w
 set_there [] id v w at = absurd (some-ne-none v (sym at))
 set_there (x ∷ xs) zero v w at = refl
@@ -88,7 +85,7 @@ each_stays owner views id v w at may each y =
     let is : u ≡ v = some-injective u v (sym there ∙ ap (get_elem? views) same ∙ at) in
     (w, ap (get_elem? (set views id w)) same ∙ set_there views id v w at, may y (ap (may_step y) (sym is) ∙ can)))
     (λ (apart : owner y ≢ id). (u, set_else views id (owner y) w apart ∙ there, can))
-    (same_or_not (owner y) id)
+    (cases_eq (owner y) id)
 
 -- what a step leaves open
 pub opened_by : (x : Side) (b : Bit) (a : Act) (got : ℕ) (v w : View) → w ≡ and_event x (event x b a) got v → open_access x (list_of x w) ≡ Rattle.bits_core.specs.Bits.begun_access b a

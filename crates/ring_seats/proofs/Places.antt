@@ -4,6 +4,7 @@ use Rattle.std.specs.Prelude.{nat_lt}
 use Rattle.std.proofs.lemmas.Bool.Decides.{nat_tests}
 use Rattle.std.proofs.lemmas.List.{get_or-replicate, length-replicate}
 use Rattle.std.proofs.lemmas.Grind.{get_or-set_at}
+use Rattle.std.proofs.lemmas.Bool.{and_parts, ltb-true}
 use native.Mathlib.Decide.{dec_lt}
 use Rattle.bits_core.specs.declared.events.Bit.{Bit}
 use Rattle.bits_core.specs.declared.events.Bit.TheVariants.{S, R, X, Cell}
@@ -12,13 +13,6 @@ use Rattle.bits_core.specs.Shape.{belongs, capacity_of, modulus_of, width_of}
 use Rattle.bits_core.specs.Bits.{same_bit}
 use Rattle.ring_seats.specs.declared.layout.TheConstants.{FIRST_S}
 use Rattle.ring_seats.specs.Words.{word_place, word_count, cell_words, first_r, first_words, Shows, shown, value_word}
-
-below : (a b : ℕ) → nat_lt a b ≡ true → a < b
-below a b e = grind (arith, nat_tests)
-
-and_parts : (s t : Bool) → (s && t) ≡ true → (s ≡ true) × (t ≡ true)
-and_parts true t e = (refl, e)
-and_parts false t e = absurd (true≢false (sym e))
 
 -- a place in a row of cells is one cell's
 higher : (w j k i l : ℕ) → i < w → j < k → j * w + i < k * w + l
@@ -34,7 +28,7 @@ one_cell w j k i l h h' e = go (dec_lt j k) (dec_lt k j)
 
 -- a cell's digits lie before the next cell
 in_cell : (shape : Shape) (i : ℕ) → nat_lt i (width_of shape) ≡ true → i < cell_words shape
-in_cell shape i h = let lt = below i (width_of shape) h in omega arith
+in_cell shape i h = let lt = ltb-true i (width_of shape) h in omega arith
 
 -- two bits of the shape are one bit, or have two words
 abbrev OneOrApart : Shape → Bit → Bit → Type 0
@@ -51,9 +45,9 @@ one_or_apart shape (S i) (S j) hb hc = go (j == i) refl
     go : (t : Bool) → (j == i) ≡ t → OneOrApart shape (S i) (S j)
     go true e = inl (ap S (sym (eqb-true j i e)))
     go false e = inr (e, λ same. grind (arith, nat_tests))
-one_or_apart shape (S i) (R j) hb hc = let lt = below i (modulus_of shape) hb in inr (refl, λ same. omega arith)
+one_or_apart shape (S i) (R j) hb hc = let lt = ltb-true i (modulus_of shape) hb in inr (refl, λ same. omega arith)
 one_or_apart shape (S i) X hb hc = inr (refl, λ same. omega arith)
-one_or_apart shape (R i) (S j) hb hc = let lt = below j (modulus_of shape) hc in inr (refl, λ same. omega arith)
+one_or_apart shape (R i) (S j) hb hc = let lt = ltb-true j (modulus_of shape) hc in inr (refl, λ same. omega arith)
 one_or_apart shape (R i) (R j) hb hc = go (j == i) refl
   where
     go : (t : Bool) → (j == i) ≡ t → OneOrApart shape (R i) (R j)
@@ -68,20 +62,20 @@ one_or_apart shape (Cell j i) (Cell k l) hb hc =
     let c = and_parts (nat_lt k (capacity_of shape)) (nat_lt l (width_of shape)) hc in
     ⊎_elim (λ same. inl same) (λ (t : (((k == j) && (l == i)) ≡ false) × (k * cell_words shape + l ≢ j * cell_words shape + i)). inr (t.0, λ e. t.1 (let e' : word_place shape (Cell k l) ≡ word_place shape (Cell j i) = e in omega arith)))
     (cells_apart (cell_words shape) j k i l (in_cell shape i b.1) (in_cell shape l c.1) (k == j) (l == i) refl refl)
-one_or_apart shape (Cell j i) (S k) hb hc = let lt = below k (modulus_of shape) hc in inr (refl, λ same. omega arith)
-one_or_apart shape (Cell j i) (R k) hb hc = let lt = below k (modulus_of shape) hc in inr (refl, λ same. omega arith)
+one_or_apart shape (Cell j i) (S k) hb hc = let lt = ltb-true k (modulus_of shape) hc in inr (refl, λ same. omega arith)
+one_or_apart shape (Cell j i) (R k) hb hc = let lt = ltb-true k (modulus_of shape) hc in inr (refl, λ same. omega arith)
 one_or_apart shape (Cell j i) X hb hc = inr (refl, λ same. omega arith)
-one_or_apart shape (S i) (Cell k l) hb hc = let lt = below i (modulus_of shape) hb in inr (refl, λ same. omega arith)
-one_or_apart shape (R i) (Cell k l) hb hc = let lt = below i (modulus_of shape) hb in inr (refl, λ same. omega arith)
+one_or_apart shape (S i) (Cell k l) hb hc = let lt = ltb-true i (modulus_of shape) hb in inr (refl, λ same. omega arith)
+one_or_apart shape (R i) (Cell k l) hb hc = let lt = ltb-true i (modulus_of shape) hb in inr (refl, λ same. omega arith)
 one_or_apart shape X (Cell k l) hb hc = inr (refl, λ same. omega arith)
 
 pub place_below : (shape : Shape) (b : Bit) → belongs shape b ≡ true → word_place shape b < word_count shape
-place_below shape (S i) h = let lt = below i (modulus_of shape) h in omega arith
-place_below shape (R i) h = let lt = below i (modulus_of shape) h in omega arith
+place_below shape (S i) h = let lt = ltb-true i (modulus_of shape) h in omega arith
+place_below shape (R i) h = let lt = ltb-true i (modulus_of shape) h in omega arith
 place_below shape X h = omega arith
 place_below shape (Cell j i) h =
     let both = and_parts (nat_lt j (capacity_of shape)) (nat_lt i (width_of shape)) h in
-    omega (arith, higher (cell_words shape) j (capacity_of shape) i 0 (in_cell shape i both.1) (below j (capacity_of shape) both.0))
+    omega (arith, higher (cell_words shape) j (capacity_of shape) i 0 (in_cell shape i both.1) (ltb-true j (capacity_of shape) both.0))
 
 -- the words before any step
 pub shows_first : (shape : Shape) → Shows shape (first_words shape) []
@@ -119,7 +113,7 @@ shows_first shape b has = go b has
     r_word i lt false e = let z : i ≢ 0 = λ is. true≢false (sym (eq-eqb i 0 is) ∙ e) in untouched (r + i) (omega arith) (λ same. omega arith) (λ same. z (omega arith))
 
     go : (b : Bit) → belongs shape b ≡ true → get_or (set ones r 1) (word_place shape b) 0 ≡ shown b []
-    go (S i) has = s_word i (below i m has) (i == 0) refl
-    go (R i) has = r_word i (below i m has) (i == 0) refl
+    go (S i) has = s_word i (ltb-true i m has) (i == 0) refl
+    go (R i) has = r_word i (ltb-true i m has) (i == 0) refl
     go X has = untouched 0 (omega arith) (λ same. omega arith) (λ same. omega arith)
     go (Cell j i) has = let room = two in untouched (word_place shape (Cell j i)) (place_below shape (Cell j i) has) (λ same. omega arith) (λ same. omega arith)

@@ -1,7 +1,7 @@
 -- Each access of a scan, of a unary write and of a word is to a bit of the shape, by the side that may.
-use Rattle.std.proofs.Common.{◌≡◌, ℕ, zero, suc, ◌<◌, ◌≤◌, Bool, true, false, cond, ◌&&◌, List, [], ◌∷◌, ◌++◌, refl, arith}
+use Rattle.std.proofs.Common.{◌≡◌, ℕ, zero, suc, ◌<◌, ◌≤◌, Bool, true, false, cond, List, [], ◌∷◌, ◌++◌, refl, arith}
 use Rattle.std.specs.Prelude.{nat_lt}
-use Rattle.std.proofs.lemmas.Bool.Decides.{nat_tests}
+use Rattle.std.proofs.lemmas.Bool.{and_from, lt-ltb}
 use Rattle.bits_core.specs.declared.events.Side.{Side}
 use Rattle.bits_core.specs.declared.events.Side.TheVariants.{P, C}
 use Rattle.bits_core.specs.declared.events.Bit.{Bit}
@@ -15,6 +15,7 @@ use Rattle.register_core.specs.Row.{RowWrite, row_bit, writes_in}
 use Rattle.register_core.specs.Unary.{setting, clearing, unary_phrase}
 use Rattle.register_core.specs.Word.{digit, digit_writes, digit_reads, word_write}
 use Rattle.register_core.specs.ScanState.{zero_reads, scan_phrase, row_read_by}
+use Rattle.ring_core.proofs.Machines.NextParts.{row_bit_right, scan_bit_right}
 
 -- all of a list
 abbrev pub AllRight : Shape → Side → List Made → Type 0
@@ -25,31 +26,16 @@ pub right-append : (shape : Shape) (s : Side) (xs ys : List Made) → AllRight s
 right-append shape s [] ys a b = b
 right-append shape s (x ∷ xs) ys a b = (a.0, right-append shape s xs ys a.1 b)
 
-is_below : (a b : ℕ) → a < b → nat_lt a b ≡ true
-is_below a b lt = grind (arith, nat_tests)
-
-both : (s t : Bool) → s ≡ true → t ≡ true → (s && t) ≡ true
-both true t e f = f
-both false t e f = e
-
 module _ (shape : Shape) where
-  row_read : (s : Side) (i : ℕ) → i < modulus_of shape → IsOpenRight shape s (access.Read (row_read_by s i))
-  row_read P i lt = (is_below i (modulus_of shape) lt, refl)
-  row_read C i lt = (is_below i (modulus_of shape) lt, refl)
-
-  row_write : (s : Side) (i : ℕ) (v : Bool) → i < modulus_of shape → IsOpenRight shape s (access.Write (row_bit s i) v)
-  row_write P i v lt = (is_below i (modulus_of shape) lt, refl)
-  row_write C i v lt = (is_below i (modulus_of shape) lt, refl)
-
   cell_belongs : (j i : ℕ) → j < capacity_of shape → i < width_of shape → belongs shape (Cell j i) ≡ true
-  cell_belongs j i lt lt' = both (nat_lt j (capacity_of shape)) (nat_lt i (width_of shape)) (is_below j (capacity_of shape) lt) (is_below i (width_of shape) lt')
+  cell_belongs j i lt lt' = and_from (nat_lt j (capacity_of shape)) (nat_lt i (width_of shape)) (lt-ltb j (capacity_of shape) lt) (lt-ltb i (width_of shape) lt')
 
   zeros_right : (s : Side) (n : ℕ) → n ≤ modulus_of shape → AllRight shape s (zero_reads (row_read_by s) n)
   zeros_right s zero le = tt
-  zeros_right s (suc n) le = right-append shape s (zero_reads (row_read_by s) n) (Read (row_read_by s n) false ∷ []) (zeros_right s n (omega (arith, le))) (row_read s n le, tt)
+  zeros_right s (suc n) le = right-append shape s (zero_reads (row_read_by s) n) (Read (row_read_by s n) false ∷ []) (zeros_right s n (omega (arith, le))) (scan_bit_right shape s n le, tt)
 
   pub scan_right : (s : Side) (c : ℕ) → c < modulus_of shape → AllRight shape s (scan_phrase (row_read_by s) c)
-  scan_right s c lt = right-append shape s (zero_reads (row_read_by s) c) (Read (row_read_by s c) true ∷ []) (zeros_right s c (omega (arith, lt))) (row_read s c lt, tt)
+  scan_right s c lt = right-append shape s (zero_reads (row_read_by s) c) (Read (row_read_by s c) true ∷ []) (zeros_right s c (omega (arith, lt))) (scan_bit_right shape s c lt, tt)
 
   -- writes of a row
   abbrev BitsBelow : ℕ → List RowWrite → Type 0
@@ -78,7 +64,7 @@ module _ (shape : Shape) where
 
   pub unary_right : (s : Side) (bits : ℕ → Bool) (v : ℕ) → v < modulus_of shape → AllRight shape s (writes_in (row_bit s) (unary_phrase bits v))
   unary_right s bits v lt =
-      writes_right s (row_bit s) (modulus_of shape) (row_write s) (unary_phrase bits v)
+      writes_right s (row_bit s) (modulus_of shape) (row_bit_right shape s) (unary_phrase bits v)
       (below-append (modulus_of shape) (setting bits v) (clearing bits v) (setting_below (modulus_of shape) bits v lt) (clearing_below (modulus_of shape) bits v (omega (arith, lt))))
 
   digits_below : (item n w : ℕ) → n ≤ w → BitsBelow w (digit_writes item n)

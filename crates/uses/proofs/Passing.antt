@@ -8,6 +8,7 @@ use Rattle.bits_core.specs.declared.events.Side.TheVariants.{P, C}
 use Rattle.bits_core.specs.declared.events.Event.{Event}
 use Rattle.bits_core.specs.Shape.{AllFit, batch_of, modulus_of}
 use Rattle.bits_core.specs.Made.{subhistory, clock, IsPrefix}
+use Rattle.bits_core.proofs.Fitting.{AllFit-take, AllFit-drop}
 use Rattle.ring_core.specs.declared.replies.BatchReply.{BatchReply}
 use Rattle.ring_core.specs.declared.replies.BatchReply.TheVariants as several
 use Rattle.ring_core.specs.declared.replies.PutReply.{PutReply}
@@ -31,7 +32,6 @@ use Rattle.ring_run.specs.Meetings.{Meets, TellsAre}
 use Rattle.ring_run.specs.Ends.{HasPuts, HasPut, HasPutAll, PutAdds, HasTakes, HasTaken, TakeAdds}
 use Rattle.ring_run.specs.Counters.{ShowsWords}
 use Rattle.ring_run.specs.Laws.{PutsAreShown, TakesAreShown}
-use Rattle.ring_run.proofs.RelayLemmas.{fit_first, fit_left}
 use Rattle.uses.specs.Passed.{HasStored, HasTook, number_stored}
 use Rattle.ring_audit.proofs.TakeItems.{taken-push as all_taken_snoc}
 use Rattle.ring_audit.proofs.TakeReads.{told-tells as tells_true}
@@ -56,7 +56,7 @@ chunk shape items k next fit some within few =
     record {
       some = omega (arith, long, some);
       few = omega (arith, long, some, few);
-      fit = fit_first shape (next - k) (drop k items) (fit_left shape k items fit);
+      fit = AllFit-take shape (next - k) (drop k items) (AllFit-drop shape k items fit);
     }
 
 first_first : (r n : ℕ) (xs : List ℕ) → r ≤ length (take n xs) → take r (take n xs) ≡ take r xs

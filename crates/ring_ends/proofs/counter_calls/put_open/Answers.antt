@@ -1,7 +1,7 @@
 use Rattle.std.proofs.Common.{◌≡◌, ℕ, ◌+◌, ◌%◌, take, arith, sym, subst, ap, ◌∙◌}
 use Rattle.bits_core.specs.declared.shapes.Shape.{Shape}
 use Rattle.bits_core.specs.Shape.{AllFit, capacity_of, modulus_of}
-use Rattle.ring_seats.proofs.CounterPuts.{first_fit}
+use Rattle.bits_core.proofs.Fitting.{AllFit-take}
 use Rattle.ring_ends.proofs.CounterPutterCalls.{Fitting, kept, kept_full, to_scan, full_put, to_store, to_count, stored_put}
 use Rattle.ring_seats.proofs.CounterSteps.{same_shape}
 use Rattle.ring_ends.proofs.counter_calls.put_open.Goals.{After-fitting-most}
@@ -28,7 +28,7 @@ returns-then-most-eq0 c =
 
 pub write_items-requires-clause-fit : goal.write_items-requires-clause-fit
 write_items-requires-clause-fit c =
-    subst (λ (s : Shape). AllFit s (take c.fitting-most.result c.args.items.now)) (sym (same_shape c.args.stepper.now c.scan-seen.new.self c.scan-seen.ensures.grows.same)) (first_fit c.args.stepper.now.ring.shape c.fitting-most.result c.args.items.now c.requires.batch.fit)
+    subst (λ (s : Shape). AllFit s (take c.fitting-most.result c.args.items.now)) (sym (same_shape c.args.stepper.now c.scan-seen.new.self c.scan-seen.ensures.grows.same)) (AllFit-take c.args.stepper.now.ring.shape c.fitting-most.result c.args.items.now c.requires.batch.fit)
 
 pub write_items-requires-clause-program : goal.write_items-requires-clause-program
 write_items-requires-clause-program c =
