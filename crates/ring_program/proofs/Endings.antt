@@ -22,6 +22,11 @@ use Rattle.ring_program.specs.declared.faults.Refusal.{Refusal}
 use Rattle.ring_program.specs.declared.faults.Refusal.TheVariants as refusal
 use Rattle.ring_program.specs.declared.inputs.TheConstants.{INPUT_LIMIT}
 
+-- what holds of all bytes holds of an input, if there is one
+pub if_some : (input : Option (List ℕ)) (P : List ℕ → Type 0) → ((bytes : List ℕ) → P bytes) → IfSome input P
+if_some None P each = tt
+if_some (Some bytes) P each = each bytes
+
 -- what came of a request was delivered
 abbrev IsDelivered : {A : Type 0} → Result (Answer A) Refusal → (before after : Option (List ℕ)) (Tells : List ℕ → Type 0) (status : ℕ) → Type 0
 IsDelivered r before after Tells status =

@@ -16,18 +16,15 @@ un_not : (b : Bool) → not b ≡ false → b ≡ true
 un_not true e = refl
 un_not false e = sym e
 
-same_items : (xs ys : List ℕ) → bytes_eq xs ys ≡ true → xs ≡ ys
-same_items xs ys e = (bytes_eq-Decides xs ys).0 e
-
 -- items were compared with the next ones
 pub next_items : (offered items : List ℕ) (batch n : ℕ) (differ : Bool) → n ≡ min batch (length items) → differ ≡ not (bytes_eq offered (take n items)) → differ ≡ false
     → offered ≡ take batch items
 next_items offered items batch n differ n_is is same =
-    same_items offered (take n items) (un_not (bytes_eq offered (take n items)) (sym is ∙ same)) ∙ ap (λ (k : ℕ). take k items) n_is ∙ take_min batch items
+    (bytes_eq-Decides offered (take n items)).0 (un_not (bytes_eq offered (take n items)) (sym is ∙ same)) ∙ ap (λ (k : ℕ). take k items) n_is ∙ take_min batch items
 
 pub front_items : (items taken left : List ℕ) → bytes_eq (take (length items) taken) items ≡ true → left ≡ drop (length items) taken → taken ≡ items ++ left
 front_items items taken left same is =
-    sym (take-append-drop (length items) taken) ∙ ap₂ (λ (a : List ℕ) (b : List ℕ). a ++ b) (same_items (take (length items) taken) items same) (sym is)
+    sym (take-append-drop (length items) taken) ∙ ap₂ (λ (a : List ℕ) (b : List ℕ). a ++ b) ((bytes_eq-Decides (take (length items) taken) items).0 same) (sym is)
 
 -- a take ended with the next items
 pub took : (u : Untold) (items : List ℕ) (left : Bor (List ℕ)) → u.taken.now ≡ items ++ left.now → TakesOff u (TakeItems items true) (record u { taken = left })

@@ -1,10 +1,10 @@
 -- What a play's report says of its items.
-use Rattle.std.proofs.Common.{◌+◌, ◌≡◌, ◌↔◌, ◌≤◌, ◌∙◌, Bool, true, List, ap, arith, length, subst, sym, ℕ}
-use Rattle.std.proofs.lemmas.List.{length-append}
+use Rattle.std.proofs.Common.{◌+◌, ◌≡◌, ◌↔◌, ◌≤◌, ◌∙◌, Bool, true, List, ap, length, subst, sym, ℕ}
 use Rattle.bits_core.specs.declared.events.Side.{Side}
 use Rattle.bits_core.specs.declared.events.Side.TheVariants.{P, C}
 use Rattle.bits_core.specs.declared.events.Event.{Event}
 use Rattle.bits_core.specs.Made.{IsPrefix}
+use Rattle.bits_core.proofs.Places.{prefix_no_longer}
 use Rattle.ring_core.specs.Counts.{first_count}
 use Rattle.ring_core.specs.Puts.{Puts, FollowsPuts}
 use Rattle.ring_core.specs.Takes.{Takes, FollowsTakes}
@@ -15,9 +15,6 @@ use Rattle.ring_script.specs.Content.{Content}
 use Rattle.ring_script.specs.Script.{IsScript}
 use Rattle.uses.specs.Plays.{LeavesInside, TakesSoMany}
 use Rattle.ring_core.proofs.OwnEvents.{clock_end as clock_at_end}
-
-pub no_longer : {A : Type 0} (xs ys : List A) → IsPrefix xs ys → length xs ≤ length ys
-no_longer xs ys (rest, e) = omega (arith, ap length e, length-append xs rest)
 
 -- no more items were taken than put
 pub play_within :
@@ -32,7 +29,7 @@ play_within script letters h is put taken put_is taken_is =
     let prefix = (is.headline p.0 t.0 puts takes).prefix (length h) in
     let of_put = ap (items_put script.shape first_count p.0.puts) (clock_at_end P h) ∙ sym (put_is p.0 puts) in
     let of_taken = ap (items_taken script.shape first_count t.0.takes) (clock_at_end C h) ∙ sym (taken_is t.0 takes) in
-    no_longer taken put (subst (λ (z : List ℕ × List ℕ). IsPrefix z.0 z.1) (λ i. (of_taken i, of_put i)) prefix)
+    prefix_no_longer taken put (subst (λ (z : List ℕ × List ℕ). IsPrefix z.0 z.1) (λ i. (of_taken i, of_put i)) prefix)
 
 -- as many are left as were put and not taken
 pub play_leaves :

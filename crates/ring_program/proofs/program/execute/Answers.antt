@@ -11,6 +11,7 @@ use Rattle.ring_program.specs.declared.command_line.Request.TheVariants.{OnInput
 use Rattle.ring_program.specs.declared.faults.AppFault.TheVariants as app
 use Rattle.ring_program.specs.declared.faults.Refusal.TheVariants as refusal
 use Rattle.ring_program.proofs.program.execute.Goals as goal
+use Rattle.ring_program.proofs.Endings.{if_some}
 
 no_help : (k : ErrorKind) → k ≡ kind.OutOfMemory → ¬ IsHelp k
 no_help k is (inl help) = let clash : kind.DisplayHelp ≡ kind.OutOfMemory = sym help ∙ is in cc
@@ -34,10 +35,6 @@ memory_cause (Run run) input = inl (inl refl)
 -- a request is refused for want of memory
 short_on : (r : Request) (input : List ℕ) (before after : Option (List ℕ)) (Tells : List ℕ → Type 0) (status : ℕ) → NoMemory before after Tells status → EndsOn r input before after Tells status
 short_on r input before after Tells status short = inr (refusal.App app.OutOfMemory, memory_cause r input, (short.0, short.1, ([], inl refl, short.2)))
-
-if_some : (input : Option (List ℕ)) (P : List ℕ → Type 0) → ((bytes : List ℕ) → P bytes) → IfSome input P
-if_some None P each = tt
-if_some (Some bytes) P each = each bytes
 
 short_of : (r : Request) (input before after : Option (List ℕ)) (Tells : List ℕ → Type 0) (status : ℕ) → NoMemory before after Tells status → Ends r input before after Tells status
 short_of (Run run) input before after Tells status short = short_on (Run run) [] before after Tells status short

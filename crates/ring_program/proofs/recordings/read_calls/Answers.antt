@@ -1,4 +1,4 @@
-use Rattle.std.proofs.Common.{rules, false, ◌≡◌, ◌≢◌, ℕ, List, [], Option, Some, None, Result, Ok, Err, IfErr, IfSome, inl, inr, subst, sym, refl, append_assoc}
+use Rattle.std.proofs.Common.{rules, false, ◌≡◌, ◌≢◌, ℕ, List, [], Option, Some, None, Result, Ok, Err, IfErr, inl, inr, subst, sym, refl, append_assoc}
 use Rattle.std.specs.Result.{IsErrAnd}
 use Rattle.std.specs.Prelude.{MatchOption}
 use Rattle.std.proofs.lemmas.Option.{none-some, same_Some}
@@ -13,16 +13,13 @@ use Rattle.ring_program.specs.declared.recordings.CallsFound.{CallsFound}
 use Rattle.ring_program.proofs.FirstFaults.{nothing_is_faultless}
 use Rattle.ring_program.proofs.ReadingLemmas.{all_turns, at_end, at_fault, of_front, of_whole, one_more}
 use Rattle.ring_program.proofs.recordings.read_calls.Goals as goal
+use Rattle.ring_program.proofs.Endings.{if_some}
 
 -- a fault of the text, of these bytes
 told : (result : Result CallsFound Refusal) (fault : RecordingFault) (bytes : List ℕ) → IsErrAnd result (λ e. e ≡ refusal.Calls fault) → RefusesText fault bytes → IfErr result (IsCallsCause bytes)
 unfolding IsCallsCause
 told (Ok finding) fault bytes is refuses = tt
 told (Err e) fault bytes is refuses = inr (inr (fault, is, refuses))
-
-of_any : (input : Option (List ℕ)) (P : List ℕ → Type 0) → ((bytes : List ℕ) → P bytes) → IfSome input P
-of_any None P holds = tt
-of_any (Some bytes) P holds = holds bytes
 
 -- what holds where something was found, and where nothing was
 one_found : {X : Type 0} (o : Option X) (A : Type 0) (B : X → Type 0) (x : X) → o ≡ Some x → MatchOption o A B → B x
@@ -79,4 +76,4 @@ returns-clause-refused g c =
 
 pub returns-in-Err-clause-refused : goal.returns-in-Err-clause-refused
 unfolding IsCallsCause
-returns-in-Err-clause-refused g c = of_any _ _ (λ bytes. inr (inl refl))
+returns-in-Err-clause-refused g c = if_some _ _ (λ bytes. inr (inl refl))
