@@ -55,6 +55,7 @@ IsCapacity capacity = (0 < capacity) × (capacity ≤ 64)
 abbrev pub IsModulus : ℕ → ℕ → Type 0
 IsModulus capacity modulus = (capacity + 2 ≤ modulus) × (modulus ≤ 256)
 
+-- again, as the limits of cells and of their digits are the same by chance
 abbrev pub IsWidth : ℕ → Type 0
 IsWidth width = (0 < width) × (width ≤ 64)
 

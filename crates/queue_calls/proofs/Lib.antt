@@ -1,5 +1,4 @@
 pub mod Ends
-pub mod Results
 pub mod Rooms
 pub mod Points
 pub mod Effects

@@ -1,6 +1,6 @@
 -- Where the slots are too few.
-use Rattle.std.specs.Prelude.{OnErr}
-use Rattle.std.proofs.Common.{◌≡◌, Result, Ok, Err, inl, inr, ℕ, suc, ◌+◌, ◌<◌, ◌≤◌, Bool, true, false, List, [], ◌∷◌, ◌++◌, length, take, get_or, if◌then◌else◌, refl, sym, ap, subst, ◌∙◌, arith, length-append}
+pub use Rattle.lists.proofs.Results.{on_err}
+use Rattle.std.proofs.Common.{◌≡◌, inl, inr, ℕ, suc, ◌+◌, ◌<◌, ◌≤◌, Bool, true, false, List, [], ◌∷◌, ◌++◌, length, take, get_or, if◌then◌else◌, refl, sym, ap, subst, ◌∙◌, arith, length-append}
 use Rattle.std.proofs.lemmas.List.{take_more, take-take, take_at, length-take-le}
 use Rattle.bits_core.specs.declared.events.Event.{Event}
 use Rattle.bits_core.specs.declared.shapes.Shape.{Shape}
@@ -23,11 +23,6 @@ use Rattle.ring_audit.specs.TakeReading.{TakeReading, HasReadTake}
 use Rattle.ring_audit.specs.Reading.{ReadingStands, NeedsRoom, reading}
 use Rattle.ring_audit.proofs.Readings.{put_stores, take_takes}
 use Rattle.ring_audit.proofs.TakeEnds.{few_taken}
-
--- again, as no crate below has it for this one
-pub on_err : {A E : Type 0} {G : Type 0} (r : Result A E) → G → OnErr r G
-on_err (Ok a) g = tt
-on_err (Err x) g = g
 
 -- ---- an event for whose item there is no room
 

@@ -11,6 +11,7 @@ use Rattle.bits_core.specs.declared.events.Side.TheVariants.{P, C}
 use Rattle.ring_page.specs.declared.marks.Mark.{Mark}
 
 -- 0 for the producer, 1 for the consumer
+-- again, as these numbers are the page's format, and the places of marks are not
 abbrev pub side_number : Side → ℕ
 side_number P = 0
 side_number C = 1
@@ -50,6 +51,7 @@ value_of (ReadEnd v) = v
 value_of (WriteBegin v) = v
 value_of WriteEnd = false
 
+-- again, as this number is the page's format, and the words of a ring are not
 abbrev pub bit_number : Bool → ℕ
 bit_number true = 1
 bit_number false = 0

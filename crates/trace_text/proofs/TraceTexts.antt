@@ -186,15 +186,6 @@ whole_line (Some rest) now old new bytes front free whole read text ended =
     let line : read.0 ≡ bytes = ends.text ∙ ap (λ (t : List ℕ). t ++ 10 ∷ []) (sym same.0) ∙ sym whole in
     subst (λ (t : List ℕ). HasEnded new (text ++ t)) line (read.3 text ended)
 
--- what holds of a success or of an error follows from what else holds of it
-pub then_ok : {T E P Q : Type 0} (r : Result T E) → OnOk r P → (P → Q) → OnOk r Q
-then_ok (Ok x) p q = q p
-then_ok (Err e) p q = tt
-
-pub then_err : {T E : Type 0} {P Q : E → Type 0} (r : Result T E) → IfErr r P → ((e : E) → P e → Q e) → IfErr r Q
-then_err (Ok x) p q = tt
-then_err (Err e) p q = q e p
-
 -- bytes before and behind the end of a line
 pub behind_it : (before read rest piece more : List ℕ) → piece ≡ read ++ rest → (before ++ read) ++ (rest ++ more) ≡ before ++ (piece ++ more)
 behind_it before read rest piece more parts = rw parts (simp append_assoc)

@@ -1,15 +1,11 @@
-use Rattle.std.specs.Prelude.{OnErr}
-use Rattle.std.proofs.Common.{Result, Ok, Err, refl, sym, subst}
+use Rattle.std.proofs.Common.{refl, sym, subst}
 use Rattle.std.proofs.lemmas.Bool.{false≢true}
+use Rattle.lists.proofs.Results.{on_err}
 use Rattle.call_lines.specs.Lines.{Allows}
 use Rattle.call_lines.specs.LineReading.{ReadsNumbers}
 use Rattle.call_lines.proofs.LineLemmas.{begins_with_numbers, line_is, no_line_numbers, no_line_allowed}
 use Rattle.call_lines.proofs.lines.read_line.Goals as goal
 use Rattle.call_lines.proofs.lines.read_line.Goals.{else-branch-via-then-branch+else-allows, else-branch-via-else-branch}
-
-on_err : {A E : Type 0} {G : Type 0} (r : Result A E) → G → OnErr r G
-on_err (Ok a) told = tt
-on_err (Err x) told = told
 
 pub returns-then-allows-clause-line : goal.returns-then-allows-clause-line
 returns-then-allows-clause-line g c =

@@ -1,12 +1,8 @@
-use Rattle.std.specs.Prelude.{OnErr}
-use Rattle.std.proofs.Common.{Result, Ok, Err, ◌≢◌, ◌∙◌, ◌++◌, ◌∷◌, [], List, ℕ, refl, sym, length, length-append, arith}
+use Rattle.std.proofs.Common.{◌≢◌, ◌∙◌, ◌++◌, ◌∷◌, [], List, ℕ, refl, sym, length, length-append, arith}
 use Rattle.std.proofs.lemmas.Bool.{eq-eqb, false≢true}
+use Rattle.lists.proofs.Results.{on_err}
 use Rattle.call_lines.proofs.LineReadings.{one_more, small_more, shorter, left_more, left_none}
 use Rattle.call_lines.proofs.lines.read_numbers.Goals as goal
-
-on_err : {A E : Type 0} {G : Type 0} (r : Result A E) → G → OnErr r G
-on_err (Ok a) told = tt
-on_err (Err x) told = told
 
 pub returns-in_default-clause-read : goal.returns-in_default-clause-read
 returns-in_default-clause-read g c told small text =

@@ -4,7 +4,7 @@ use Rattle.queue_calls.specs.Recordings.{IsFindingOf, RefusesText}
 use Rattle.queue_calls.specs.Rooms.{AreTooShort, Rooms}
 use Rattle.queue_calls.specs.declared.faults.RecordingFault.{RecordingFault}
 use Rattle.queue_calls.specs.declared.faults.RecordingFault.TheVariants.{OutOfMemory}
-use Rattle.queue_calls.proofs.Results.{of_err}
+use Rattle.lists.proofs.Results.{of_err}
 use Rattle.ring_page.specs.Calls.{slots_for}
 use Rattle.ring_page.proofs.calls.found_in.Goals as goal
 

@@ -4,9 +4,9 @@ use Rattle.std.proofs.lemmas.Grind.{flat_map-append}
 use Rattle.std.proofs.lemmas.List.{append-nil, append_assoc, take-append-drop, take_all, take_more}
 use Rattle.queue_calls.specs.Recordings.{IsFindingOf, RefusesText}
 use Rattle.queue_calls.specs.RecordingStates.{HasRead}
-use Rattle.queue_calls.proofs.Results.{then_value as if_ok}
+use Rattle.lists.proofs.Results.{then_value as if_ok}
 use Rattle.uses.proofs.findings.found_in.Goals as goal
-use Rattle.queue_calls.proofs.Results.{then_err as if_err}
+use Rattle.lists.proofs.Results.{then_err as if_err}
 
 -- the bytes of one piece more
 one_more : (pieces : List (Bor (List ℕ))) (index : ℕ) (d : Bor (List ℕ)) → index < length pieces

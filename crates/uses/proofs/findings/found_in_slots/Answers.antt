@@ -1,9 +1,9 @@
 use Rattle.std.proofs.Common.{[], rules, subst}
 use Rattle.std.proofs.lemmas.List.{append-nil}
 use Rattle.queue_calls.specs.Recordings.{RefusesText}
-use Rattle.queue_calls.proofs.Results.{then_value as if_ok}
+use Rattle.lists.proofs.Results.{then_value as if_ok}
 use Rattle.uses.proofs.findings.found_in_slots.Goals as goal
-use Rattle.queue_calls.proofs.Results.{then_err as if_err}
+use Rattle.lists.proofs.Results.{then_err as if_err}
 
 pub returns-in_err-read-clause-refused : goal.returns-in_err-read-clause-refused
 returns-in_err-read-clause-refused c =

@@ -12,7 +12,7 @@ use Rattle.call_lines.specs.declared.lines.Word.{Word}
 use Rattle.queue_calls.specs.declared.hearings.Begun.TheVariants as begun
 use Rattle.queue_calls.specs.declared.recordings.Lines.{Lines}
 use Rattle.queue_calls.proofs.HeardLines.{IsFirst, first_line, is_line, first_heard, further_line, count_is, further_heard, not_the_first, not_further}
-use Rattle.queue_calls.proofs.Results.{then_err, then_ok}
+use Rattle.lists.proofs.Results.{then_err, then_ok}
 use Rattle.queue_calls.proofs.NotingLemmas.{line_long}
 use Rattle.queue_calls.proofs.recordings.Lines.read.Goals as goal
 use Rattle.queue_calls.proofs.recordings.Lines.read.Goals.{else-ne-via-then-ne+else-ne-2, else-ne-via-else-ne}

@@ -7,7 +7,7 @@ use Rattle.queue_calls.specs.Recordings.{lines_text}
 use Rattle.queue_calls.specs.RecordingStates.{KeepsBeginning}
 use Rattle.queue_calls.proofs.KeptLines.{all_begins, begins_bad, bytes_kept, still_begins}
 use Rattle.queue_calls.proofs.RecordingLemmas.{too_long}
-use Rattle.queue_calls.proofs.Results.{if_err}
+use Rattle.lists.proofs.Results.{if_err}
 use Rattle.queue_calls.proofs.recordings.RecordingIn.keep.Goals as goal
 
 pub returns-in_err-extend_from_slice-clause-full : goal.returns-in_err-extend_from_slice-clause-full

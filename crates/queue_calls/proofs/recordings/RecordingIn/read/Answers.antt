@@ -3,7 +3,7 @@ use Rattle.std.proofs.lemmas.List.{append-nil}
 use Rattle.queue_calls.specs.Rooms.{AreTooShort, rooms_in}
 use Rattle.queue_calls.specs.declared.faults.RecordingFault.{RecordingFault}
 use Rattle.queue_calls.specs.declared.faults.RecordingFault.TheVariants.{OutOfMemory}
-use Rattle.queue_calls.proofs.Results.{of_err, then_err, then_ok}
+use Rattle.lists.proofs.Results.{of_err, then_err, then_ok}
 use Rattle.queue_calls.proofs.NotingLemmas.{rooms_same, too_short_on}
 use Rattle.queue_calls.specs.Recordings.{RefusesText}
 use Rattle.queue_calls.specs.RecordingStates.{HasRead}

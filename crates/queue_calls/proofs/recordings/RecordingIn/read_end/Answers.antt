@@ -7,7 +7,7 @@ use Rattle.queue_calls.specs.Rooms.{AreTooShort, rooms_in}
 use Rattle.queue_calls.specs.declared.faults.RecordingFault.{RecordingFault}
 use Rattle.queue_calls.specs.declared.faults.RecordingFault.TheVariants.{OutOfMemory}
 use Rattle.queue_calls.specs.RecordingStates.{HasRead, RefusesLine}
-use Rattle.queue_calls.proofs.Results.{if_err, of_err}
+use Rattle.lists.proofs.Results.{if_err, of_err}
 use Rattle.queue_calls.proofs.RecordingLemmas.{end_refused, ended_text, line_ended}
 use Rattle.queue_calls.proofs.NotingLemmas.{line_short}
 use Rattle.queue_calls.proofs.recordings.RecordingIn.read_end.Goals as goal

@@ -11,7 +11,7 @@ use Rattle.queue_calls.specs.declared.events.CallEvent.{CallEvent}
 use Rattle.queue_calls.specs.declared.events.CallEvent.TheVariants as said
 use Rattle.queue_calls.specs.declared.witnesses.Witness.{Witness}
 use Rattle.queue_calls.proofs.Hears.{IsQuiet, audits, counted_so, first_line, heard, kept_same, line_is, mark_items, next_remembers, quiet_heard, refuses, still_remembers, stored_after, taken_all, taken_kept, told_so}
-use Rattle.queue_calls.proofs.Results.{then_err, then_ok}
+use Rattle.lists.proofs.Results.{then_err, then_ok}
 use Rattle.queue_calls.proofs.Remembering.{kept_of}
 use Rattle.queue_calls.proofs.Decided.{decides_reads}
 use Rattle.queue_calls.proofs.witnesses.Witness.hear.Goals as goal

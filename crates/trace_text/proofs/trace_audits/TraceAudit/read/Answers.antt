@@ -1,7 +1,8 @@
 use Rattle.std.proofs.Common.{◌++◌, ◌∙◌, List, ℕ, ap, sym, subst, append_assoc, rules}
 use Rattle.trace_text.specs.Trace.{RefusesTraceText}
 use Rattle.trace_text.specs.TraceAudits.{HasReadTrace}
-use Rattle.trace_text.proofs.TraceTexts.{behind_it, then_err, then_ok, with_it}
+use Rattle.lists.proofs.Results.{then_err, then_ok}
+use Rattle.trace_text.proofs.TraceTexts.{behind_it, with_it}
 use Rattle.trace_text.proofs.trace_audits.TraceAudit.read.Goals as goal
 
 pub returns-in_err-read_end-in-Some-clause-refused : goal.returns-in_err-read_end-in-Some-clause-refused

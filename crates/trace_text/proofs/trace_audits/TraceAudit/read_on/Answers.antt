@@ -4,7 +4,8 @@ use Rattle.trace_text.specs.declared.trace_audits.TraceAudit.{TraceAudit}
 use Rattle.trace_text.specs.Trace.{RefusesTraceText}
 use Rattle.trace_text.specs.TraceAudits.{HasEnded, HasReadTrace}
 use Rattle.line_parts.specs.LineEnds.{HasNoFeed}
-use Rattle.trace_text.proofs.TraceTexts.{behind_it, then_err, then_ok, with_it}
+use Rattle.lists.proofs.Results.{then_err, then_ok}
+use Rattle.trace_text.proofs.TraceTexts.{behind_it, with_it}
 use Rattle.trace_text.proofs.trace_audits.TraceAudit.read_on.Goals as goal
 
 -- lines were read where none was cut

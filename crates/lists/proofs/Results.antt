@@ -1,5 +1,5 @@
--- What holds of a result by what else holds of it.
-use Rattle.std.proofs.Common.{◌≡◌, Result, Ok, Err, OnOk, IfErr, sym, subst, IfOk}
+-- What holds of a result by what else holds of it. It is here as the crates above share it.
+use Rattle.std.proofs.Common.{◌≡◌, Result, Ok, Err, OnOk, OnErr, IfErr, sym, subst, IfOk}
 
 module _ {T E : Type 0} where
   -- on success
@@ -21,6 +21,10 @@ module _ {T E : Type 0} where
   if_err (Ok x) q = tt
   if_err (Err e) q = q e
 
-  -- of the error that is answered
+  pub on_err : {Q : Type 0} (r : Result T E) → Q → OnErr r Q
+  on_err (Ok x) q = tt
+  on_err (Err e) q = q
+
+  -- of the error that is returned
   pub of_err : (Q : E → Type 0) (r : Result T E) (e : E) → r ≡ Err e → Q e → IfErr r Q
   of_err Q r e is q = subst (λ z. IfErr z Q) (sym is) q
