@@ -33,9 +33,7 @@ use Rattle.ring_run.specs.Ends.{HasPuts, HasPut, HasPutAll, PutAdds, HasTakes, H
 use Rattle.ring_run.specs.Counters.{ShowsWords}
 use Rattle.ring_run.specs.Laws.{PutsAreShown, TakesAreShown}
 use Rattle.uses.specs.Passed.{HasStored, HasTook, number_stored}
-use Rattle.ring_audit.proofs.TakeItems.{taken-push as all_taken_snoc}
-use Rattle.ring_audit.proofs.TakeReads.{told-tells as tells_true}
-use Rattle.ring_core.proofs.Machines.TakeCalls.{reply-push as last_reply}
+use Rattle.ring_core.proofs.Machines.TakeCalls.{all_taken-push as all_taken_snoc, closed_tells as tells_true, reply-push as last_reply}
 use Rattle.ring_core.proofs.OwnEvents.{clock_end as clock_at_end}
 pub use Rattle.ring_core.proofs.Machines.ConsumerMoves.{item_fits as fit_snoc}
 pub use Rattle.ring_core.proofs.Recorded.RecordedStates.{longer as then_begins}

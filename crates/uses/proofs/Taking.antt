@@ -10,8 +10,7 @@ use Rattle.ring_run.specs.Ring.{RingEnd}
 use Rattle.ring_run.specs.Ends.{HasTakes, HasTakenAll, TakeAllAdds, number_brought}
 use Rattle.uses.proofs.Passing.{take_items_of}
 use Rattle.uses.specs.Passed.{HasTook}
-use Rattle.ring_audit.proofs.TakeItems.{taken-push as taken_snoc}
-use Rattle.ring_core.proofs.Machines.TakeCalls.{items-push as items_snoc}
+use Rattle.ring_core.proofs.Machines.TakeCalls.{all_taken-push as taken_snoc, items-push as items_snoc}
 
 module _ (read : TakesAreRead) (a b : RingEnd) (same : b.ring ≡ a.ring) (items : List ℕ) (before : HasTook a items) (wanted : ℕ) (reply : TakeBatchReply) (into : List ℕ) where
   by_one : (calls : Takes) → HasTakes b.ring.shape a.list calls → (told : Bool) → TakeAllAdds told b.ring.shape wanted calls reply into a.list b.list → HasTook b (items ++ take (number_brought reply) into)
