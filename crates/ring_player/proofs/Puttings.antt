@@ -7,11 +7,11 @@ use Rattle.bits_core.specs.Shape.{AllFit, batch_of, modulus_of, width_of}
 use Rattle.bits_core.specs.Made.{Made, answered, events_of}
 use Rattle.ring_core.specs.declared.replies.BatchReply.{BatchReply}
 use Rattle.ring_core.specs.Calls.{LastBitIsDue}
-use Rattle.ring_core.specs.Counts.{Count, first_count}
-use Rattle.ring_core.specs.ProducerCalls.{and_put, closes_with, HasCallMore, ProducerHasMoved, IsAfterCall, IsPutOf, IsReplyToCall, last_put_reply, new_producer, no_puts, ProducerStands, put_reply_to, room_in}
+use Rattle.ring_core.specs.Counts.{first_count}
+use Rattle.ring_core.specs.ProducerCalls.{and_put, closes_with, HasCallMore, ProducerHasMoved, IsAfterCall, IsPutOf, IsReplyToCall, new_producer, no_puts, ProducerStands, put_reply_to, room_in}
 use Rattle.ring_core.specs.ProducerState.{batch_reply, Call, call_of, Close, due_put, ProducerState, Put}
 use Rattle.ring_core.specs.Puts as puts
-use Rattle.ring_core.specs.Puts.{ArePuts, Full, IsBatch, number_after, Puts, put_program, Stored, stored_after, stored_count, stored_in}
+use Rattle.ring_core.specs.Puts.{ArePuts, Full, IsBatch, number_after, Puts, put_program, Stored, stored_in}
 use Rattle.ring_core.specs.Over.{fulls}
 use Rattle.ring_player.specs.Actors.{ArePutsMade, IsAsked, PutActorStands, PutTally, after_reply, full_in_reply, so_far, stored_in_reply}
 use Rattle.ring_player.specs.Plays.{AreAttempts, ArePutsOf, IsDoneAfter, IsProgram, offered}
@@ -23,7 +23,10 @@ use Rattle.ring_player.proofs.Nexts.{IsNextPut, NextPut as NextOf}
 use Rattle.ring_player.proofs.Moves.{events-more, goes_longer, program_beginning, split_last}
 use Rattle.ring_core.proofs.Readings.ItemsRead.{same_calls}
 pub use Rattle.bits_core.proofs.OwnOpen.{not_open as none_of}
+use Rattle.bits_core.proofs.Fitting.{AllFit-take, AllFit-drop}
 use Rattle.ring_core.proofs.LawLemmas.{calls_are_first_puts}
+use Rattle.ring_core.proofs.OverSpans.CallSpans.{stored_number}
+use Rattle.ring_core.proofs.Machines.PutCalls.{reply-push as last-more}
 
 -- ---- the items offered
 
@@ -31,18 +34,6 @@ use Rattle.ring_core.proofs.LawLemmas.{calls_are_first_puts}
 pub all_fit : (shape : Shape) (items : List ℕ) → Fit (width_of shape) items → AllFit shape items
 all_fit shape [] f = tt
 all_fit shape (x ∷ items) f = (f 0 0 (omega arith), all_fit shape items (λ k d l. f (suc k) d (omega (arith, l))))
-
-fit-drop : (shape : Shape) (n : ℕ) (xs : List ℕ) → AllFit shape xs → AllFit shape (drop n xs)
-fit-drop shape zero [] f = f
-fit-drop shape zero (x ∷ xs) f = f
-fit-drop shape (suc n) [] f = tt
-fit-drop shape (suc n) (x ∷ xs) f = fit-drop shape n xs f.1
-
-fit-take : (shape : Shape) (n : ℕ) (xs : List ℕ) → AllFit shape xs → AllFit shape (take n xs)
-fit-take shape zero [] f = tt
-fit-take shape zero (x ∷ xs) f = tt
-fit-take shape (suc n) [] f = tt
-fit-take shape (suc n) (x ∷ xs) f = (f.0, fit-take shape n xs f.1)
 
 pub left_some : (n : ℕ) (xs : List ℕ) → n < length xs → 1 ≤ length (drop n xs)
 left_some zero [] l = absurd (omega (arith, l))
@@ -66,14 +57,10 @@ offered_is_batch script shape items n same is fit l =
     subst (λ t. IsBatch t items) (sym same) (subst (λ t. IsBatch script.shape t) (sym is) (record {
       some = taken_some (batch_of script.shape) (drop n script.items) script.shape.has_batch (left_some n script.items l);
       few = taken_few (batch_of script.shape) (drop n script.items);
-      fit = fit-take script.shape (batch_of script.shape) (drop n script.items) (fit-drop script.shape n script.items fit);
+      fit = AllFit-take script.shape (batch_of script.shape) (drop n script.items) (AllFit-drop script.shape n script.items fit);
     }))
 
 -- ---- attempts
-
-number_is : (shape : Shape) (c : Count) (xs : List puts.Put) → (stored_count shape c xs).number ≡ stored_in c.number xs
-number_is shape c [] = refl
-number_is shape c (x ∷ xs) = number_is shape (stored_after shape c x) xs
 
 attempts-more :
     (script : Content) (n : ℕ) (xs : List puts.Put) (x : puts.Put) → AreAttempts script n xs → stored_in n xs < length script.items →
@@ -132,7 +119,7 @@ calls_asked script (Put items) calls more m (items_are, left) (x, of, more_is, a
   are = are;
   attempts = subst (λ (t : Puts). AreAttempts script 0 t.puts) (sym more_is)
       (attempts-more script 0 calls.puts x m left
-      (subst (λ t. IsPutOf script.shape (stored_in 0 calls.puts) t x) items_are (subst (λ t. IsPutOf script.shape t items x) (number_is script.shape first_count calls.puts) of)));
+      (subst (λ t. IsPutOf script.shape (stored_in 0 calls.puts) t x) items_are (subst (λ t. IsPutOf script.shape t items x) (stored_number script.shape first_count calls.puts) of)));
   closes = λ e. absurd (true_false (sym e ∙ ap (λ (t : Puts). t.closes) more_is));
 }
   where
@@ -303,10 +290,6 @@ not_closed script p kept list s next closes =
     by_close true e = absurd (clash (asked_none e).0)
 
 -- ---- the access ends
-
-last-more : (first : Option BatchReply) (xs : List puts.Put) (x : puts.Put) → last_put_reply first (xs ++ x ∷ []) ≡ Some (put_reply_to x)
-last-more first [] x = refl
-last-more first (y ∷ xs) x = last-more (Some (put_reply_to y)) xs x
 
 counted_by : (n : ℕ) (x : puts.Put) → number_after n x ≡ n + stored_in_reply (Some (put_reply_to x))
 counted_by n (Stored seen items) = past_is n items

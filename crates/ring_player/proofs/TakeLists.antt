@@ -15,7 +15,7 @@ use Rattle.ring_core.specs.Takes.{AreTakes, count_after, Empty, End, IsTake, Ite
 use Rattle.ring_player.specs.Actors.{empty_in}
 use Rattle.ring_core.proofs.CountRow.{past_is}
 use Rattle.ring_core.proofs.OverSpans.CallSpans.{taken_number}
-pub use Rattle.ring_audit.proofs.TakeItems.{taken-push as all-more}
+pub use Rattle.ring_core.proofs.Machines.TakeCalls.{all_taken-push as all-more}
 pub use Rattle.ring_core.proofs.Recorded.RecordedStates.{few_items as take_within}
 
 -- ---- the items taken

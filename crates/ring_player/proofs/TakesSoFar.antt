@@ -16,9 +16,8 @@ use Rattle.ring_player.specs.Wants.{wanted_at}
 use Rattle.ring_player.specs.SoFar.{TakenSoFar}
 use Rattle.ring_script.specs.Content.{Content}
 use Rattle.ring_core.proofs.Machines.Following.{events_of-append, length-events}
-use Rattle.ring_core.proofs.Machines.TakeCalls.{phrases-push}
+use Rattle.ring_core.proofs.Machines.TakeCalls.{phrases-push, closed_tells}
 use Rattle.ring_core.proofs.Readings.Over.{takes_total}
-use Rattle.ring_audit.proofs.TakeReads.{told-tells}
 use Rattle.ring_player.proofs.Moves.{begins-trans, no_open, so_far_begins, so_far_length}
 use Rattle.ring_player.proofs.Nexts.{IsNextTake, NextTake as NextOf}
 use Rattle.ring_player.proofs.Overs.{calls_all_over, calls_cut_over}
@@ -58,7 +57,7 @@ taken_so_far script p taken told empty list o due s next is_due = by_due due is_
           items = taken_all shape first_count calls.takes (length (so_far C list o)) (omega (arith, size, program-parts calls)) ∙ sym s.taken_is;
           over = ap empties (calls_all_over (take_phrase shape) (count_after shape) (take_phrases shape) (takes_total shape) first_count calls.takes (length (so_far C list o)) (omega (arith, size, program-parts calls))) ∙ sym s.empty_is;
           ended = ap all_taken (calls_all_over (take_phrase shape) (count_after shape) (take_phrases shape) (takes_total shape) first_count calls.takes (length (so_far C list o)) (omega (arith, size, program-parts calls))) ∙ sym s.taken_is;
-          tells = (λ t. (told-tells calls.end (sym s.told_is ∙ t), omega (arith, size)), λ t. s.told_is ∙ tells_if calls.end t.0);
+          tells = (λ t. (closed_tells calls.end (sym s.told_is ∙ t), omega (arith, size)), λ t. s.told_is ∙ tells_if calls.end t.0);
         }
     by_due None f true next = absurd next
     by_due (Some a) f false next = absurd next

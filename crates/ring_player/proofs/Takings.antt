@@ -14,7 +14,7 @@ use Rattle.ring_player.specs.Plays.{AreWantedBy, IsDoneAfter, IsProgram}
 use Rattle.ring_player.specs.Wants.{AreTakesOf, wanted_at}
 use Rattle.ring_script.specs.Content.{Content}
 use Rattle.ring_core.proofs.Machines.Following.{events_of-append}
-use Rattle.ring_audit.proofs.TakeReads.{told-tells}
+use Rattle.ring_core.proofs.Machines.TakeCalls.{closed_tells}
 use Rattle.ring_player.proofs.Nexts.{IsNextTake, NextTake as NextOf}
 use Rattle.ring_player.proofs.Moves.{events-more, goes_longer, program_beginning, split_last}
 use Rattle.ring_player.proofs.TakeLists.{all_are, taken_rises, take_of_calls}
@@ -202,7 +202,7 @@ is_done script p taken told empty list s next over =
     )
   where
     by_over : (told ≡ true) ⊎ (script.takes ≤ length taken) → (taken_in 0 s.calls.takes ≡ script.takes) ⊎ Tells s.calls.end
-    by_over (inl t) = inr (told-tells s.calls.end (sym s.told_is ∙ t))
+    by_over (inl t) = inr (closed_tells s.calls.end (sym s.told_is ∙ t))
     by_over (inr l) = inl (omega (arith, l, s.few, ap length s.taken_is, all_are 0 s.calls.takes))
 
 -- an actor that has made no access

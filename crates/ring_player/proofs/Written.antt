@@ -9,6 +9,7 @@ use Rattle.bits_core.specs.declared.events.Bit.TheVariants as bit
 use Rattle.bits_core.specs.declared.shapes.Shape.{Shape}
 use Rattle.bits_core.specs.Shape.{capacity_of, width_of}
 use Rattle.bits_core.specs.Made.{Made, Read, Write, IsPrefix}
+use Rattle.bits_core.proofs.Places.{prefix_no_longer}
 use Rattle.register_core.specs.Row.{RowWrite, row_bit, writes_in}
 use Rattle.register_core.specs.ScanState.{scan_phrase, row_read_by, zero_reads}
 use Rattle.register_core.specs.Word.{digit_writes, word_write}
@@ -145,9 +146,6 @@ split_front (x ∷ front) back (y ∷ made) (r, e) = join (split_front front bac
     join (inl (s, f)) = inl (s, ap (λ l. y ∷ l) f ∙ ap (λ z. z ∷ front) head)
     join (inr (rest, f, p)) = inr (rest, ap (λ l. y ∷ l) f ∙ ap (λ z. z ∷ (front ++ rest)) head, p)
 
-shorter : {A : Type 0} (xs ys : List A) → IsPrefix xs ys → length xs ≤ length ys
-shorter xs ys (r, e) = omega (arith, ap length e, length-append xs r)
-
 begin_writes : (row : ℕ → Bit) (made : List Made) (ws : List RowWrite) → IsPrefix made (writes_in row ws) → (vs : List RowWrite) × (made ≡ writes_in row vs)
 begin_writes row [] ws p = ([], refl)
 begin_writes row (x ∷ made) [] (r, e) = absurd (cc)
@@ -194,7 +192,7 @@ put_begun shape c (Full u ∷ puts) close made t is p begins low high =
     by_split again (inl q) =
         let none : c.number ≡ c.number + 0 = omega arith in
         none_begun w (c.number * w) c.number made (begin_quiet made scan (scan_quiet (row_read_by P) u) q) ∙ none
-        ∙ ap (λ (l : List ℕ). c.number + length l) (sym (put_nothing shape c puts (t - events_in scan) (omega (arith, low, shorter made scan q))))
+        ∙ ap (λ (l : List ℕ). c.number + length l) (sym (put_nothing shape c puts (t - events_in scan) (omega (arith, low, prefix_no_longer made scan q))))
     by_split again (inr (more, made_is, q)) =
         let size : length made ≡ length scan + length more = ap length made_is ∙ length-append scan more in
         let nothing : c.number * w + 0 ≡ c.number * w = omega arith in
@@ -280,7 +278,7 @@ put_begun shape c (Stored u items ∷ puts) close made t is p begins low high =
         not_begun (subst NoCounts (sym all) quiet) (omega (arith, low, ap length all))
     by_rows more made_is r (v ∷ vs) more_is =
         let size : length made ≡ length front + length more = ap length made_is ∙ length-append front more in
-        let short : length more ≤ length batch = shorter more batch r in
+        let short : length more ≤ length batch = prefix_no_longer more batch r in
         let some : 1 ≤ length more = omega (arith, ap length more_is) in
         let nothing : c.number + length items ≡ c.number + (length items + 0) = omega arith in
         begun_here more made_is some [] (later (omega (arith, low, size, short))) (c.number + length items)
@@ -293,7 +291,7 @@ put_begun shape c (Stored u items ∷ puts) close made t is p begins low high =
         items_begun w (next.number * w) next.number made ≡ next.number + length (items_put shape next puts t)) →
         (IsPrefix made front ⊎ ((more : List Made) × (made ≡ front ++ more) × IsPrefix more (batch ++ rest))) →
         items_begun w (c.number * w) c.number made ≡ c.number + length (items_put shape c (Stored u items ∷ puts) t)
-    by_front again (inl q) = not_begun (begin_quiet made front quiet q) (omega (arith, low, shorter made front q))
+    by_front again (inl q) = not_begun (begin_quiet made front quiet q) (omega (arith, low, prefix_no_longer made front q))
     by_front again (inr (more, made_is, q)) = by_batch (split_front batch rest more q)
       where
         by_batch : (IsPrefix more batch ⊎ ((last : List Made) × (more ≡ batch ++ last) × IsPrefix last rest)) →
