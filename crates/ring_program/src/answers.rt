@@ -1,5 +1,5 @@
 //! Answers, and how they and what is refused are told.
-ghost use Rattle.std.specs.Prelude.{◌≡◌, ◌⊎◌, ℕ, true, IfErr, IfOk, IfSome, OnErr, OnOk, take};
+ghost use Rattle.std.specs.Prelude.{◌≡◌, ◌⊎◌, ◌≤◌, ℕ, true, IfErr, IfOk, IfSome, OnErr, OnOk, length, take};
 ghost use Rattle.std.specs.Fmt.InlineText.{inline_text};
 ghost use Rattle.std.specs.Io.KnownBytes.{Appends};
 ghost use Rattle.ring_program.specs.Answers.{Delivers, ending_words, status_of};
@@ -77,17 +77,55 @@ pub fn write_whole<W: Write>(out: &mut W, text: &[u8]) -> Result<(), AppFault>
     }
 }
 
-// A writer whose faults all end a text: no interruption is tried again.
+// Whether a terminal may take the byte for a command, and not for a letter or the end of a line.
+fn is_command(byte: u8) -> bool {
+    byte.is_ascii_control() && byte != b'\n'
+}
+
+// The bytes in front of the first that is a command.
+fn plain_front(bytes: &[u8]) -> &[u8] {
+    match bytes.iter().position(|byte| is_command(*byte)) {
+        Some(end) => &bytes[..end],
+        None => bytes,
+    }
+}
+
+// A writer for words that were given: a byte that is a command is written with an escape, as `\x1b`. Any fault ends the text: no
+// interruption is tried again.
 #[derive(Drop)]
 struct Unretried<'a, W> {
     inner: &'a mut W,
 }
 
-impl<W: Write> Write for Unretried<'_, W> {
-    fn write(&mut self, buf: &[u8]) -> io::Result<usize> {
-        match self.inner.write(buf) {
+impl<W: Write> Unretried<'_, W> {
+    fn write_plain(&mut self, bytes: &[u8]) -> io::Result<usize>
+        ensures { IfOk result (λ count. count ≤ length bytes.now) }
+    {
+        match self.inner.write(bytes) {
             Ok(count) => Ok(count),
             Err(_) => Err(io::Error::from(io::ErrorKind::Other)),
+        }
+    }
+
+    fn write_command(&mut self, byte: u8) -> io::Result<()> {
+        for letter in byte.escape_ascii() {
+            match self.inner.write(&[letter]) {
+                Ok(1) => {}
+                _ => return Err(io::Error::from(io::ErrorKind::Other)),
+            }
+        }
+        Ok(())
+    }
+}
+
+impl<W: Write> Write for Unretried<'_, W> {
+    fn write(&mut self, buf: &[u8]) -> io::Result<usize> {
+        match buf {
+            [byte, ..] if is_command(*byte) => {
+                self.write_command(*byte)?;
+                Ok(1)
+            }
+            _ => self.write_plain(plain_front(buf)),
         }
     }
 

@@ -122,7 +122,7 @@ const PLAY_EXAMPLE: &str = "  lamport_ring play < examples/plain_path.json\n";
 const CALLS_EXAMPLE: &str =
     "  lamport_ring play --calls < examples/plain_path.json | lamport_ring audit --calls\n";
 
-static WORDS: [(&str, u8, &[&str]); 11] = [
+static WORDS: [(&str, u8, &[&str]); 12] = [
     (
         HELP,
         0,
@@ -162,6 +162,12 @@ static WORDS: [(&str, u8, &[&str]); 11] = [
         "lamport_ring go",
         2,
         &["error: unrecognized subcommand 'go'\n"],
+    ),
+    // bytes that a terminal may take for commands
+    (
+        "lamport_ring \x1b[31mgo\x07",
+        2,
+        &["error: unrecognized subcommand '\\x1b[31mgo\\x07'\n"],
     ),
     (
         PLAY_HELP,
