@@ -83,7 +83,9 @@ fn is_command(byte: u8) -> bool {
 }
 
 // The bytes in front of the first that is a command.
-fn plain_front(bytes: &[u8]) -> &[u8] {
+fn plain_front(bytes: &[u8]) -> &[u8]
+    ensures { length result.now ≤ length bytes.now }
+{
     match bytes.iter().position(|byte| is_command(*byte)) {
         Some(end) => &bytes[..end],
         None => bytes,

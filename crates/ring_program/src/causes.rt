@@ -171,6 +171,16 @@ pub(crate) enum Source<'a> {
     Unkept,
 }
 
+impl<'a> Source<'a> {
+    /// The bad line of recorded calls, if it was kept.
+    pub fn of_line(text: Option<&'a [u8]>, has_feed: bool) -> Source<'a> {
+        match text {
+            Some(text) => Source::Line(TextLine { text, has_feed }),
+            None => Source::Unkept,
+        }
+    }
+}
+
 /// What is wrong in the text that was refused so. `None` where the refusal says it all, where it is not the text
 /// that was refused, and where memory ran out.
 pub fn cause_of<'a>(json: Global, source: Source<'a>, refusal: Refusal) -> Option<TextCause<'a>>

@@ -17,7 +17,6 @@ use crate::mistakes::{tell_mistake, unnamed};
 use crate::plays::play_answer;
 use crate::recordings::calls_answer;
 use crate::runs::run_answer;
-use crate::trace_lines::TextLine;
 use clap::Error;
 use clap::error::ErrorKind;
 use queue_calls::Recording;
@@ -138,13 +137,7 @@ fn answer_calls<A: Allocator + Copy, I: Read, O: Write, E: Write>(
     let mut recording = Recording::new(alloc);
     let mut at_end = false;
     let answered = calls_answer(alloc, &mut recording, &mut at_end, stop, input);
-    let source = match recording.line() {
-        Some(text) => Source::Line(TextLine {
-            text,
-            has_feed: !at_end,
-        }),
-        None => Source::Unkept,
-    };
+    let source = Source::of_line(recording.line(), !at_end);
     deliver(json, source, answered, out, err)
 }
 
