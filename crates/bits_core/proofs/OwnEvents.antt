@@ -20,7 +20,7 @@ subhistory_changes s h e =
     filter-append (is_by s) h (e ∷ [])
     ∙ elim (is_by s e) as (λ t. subhistory s h ++ cond t (e ∷ []) [] ≡ (if t then subhistory s h ++ e ∷ [] else subhistory s h)) [ true ↦ refl | false ↦ append-nil (subhistory s h) ]
 
--- the own events of two histories, one behind the other
+-- the own events of two histories, one after the other
 pub subhistory-append : (s : Side) (h more : List Event) → subhistory s (h ++ more) ≡ subhistory s h ++ subhistory s more
 subhistory-append s h more = filter-append (is_by s) h more
 

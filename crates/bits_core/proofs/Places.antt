@@ -10,7 +10,7 @@ slice_get-append [] ys p e at = cc
 slice_get-append (x ∷ xs) ys zero e at = at
 slice_get-append (x ∷ xs) ys (suc p) e at = slice_get-append xs ys p e at
 
--- places of what stands behind it
+-- places of what stands after it
 pub slice_get-behind : {A : Type 0} (xs ys : List A) (i : ℕ) → slice_get (xs ++ ys) (length xs + i) ≡ slice_get ys i
 slice_get-behind [] ys i = let e : 0 + i ≡ i = omega arith in ap (slice_get ys) e
 slice_get-behind (x ∷ xs) ys i = let e : suc (length xs) + i ≡ suc (length xs + i) = omega arith in ap (slice_get (x ∷ (xs ++ ys))) e ∙ slice_get-behind xs ys i

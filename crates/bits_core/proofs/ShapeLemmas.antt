@@ -89,7 +89,7 @@ in_range low n high = elim (cases_lt low n) [
 abbrev pub ShapeTold : ℕ → ℕ → ℕ → ℕ → ℕ → Type 0
 ShapeTold c m w g h = ((shape : Shape) × HasBatches c m w g h shape) ⊎ ((fault : ShapeFault) × IsRefusedBatches c m w g h fault)
 
--- a modulus that is out of its range is told by the name that the take batch has for it
+-- a modulus that is out of its range is reported by the name that the take batch has for it
 bad_modulus : (c m w g h : ℕ) → AreBatchSizes c g h → ¬ IsModulusForBoth c g h m → ShapeTold c m w g h
 bad_modulus c m w g h sizes out = elim (cases_lt 1 h) [
   | inl over ↦ inr (ModulusOfBatches, (sizes, over, out))

@@ -56,8 +56,8 @@ RefusesLine (BadLine number) before bytes = (length before + 1 ≡ number) × ((
 RefusesLine TooLong before bytes = length before ≡ 2 ^ 64 - 1
 RefusesLine OutOfMemory before bytes = Unit {0}
 
--- Of the bytes of a line that has not ended, in front of which no line or some line has, so many begin a line that may stand there; and
--- in all there are less than twice as many and 65,536 more.
+-- The first `begun` bytes of a line that has not ended begin a line that may stand there: the first one if none has ended, else a further
+-- one. All of its bytes are fewer than twice as many and 65,536 more.
 pub record KeepsBeginning (is_first : Bool) (begun : ℕ) (bytes : List ℕ) : Type 0 where
   pub within : begun ≤ length bytes
   pub begins : BeginsLine is_first (take begun bytes)
