@@ -10,7 +10,7 @@ use Rattle.std.proofs.lemmas.Fmt.{decimal_by_steps, decimal_digit, decimal_step}
 use Rattle.std.proofs.lemmas.Option.{none-some, same_Some}
 use Rattle.line_parts.specs.Parts.{digits_after, number_at}
 
--- a digit more, where the number fits; and where it does not, where a byte is no digit, and at the end
+-- a digit more, if the number fits; if it does not, if a byte is no digit, and at the end
 digit_more : (n b : ℕ) (rest : List ℕ) → is_ascii_digit b ≡ true → 10 * n + (b - 48) < 2 ^ 64 → digits_after n (b ∷ rest) ≡ digits_after (10 * n + (b - 48)) rest
 unfolding digits_after
 digit_more n b rest digit small =
@@ -133,7 +133,7 @@ reads_more n ds two before rest some small =
 reads_digits : (n : ℕ) → n < 2 ^ 64 → ReadsDigits n (decimal n)
 reads_digits n small = decimal_by_steps ReadsDigits reads_one reads_more n small
 
--- a number that ends where its digits end is read again
+-- a number after whose digits none follows is read again
 pub number_at-again : (n : ℕ) (rest : List ℕ) → n < 2 ^ 64 → EndsDigits rest → number_at (decimal n ++ rest) ≡ Some (n, rest)
 unfolding number_at
 number_at-again zero rest small ends = ap (λ (t : List ℕ). number_at (t ++ rest)) (decimal_digit 0 (omega arith))

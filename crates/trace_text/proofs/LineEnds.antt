@@ -20,7 +20,7 @@ use Rattle.trace_text.proofs.TraceFields.{HasIndices}
 
 -- ---- parts of lines
 
--- a part of a line: no line feed, and no more bytes than so many
+-- a part of a line: no line feed, and at most `most` bytes
 record IsPart (text : List ℕ) (most : ℕ) : Type 0 where
   pub feedless : HasNoFeed text
   pub short : length text ≤ most
@@ -142,11 +142,11 @@ feed_behind [] ys a b none more e = omega (arith, more)
 feed_behind (x ∷ xs) [] a b none more e = All-head IsOther x xs none (ap (λ (t : List ℕ). get_or t 0 0) e)
 feed_behind (x ∷ xs) (y ∷ ys) a b none more e = feed_behind xs ys a b (All-tail IsOther x xs none) (omega (arith, more)) (ap (λ (t : List ℕ). drop 1 t) e)
 
--- a line and what is behind it
+-- a line and what follows it
 line_parts : (line rest : List ℕ) (is : EndsAtFeed line) → line ++ rest ≡ is.front ++ 10 ∷ rest
 line_parts line rest is = ap (λ (t : List ℕ). t ++ rest) is.text ∙ append_assoc is.front (10 ∷ []) rest
 
--- bytes with a line feed begin with a line already where they do so with more behind them
+-- bytes with a line feed begin with a line if they do so with more bytes after them
 pub line_before_more : (bytes front behind more line rest : List ℕ) → bytes ≡ front ++ 10 ∷ behind → HasNoFeed front → EndsAtFeed line → bytes ++ more ≡ line ++ rest → bytes ≡ line ++ behind
 line_before_more bytes front behind more line rest text none is e =
     let whole : front ++ 10 ∷ (behind ++ more) ≡ is.front ++ 10 ∷ rest =
@@ -154,7 +154,7 @@ line_before_more bytes front behind more line rest text none is e =
     let same = feed_once front is.front (behind ++ more) rest none is.feedless whole in
     text ∙ ap (λ (t : List ℕ). t ++ 10 ∷ behind) same.0 ∙ sym (line_parts line behind is)
 
--- as many bytes with no line feed as the longest line has begin with no line, whatever comes behind them
+-- as many bytes with no line feed as the longest line has begin with no line, whatever follows
 pub too_long_a_line : (bytes more line rest : List ℕ) → HasNoFeed bytes → 31 ≤ length bytes → IsShortLine line → bytes ++ more ≢ line ++ rest
 too_long_a_line bytes more line rest none long is e = feed_behind bytes is.ends.front more rest none (omega (arith, long, is.short)) (e ∙ line_parts line rest is.ends)
 

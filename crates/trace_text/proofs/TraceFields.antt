@@ -222,7 +222,7 @@ act_word (ReadEnd v) = refl
 act_word (WriteBegin v) = refl
 act_word WriteEnd = refl
 
--- no digit stands where the index of a bit ends
+-- no digit follows the index of a bit
 pub value_ends : (a : Act) (rest : List ℕ) → EndsDigits (value_text a ++ (codes "\n" ++ rest))
 value_ends ReadBegin rest = refl
 value_ends (ReadEnd false) rest = refl

@@ -1,4 +1,4 @@
--- What is found of a trace where its text ends.
+-- What is found of a trace when its text ends.
 use Rattle.std.proofs.Common.{◌≡◌, ℕ, Option, Some, None, List, [], ◌∷◌, ◌++◌, length, take, get_or, ap, sym, subst, ◌∙◌, arith}
 use Rattle.std.proofs.Math.Seq.{take-append_seam, get_or-append_seam}
 use Rattle.std.proofs.lemmas.List.{append-nil, length-append}
@@ -17,7 +17,7 @@ use Rattle.trace_text.specs.TraceAudits.{BreaksAt, HasEnded, IsFoundSoFar}
 use Rattle.bits_core.proofs.FaultLemmas.{IsFirstFault-at}
 use Rattle.bits_core.proofs.LawfulLemmas.{IsLawful-to}
 
--- where a history breaks is its first fault
+-- the place where a history breaks is that of its first fault
 BreaksAt-first : (shape : Shape) (h : List Event) (place : ℕ) (kind : Kind) → BreaksAt shape h place kind → IsFirstFault shape h place kind
 BreaksAt-first shape h place kind s =
     let all : List Event = s.past ++ s.event ∷ s.later in

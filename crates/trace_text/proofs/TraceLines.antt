@@ -93,7 +93,7 @@ batches_text-other : (batch take_batch : ℕ) → (take_batch == 1) ≡ false �
 unfolding batches_text
 batches_text-other batch take_batch other = rw other refl
 
--- what stands behind the batch, where that is written
+-- what follows the batch, if that is written
 TakePart : ℕ → List ℕ → ℕ × List ℕ → Type 0
 TakePart batch bytes x =
     ((x.0 ≡ 1) × ((batch == 1) ≡ false) × (bytes ≡ codes "\n" ++ x.1)) ⊎ (((x.0 == 1) ≡ false) × (x.0 < 10000) × (bytes ≡ codes " " ++ (decimal x.0 ++ (codes "\n" ++ x.1))))
@@ -163,7 +163,7 @@ batches_at-text bytes x e =
         joined : (g h : ℕ) (rest : List ℕ) → codes " " ++ (decimal g ++ (codes " " ++ (decimal h ++ (codes "\n" ++ rest)))) ≡ (codes " " ++ (decimal g ++ (codes " " ++ decimal h))) ++ (codes "\n" ++ rest)
         joined g h rest = simp append_assoc
 
--- the number of a take batch that is not 1 is read behind a batch
+-- the number of a take batch that is not 1 is read after a batch
 take_batch_at-other : (batch take_batch : ℕ) (rest : List ℕ) → take_batch < 10000 → (take_batch == 1) ≡ false
     → take_batch_at batch (codes " " ++ (decimal take_batch ++ (codes "\n" ++ rest))) ≡ Some (take_batch, rest)
 unfolding take_batch_at
@@ -194,7 +194,7 @@ batches_at-again batch take_batch rest short short_take =
           ∙ rw (short_number_at-again g (codes "\n" ++ rest) small refl, take_batch_at-single g rest t) refl
     ] refl
 
--- no digit stands where the width ends
+-- no digit follows the width
 width_ends : (batch take_batch : ℕ) (rest : List ℕ) → EndsDigits (batches_end batch take_batch rest)
 unfolding batch_text batches_text
 width_ends batch take_batch rest =

@@ -139,7 +139,7 @@ agree bytes s t es fs rest rest' a b =
 some_line : (e : Event) (rest : List ℕ) → event_line e ++ rest ≢ []
 some_line e rest is = omega (arith, line_takes e rest, ap length is)
 
--- nothing is left where nothing follows
+-- nothing is left if nothing follows
 nothing_left : (more : List Event) (rest : List ℕ) → [] ≡ lines more ++ rest → (more ≡ []) × (rest ≡ [])
 nothing_left [] rest e = (refl, sym e)
 nothing_left (x ∷ more) rest e = absurd (some_line x (lines more ++ rest) (sym (append_assoc (event_line x) (lines more) rest) ∙ sym e))
@@ -161,7 +161,7 @@ one_reading bytes s t es fs a b = one_text_reading bytes s t es fs (record { tex
 
 -- ---- faults
 
--- where no event's line stands at the front, no more lines were read
+-- if no event's line stands at the front, no more lines were read
 no_more : (s t : Shape) (more : List Event) (rest rest' : List ℕ) → s ≡ t → HasNoEvent s rest → rest ≡ lines more ++ rest' → EachOf t more → more ≡ []
 no_more s t [] rest rest' same none e of_t = refl
 no_more s t (x ∷ more) rest rest' same none e of_t =
@@ -195,7 +195,7 @@ bad_line_not_long bytes n a b =
       | inr r ↦ omega (arith, length-of b.events a.events r.0 r.1, a.room, b.full)
     ]
 
--- bytes that go on behind the events of a text with something that is no event are no text
+-- bytes that go on after the events of a text with something that is no event are no text
 no_event_no_text : (bytes : List ℕ) (s t : Shape) (es fs : List Event) (rest : List ℕ) → IsTraceAndMore bytes s es rest → HasNoEvent s rest → ¬ IsTraceText bytes t fs
 unfolding Compared
 no_event_no_text bytes s t es fs rest goes_on no_event b =
@@ -297,7 +297,7 @@ more_follows bytes es s fs a b =
       | inr r ↦ omega (arith, length-append es (a.next ∷ []), length-of fs with_next r.0 r.1, ap length (nothing_left r.0 a.rest r.2).0)
     ]
 
--- so a call that has so many slots, and tells that none is left only then, reads each trace that has room in them
+-- so a call that reports a lack of slots only then reads each trace that has room in them
 pub reads_each_small : (bytes : List ℕ) (r : Result Shape TraceFault) (slots : List Event) (used : ℕ)
     → IfOk r (λ s. IsTrace bytes s (take used slots)) → IfErr r (λ e. ((e ≡ OutOfMemory) × (length slots ≤ used) × HasMore bytes (take used slots)) ⊎ IsTraceFault bytes e)
     → (s : Shape) (es : List Event) → IsTrace bytes s es → MatchResult r (λ t. (t ≡ s) × (take used slots ≡ es)) (λ e. (e ≡ OutOfMemory) × (length slots < length es))
@@ -306,14 +306,14 @@ reads_each_small bytes (Err e) slots used read (inl short) s es trace =
     (short.0, omega (arith, more_follows bytes (take used slots) s es short.2 trace, ap length (take_all used slots short.1)))
 reads_each_small bytes (Err e) slots used read (inr fault) s es trace = absurd (faulty_is_no_trace bytes e s es fault trace)
 
--- what else it may tell
+-- what else it may report
 pub short_or_fault : (bytes : List ℕ) (r : Result Shape TraceFault) (slots : List Event) (used : ℕ)
     → IfErr r (λ e. ((e ≡ OutOfMemory) × (length slots ≤ used) × HasMore bytes (take used slots)) ⊎ IsTraceFault bytes e) → IfErr r (λ e. (e ≡ OutOfMemory) ⊎ IsTraceFault bytes e)
 short_or_fault bytes (Ok t) slots used refused = refused
 short_or_fault bytes (Err e) slots used (inl short) = inl short.0
 short_or_fault bytes (Err e) slots used (inr fault) = inr fault
 
--- where the slots are too few the bytes begin with a trace of more events
+-- if the slots are too few, the bytes begin with a trace of more events
 begins_with_more : (bytes : List ℕ) (slots : List Event) (used : ℕ) → length slots ≤ used → HasMore bytes (take used slots) → BeginsWithMore bytes (length slots)
 begins_with_more bytes slots used full more =
     let events : List Event = take used slots ++ more.next ∷ [] in

@@ -69,7 +69,7 @@ no_line_unended None bytes none = λ c m w g h has.
 no_line_unended (Some hearing) bytes none = λ e rest begins.
     no_line_ended bytes (event_line e) rest none (event_line_ends e (small_indices hearing.shape e.bit begins.0)).ends begins.1
 
--- ---- refusals behind the lines that have ended
+-- ---- refusals after the lines that have ended
 
 behind_events : (fault : TraceFault) (shape : Shape) (events : List Event) (text rest : List ℕ) → IsTraceText text shape events → IsFaultBehind (length events) fault → HasNoEvent shape rest → rest ≢ []
     → RefusesTraceText (text ++ rest) fault
@@ -116,7 +116,7 @@ bad_shape_more fault text bytes more none bad = subst (λ (t : List ℕ). HasBad
   short_take_batch = bad.line.short_take_batch;
 }))
 
--- so many lines were heard that one more cannot be counted
+-- the lines heard are so many that one more cannot be counted
 pub too_many : (h : Option TraceHearing) (heard : TraceHearing) (text rest : List ℕ) → h ≡ Some heard → heard.count ≡ 2 ^ 64 - 1 → HasEnded h text → RefusesTraceText (text ++ rest) TooLong
 too_many None heard text rest is full ended = absurd (none-some heard is)
 too_many (Some hearing) heard text rest is full ended =
@@ -186,7 +186,7 @@ whole_line (Some rest) now old new bytes front free whole read text ended =
     let line : read.0 ≡ bytes = ends.text ∙ ap (λ (t : List ℕ). t ++ 10 ∷ []) (sym same.0) ∙ sym whole in
     subst (λ (t : List ℕ). HasEnded new (text ++ t)) line (read.3 text ended)
 
--- bytes before and behind the end of a line
+-- bytes before and after the end of a line
 pub behind_it : (before read rest piece more : List ℕ) → piece ≡ read ++ rest → (before ++ read) ++ (rest ++ more) ≡ before ++ (piece ++ more)
 behind_it before read rest piece more parts = rw parts (simp append_assoc)
 

@@ -31,6 +31,6 @@ TraceIsText = (bytes : List ℕ) (shape : Shape) (events : List Event) → IsTra
 abbrev pub OneTextReading : Type 0
 OneTextReading = (bytes : List ℕ) (s t : Shape) (es fs : List Event) → IsTraceText bytes s es → IsTraceText bytes t fs → (s ≡ t) × (es ≡ fs)
 
--- and bytes that are refused as one are none, but where they are too many
+-- and bytes that are refused as one are none, unless they are too many
 abbrev pub RefusedIsNoText : Type 0
 RefusedIsNoText = (bytes : List ℕ) (fault : TraceFault) (shape : Shape) (events : List Event) → fault ≢ TooLong → RefusesTraceText bytes fault → ¬ IsTraceText bytes shape events

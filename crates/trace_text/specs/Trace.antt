@@ -20,7 +20,7 @@ pub record IsTraceText (bytes : List ℕ) (shape : Shape) (events : List Event) 
   pub text : bytes ≡ trace_text shape events
   pub of_shape : AreOfShape shape events
 
--- the bytes begin with a line of three numbers, or of four or five where the last is not 1, of at most four digits each
+-- the bytes begin with a line of three numbers, or of four or five of which the last is not 1, of at most four digits each
 pub record HasShapeLine (bytes : List ℕ) (capacity modulus width batch take_batch : ℕ) : Type 0 where
   pub rest : List ℕ
   pub text : bytes ≡ shape_line capacity modulus width batch take_batch ++ rest
@@ -67,7 +67,7 @@ pub record HasMore (bytes : List ℕ) (events : List Event) : Type 0 where
   pub of_shape : AreOfShape shape (events ++ next ∷ [])
   pub within : length (events ++ next ∷ []) ≤ EVENT_LIMIT
 
--- the bytes begin with a trace of more events than so many, whatever comes behind it
+-- the bytes begin with a trace of more events than `count`, whatever follows
 pub record BeginsWithMore (bytes : List ℕ) (count : ℕ) : Type 0 where
   pub first : List ℕ
   pub rest : List ℕ
@@ -95,7 +95,7 @@ pub record HasBadLine (bytes : List ℕ) (line : ℕ) : Type 0 where
   pub no_event : HasNoEvent shape rest
   pub number : line ≡ length events + 2
 
--- the first fault of the bytes, line by line; there is none for want of memory
+-- the first fault of the bytes, line by line; a lack of memory is none
 abbrev pub IsTraceFault : List ℕ → TraceFault → Type 0
 IsTraceFault bytes (BadShape fault) = HasBadShape bytes fault
 IsTraceFault bytes (BadLine line) = ((line ≡ 1) × ((capacity modulus width batch take_batch : ℕ) → ¬ HasShapeLine bytes capacity modulus width batch take_batch)) ⊎ HasBadLine bytes line
@@ -111,7 +111,7 @@ pub record HasBadEventLine (bytes : List ℕ) (line : ℕ) : Type 0 where
   pub no_event : HasNoEvent shape rest
   pub number : line ≡ length events + 2
 
--- why bytes are no trace of any length that is read to its end: the first fault, line by line; or so many bytes that their lines may
+-- why bytes are no trace of any length that is read to its end: the first fault, line by line; or that there are so many bytes that their lines may
 -- be too many to be counted
 abbrev pub RefusesTraceText : List ℕ → TraceFault → Type 0
 RefusesTraceText bytes (BadShape fault) = HasBadShape bytes fault

@@ -16,7 +16,7 @@ use Rattle.bits_core.specs.Lawful.{IsLawful}
 use Rattle.trace_text.specs.Trace.{HasNoEvent, HasShapeLine, IsTraceText}
 use Rattle.line_parts.specs.LineEnds.{HasNoFeed}
 
--- the first events are lawful, so many, and the next one is at fault behind them
+-- the first `place` events are lawful, and the next one is at fault after them
 pub record BreaksAt (shape : Shape) (h : List Event) (place : ℕ) (kind : Kind) : Type 0 where
   pub past : List Event
   pub event : Event
@@ -53,7 +53,7 @@ abbrev pub BeginsWithNoLine : Option TraceHearing → List ℕ → Type 0
 BeginsWithNoLine None bytes = (capacity modulus width batch take_batch : ℕ) → ¬ HasShapeLine bytes capacity modulus width batch take_batch
 BeginsWithNoLine (Some hearing) bytes = HasNoEvent hearing.shape bytes
 
--- the fault of what stands behind so many events, and is no line of one
+-- the fault of what follows `count` events and is not the line of one
 abbrev pub IsFaultBehind : ℕ → TraceFault → Type 0
 IsFaultBehind count (BadShape fault) = ⊥
 IsFaultBehind count (BadLine line) = line ≡ count + 2

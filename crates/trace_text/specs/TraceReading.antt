@@ -22,7 +22,7 @@ abbrev pub or_else : {A : Type 0} → Option A → Option A → Option A
 or_else (Some x) other = Some x
 or_else None other = other
 
--- a value, where its text stands
+-- a value, if its text stands there
 abbrev pub named : {A : Type 0} → A → List ℕ → List ℕ → Option (A × List ℕ)
 named value text bytes = after text bytes >>= λ rest. Some (value, rest)
 
@@ -75,7 +75,7 @@ event_at bytes = do
   rest ← after (codes "\n") act.1
   Some (record { side = side.0; bit = bit.0; act = act.0 }, rest)
 
--- the take batch of line 1 and its end, behind a batch: 1 where the line ends, and then the batch is not 1; else a number other than 1
+-- the take batch of line 1 and its end, after a batch: 1 if the line ends, and then the batch is not 1; else a number other than 1
 -- after a space
 unfoldable pub take_batch_at : ℕ → List ℕ → Option (ℕ × List ℕ)
 take_batch_at batch bytes = or_else
@@ -88,7 +88,7 @@ take_batch_at batch bytes = or_else
       rest ← after (codes "\n") take_batch.1
       if take_batch.0 == 1 then None else Some (take_batch.0, rest))
 
--- both batches of line 1 and its end: 1 and 1 where the line ends, else the batch after a space
+-- both batches of line 1 and its end: 1 and 1 if the line ends, else the batch after a space
 unfoldable pub batches_at : List ℕ → Option ((ℕ × ℕ) × List ℕ)
 batches_at bytes = or_else (named (1, 1) (codes "\n") bytes) (do
   number ← after (codes " ") bytes

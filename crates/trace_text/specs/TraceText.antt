@@ -45,11 +45,11 @@ value_text WriteEnd = []
 abbrev pub event_line : Event → List ℕ
 event_line e = side_text e.side ++ (act_text e.act ++ (bit_text e.bit ++ (value_text e.act ++ codes "\n")))
 
--- a batch after a space, where it is not 1
+-- a batch after a space, if it is not 1
 unfoldable pub batch_text : ℕ → List ℕ
 batch_text batch = if batch == 1 then [] else (codes " " ++ decimal batch)
 
--- both batches, each after a space, where the take batch is not 1; else the batch alone, where it is not 1
+-- both batches, each after a space, if the take batch is not 1; else the batch alone, if it is not 1
 unfoldable pub batches_text : ℕ → ℕ → List ℕ
 batches_text batch take_batch = if take_batch == 1 then batch_text batch else (codes " " ++ (decimal batch ++ (codes " " ++ decimal take_batch)))
 

@@ -32,7 +32,7 @@ pub fn one_text_reading()
     ensures { OneTextReading }
 {}
 
-/// Bytes that are refused as a trace of any length are none, but where they are too many to be counted.
+/// Bytes that are refused as a trace of any length are none, unless they are too many to be counted.
 pub fn refused_is_no_text()
     ensures { RefusedIsNoText }
 {}

@@ -14,7 +14,7 @@ pub(crate) enum ActWord {
     Wrote,
 }
 
-/// The numbers of a trace's first line; each batch is 1 where it names none.
+/// The numbers of a trace's first line; each batch is 1 if the line names none.
 #[derive(Clone, Copy)]
 pub(crate) struct Numbers {
     pub capacity: u64,
@@ -145,7 +145,7 @@ pub fn event_at(bytes: &[u8]) -> Option<(Event, &[u8])>
     Some((Event { side, bit, act }, rest))
 }
 
-// The take batch and the end of the first line, behind the batch: 1 where the line ends, and then the batch is not 1; else a
+// The take batch and the end of the first line, after the batch: 1 if the line ends, and then the batch is not 1; else a
 // number other than 1.
 #[tactic(auto, unfolding(crate::specs::TraceReading::take_batch_at))]
 fn take_batch_at(batch: u64, bytes: &[u8]) -> Option<(u64, &[u8])>
@@ -166,7 +166,7 @@ fn take_batch_at(batch: u64, bytes: &[u8]) -> Option<(u64, &[u8])>
     }
 }
 
-// Both batches and the end of the first line: 1 and 1 where the line ends.
+// Both batches and the end of the first line: 1 and 1 if the line ends.
 #[tactic(auto, unfolding(crate::specs::TraceReading::batches_at))]
 fn batches_at(bytes: &[u8]) -> Option<((u64, u64), &[u8])>
     ensures { option_map (λ x. (x.0, x.1.now)) result ≡ batches_at bytes.now }

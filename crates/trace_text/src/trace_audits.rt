@@ -58,7 +58,7 @@ impl TraceHearing {
     }
 }
 
-// The fault of what stands behind so many events, and is no line of one.
+// The fault of what follows this many events and is not the line of one.
 fn fault_behind(count: u64) -> TraceFault
     ensures { IsFaultBehind count result }
 {
@@ -68,7 +68,7 @@ fn fault_behind(count: u64) -> TraceFault
     }
 }
 
-// The fault of what stands behind the lines that have ended, and is no line.
+// The fault of what follows the lines that have ended and is not a line.
 fn next_fault(hearing: &Option<TraceHearing>) -> TraceFault
     ensures { (text rest : List ℕ) → HasEnded hearing.now text → BeginsWithNoLine hearing.now rest →
         (rest ≡ [] → hearing.now ≡ None) → RefusesTraceText (text ++ rest) result }
@@ -79,7 +79,7 @@ fn next_fault(hearing: &Option<TraceHearing>) -> TraceFault
     }
 }
 
-// The first line, with its line feed, and the bytes behind it; nothing where it has not ended.
+// The first line, with its line feed, and the bytes after it; `None` if it has not ended.
 fn split_line(bytes: &[u8]) -> Option<(&[u8], &[u8])>
     ensures { MatchOption result (HasNoFeed bytes.now) (λ x. EndsAtFeed x.0.now × (bytes.now ≡ x.0.now ++ x.1.now)) }
 {
@@ -91,7 +91,7 @@ fn split_line(bytes: &[u8]) -> Option<(&[u8], &[u8])>
     None
 }
 
-// Of bytes that begin with no line: nothing where their first line has not ended, and else the fault.
+// Of bytes that begin with no line: `Ok` if their first line has not ended, else the fault.
 fn unread(bytes: &[u8], fault: TraceFault) -> Result<(), TraceFault>
     ensures unended { OnOk result (HasNoFeed bytes.now) }
     ensures refused { IfErr result (λ e. (line : List ℕ) × (rest : List ℕ) × (e ≡ fault) × EndsAtFeed line ×
@@ -103,7 +103,7 @@ fn unread(bytes: &[u8], fault: TraceFault) -> Result<(), TraceFault>
     }
 }
 
-// Reads the line at the front of the bytes, and gives those behind it; nothing where it has not ended.
+// Reads the line at the front of the bytes and returns those after it; `None` if it has not ended.
 fn read_line<'a>(
     hearing: &mut Option<TraceHearing>,
     bytes: &'a [u8],
@@ -139,7 +139,7 @@ fn read_line<'a>(
     }
 }
 
-// Reads the lines that end in the bytes, and gives those behind them.
+// Reads the lines that end in the bytes and returns the bytes after them.
 fn read_lines<'a>(
     hearing: &mut Option<TraceHearing>,
     bytes: &'a [u8],
@@ -187,8 +187,8 @@ impl TraceAudit {
 
     /// Reads the next piece of the text.
     ///
-    /// `BadShape` where the numbers of line 1 are no shape; `BadLine` at the first line that is not of the format or names a bit
-    /// that is not in the shape, whatever comes behind it, and though the history has a fault before it; `TooLong` past 2^64 - 1
+    /// `BadShape` if the numbers of line 1 are no shape; `BadLine` at the first line that is not of the format or names a bit
+    /// that is not in the shape, whatever follows, and even if the history has a fault before it; `TooLong` past 2^64 - 1
     /// lines; never `OutOfMemory`. An audit that gave one of these is of no further use.
     pub fn read(&mut self, piece: &[u8]) -> Result<(), TraceFault>
         ensures read { OnOk result ((bytes : List ℕ) → HasReadTrace self.old bytes →
@@ -208,7 +208,7 @@ impl TraceAudit {
         }
     }
 
-    // Reads bytes where the last line has ended.
+    // Reads bytes when the last line has ended.
     fn read_on(&mut self, bytes: &[u8]) -> Result<(), TraceFault>
         requires { self.old.cut ≡ [] }
         ensures read { OnOk result ((before : List ℕ) → HasReadTrace self.old before →
@@ -252,7 +252,7 @@ impl TraceAudit {
         }
     }
 
-    /// The verdict on the events, where the text ends here: `BadLine` where its last line has not ended, or there is none.
+    /// The verdict on the events if the text ends here: `BadLine` if its last line has not ended, or there is none.
     pub fn verdict(&self) -> Result<Verdict, TraceFault>
         ensures told { IfOk result (λ verdict. (bytes : List ℕ) → HasReadTrace self.now bytes → (shape : Shape) ×
             (events : List Event) × IsTraceText bytes shape events × IsVerdict shape events verdict) }

@@ -15,7 +15,7 @@ use std::alloc::Allocator;
 /// For example, `lamport_ring audit` refuses a trace of one event more as `trace has too many events`.
 pub const EVENT_LIMIT: usize = 1_000_000;
 
-/// The shape of the first line, where one stands at the front, and the bytes behind it.
+/// The shape of the first line, if one stands at the front, and the bytes after it.
 pub fn first_shape(bytes: &[u8]) -> Result<Option<(Shape, &[u8])>, ShapeFault>
     ensures read { IfOk result (λ found. MatchOption found
         ((capacity modulus width batch take_batch : ℕ) →
@@ -89,11 +89,11 @@ fn read_lines<S: Store<Event>>(store: &mut S, bytes: &[u8]) -> Result<Shape, Tra
 
 /// Reads a trace: the shape of line 1, and the event of each further line, all of the bytes.
 ///
-/// The first fault in the order of the lines is told: line 1 is not of its form, then its numbers
+/// The first fault in the order of the lines is returned: line 1 is not of its form, then its numbers
 /// are no shape; for a further line, it is one event more than a trace may have, then it is
 /// unfinished, not of its form, or names a bit that is not in the shape. Neither sides nor turns
-/// are looked at: that is the audit's work. Memory is wanted for the events alone, and want of it
-/// is told where a growth was refused.
+/// are looked at: that is the audit's work. Memory is needed for the events alone, and a lack of it
+/// is reported if a growth was refused.
 ///
 /// For example, the text `shape 1 3 1` with its line feed is a trace of no event.
 pub fn read_trace<A: Allocator>(
@@ -128,11 +128,11 @@ fn read_filled(filled: &mut Filled<'_, Event>, bytes: &[u8]) -> Result<Shape, Tr
     read_lines(filled, bytes)
 }
 
-/// Reads a trace as [`read_trace`] does, into the first slots of a slice of the caller's, and tells
+/// Reads a trace as [`read_trace`] does, into the first slots of a slice of the caller's, and returns
 /// the shape and how many events there are. It takes no memory.
 ///
-/// `OutOfMemory` tells that the slice has no slot left for an event whose line is right, as are all before
-/// it: no fault was found before the slots ended. Whatever fault is told, the first slots may hold the
+/// `OutOfMemory` says that the slice has no slot left for an event whose line is right, as are all before
+/// it: no fault was found before the slots ended. Whatever the fault, the first slots may hold the
 /// events of the lines before it.
 ///
 /// In use: the page, which reads into slots of its own.
@@ -147,7 +147,7 @@ pub fn read_trace_into(bytes: &[u8], events: &mut [Event]) -> Result<(Shape, usi
         (λ e. (e ≡ TraceFault.OutOfMemory) × (length events.new < length all)) }
     // The fault is the first one.
     ensures refused { IfErr result (λ e. (e ≡ TraceFault.OutOfMemory) ⊎ IsTraceFault bytes.now e) }
-    // The slots are too few only where the text begins with a trace of more events.
+    // The slots are too few only if the text begins with a trace of more events.
     ensures full { IfErr result (λ e. e ≡ TraceFault.OutOfMemory → BeginsWithMore bytes.now (length events.new)) }
 {
     let mut filled = Filled::new(events);

@@ -41,7 +41,7 @@ fn value_word(act: Act) -> &'static str
     }
 }
 
-// A text, with want of memory as a fault of the trace's text.
+// A text, with a lack of memory as a fault of the trace's text.
 fn push_text<A: Allocator>(text: &mut String<A>, word: &str) -> Result<(), TraceFault>
     ensures ok { OnOk result (string_bytes text.new ≡ string_bytes text.old ++ word.now) }
     ensures err { IfErr result (λ e. e ≡ TraceFault.OutOfMemory) }
@@ -78,7 +78,7 @@ fn push_bit<A: Allocator>(text: &mut String<A>, bit: Bit) -> Result<(), TraceFau
     }
 }
 
-/// Adds the line of an event behind a text, as `P write c0.1 1` and a line feed.
+/// Adds the line of an event to a text, as `P write c0.1 1` and a line feed.
 ///
 /// The only fault is `OutOfMemory`; a front of the line may have been added then.
 ///
@@ -94,7 +94,7 @@ pub fn push_event<A: Allocator>(text: &mut String<A>, event: Event) -> Result<()
     push_text(text, "\n")
 }
 
-// A batch after a space, where it is not 1.
+// A batch after a space, if it is not 1.
 #[tactic(auto, unfolding(crate::specs::TraceText::batch_text))]
 fn push_batch<A: Allocator>(text: &mut String<A>, batch: u64) -> Result<(), TraceFault>
     ensures ok { OnOk result (string_bytes text.new ≡ string_bytes text.old ++ batch_text batch) }
@@ -106,7 +106,7 @@ fn push_batch<A: Allocator>(text: &mut String<A>, batch: u64) -> Result<(), Trac
     push_numbered(text, " ", batch)
 }
 
-// Both batches, each after a space, where the take batch is not 1; else the batch alone, where it is not 1.
+// Both batches, each after a space, if the take batch is not 1; else the batch alone, if it is not 1.
 #[tactic(auto, unfolding(crate::specs::TraceText::batches_text))]
 fn push_batches<A: Allocator>(
     text: &mut String<A>,
