@@ -1,7 +1,7 @@
 // ring.cpp: ring BUG CALLS SEED: records a producer's and a consumer's thread over the ring of ring.hpp with this bug, 0 for none.
 #include <cstdlib>
 #include <thread>
-#include "../ring_calls.hpp"
+#include "../include/ring_calls.hpp"
 #include "ring.hpp"
 
 static void rest(Random& g, bool longer) {

@@ -1,8 +1,8 @@
 // ring_explored.cpp: ring_explored BUG PUTS SEED: a test for explore.h of the ring of ring.hpp with this bug, 0 for none.
 #include <cstdlib>
 #include <thread>
-#include "../explore.h"
-#include "../ring_calls.hpp"
+#include "../include/explore.h"
+#include "../include/ring_calls.hpp"
 #include "ring.hpp"
 
 static u64 puts_wanted, seed;

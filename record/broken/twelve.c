@@ -3,10 +3,10 @@
 #include <stdio.h>
 #include <stdlib.h>
 #ifdef EXPLORED
-#include "../explore.h"
+#include "../include/explore.h"
 #else
 #include <pthread.h>
-#include "../ring_calls.h"
+#include "../include/ring_calls.h"
 #endif
 #include <sched.h>
 #include "twelve.h"

@@ -1,6 +1,6 @@
 // explored.cpp: explored QUEUE: tests for explore.h of queues of Boost.Lockfree and moodycamel, as they are: boost, boost_several,
 // moodycamel, moodycamel_enqueue, moodycamel_blocking.
-#include "../explore.h"
+#include "../include/explore.h"
 #include <boost/lockfree/spsc_queue.hpp>
 #include <cstdio>
 #include <cstring>

@@ -3,7 +3,7 @@
 //!
 //! The producer puts 0, 1, 2, .., in so many calls, and closes; the consumer takes until it is told. Both rest for a moment now and then.
 #![allow(dead_code)]
-#[path = "../ring_calls.rs"]
+#[path = "../include/rust/ring_calls.rs"]
 mod ring_calls;
 use ring_calls::{Clock, PutLog, TakeLog, write_calls};
 use std::io::{self, BufWriter};

@@ -2,7 +2,7 @@
 import os
 import sys
 
-sys.path.insert(0, os.path.dirname(os.path.dirname(os.path.abspath(__file__))))
+sys.path.insert(0, os.path.join(os.path.dirname(os.path.dirname(os.path.dirname(os.path.abspath(__file__)))), "include", "python"))
 import ring_calls
 
 rec = ring_calls.Recorder(int(sys.argv[1]) if sys.argv[1:] else 8)

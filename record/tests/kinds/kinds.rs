@@ -1,5 +1,5 @@
 //! kinds WORDS: each kind of event, logs of so many words; with no WORDS no event.
-#[path = "../ring_calls.rs"]
+#[path = "../../include/rust/ring_calls.rs"]
 mod ring_calls;
 use ring_calls::{Clock, PutLog, TakeLog, write_calls};
 

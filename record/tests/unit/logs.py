@@ -10,7 +10,7 @@ import sys
 
 import compare
 
-CONVERT, LOGS = f"{compare.HERE}/convert", f"{compare.HERE}/logs"
+CONVERT, LOGS = f"{compare.HERE}/convert", f"{compare.HERE}/tests/logs"
 LOADER = importlib.machinery.SourceFileLoader("convert", CONVERT)
 convert = importlib.util.module_from_spec(importlib.util.spec_from_loader("convert", LOADER))
 LOADER.exec_module(convert)

@@ -1,8 +1,8 @@
 /* explore.c: tries the interleavings of a small test; explore.h tells the use. C11 with extensions of gcc and clang; Linux, x86-64.
  *
- * The test is compiled with -fsanitize=thread and linked with this file in place of the sanitizer's library: explore_hooks.h has the
+ * The test is compiled with -fsanitize=thread and linked with this file in place of the sanitizer's library: hooks.inc has the
  * functions that such code calls at each access of memory, so each plain and each atomic access of the test's own text is seen. The two
- * sides run as coroutines in one thread (explore_steps.h), hence sequentially consistent. A run is fixed by who begins and by the steps
+ * sides run as coroutines in one thread (steps.inc), hence sequentially consistent. A run is fixed by who begins and by the steps
  * before which a side that could go on is preempted; where a side waits, yields or is over, the other goes on, and this is not counted.
  * All runs with no preemption are made, then all with one, and so on. reset() is called before each, and the calls of each are judged by
  * libring_audit.
@@ -29,7 +29,7 @@
  * memcpy, which is seen here word by word). A plain access of 16 bytes and a copy of a structure are one step each; that another side
  * sees half of it is told as a data race.
  *
- * Data races: explore_memory.h keeps which accesses come before which by the memory orders that the text gives, as in C11. An execution
+ * Data races: memory.inc keeps which accesses come before which by the memory orders that the text gives, as in C11. An execution
  * that is sequentially consistent is one that C11 permits, so a race in it is one of the program as the compiler instrumented it. That may
  * have an access that the text does not make: gcc's pass reassoc loads a plain variable of a condition before the condition says that it
  * may be read, so it is turned off (-fno-tree-reassoc). Where C11 orders less than is kept here (release sequences of C++20, futexes), a
@@ -39,19 +39,19 @@
 #include <fcntl.h>
 #include <signal.h>
 #include <sys/time.h>
-#include "ring_audit.h"
+#include "../include/ring_audit.h"
 #define RING_CALLS_EXPLORE      /* (a test has to include explore.h first) */
-#include "explore.h"
+#include "../include/explore.h"
 
 void explore_event(int kind, const uint64_t *numbers, size_t n);        /* for ring_calls.h, where explore.h includes it */
 
-#include "explore_steps.h"
-#include "explore_memory.h"
-#include "explore_hooks.h"
-#include "explore_waits.h"
-#include "explore_heap.h"
-#include "explore_where.h"
-#include "explore_trace.h"
+#include "steps.inc"
+#include "memory.inc"
+#include "hooks.inc"
+#include "waits.inc"
+#include "heap.inc"
+#include "where.inc"
+#include "trace.inc"
 
 enum { GO_ON, ANEW, STOP };
 enum { LOG_WORDS = 1 << 18, SHOWN = 60 };
@@ -173,8 +173,8 @@ static void make_run(void) {
     if (run.end == DONE && (rec.p.cut != UINT64_MAX || rec.c.cut != UINT64_MAX)) run.end = CUT_LOG;
 }
 
-#include "explore_tell.h"
-#include "explore_witness.h"
+#include "tell.inc"
+#include "witness.inc"
 
 static int tell_not_the_same(void) {
     fputs("explore: the test does not do the same again in the same schedule: reset has to set back all that the sides change\n", stderr);

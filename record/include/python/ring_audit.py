@@ -65,7 +65,7 @@ def load(path=None):
     global _loaded
     if path or not _loaded:
         here = os.path.dirname(os.path.abspath(__file__))
-        beside = [f"{here}/libring_audit.so.1", f"{here}/../dist/libring_audit.so.1"]
+        beside = [f"{here}/libring_audit.so.1", f"{here}/../../../dist/libring_audit.so.1"]
         path = path or os.environ.get("RING_AUDIT_LIB") or next(filter(os.path.exists, beside), "libring_audit.so.1")
         library = ctypes.PyDLL(path)
         sizes = (_u64 * 6)()

@@ -7,12 +7,15 @@ import os
 import re
 import shlex
 import subprocess
+import sys
 from collections import namedtuple
 
+RECORD = os.path.dirname(os.path.dirname(os.path.abspath(__file__)))
+sys.path.insert(0, os.path.join(RECORD, "include", "python"))
 import ring_audit
 from ring_calls import WORDS
 
-LAUNCHER = os.path.join(os.path.dirname(os.path.dirname(os.path.abspath(__file__))), "lamport_ring")
+LAUNCHER = os.path.join(os.path.dirname(RECORD), "lamport_ring")
 KINDS = {words: kind for kind, words in enumerate(WORDS)}
 (PUT, CLOSE, TAKE, STORED, PUT_SOME, FULL, PUT_SHORT, PUT_NOTHING, CLOSED,
  ITEM, TAKE_SOME, EMPTY, TAKE_SHORT, TAKE_NOTHING, TOLD) = range(len(WORDS))

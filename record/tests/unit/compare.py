@@ -21,9 +21,9 @@ import sys
 import tempfile
 from collections import Counter
 
-HERE = os.path.dirname(os.path.dirname(os.path.abspath(__file__)))
+HERE = os.path.dirname(os.path.dirname(os.path.dirname(os.path.abspath(__file__))))
 TOP = os.path.dirname(HERE)
-sys.path.insert(0, HERE)
+sys.path.insert(0, f"{HERE}/include/python")
 import ring_audit
 import ring_calls
 
@@ -90,7 +90,7 @@ def in_batches(rounds, head):
 
 def texts(count, seed):
     for words in (1000, *range(0, 60, 7)):
-        yield subprocess.check_output([sys.executable, f"{HERE}/kinds/kinds.py", str(words)], stderr=subprocess.DEVNULL, text=True)
+        yield subprocess.check_output([sys.executable, f"{HERE}/tests/kinds/kinds.py", str(words)], stderr=subprocess.DEVNULL, text=True)
     for verdict in sorted(glob.glob(f"{TOP}/examples/calls/*.verdict")):
         with open(verdict, encoding="ascii") as told, open(f"{verdict.removesuffix('verdict')}calls", encoding="ascii", newline="") as file:
             if not told.read().startswith("refused"):

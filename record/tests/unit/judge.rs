@@ -1,9 +1,9 @@
 //! judge.rs: judge FILE..: judges each recording in process: line by line, by kinds and by names, and as the logs of a recorder
 //! that makes it anew. For each it prints what audit --calls prints of it, and an empty line; what is told of a fault is on
 //! stderr. It panics where these differ.
-#[path = "../ring_audit.rs"]
+#[path = "../../include/rust/ring_audit.rs"]
 mod ring_audit;
-#[path = "../ring_calls.rs"]
+#[path = "../../include/rust/ring_calls.rs"]
 mod ring_calls;
 use ring_audit::{Audit, Fault, lawful};
 use ring_calls::{Clock, PutLog, TakeLog, WORDS, write_calls};

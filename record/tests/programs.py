@@ -1,11 +1,11 @@
-"""The programs of this folder: what each is, how it is seen that it can be built, how to get what it needs (on Debian), how it is built and
-started. The commands are those of a shell in this folder; $ROOM is a folder for what they make, $LIBRARY that of libring_audit."""
+"""The programs of record/: what each is, how it is seen that it can be built, how to get what it needs (on Debian), how it is built and
+started. The commands are those of a shell in record/; $ROOM is a folder for what they make, $LIBRARY that of libring_audit."""
 import collections
 
 Program = collections.namedtuple("Program", "name needs get build start")
 
-C = "gcc -std=gnu11 -O2 -Wall -Wextra -Werror -pthread -I."
-CPP = "g++ -std=c++17 -O2 -Wall -Wextra -Werror -pthread -I."
+C = "gcc -std=gnu11 -O2 -Wall -Wextra -Werror -pthread -Iinclude"
+CPP = "g++ -std=c++17 -O2 -Wall -Wextra -Werror -pthread -Iinclude"
 RUST = "rustc --edition 2021 -O"
 GO = "GO111MODULE=off GOCACHE=$ROOM/cache go build"
 JCTOOLS = "/usr/share/java/jctools-core.jar"
@@ -25,7 +25,7 @@ def in_cpp(name, header, packages, libraries=""):
 
 def kinds_in_c(name, compiler):
     return Program(f"kinds in {name}", "command -v gcc && command -v g++", "apt-get install build-essential",
-                   f"{compiler} -O2 -Wall -Wextra -Wpedantic -Werror -I. kinds/kinds.c -o $ROOM/kinds_{name}", f"$ROOM/kinds_{name}")
+                   f"{compiler} -O2 -Wall -Wextra -Wpedantic -Werror -Iinclude tests/kinds/kinds.c -o $ROOM/kinds_{name}", f"$ROOM/kinds_{name}")
 
 
 # Each records every kind of event.
@@ -33,12 +33,12 @@ KINDS = [
     kinds_in_c("c11", "gcc -std=c11"),
     kinds_in_c("cpp11", "g++ -x c++ -std=c++11"),
     kinds_in_c("c11_by_stamps", "gcc -std=c11 -DRING_CALLS_TSC"),
-    Program("kinds in rust", "command -v rustc", "apt-get install rustc", f"{RUST} kinds/kinds.rs -o $ROOM/kinds_rs", "$ROOM/kinds_rs"),
-    Program("kinds in python", "true", "", "true", "python3 kinds/kinds.py"),
+    Program("kinds in rust", "command -v rustc", "apt-get install rustc", f"{RUST} tests/kinds/kinds.rs -o $ROOM/kinds_rs", "$ROOM/kinds_rs"),
+    Program("kinds in python", "true", "", "true", "python3 tests/kinds/kinds.py"),
     # (Go takes the files of a package from one folder)
     Program("kinds in go", "command -v go", "apt-get install golang-go",
-            f"mkdir $ROOM/go_kinds && cp ring_calls.go kinds/kinds.go $ROOM/go_kinds && cd $ROOM/go_kinds && {GO} -o $ROOM/kinds_go *.go", "$ROOM/kinds_go"),
-    Program("kinds in java", "command -v javac", "apt-get install default-jdk-headless", "javac -Werror -d $ROOM/kinds RingCalls.java kinds/Kinds.java", "java -cp $ROOM/kinds Kinds"),
+            f"mkdir $ROOM/go_kinds && cp include/go/ring_calls.go tests/kinds/kinds.go $ROOM/go_kinds && cd $ROOM/go_kinds && {GO} -o $ROOM/kinds_go *.go", "$ROOM/kinds_go"),
+    Program("kinds in java", "command -v javac", "apt-get install default-jdk-headless", "javac -Werror -d $ROOM/kinds include/java/RingCalls.java tests/kinds/Kinds.java", "java -cp $ROOM/kinds Kinds"),
 ]
 
 # Each lists its queues, or records one.
@@ -67,15 +67,15 @@ REAL = [
     # (cargo takes a folder with a Cargo.toml, and writes beside it)
     Program("rust_crates", " && ".join(["command -v cargo", *(f"ls -d {CRATES}/{each}-[0-9]*" for each in OF_CRATES)]),
             f"apt-get install cargo {' '.join(f'librust-{each}-dev' for each in OF_CRATES)}",
-            "mkdir -p $ROOM/crates/real && cp ring_calls.rs $ROOM/crates && cp real/relay.rs real/rust_crates.rs $ROOM/crates/real && "
+            "mkdir -p $ROOM/crates/real && mkdir -p $ROOM/crates/include/rust && cp include/rust/ring_calls.rs $ROOM/crates/include/rust && cp real/relay.rs real/rust_crates.rs $ROOM/crates/real && "
             f"cp real/rust_crates.toml $ROOM/crates/real/Cargo.toml && cd $ROOM/crates/real && {CARGO} --target-dir ../target",
             "$ROOM/crates/target/release/rust_crates"),
     Program("go_chan", "command -v go", "apt-get install golang-go",
-            f"mkdir $ROOM/go_chans && cp ring_calls.go real/go_chan.go $ROOM/go_chans && cd $ROOM/go_chans && {GO} -o $ROOM/go_chan *.go", "$ROOM/go_chan"),
+            f"mkdir $ROOM/go_chans && cp include/go/ring_calls.go real/go_chan.go $ROOM/go_chans && cd $ROOM/go_chans && {GO} -o $ROOM/go_chan *.go", "$ROOM/go_chan"),
     Program("python_std", "true", "", "true", "python3 real/python_std.py"),
-    Program("JavaQueues", "command -v javac", "apt-get install default-jdk-headless", "javac -Werror -d $ROOM/jdk RingCalls.java real/Relay.java real/JavaQueues.java", "java -cp $ROOM/jdk JavaQueues"),
+    Program("JavaQueues", "command -v javac", "apt-get install default-jdk-headless", "javac -Werror -d $ROOM/jdk include/java/RingCalls.java real/Relay.java real/JavaQueues.java", "java -cp $ROOM/jdk JavaQueues"),
     Program("JCTools", f"command -v javac && test -e {JCTOOLS}", "apt-get install default-jdk-headless libjctools-java",
-            f"javac -Werror -cp {JCTOOLS} -d $ROOM/jctools RingCalls.java real/Relay.java real/JCTools.java", f"java -cp $ROOM/jctools:{JCTOOLS} JCTools"),
+            f"javac -Werror -cp {JCTOOLS} -d $ROOM/jctools include/java/RingCalls.java real/Relay.java real/JCTools.java", f"java -cp $ROOM/jctools:{JCTOOLS} JCTools"),
     # (proved as it is built: a minute or two)
     Program("rtrb", "command -v rt", "put the Rattle kit's rt on the PATH", "cd ../crates/record_rtrb && rt run record_rtrb", "../crates/record_rtrb/out/record_rtrb"),
 ]
@@ -84,15 +84,15 @@ BROKEN = Program("broken", "command -v g++", "apt-get install build-essential", 
 
 # What makes a recording small, and what finds its first line; what reads logs of other tests; the program of README.md; and a ring under Relacy.
 SMALL = Program("shrink and head", "command -v g++", "apt-get install build-essential", f"{CPP} broken/ring.cpp -o $ROOM/ring_of_heads",
-                "python3 unit/small.py $ROOM/ring_of_heads")
-CONVERT = Program("convert", "true", "", "true", "python3 unit/logs.py")
+                "python3 tests/unit/small.py $ROOM/ring_of_heads")
+CONVERT = Program("convert", "true", "", "true", "python3 tests/unit/logs.py")
 README = Program("README", "command -v gcc", "apt-get install build-essential", "true", "")
 RELACY = Program("relacy", "echo '#include <relacy/relacy.hpp>' | g++ -x c++ -E -", "apt-get install relacy-dev",
-                 f"{CPP} relacy_ring.cpp -o $ROOM/relacy_ring && {CPP} -DRELAXED relacy_ring.cpp -o $ROOM/relacy_ring_relaxed", "$ROOM/relacy_ring")
+                 f"{CPP} tests/relacy_ring.cpp -o $ROOM/relacy_ring && {CPP} -DRELAXED tests/relacy_ring.cpp -o $ROOM/relacy_ring_relaxed", "$ROOM/relacy_ring")
 
 # The ring that does not wait in the middle of a call, and what is hard on a hunt.
 HUNT = Program("hunt", "command -v g++ && command -v cc", "apt-get install build-essential",
-               f"{CPP} -DNO_HOLD broken/ring.cpp -o $ROOM/ring_that_runs && {C} hunt_test.c -o $ROOM/hunt_test && {C} -static hunt_test.c -o $ROOM/hunt_test_static",
+               f"{CPP} -DNO_HOLD broken/ring.cpp -o $ROOM/ring_that_runs && {C} tests/hunt_test.c -o $ROOM/hunt_test && {C} -static tests/hunt_test.c -o $ROOM/hunt_test_static",
                "$ROOM/ring_that_runs")
 
 SANITIZED = "-g -fsanitize=address,undefined -fno-sanitize-recover=all"
@@ -104,28 +104,28 @@ def in_process(name, needs, packages, build, start):
 
 
 def judge(name, compiler):
-    return f"{compiler} -O2 -Wall -Wextra -Wpedantic -Werror -I. unit/judge.c -x none $LIBRARY/libring_audit.a -o $ROOM/judge_{name}"
+    return f"{compiler} -O2 -Wall -Wextra -Wpedantic -Werror -Iinclude tests/unit/judge.c -x none $LIBRARY/libring_audit.a -o $ROOM/judge_{name}"
 
 
 # Each links the audit, or loads it, and judges in process: a small ring, the right one and one with a bug; and recordings.
 UNIT = [
-    in_process("in c", "command -v gcc", "build-essential", f"{C} unit/unit.c $LIBRARY/libring_audit.a -o $ROOM/unit_c", "$ROOM/unit_c"),
+    in_process("in c", "command -v gcc", "build-essential", f"{C} tests/unit/unit.c $LIBRARY/libring_audit.a -o $ROOM/unit_c", "$ROOM/unit_c"),
     in_process("in c, sanitized", "command -v gcc", "build-essential",
-               f"{C} {SANITIZED} unit/unit.c $LIBRARY/libring_audit.a -o $ROOM/unit_sanitized", "$ROOM/unit_sanitized"),
+               f"{C} {SANITIZED} tests/unit/unit.c $LIBRARY/libring_audit.a -o $ROOM/unit_sanitized", "$ROOM/unit_sanitized"),
     in_process("in cpp, googletest", "echo '#include <gtest/gtest.h>' | g++ -x c++ -E -", "build-essential libgtest-dev",
-               f"{CPP} unit/unit.cpp $LIBRARY/libring_audit.a -lgtest -lgtest_main -o $ROOM/unit_googletest", "$ROOM/unit_googletest"),
+               f"{CPP} tests/unit/unit.cpp $LIBRARY/libring_audit.a -lgtest -lgtest_main -o $ROOM/unit_googletest", "$ROOM/unit_googletest"),
     in_process("in cpp, catch2", "echo '#include <catch2/catch.hpp>' | g++ -x c++ -E -", "build-essential catch2",
-               f"{CPP} unit/unit_catch2.cpp $LIBRARY/libring_audit.a -o $ROOM/unit_catch2", "$ROOM/unit_catch2"),
-    in_process("in python", "command -v python3", "python3", "true", "python3 unit/test_unit.py"),
-    in_process("in python, pytest", "command -v pytest-3", "python3-pytest", "true", "pytest-3 -q -p no:cacheprovider unit/test_unit.py"),
+               f"{CPP} tests/unit/unit_catch2.cpp $LIBRARY/libring_audit.a -o $ROOM/unit_catch2", "$ROOM/unit_catch2"),
+    in_process("in python", "command -v python3", "python3", "true", "python3 tests/unit/test_unit.py"),
+    in_process("in python, pytest", "command -v pytest-3", "python3-pytest", "true", "pytest-3 -q -p no:cacheprovider tests/unit/test_unit.py"),
     in_process("judged as by the audit", "command -v gcc && command -v g++", "build-essential",
                " && ".join([judge("c11", "gcc -std=c11"), judge("cpp11", "g++ -x c++ -std=c++11"), judge("sanitized", f"gcc -std=c11 {SANITIZED}")]),
-               "ASAN_OPTIONS=allocator_may_return_null=1 python3 unit/compare.py 600 1 $ROOM/judge_c11 $ROOM/judge_cpp11 $ROOM/judge_sanitized"),
+               "ASAN_OPTIONS=allocator_may_return_null=1 python3 tests/unit/compare.py 600 1 $ROOM/judge_c11 $ROOM/judge_cpp11 $ROOM/judge_sanitized"),
 ]
 
 
 def in_go(folder, source, command):
-    return f"mkdir {folder} && cp ring_calls.go ring_audit.go unit/{source} {folder} && cd {folder} && CGO_LDFLAGS=-L$LIBRARY {command} *.go"
+    return f"mkdir {folder} && cp include/go/ring_calls.go include/go/ring_audit.go tests/unit/{source} {folder} && cd {folder} && CGO_LDFLAGS=-L$LIBRARY {command} *.go"
 
 
 def rounds_of(command):
@@ -134,20 +134,20 @@ def rounds_of(command):
 
 # The same in Rust and in Go.
 UNIT += [
-    in_process("in rust", "command -v rustc", "rustc", f"{RUST} --test -L native=$LIBRARY unit/unit.rs -o $ROOM/unit_rs", rounds_of("$ROOM/unit_rs --nocapture")),
-    in_process("in rust, judged as by the audit", "command -v rustc", "rustc", f"{RUST} -L native=$LIBRARY unit/judge.rs -o $ROOM/judge_rs",
-               "python3 unit/compare.py 200 2 $ROOM/judge_rs"),
+    in_process("in rust", "command -v rustc", "rustc", f"{RUST} --test -L native=$LIBRARY tests/unit/unit.rs -o $ROOM/unit_rs", rounds_of("$ROOM/unit_rs --nocapture")),
+    in_process("in rust, judged as by the audit", "command -v rustc", "rustc", f"{RUST} -L native=$LIBRARY tests/unit/judge.rs -o $ROOM/judge_rs",
+               "python3 tests/unit/compare.py 200 2 $ROOM/judge_rs"),
     in_process("in go", "command -v go && command -v gcc", "golang-go gcc",
                in_go("$ROOM/go_unit", "unit_test.go", f"{GO.replace('go build', 'go test -c')} -o $ROOM/unit_go"), rounds_of("$ROOM/unit_go -test.v")),
     in_process("in go, judged as by the audit", "command -v go && command -v gcc", "golang-go gcc",
-               in_go("$ROOM/go_judge", "judge.go", f"{GO} -o $ROOM/judge_go"), "GODEBUG=cgocheck=2 python3 unit/compare.py 200 2 $ROOM/judge_go"),
+               in_go("$ROOM/go_judge", "judge.go", f"{GO} -o $ROOM/judge_go"), "GODEBUG=cgocheck=2 python3 tests/unit/compare.py 200 2 $ROOM/judge_go"),
 ]
 
 
 def live(name, compiler, needs="true", get=""):
     return Program(f"live {name}", f"test -e $LIBRARY/libring_audit.a && command -v gcc && command -v g++ && {needs}",
                    f"libring_audit.a in dist/, or in $LIBRARY; apt-get install build-essential{get}",
-                   f"{compiler} -Wall -Wextra -Wpedantic -Werror -pthread -I. live_test.c "
+                   f"{compiler} -Wall -Wextra -Wpedantic -Werror -pthread -Iinclude tests/live_test.c "
                    f"-x none $LIBRARY/libring_audit.a -o $ROOM/live_{name}", f"$ROOM/live_{name}")
 
 
@@ -164,8 +164,8 @@ LIVE = [
 
 
 # The test of what explore.h models, by both compilers and with its sanitizers, and the ring of 20 bugs; twelve.h is built bug by bug.
-EXPLORED = "-fsanitize=thread -fno-builtin -O1 -gdwarf-4 -Wall -Wextra -Werror -I."
-EXPLORER = "gcc -std=c11 -O2 -Wall -Wextra -Wpedantic -Werror -I. -c explore.c"
+EXPLORED = "-fsanitize=thread -fno-builtin -O1 -gdwarf-4 -Wall -Wextra -Werror -Iinclude"
+EXPLORER = "gcc -std=c11 -O2 -Wall -Wextra -Wpedantic -Werror -Iinclude -c explorer/explore.c"
 
 
 def explored(name, compiler, source, flags="", linker="gcc", explorer="explore.o"):
@@ -176,15 +176,15 @@ def explored(name, compiler, source, flags="", linker="gcc", explorer="explore.o
 EXPLORE = Program("explore", "test -e $LIBRARY/libring_audit.a && command -v gcc && command -v g++ && command -v addr2line && command -v nm",
                   "libring_audit.a in dist/, or in $LIBRARY; apt-get install build-essential binutils",
                   " && ".join([f"{EXPLORER} -o $ROOM/explore.o", f"{EXPLORER.replace('-O2', f'-O1 {SANITIZED}')} -o $ROOM/explore_sanitized.o",
-                               explored("explore_test", "gcc -std=gnu11", "explore_test.c"),
-                               explored("explore_rings", "gcc -std=gnu11", "explore_rings.c"),
-                               explored("explore_test_sanitized", "gcc -std=gnu11", "explore_test.c", "", f"gcc {SANITIZED}", "explore_sanitized.o"),
-                               explored("explore_test_cpp", "g++ -std=c++20", "explore_test.cpp", "", "g++"),
+                               explored("explore_test", "gcc -std=gnu11", "tests/explore_test.c"),
+                               explored("explore_rings", "gcc -std=gnu11", "tests/explore_rings.c"),
+                               explored("explore_test_sanitized", "gcc -std=gnu11", "tests/explore_test.c", "", f"gcc {SANITIZED}", "explore_sanitized.o"),
+                               explored("explore_test_cpp", "g++ -std=c++20", "tests/explore_test.cpp", "", "g++"),
                                explored("ring_explored", "g++ -std=c++17", "broken/ring_explored.cpp", "-DNO_HOLD", "g++")]), "$ROOM/explore_test")
 EXPLORE_CLANG = Program("explore by clang", f"{EXPLORE.needs} && command -v clang && command -v clang++", f"{EXPLORE.get} clang",
                         " && ".join([f"{EXPLORER.replace('gcc', 'clang')} -o $ROOM/explore_clang.o",
-                                     explored("explore_test_clang", "clang -std=gnu11", "explore_test.c", "-Wno-atomic-alignment", "clang", "explore_clang.o"),
-                                     explored("explore_test_cpp_clang", "clang++ -std=c++20", "explore_test.cpp", "", "clang++", "explore_clang.o"),
+                                     explored("explore_test_clang", "clang -std=gnu11", "tests/explore_test.c", "-Wno-atomic-alignment", "clang", "explore_clang.o"),
+                                     explored("explore_test_cpp_clang", "clang++ -std=c++20", "tests/explore_test.cpp", "", "clang++", "explore_clang.o"),
                                      explored("ring_explored_clang", "clang++ -std=c++17", "broken/ring_explored.cpp", "-DNO_HOLD", "clang++", "explore_clang.o")]),
                         "$ROOM/explore_test_clang")
 EXPLORE_REAL = Program("explore of real queues", f"{EXPLORE.needs} && for header in boost/lockfree/spsc_queue.hpp readerwriterqueue/readerwriterqueue.h; "

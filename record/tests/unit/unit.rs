@@ -1,7 +1,7 @@
 //! unit.rs: a unit test of a small ring: it is a queue in each of 10,000 rounds of 100 calls, and with its bug it is not.
-#[path = "../ring_audit.rs"]
+#[path = "../../include/rust/ring_audit.rs"]
 mod ring_audit;
-#[path = "../ring_calls.rs"]
+#[path = "../../include/rust/ring_calls.rs"]
 mod ring_calls;
 use ring_audit::{Fault, Report, lawful};
 use ring_calls::{Clock, PutLog, TakeLog};

@@ -223,7 +223,7 @@ class Tries:
         with open(f"{here}/broken/twelve.h", encoding="ascii") as file:
             header = file.read()
         with open(f"{here}/broken/twelve.c", encoding="ascii") as file, open(f"{room}/twelve.c", "w", encoding="ascii") as copy:
-            copy.write(file.read().replace('"../', '"'))
+            copy.write(file.read().replace('"../include/', '"'))
         for strong, weak in (
             ("inside = (count)(tail - ACQUIRE(q->head))", "inside = (count)(tail - LOAD(q->head))"),
             ("if (head == ACQUIRE(q->tail)) return false;", "if (head == LOAD(q->tail)) return false;"),
