@@ -56,7 +56,7 @@ sources_sum() {
                         at=$((at + 1))
                     done
                     # shellcheck disable=SC2086
-                    [ -z "$folders" ] || find $folders -type f \( -name '*.rt' -o -name '*.antt' \) | sort | code | sha256sum &
+                    [ -z "$folders" ] || find $folders -type f ! -name '.*' \( -name '*.rt' -o -name '*.antt' \) | sort | code | sha256sum &
                 done
                 grep -E "^(${names#|})[: ]" crates.txt
                 wait

@@ -84,6 +84,6 @@ def sum_of(crate):
             for at, folders, files in os.walk(f"{TOP}/crates/{name}/{part}"):
                 folders.sort()
                 for each in sorted(files):
-                    if each.endswith((".rt", ".antt")):
+                    if each.endswith((".rt", ".antt")) and not each.startswith("."):
                         found.update(repr((os.path.relpath(f"{at}/{each}", TOP), code(f"{at}/{each}"))).encode())
     return found.hexdigest()
