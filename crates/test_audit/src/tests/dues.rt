@@ -38,7 +38,7 @@ fn expect_dues(rt: &(impl Abort + AllocGlobal), cases: &[Case]) -> Result<(), Fa
     Ok(())
 }
 
-static DUE: [Case<'static>; 8] = [
+static DUE: [Case<'static>; 9] = [
     // between calls: the scan's first read, or the close
     (
         "shape 1 3 1\n",
@@ -83,6 +83,15 @@ static DUE: [Case<'static>; 8] = [
             (Bit::Cell(1, 0), Act::WriteBegin(false)),
             (Bit::Cell(1, 0), Act::WriteBegin(true)),
             (Bit::S(1), Act::WriteBegin(true)),
+        ],
+    ),
+    // the same of a take of two, of which one item is read
+    (
+        "shape 2 5 1 1 2\nC read s0\nC got s0 0\nC read s1\nC got s1 0\nC read s2\nC got s2 1\nC read c0.0\nC got c0.0 1\n",
+        Side::C,
+        &[
+            (Bit::Cell(1, 0), Act::ReadBegin),
+            (Bit::R(1), Act::WriteBegin(true)),
         ],
     ),
     // behind a history that is not of the programs, nothing
