@@ -1,43 +1,48 @@
-/* explore.c: tries the interleavings of a small test; explore.h tells the use. C11 with extensions of gcc and clang; Linux, x86-64.
+/* explore.c: makes the executions of a small test that C11 permits, up to a bound; explore.h says how it is used. C11 with extensions of gcc and clang;
+ * Linux, x86-64.
  *
- * The test is compiled with -fsanitize=thread and linked with this file in place of the sanitizer's library: hooks.inc has the
- * functions that such code calls at each access of memory, so each plain and each atomic access of the test's own text is seen. The two
- * sides run as coroutines in one thread (steps.inc), hence sequentially consistent. A run is fixed by who begins and by the steps
- * before which a side that could go on is preempted; where a side waits, yields or is over, the other goes on, and this is not counted.
- * All runs with no preemption are made, then all with one, and so on. reset() is called before each, and the calls of each are judged by
- * libring_audit.
+ * The test is compiled with -fsanitize=thread and linked with this file in place of the sanitizer's library: hooks.inc has the functions that
+ * such code calls at each access of memory, so each plain and each atomic access of the test's own text is seen, with its memory order. The two
+ * sides run as coroutines in one thread (steps.inc), one access after the other. An atomic access may find an older store than the newest, or come
+ * before newer ones, as C++20 permits (stores.inc). A run is fixed by which side begins and by its choices: who goes on at a step, which store an access
+ * finds, and the others of steps.inc. If a side waits, yields or is over, the other goes on, and that is no choice. All runs with no choice are made,
+ * then all with one, and so on. reset() is called before each. The calls of a run in which each access found the newest store, which so is
+ * sequentially consistent, are judged by the proved audit, libring_audit; those of others by happens-before (order.inc).
  *
- * Why the steps are enough. Take any sequentially consistent execution of the test, in which no side is preempted more often than is
- * tried. It has an execution among those tried whose recording is as strict or stricter, so a fault of the one is a fault of the other.
+ * The parts are one program. Each says at its head what it is; what it changes besides its own state is `run` (steps.inc), and of a side's access the
+ * cells of memory.inc. */
+/* Why the steps are enough. Take any execution of the test, one access after the other, with no more choices than are tried. There is one among those
+ * tried whose recording is as strict or stricter, so a fault of the one is a fault of the other.
  *  1. A step stands before each access of what is shared: a read of a byte that the other side writes, a write of one that it touches, a
  *     call of a lock, a semaphore or a futex, and malloc and free.
  *     Any other access commutes with all that the other side does, so a preemption before it may as well come later, before the side's
- *     next step. What is shared is learned: where a run shows more of it, all runs are made anew. That misses none: take the first
+ *     next step. What is shared is learned: if a run shows more of it, all runs are made anew. That misses none: take the first
  *     access of the execution that conflicts with an earlier one of the other side and is not known to. All before it, with preemptions
- *     moved behind as said, is a beginning of a run that was tried, and in that run both sides come to touch that byte; so it is known.
+ *     moved as said, is a beginning of a run that was tried, and in that run both sides come to touch that byte; so it is known.
  *  2. A step stands before each begin of a call, and none between it and the call's first access. A side that is preempted between
  *     the two is as well preempted before the begin: the call then begins later, its interval is narrower, and what comes between calls
  *     of the two sides is ordered no less.
  *  3. No step stands before the end of a call. A side that is preempted between its last access and its end is as well preempted
- *     behind the end, and the call ends sooner. The audit permits a history with wider intervals wherever it permits the narrower one.
+ *     after the end, and the call ends sooner. The audit permits a history with wider intervals wherever it permits the narrower one.
  *  4. A side that is preempted makes at least one step before the other is preempted in turn; else the two preemptions do nothing.
+ * Of happens-before 2 and 3 change nothing: a side comes to know of the other by its own accesses alone. A fence is part of the step before it.
  * What is left out, and is said in README.md: a side that yields, sleeps or waits with a time limit lets the other make a step first,
- * and its time passes only where the other waits or is over; a side that looks a third time at the same place for what nobody has
+ * and its time passes only if the other waits or is over; a side that looks a third time at the same place for what nobody has
  * changed, within one call, is not preempted there, and after limit_spins of such looks it is taken for one that yields; so is one that
  * makes TURN accesses of nothing shared, between two steps.
  * What is not seen: assembly, libraries that are not compiled so, copies that the compiler expands itself (-fno-builtin leaves them to
  * memcpy, which is seen here word by word). A plain access of 16 bytes and a copy of a structure are one step each; that another side
- * sees half of it is told as a data race.
+ * sees half of it is reported as a data race.
  *
- * Data races: memory.inc keeps which accesses come before which by the memory orders that the text gives, as in C11. An execution
- * that is sequentially consistent is one that C11 permits, so a race in it is one of the program as the compiler instrumented it. That may
- * have an access that the text does not make: gcc's pass reassoc loads a plain variable of a condition before the condition says that it
- * may be read, so it is turned off (-fno-tree-reassoc). Where C11 orders less than is kept here (release sequences of C++20, futexes), a
- * race may go unseen. A free counts as a write of the block, up to MOST_WATCHED bytes, so that a step stands before each access of it by
- * the other side; an access of what is free is reported as such. */
+ * Data races: memory.inc keeps which accesses come before which by the memory orders that the text gives, as in C11. Each run is an execution that C11
+ * permits, so a race in it is one of the program as the compiler instrumented it. That may have an access that the text does not make: gcc's pass
+ * reassoc loads a plain variable of a condition before the condition says that it may be read, so it is turned off (-fno-tree-reassoc). Where C11
+ * orders less than is kept here (futexes), a race may go unseen. A free counts as a write of the block, up to MOST_WATCHED bytes, so that a step stands
+ * before each access of it by the other side; an access of what is free is reported as such. */
 #define _GNU_SOURCE
 #include <fcntl.h>
 #include <signal.h>
+#include <stdarg.h>
 #include <sys/time.h>
 #include "../include/ring_audit.h"
 #define RING_CALLS_EXPLORE      /* (a test has to include explore.h first) */
@@ -45,30 +50,54 @@
 
 void explore_event(int kind, const uint64_t *numbers, size_t n);        /* for ring_calls.h, where explore.h includes it */
 
+/* (no call of memcpy and memset, which hooks.inc has for the test) */
+__extension__ typedef unsigned __int128 u128;
+static void copy_plainly(void *to, const void *from, size_t size) {
+    __asm__ volatile("rep movsb" : "+D"(to), "+S"(from), "+c"(size) : : "memory");
+}
+
+static void fill_plainly(void *to, int value, size_t size) {
+    __asm__ volatile("rep stosb" : "+D"(to), "+c"(size) : "a"(value) : "memory");
+}
+
+#include "threads.inc"
 #include "steps.inc"
 #include "memory.inc"
+#include "sites.inc"
+#include "stores.inc"
+#include "late.inc"
+#include "order.inc"
 #include "hooks.inc"
 #include "waits.inc"
 #include "heap.inc"
 #include "where.inc"
 #include "trace.inc"
+#include "outcomes.inc"
+#include "rust.inc"
 
 enum { GO_ON, ANEW, STOP };
 enum { LOG_WORDS = 1 << 18, SHOWN = 60 };
 static const char *const name_of_side[2] = { "producer", "consumer" };
 
-static struct { uint64_t preemptions; double seconds; const char *schedule, *keep, *dump; } option = { 3, 60, NULL, NULL, NULL };
+/* bound: how many choices a run may have in all; most: of each sort. Part k of n: which of the runs are judged. */
+static struct {
+    uint64_t bound, most[SORTS], part, parts;
+    double seconds;
+    const char *schedule, *keep, *dump, *report, *known;
+} option = { .bound = 3, .part = 1, .parts = 1, .seconds = 60 };
 static struct { void (*reset)(void), (*body[2])(void); const char *head; } test;
 static ring_calls rec;
 static ring_audit audit;
 
-/* What came of the runs: with how many preemptions they are made, how many there were, and how many of them cut; the sums of their reports. */
+/* What came of the runs: with how many choices they are made, how many there were, how many of them cut, and how many found older values; the sums
+ * of their reports; the most items that a run stored and took. */
 static struct {
-    uint64_t level, all, cut;
-    uint64_t full, empty, nothing, told, overlapped, inside[2];
+    uint64_t level, all, cut, weak;
+    uint64_t full, empty, nothing, told, overlapped, inside[2], stored, taken;
     uint64_t executed;              /* in all, those too that were made anew */
     double began;
-    int status, preemptions;        /* those of the run that is told */
+    int status;
+    plan_kept shown;                /* the plan of the run that is reported */
     bool calls, closes;             /* a call was recorded; a close was */
     bool time_is_over, is_another;  /* is_another: the test does not do the same again */
     FILE *dump;
@@ -115,8 +144,22 @@ void explore_event(int kind, const uint64_t *numbers, size_t n) {
     if (replay.on && log->used > at) trace_event(s, at);
     result.calls = true;
     if (kind == RING_CLOSE) result.closes = true;
+    order_event(kind, numbers, n);
     me->events++;
     me->fresh = kind < RING_ENDS;
+}
+
+/* What the test draws: a number below n, 0 but if a choice says another one; outside of the two sides always 0. */
+unsigned explore_choose(unsigned n) {
+    if (n == 0 || n > 256) {
+        fprintf(stderr, "explore: explore_choose(%u) asks for a number of none, or of more than 256\n", n);
+        _exit(2);
+    }
+    if (!run.on) return 0;
+    sides[now].accesses++;
+    const int drawn = take_option(DRAWS, (int)n - 1, LOADS, PC);
+    if (replay.on) trace_draw(drawn, PC);
+    return (unsigned)drawn;
 }
 
 /* ---- a run ---- */
@@ -144,27 +187,32 @@ static void make_run(void) {
     result.executed++;
     run.learned = false;
     run.end = RUNS;
-    run.steps = run.changed_at = run.preempted_at = 0;
+    run.steps = run.changed_at = run.preempted_at = run.points_used = 0;
     run.changes = 0;
-    plan.used = 0;
+    plan_used = 0;
     locks_used = trace_used = 0;
     ring_calls_restart(&rec);
     begin_clocks();
+    begin_old();
+    begin_late();
+    begin_order();
+    begin_outcome();
     begin_arena();
+    begin_tls();
     arena.on = true;
     test.reset();
     for (int s = 0; s < 2; s++) set_side(s);
     run.starting = run.on = true;
     for (int s = 0; s < 2 && run.end == RUNS; s++) {
         now = s;
-        explore_switch(&explorer_stack, sides[s].stack_pointer);
+        switch_to(&explorer_stack, s);
     }
     run.starting = false;
     if (run.end == RUNS) now = PRODUCER;
     const int first = run.end == RUNS ? choose() : -1;
     if (first >= 0) {
         now = first;
-        explore_switch(&explorer_stack, sides[first].stack_pointer);
+        switch_to(&explorer_stack, first);
     }
     run.on = arena.on = false;
     if (replay.on) settle_trace();
@@ -173,6 +221,14 @@ static void make_run(void) {
     if (run.end == DONE && (rec.p.cut != UINT64_MAX || rec.c.cut != UINT64_MAX)) run.end = CUT_LOG;
 }
 
+/* How many choices of a sort a plan has. */
+static uint64_t made_of(const plan_kept *it, int sort) {
+    uint64_t n = 0;
+    for (int i = 0; i < it->count; i++) n += it->made[i].sort == sort;
+    return n;
+}
+
+#include "report.inc"
 #include "tell.inc"
 #include "witness.inc"
 
@@ -217,21 +273,69 @@ static void watch(void) {
     setitimer(ITIMER_REAL, &often, NULL);
 }
 
+/* Outside of explore() the test may take its time. */
+static void end_watch(void) {
+    static const struct itimerval never;
+    setitimer(ITIMER_REAL, &never, NULL);
+}
+
 /* ---- all runs ---- */
 
-static int preemptions_of_plan(void) { return plan.count - (plan.count > 0 && plan.at[0] == 0); }
+/* How many items a side has passed in the run just made. */
+static uint64_t passed_by(int s) {
+    const call *last = rows[s].used ? &rows[s].calls[rows[s].used - 1] : NULL;
+    return last ? last->before + last->passed : 0;
+}
+
+/* The first run in which an item was not handed over: what it says, and what shows it. */
+static struct { bool found; char words[200], schedule[MOST_STEPS]; uint64_t line, against; plan_kept plan; sign made; } not_handed;
+
+static void note_handing_over(void) {
+    if (!races_on || not_handed.found || all_are_handed()) return;
+    not_handed.found = true;
+    not_handed.line = order_found.line;
+    not_handed.against = order_found.against;
+    not_handed.plan = plan;
+    not_handed.made = sign_of_run(0);
+    copy_text(not_handed.words, order_found.words, sizeof not_handed.words);
+    write_schedule_with_choices(not_handed.schedule, sizeof not_handed.schedule);
+}
+
+/* Judges the calls of the run just made: by time; those of a run in which some access did not find the newest store, by happens-before, unless they are
+ * lawful by time, which asks more. */
+static bool judge_calls(void) {
+    const bool lawful = ring_audit_judge(&audit, &rec, test.head), by_order = choices.is_weak && !order.by_client;
+    if (audit.found.verdict != RING_AUDIT_HEARD && audit.found.verdict != RING_AUDIT_NOT_LINEARIZABLE && audit.found.verdict != RING_AUDIT_OUT_OF_TURN) return false;
+    if (lawful || (by_order && order_is_right())) {
+        note_handing_over();
+        return true;
+    }
+    if (!by_order) return false;
+    audit.found.verdict = order.out_of_turn ? RING_AUDIT_OUT_OF_TURN : RING_AUDIT_NOT_LINEARIZABLE;
+    audit.found.line = order_found.line;
+    audit.found.against = order_found.against;
+    copy_text(audit.words, order_found.words, sizeof audit.words);
+    return false;
+}
 
 /* Judges the run just made, and tells a finding. */
 static int judge_run(void) {
     ring_audit_counts r;
-    const bool lawful = ring_audit_judge(&audit, &rec, test.head);
+    const bool lawful = judge_calls();
+    note_outcome();
+    note_new_lates();
     if (result.dump) {
         ring_calls_write(&rec, test.head, result.dump);
         ring_audit_print(&audit, result.dump);
         fputc('\n', result.dump);
     }
     result.all++;
-    result.preemptions = preemptions_of_plan();
+    result.weak += choices.is_weak;
+    result.shown = plan;
+    for (int s = 0; s < 2; s++) {
+        uint64_t *most = s == PRODUCER ? &result.stored : &result.taken, passed = passed_by(s);
+        if (*most < passed) *most = passed;
+    }
     if (!lawful) {
         result.status = 3;
         if (result.dump) return GO_ON;
@@ -247,7 +351,7 @@ static int judge_run(void) {
         tell_where_they_wait(run.end == HANGS ? "hangs" : both ? "both wait for ever" : "waits for ever");
         return STOP;
     }
-    if (run.end != DONE) result.cut++;
+    if (run.end != DONE || order.is_full) result.cut++;
     if (!ring_audit_report(&audit.state, &r)) return GO_ON;
     result.full += r.full;
     result.empty += r.empty;
@@ -259,35 +363,45 @@ static int judge_run(void) {
     return GO_ON;
 }
 
-/* A sum over the run with no preemption, which is made for that. */
+/* A sum over the run with no choice, which is made for that. */
 static uint64_t sum_of_first_run(void) {
-    plan.count = 0;
+    plan.count = plan.first = 0;
     make_run();
     note_new_races();
     return run.sum[run.steps] + run.steps + 3 * sides[0].accesses + 5 * sides[1].accesses;
 }
 
-/* Makes the run of the plan, and then those with so many further preemptions, behind the last one. Runs that have fewer than is wanted were
- * judged before: they show where a preemption may stand. */
-static int try_from(uint64_t left, uint32_t from, uint64_t sum) {
-    static uint8_t may[MOST_PREEMPTIONS + 1][MOST_STEPS];
-    static uint64_t sums[MOST_PREEMPTIONS + 1][MOST_STEPS + 1];
+/* Whether the run with this number of those with `level` choices, or the runs that go on from it, are of the part that is asked for. */
+static bool is_of_part(uint64_t number) { return number % option.parts == option.part - 1; }
+
+/* Makes the run of the plan, and then those with `left` further choices, at points after its last one. Runs that have fewer than is wanted were
+ * judged before: they show which points there are. What is asked of a run again has to come again: the first steps, `same`, with this sum. */
+static int try_from(uint64_t left, uint32_t from, uint32_t same, uint64_t sum, bool is_mine) {
+    static point points[MOST_CHOICES + 1][MOST_POINTS];
+    static uint64_t sums[MOST_CHOICES + 1][MOST_STEPS + 1], number;
     make_run();
     if (run.learned) return ANEW;
     note_new_races();
-    if (from > 1 && (run.steps < from - 1 || run.sum[from - 1] != sum)) return tell_not_the_same();
-    if (left == 0 && judge_run() == STOP) return STOP;
+    if (same && (run.steps < same || run.sum[same] != sum)) return tell_not_the_same();
+    if (left == 0 && is_mine && judge_run() == STOP) return STOP;
     if (result.executed % 16 == 0 && seconds() - result.began > option.seconds) { result.time_is_over = true; return STOP; }
     if (left == 0) return GO_ON;
-    const uint32_t steps = run.steps;
-    copy_plainly(may[left], run.may, steps);
-    copy_plainly(sums[left], run.sum, (steps + 1) * sizeof *run.sum);
-    for (uint32_t at = from; at < steps; at++) {
-        if (!may[left][at]) continue;
-        plan.at[plan.count++] = at;
-        const int then = try_from(left - 1, at + 1, sums[left][at]);
-        plan.count--;
-        if (then != GO_ON) return then;
+    const uint32_t count = run.points_used;
+    copy_plainly(points[left], run.points, count * sizeof *run.points);
+    copy_plainly(sums[left], run.sum, (run.steps + 1) * sizeof *run.sum);
+    if (plan.count == 0) number = 0;
+    for (uint32_t at = from; at < count; at++) {
+        const point *it = &points[left][at];
+        if (made_of(&plan, it->sort) >= option.most[it->sort]) continue;
+        for (int which = 1; which <= it->options; which++) {
+            if (plan.count == 0) is_mine = is_of_part(number++);
+            /* (all parts make the runs with one choice, so that each learns what is shared) */
+            if (!is_mine && result.level > 1) continue;
+            plan.made[plan.count++] = (choice) { at, it->sort, (uint8_t)which };
+            const int then = try_from(left - 1, at + 1, it->step, sums[left][it->step], is_mine);
+            plan.count--;
+            if (then != GO_ON) return then;
+        }
     }
     return GO_ON;
 }
@@ -296,12 +410,12 @@ static int try_all(void) {
     const uint64_t sum = sum_of_first_run();
     if (run.learned) return ANEW;
     if (sum_of_first_run() != sum) return run.learned ? ANEW : tell_not_the_same();
-    for (uint64_t left = 0; left <= option.preemptions; left++) {
+    for (uint64_t left = 0; left <= option.bound; left++) {
         result.level = left;
         for (int first = 0; first < 2; first++) {
-            plan.count = first;
-            plan.at[0] = 0;
-            const int then = try_from(left, 1, 0);
+            plan.count = 0;
+            plan.first = first;
+            const int then = try_from(left, 0, 0, 0, is_of_part((uint64_t)first));
             if (then != GO_ON) return then;
         }
     }
@@ -310,28 +424,61 @@ static int try_all(void) {
 
 /* Forgets what was counted and the races found, where the runs are made anew: with more steps the plans are others. */
 static void forget_counts(void) {
-    result.all = result.cut = result.full = result.empty = result.nothing = result.told = result.overlapped = 0;
-    result.inside[0] = result.inside[1] = 0;
+    outcomes.used = 0;
+    not_handed.found = false;
+    lates_used = 0;
+    result.all = result.weak = result.cut = result.full = result.empty = result.nothing = result.told = result.overlapped = 0;
+    result.inside[0] = result.inside[1] = result.stored = result.taken = 0;
+    mixed.used = 0;
     races_used = 0;
+}
+
+/* What was tried, or where the finding is. */
+static void tell_how_many(bool stopped) {
+    const double took = seconds() - result.began;
+    if (stopped) {
+        printf("found in execution %s, with ", grouped(result.all));
+        tell_counts(&result.shown);
+        printf(", after %.2f s\n", took);
+    } else {
+        printf("%s executions within a bound of %llu, %.2f s: %s\n", grouped(result.all), (unsigned long long)result.level, took,
+               result.status ? "not all lawful" : "all lawful");
+        if (option.parts > 1) {
+            printf("part %llu of %llu; what is shared has the sum %08x in each part, else all are to be made again with what EXPLORE_KNOWN kept\n",
+                   (unsigned long long)option.part, (unsigned long long)option.parts, sum_of_known());
+        }
+        if (result.time_is_over) printf("not all: the time was over at those with %llu choices\n", (unsigned long long)result.level);
+    }
+    if (result.cut) printf("%s of them were cut, after %s steps or where the log was full\n", grouped(result.cut), grouped(limit_steps));
+}
+
+/* What is said where nothing was found. */
+static void tell_what_it_means(void) {
+    printf("This holds of this test, and %s, within this bound; ", may_be_older ? "of what C11 lets a load find" : "of sequentially consistent executions alone");
+    printf("%s\n", races_on ? "no data race was seen." : "data races were not looked for.");
+}
+
+/* An item that was not handed over. A data race has the same cause, and says more. */
+static void tell_handing_over(void) {
+    if (!not_handed.found || races_used) return;
+    if (!replay.on && !plan_comes_again(not_handed.plan, not_handed.made)) { tell_not_the_same(); return; }
+    printf("%s (EXPLORE_HANDED=0, if items are plain numbers)\n", not_handed.words);
+    if (!replay.on) tell_schedule(not_handed.schedule);
+    note_finding(&first_finding, not_handed.words, not_handed.schedule);
 }
 
 static void tell_all(void) {
     if (!result.is_another && !races_come_again()) tell_not_the_same();
     if (result.is_another) return;
-    const double took = seconds() - result.began;
     const bool stopped = result.status != 0 && !result.dump;
-    if (stopped) {
-        printf("found in interleaving %s, with %d preemption%s, after %.2f s\n", grouped(result.all), result.preemptions,
-               result.preemptions == 1 ? "" : "s", took);
-    } else {
-        printf("%s interleavings with at most %llu preemptions, %.2f s: %s\n", grouped(result.all), (unsigned long long)result.level, took,
-               result.status ? "not all lawful" : "all lawful");
-        if (result.time_is_over) printf("not all: the time was over at those with %llu preemptions\n", (unsigned long long)result.level);
-    }
-    if (result.cut) printf("%s of them were cut, after %s steps or where the log was full\n", grouped(result.cut), grouped(limit_steps));
+    tell_how_many(stopped);
     if (!stopped) tell_sums();
-    if (!result.calls) fputs("explore: no call was recorded: do the two functions record their calls, by the names of ring_calls.h?\n", stderr);
-    if (result.status == 0 && races_used) result.status = 3;
+    tell_mixed();
+    tell_outcomes();
+    tell_lates();
+    if (!result.calls && !outcomes.used) fputs("explore: no call was recorded: do the two functions record their calls, by the names of ring_calls.h?\n", stderr);
+    if (result.status == 0 && (races_used || not_handed.found)) result.status = 3;
+    if (!stopped) tell_handing_over();
     tell_races();
     if (result.status) return;
     if (!shares_memory) {
@@ -339,8 +486,7 @@ static void tell_all(void) {
         result.status = 2;
         return;
     }
-    printf("Sequentially consistent interleavings of this test alone: nothing is said of longer runs, and of weaker memory only that\n%s\n",
-           races_on ? "no data race was seen." : "data races were not looked for.");
+    tell_what_it_means();
 }
 
 static int play_again(void) {
@@ -354,8 +500,9 @@ static int play_again(void) {
     }
     result.status = 0;
     if (judge_run() == GO_ON) printf("lawful\n");
+    tell_handing_over();
     tell_races();
-    return result.status || !races_used ? result.status : 3;
+    return result.status || (!races_used && !not_handed.found) ? result.status : 3;
 }
 
 /* ---- what is asked for ---- */
@@ -363,16 +510,30 @@ static int play_again(void) {
 static int usage(const char *why) {
     const char *called = getenv("EXPLORE_CALLED");
     fprintf(why ? stderr : stdout,
-            "%s%s%s: tries the interleavings of a test; in the environment:\n"
-            "  EXPLORE_PREEMPTIONS=3     at most so many preemptions, up to %d\n"
-            "  EXPLORE_SECONDS=60        ends after so many seconds\n"
-            "  EXPLORE_STEPS=10000       cuts a run after so many steps, up to %d\n"
-            "  EXPLORE_SPINS=500         a side that looked so often at what nobody has changed lets the other go on\n"
-            "  EXPLORE_RACES=0           tells no data races\n"
+            "%s%s%s: tries the executions of a test; in the environment:\n"
+            "  EXPLORE_BOUND=3           at most 3 choices in an execution, up to %d: preemptions, older values, and the others below\n"
+            "  EXPLORE_PREEMPTIONS=3     of these at most 3 preemptions; as many as the bound if it is not given, and so each of these:\n"
+            "  EXPLORE_OLDER=3           loads that find an older value than the newest; with 0 executions are sequentially consistent\n"
+            "  EXPLORE_FAILS=3           weak compare-and-swaps that fail though they find what is expected\n"
+            "  EXPLORE_WAKES=3           waits for a condition that end though nobody woke them\n"
+            "  EXPLORE_DRAWS=3           calls of explore_choose that return another number than 0\n"
+            "  EXPLORE_SECONDS=60        ends after 60 seconds\n"
+            "  EXPLORE_STEPS=10000       cuts an execution after 10000 steps, up to %d\n"
+            "  EXPLORE_SPINS=500         a side that looked 500 times at what nobody has changed lets the other go on\n"
+            "  EXPLORE_RACES=0           looks for no data races\n"
+            "  EXPLORE_STRICT=1          in executions with older values, too, one order of all calls has to serve both sides\n"
+            "  EXPLORE_CLIENT=1          each call happens after those that ended before it, as with a recorder, and is judged so\n"
+            "  EXPLORE_HANDED=0          does not ask whether an item brings along what came before its put\n"
+            "  EXPLORE_SEQUENCES=20      release sequences are those of C++20; with 11 also stores of the same side continue them, as in C11 to C++17\n"
+            "  EXPLORE_LATE=1            reports loads that may come late\n"
+            "  EXPLORE_SITES=1           lists the memory orders; EXPLORE_ORDERS='1a2b=acquire' takes others\n"
+            "  EXPLORE_PART=1/4          judges the first of four parts of all executions\n"
+            "  EXPLORE_PATHS=1           prints files with their folders\n"
             "  EXPLORE_KEEP=my.calls     writes the recording of a fault there\n"
             "  EXPLORE_DUMP=all.txt      writes all recordings there, each with its verdict, and does not end at a fault\n"
-            "  EXPLORE_SCHEDULE='P7 C'   plays one schedule, and tells its steps\n",
-            why ? why : "", why ? "\n" : "", called ? called : program_invocation_name, MOST_PREEMPTIONS, MOST_STEPS);
+            "  EXPLORE_REPORT=my.json    writes there what was found, as JSON\n"
+            "  EXPLORE_SCHEDULE='P7 C'   plays one schedule, and prints its steps\n",
+            why ? why : "", why ? "\n" : "", called ? called : program_invocation_name, MOST_CHOICES, MOST_STEPS);
     return why ? 2 : 0;
 }
 
@@ -389,31 +550,107 @@ static bool take_number(const char *name, uint64_t most, uint64_t *value) {
     return true;
 }
 
+/* A choice in a schedule, behind its colon: `old2`, `fail`, `wake`, `draw1`. */
+static bool take_choice(const char **text, chosen *it) {
+    for (int sort = OLDER; sort < SORTS; sort++) {
+        const size_t n = strlen(sort_in_schedule[sort]);
+        if (strncmp(*text, sort_in_schedule[sort], n) != 0) continue;
+        const bool has_number = sort == OLDER || sort == DRAWS;
+        const uint64_t option = has_number ? strtoull(*text + n, (char **)(uintptr_t)text, 10) : 1;
+        if (!has_number) *text += n;
+        it->sort = (uint8_t)sort;
+        it->option = (uint8_t)option;
+        return option > 0 && option < 256;
+    }
+    return false;
+}
+
+/* `P7 C4 P`: so many accesses each; after them `C9:old1`: what is chosen at the consumer's access 9. */
 static bool take_schedule(const char *text) {
     for (replay.on = true; *text; text += *text == ' ') {
         if (replay.count == MOST_STEPS || (*text != 'P' && *text != 'C')) return false;
-        replay.who[replay.count] = *text++ == 'P' ? PRODUCER : CONSUMER;
+        const uint8_t who = replay.who[replay.count] = *text++ == 'P' ? PRODUCER : CONSUMER;
         uint64_t n = UINT64_MAX;
         if (*text >= '0' && *text <= '9') n = strtoull(text, (char **)(uintptr_t)&text, 10);
+        if (*text == ':') {
+            if (replay.chosen == MOST_CHOICES) return false;
+            chosen *it = &replay.choices[replay.chosen++];
+            *it = (chosen) { .who = who, .access = n };
+            text++;
+            if (!take_choice(&text, it) || (*text && *text != ' ')) return false;
+            continue;
+        }
         replay.accesses[replay.count++] = n;
-        if (*text && (*text != ' ' || n == UINT64_MAX)) return false;
+        if (*text && *text != ' ') return false;
     }
     return replay.count > 0;
 }
 
+/* Bounds: of all choices, and of each sort. */
+static const char *take_bounds(void) {
+    static const char *const names[SORTS] = { "EXPLORE_PREEMPTIONS", "EXPLORE_OLDER", "EXPLORE_FAILS", "EXPLORE_WAKES", "EXPLORE_DRAWS" };
+    static char why[64];
+    uint64_t most[SORTS], greatest = option.bound;
+    for (int sort = 0; sort < SORTS; sort++) {
+        most[sort] = UINT64_MAX;
+        snprintf(why, sizeof why, "%s is no number up to %d", names[sort], MOST_CHOICES);
+        if (!take_number(names[sort], MOST_CHOICES, &most[sort])) return why;
+        if (most[sort] != UINT64_MAX && greatest < most[sort]) greatest = most[sort];
+    }
+    /* (a limit above the bound would have no effect, and so moves a bound that is not given) */
+    option.bound = greatest;
+    snprintf(why, sizeof why, "EXPLORE_BOUND is no number up to %d", MOST_CHOICES);
+    if (!take_number("EXPLORE_BOUND", MOST_CHOICES, &option.bound)) return why;
+    for (int sort = 0; sort < SORTS; sort++) option.most[sort] = most[sort] < option.bound ? most[sort] : option.bound;
+    may_be_older = most[OLDER] > 0;
+    return NULL;
+}
+
+/* `2/4`: the second of four parts. */
+static bool take_part(const char *text) {
+    char *end;
+    if (!text || !*text) return true;
+    option.part = strtoull(text, &end, 10);
+    if (*end != '/') return false;
+    option.parts = strtoull(end + 1, &end, 10);
+    return !*end && option.part >= 1 && option.part <= option.parts && option.parts <= 1 << 20;
+}
+
+static const char *take_switches(void) {
+    const struct { const char *name; bool *value; } yes_or_no[] = { { "EXPLORE_RACES", &races_on }, { "EXPLORE_STRICT", &order.is_strict },
+        { "EXPLORE_CLIENT", &order.by_client }, { "EXPLORE_HANDED", &order.is_handed }, { "EXPLORE_LATE", &late_wanted }, { "EXPLORE_SITES", &site_orders.on },
+        { "EXPLORE_PATHS", &whole_paths } };
+    static char why[64];
+    for (size_t i = 0; i < sizeof yes_or_no / sizeof *yes_or_no; i++) {
+        uint64_t wanted = *yes_or_no[i].value;
+        snprintf(why, sizeof why, "%s is 0 or 1", yes_or_no[i].name);
+        if (!take_number(yes_or_no[i].name, 1, &wanted)) return why;
+        *yes_or_no[i].value = wanted;
+    }
+    return NULL;
+}
+
 static const char *take_options(void) {
-    uint64_t races_wanted = 1, whole_seconds = 60;
-    if (!take_number("EXPLORE_PREEMPTIONS", MOST_PREEMPTIONS, &option.preemptions)) return "EXPLORE_PREEMPTIONS is no such number";
+    uint64_t whole_seconds = 60, sequences = 11;
+    const char *why = take_bounds();
+    if (!why) why = take_switches();
+    if (why) return why;
     if (!take_number("EXPLORE_SECONDS", 1000000000, &whole_seconds)) return "EXPLORE_SECONDS is no such number";
     if (!take_number("EXPLORE_STEPS", MOST_STEPS, &limit_steps) || limit_steps == 0) return "EXPLORE_STEPS is no such number";
     if (!take_number("EXPLORE_SPINS", UINT64_MAX, &limit_spins)) return "EXPLORE_SPINS is no such number";
-    if (!take_number("EXPLORE_RACES", 1, &races_wanted)) return "EXPLORE_RACES is 0 or 1";
-    races_on = races_wanted;
+    if (!take_number("EXPLORE_SEQUENCES", 20, &sequences) || (sequences != 11 && sequences != 20)) return "EXPLORE_SEQUENCES is 11 or 20";
+    if (!take_part(getenv("EXPLORE_PART"))) return "EXPLORE_PART is as `1/4`";
+    sequences_20 = sequences == 20;
+    const char *orders = getenv("EXPLORE_ORDERS");
+    if (orders && *orders && !(site_orders.on = take_orders(orders))) return "EXPLORE_ORDERS is as `1a2b=acquire 1c3d!=relaxed`";
+    dl_iterate_phdr(take_bias, NULL);
     option.seconds = (double)whole_seconds;
     option.schedule = getenv("EXPLORE_SCHEDULE");
     option.keep = getenv("EXPLORE_KEEP");
     option.dump = getenv("EXPLORE_DUMP");
-    if (option.schedule && *option.schedule && !take_schedule(option.schedule)) return "EXPLORE_SCHEDULE is as `P7 C4 P`";
+    option.report = getenv("EXPLORE_REPORT");
+    option.known = getenv("EXPLORE_KNOWN");
+    if (option.schedule && *option.schedule && !take_schedule(option.schedule)) return "EXPLORE_SCHEDULE is as `P7 C4 P`, or `P7 C4 P C9:old1`";
     if (option.dump && *option.dump && !(result.dump = fopen(option.dump, "w"))) return "EXPLORE_DUMP: the file cannot be written";
     return NULL;
 }
@@ -444,20 +681,23 @@ static bool take_memory(void) {
             if (memory == MAP_FAILED || mprotect(memory, 4096, PROT_NONE) != 0) return false;
             sides[s].stack = memory + 4096;
         }
+        take_threads();
         is_taken = ring_calls_init(&rec, LOG_WORDS);
     }
-    if (cells_used) memset(cells, 0, MOST_CELLS * sizeof *cells);
+    /* (the pages that were touched go back, so that the next test finds zeros) */
+    if (cells_used && madvise(cells, MOST_CELLS * sizeof *cells, MADV_REMOVE) != 0) memset(cells, 0, MOST_CELLS * sizeof *cells);
     cells_used = 0;
-    races_used = 0;
+    races_used = outcomes.used = 0;
     shares_memory = false;
     return is_taken;
 }
 
 static int explore_all(void (*reset)(void), void (*producer)(void), void (*consumer)(void), const char *head) {
     static char out[BUFSIZ];
-    uint64_t numbers[2];
+    uint64_t numbers[2] = { 0, 0 };
     memset(&result, 0, sizeof result);
-    replay.count = replay.at = 0;
+    replay.count = replay.at = replay.chosen = 0;
+    first_finding.words[0] = first_late.words[0] = 0;
     const char *help = getenv("EXPLORE_HELP"), *why = take_options();
     if (help && *help) return usage(NULL);
     if (why) return usage(why);
@@ -467,10 +707,14 @@ static int explore_all(void (*reset)(void), void (*producer)(void), void (*consu
     }
     if (!is_instrumented) { fputs("explore: the test was not compiled with -fsanitize=thread\n", stderr); return 2; }
     if (!take_memory()) { fputs("explore: out of memory\n", stderr); return 2; }
+    if (!read_known(option.known)) { fprintf(stderr, "explore: %s: it is no file that EXPLORE_KNOWN wrote\n", option.known); return 2; }
     test.reset = reset;
     test.body[PRODUCER] = producer;
     test.body[CONSUMER] = consumer;
     test.head = head;
+    order.is_bounded = ring_audit_numbers(head, numbers) > 0;
+    order.full = numbers[0];
+    order.most = ring_audit_numbers(head, numbers) == 2 ? numbers[1] : numbers[0];
     setvbuf(stdout, out, _IOLBF, sizeof out);       /* so that no run allocates it */
     if (replay.on) return play_again();
     fork_witness();
@@ -478,9 +722,15 @@ static int explore_all(void (*reset)(void), void (*producer)(void), void (*consu
     result.began = seconds();
     while (try_all() == ANEW) forget_counts();
     tell_all();
+    if (site_orders.on) tell_sites();
+    end_watch();
     end_witness();
     if (result.dump) fclose(result.dump);
     fflush(stdout);
+    if (!keep_known(option.known) || !write_report(option.report)) {
+        fputs("explore: the file of EXPLORE_KNOWN or EXPLORE_REPORT cannot be written\n", stderr);
+        return 2;
+    }
     return result.status;
 }
 

@@ -1,6 +1,6 @@
-/* explore.h: tries every interleaving of a small test of a queue with one producer and one consumer, up to a number of preemptions,
- * and judges the calls of each by the proved audit. Included in place of ring_calls.h, or before it, with the same names.
- * C11, and C++ from C++11; gcc or clang, Linux on x86-64. README.md, "Every interleaving of a small test", tells the rest.
+/* explore.h: makes every execution of a small test of a queue with one producer and one consumer that C11 permits, up to a bound on
+ * preemptions, older values and the like, and judges the calls of each. Included in place of ring_calls.h, or before it, with the same names.
+ * C11, and C++ from C++11; gcc or clang, Linux on x86-64. README.md, "Every execution of a small test", has the rest.
  *
  *     static ring_calls rec;
  *     static void reset(void)    { my_init(); }                             what the two sides change is as at first
@@ -9,7 +9,7 @@
  *     int main(void) { return explore(reset, produce, consume, "queue 2"); }
  *
  *     gcc -fsanitize=thread -fno-builtin -O1 -gdwarf-4 -Wno-tsan -fno-tree-reassoc -c my_explore.c        (so that explore.c sees
- *     gcc -O2 my_explore.o explore.c libring_audit.a -o my_explore && ./my_explore          each access; clang has no -Wno-tsan and
+ *     gcc -O2 my_explore.o explorer/explore.c libring_audit.a -o my_explore && ./my_explore each access; clang has no -Wno-tsan and
  *                                                                                           no -fno-tree-reassoc, and needs neither)
  *
  * The recording is the explorer's: rec holds nothing, and ring_calls_init, ring_calls_write and what walks are of no use here. */
@@ -24,11 +24,17 @@
 #ifdef __cplusplus
 extern "C" {
 #endif
-/* Explores and prints what was found. reset is called before each interleaving, then produce and consume run as the two sides; head
+/* Explores and prints what was found. reset is called before each execution, then produce and consume run as the two sides; head
  * is the first line of a recording, "queue 2". Limits come from the environment (EXPLORE_HELP=1 lists them).
- * Answers the status to end with: 0 all that was tried is lawful; 2 it cannot explore, as stderr says; 3 a fault, a data race or a
+ * Returns the status to end with: 0 all that was tried is lawful; 2 it cannot explore, as stderr says; 3 a fault, a data race or a
  * use after free; 4 both sides wait for ever, a side goes on for ever, or it crashed. */
 int explore(void (*reset)(void), void (*produce)(void), void (*consume)(void), const char *head);
+/* For a side: a number from 0 to n - 1, n at most 256. Every number is tried: 0 first, each other one is a choice as a preemption is. In reset it
+ * is 0. So a test that draws needs no seed. */
+unsigned explore_choose(unsigned n);
+/* For litmus tests: a value of this execution, as of a load; or a word whose last value counts. Each outcome is printed once. */
+void explore_outcome(uint64_t value);
+void explore_outcome_at_end(const uint64_t *word);
 #ifdef __cplusplus
 }
 #endif

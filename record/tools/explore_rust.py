@@ -1,0 +1,299 @@
+"""Builds a test in Rust for record/explore, whose form include/rust/explore.rs describes.
+
+rustc makes code that a thread sanitizer can follow by -Zsanitizer=thread; the explorer is linked in the sanitizer's place. The crates that the test
+needs are compiled so from their sources, so all of their accesses are seen. Rust's std has been compiled already. What of it is generic or inline is
+compiled with the test; of what remains, the functions that wait or lock are taken out by the linker (--wrap):
+
+  STANDS_FOR  for some of them the explorer has functions of its own (explorer/rust.inc);
+  UNSEEN      of a test that calls one of these, nothing can be said: it is stopped, and says so."""
+import glob
+import os
+import re
+import shlex
+import shutil
+import subprocess
+import sys
+
+RECORD = os.path.dirname(os.path.dirname(os.path.abspath(__file__)))
+OLDEST = (1, 63)
+TARGET = "x86_64-unknown-linux-gnu"
+# (without -Zshare-generics=no generic functions of std are taken from its library if that has them for the same type; those that are never inlined
+# still are, as the growth of a Vec<u8>)
+SEEN = "-Zsanitizer=thread -Zshare-generics=no -Cpanic=abort -Copt-level=1 -Ccodegen-units=1 -Cdebuginfo=2".split()
+# Further flags, of which each is given if this rustc has it: by the name that it has in the list of flags.
+FURTHER = (("-Z", "external-clangrt", "-Zexternal-clangrt"), ("-C", "unsafe-allow-abi-mismatch", "-Cunsafe-allow-abi-mismatch=sanitizer"),
+           ("-C", "dwarf-version", "-Cdwarf-version=4"))
+# The linker for a rustc without -Zexternal-clangrt, which would link the sanitizer's library.
+LINKER = """#!/bin/sh
+for word; do
+    shift
+    case $word in *rt.tsan.a) ;; *) set -- "$@" "$word" ;; esac
+done
+exec {linker} "$@"
+"""
+
+# Functions of std, by their names without crate numbers and angle brackets, and those of explorer/rust.inc.
+STANDS_FOR = (
+    (r"std::sys::.*::Mutex::lock_contended", "explore_std_lock"),
+    (r"std::sys::.*::(Mutex::wake|futex_wake|futex_wake_all)", "explore_std_wake"),
+    (r"std::sys::.*::Condvar::wait", "explore_std_wait"),
+    (r"std::sys::.*::Condvar::wait_timeout", "explore_std_wait_timeout"),
+    (r"std::(sys|sync)::.*::Condvar::notify_(one|all)", "explore_std_notify"),
+    (r"std::thread::(functions::)?park", "explore_std_park"),
+    (r"std::thread::(functions::)?park_timeout", "explore_std_park_timeout"),
+    (r"std::thread::thread::Thread::park", "explore_std_park_thread"),
+    (r"std::thread::thread::Thread::park_timeout", "explore_std_park_thread_timeout"),
+)
+UNSEEN = (r"std::(sys|sys_common|sync)::.*(Mutex|Condvar|RwLock|Once|Barrier|ReentrantLock|Parker|SyncWaker|SignalToken|WaitToken)::\w+",
+          r"std::thread::(.*::)?(park|park_timeout|park_timeout_ms|unpark)")
+# (std's own use, or no access that another thread makes)
+SEEN_ENOUGH = r".*::(new|fmt|default|drop|is_leader|is_poisoned|timed_out|poison|raw|verify)"
+
+# A call of such a function saves its arguments, asks explore_std_unseen, which does not return in a run, and goes on.
+STUB = """    .globl "__wrap_{name}"
+"__wrap_{name}":
+    push %rdi; push %rsi; push %rdx; push %rcx; push %r8; push %r9; push %rax
+    lea {number}f(%rip), %rdi
+    mov 56(%rsp), %rsi
+    call explore_std_unseen
+    pop %rax; pop %r9; pop %r8; pop %rcx; pop %rdx; pop %rsi; pop %rdi
+    jmp "__real_{name}"
+{number}: .asciz "{words}"
+"""
+
+
+def stop(words):
+    """Ends the program as record/explore does if it cannot explore."""
+    print(f"explore: {words}", file=sys.stderr)
+    sys.exit(2)
+
+
+def run(command, env=None, hint=""):
+    """Runs it; if it fails, ends with status 2."""
+    try:
+        status = subprocess.run(command, check=False, env={**os.environ, **(env or {})}).returncode
+    except OSError as error:
+        stop(f"{command[0]}: {error.strerror}")
+    if status != 0:
+        stop(f"status {status}: {shlex.join(command)}{hint}")
+
+
+def answer(command):
+    """What a command prints."""
+    return subprocess.run(command, capture_output=True, text=True, check=False).stdout
+
+
+# ---- the compiler ----
+
+class Compiler:
+    """rustc: $RUSTC, else that of the PATH, and the flags that it needs for code whose accesses are seen."""
+
+    def __init__(self, room):
+        self.command = shlex.split(os.environ.get("RUSTC", "rustc"))
+        # (flags that begin with -Z are for a nightly rustc, or for one that is made to take them)
+        os.environ["RUSTC_BOOTSTRAP"] = "1"
+        self.check_version()
+        self.c = shlex.split(os.environ.get("CC", "gcc"))
+        linker = shutil.which(self.c[0])
+        if not linker:
+            stop(f"{self.c[0]}: not found: a test in Rust is linked by it (Debian: apt-get install gcc); CC=.. takes another")
+        if not shutil.which("readelf") or not shutil.which("c++filt"):
+            stop("readelf, c++filt: not found: a test in Rust needs them (Debian: apt-get install binutils)")
+        lists = {kind: answer([*self.command, f"{kind}help"]) for kind in ("-Z", "-C")}
+        if not re.search(r"(?m)^ +-Z +sanitizer=", lists["-Z"]):
+            stop(f"{shlex.join(self.command)} has no -Zsanitizer=thread")
+        further = [flag for kind, name, flag in FURTHER if re.search(rf"(?m)^ +{kind} +{name}=", lists[kind])]
+        if "-Zexternal-clangrt" not in further:
+            with open(f"{room}/linker", "w", encoding="utf-8") as file:
+                file.write(LINKER.format(linker=shlex.quote(linker)))
+            os.chmod(f"{room}/linker", 0o700)
+            linker = f"{room}/linker"
+        self.seen = [*SEEN, *further, f"-Clinker={linker}"]
+
+    def check_version(self):
+        try:
+            printed = subprocess.run([*self.command, "-vV"], capture_output=True, text=True, check=False)
+        except OSError as error:
+            stop(f"{self.command[0]}: {error.strerror}: a test in Rust needs rustc {OLDEST[0]}.{OLDEST[1]} or newer "
+                 "(Debian: apt-get install rustc); RUSTC=.. takes another")
+        version = re.search(r"(?m)^release: (\d+)\.(\d+)", printed.stdout)
+        host = re.search(r"(?m)^host: (\S+)", printed.stdout)
+        if not version or not host:
+            stop(f"{shlex.join(self.command)} -vV does not say its version: {printed.stderr.strip()}")
+        if (int(version[1]), int(version[2])) < OLDEST:
+            stop(f"rustc {version[1]}.{version[2]} is too old: a test in Rust needs {OLDEST[0]}.{OLDEST[1]} or newer; RUSTC=.. takes another")
+        if host[1] != TARGET:
+            stop(f"{shlex.join(self.command)} makes programs for {host[1]}: explore needs {TARGET}")
+
+    def std(self):
+        """The functions that std's library has: by their linker names, how they are called in words."""
+        folder = answer([*self.command, "--print", "target-libdir"]).strip()
+        library = glob.glob(f"{glob.escape(folder)}/libstd-*.rlib")
+        if not library:
+            stop(f"{folder} has no libstd: is Rust's std for {TARGET} installed? (Debian: apt-get install libstd-rust-dev)")
+        symbols = (words for words in map(str.split, answer(["readelf", "-sW", library[0]]).splitlines()) if len(words) > 7)
+        names = sorted({name for _, _, _, sort, binding, _, section, name, *_ in symbols if sort == "FUNC" and binding != "LOCAL" and section != "UND"})
+        demangled = subprocess.run(["c++filt"], input="\n".join(names), capture_output=True, text=True, check=True).stdout.splitlines()
+        return {name: re.sub(r"\[[0-9a-f]+\]|::h[0-9a-f]{16}$|[<>]", "", words) for name, words in zip(names, demangled)}
+
+    def waits(self, room):
+        """A file of flags for the linker: what stands for functions of std that wait or lock, or reports that they are called."""
+        flags, stubs = [], []
+        for name, words in self.std().items():
+            by = next((by for pattern, by in STANDS_FOR if re.fullmatch(pattern, words)), None)
+            unseen = not by and any(re.fullmatch(pattern, words) for pattern in UNSEEN) and not re.fullmatch(SEEN_ENOUGH, words)
+            if by or unseen:
+                flags.append(f"-Wl,--wrap={name}")
+            if by:
+                flags.append(f"-Wl,--defsym=__wrap_{name}={by}")
+            if unseen:
+                stubs.append(STUB.format(name=name, words=words, number=len(stubs) + 1))
+        with open(f"{room}/unseen.s", "w", encoding="utf-8") as file:
+            file.write("    .text\n" + "".join(stubs) + '    .section .note.GNU-stack,"",@progbits\n')
+        run([*self.c, "-c", f"{room}/unseen.s", "-o", f"{room}/unseen.o"])
+        with open(f"{room}/waits", "w", encoding="utf-8") as file:
+            file.write("\n".join([*flags, f"{room}/unseen.o"]) + "\n")
+        return f"{room}/waits"
+
+
+# ---- the crates ----
+
+class Crate:
+    """A crate that the test needs: its name, its file, its edition (None: that of the test), its features, the names that it needs (None:
+    all before it), its environment, the folder of its own folder; whether it has a build script."""
+
+    def __init__(self, name, source, edition=None, features=(), needs=None, env=None, beside=None):
+        self.name, self.source, self.edition, self.features = name.replace("-", "_"), source, edition, features
+        self.needs, self.env, self.beside, self.has_script = needs, env or {}, beside, False
+
+
+def crate_of(word):
+    """The crate that a word of the command line names: NAME=FILE, NAME=FOLDER or FOLDER, each with :FEATURE,FEATURE or without."""
+    name, path = word.split("=", 1) if "=" in word else (None, word)
+    wanted = None
+    if not os.path.exists(path) and ":" in path:
+        path, wanted = path.rsplit(":", 1)
+        wanted = [feature for feature in wanted.split(",") if feature]
+    if not os.path.exists(path):
+        stop(f"{path}: there is no such file or folder")
+    if os.path.isdir(path):
+        return crate_of_folder(name, path, wanted)
+    if not name:
+        module = os.path.basename(path).split(".")[0]
+        stop(f"{path}: a crate is given as NAME={path}, or by its folder; a module of the test is named in the test alone, as `mod {module};`")
+    return Crate(name, path, features=wanted or ())
+
+
+def crate_of_folder(name, folder, wanted):
+    """As its Cargo.toml says: edition, source, features (those of `default` unless others are named)."""
+    try:
+        import tomllib
+    except ImportError:
+        stop(f"{folder}: python3 older than 3.11 does not read Cargo.toml: give NAME={folder}/src/lib.rs:FEATURE,FEATURE")
+    try:
+        with open(f"{folder}/Cargo.toml", "rb") as file:
+            manifest = tomllib.load(file)
+    except OSError:
+        stop(f"{folder}: there is no Cargo.toml: give NAME=FILE for a crate without one")
+    except tomllib.TOMLDecodeError as error:
+        stop(f"{folder}/Cargo.toml: {error}")
+    package, library = manifest.get("package", {}), manifest.get("lib", {})
+    if library.get("proc-macro") or library.get("proc_macro"):
+        stop(f"{folder}: a crate of macros that run in the compiler is not built")
+    own_name, source = library.get("name", package.get("name", "")), f"{folder}/{library.get('path', 'src/lib.rs')}"
+    if not own_name or not os.path.exists(source):
+        stop(f"{folder}: its Cargo.toml names no library, or {source} is not there")
+    edition = package.get("edition", "2015")
+    version = package.get("version", "0.0.0")
+    version = version if isinstance(version, str) else "0.0.0"
+    env = {"CARGO_MANIFEST_DIR": os.path.abspath(folder), "CARGO_PKG_NAME": package.get("name", ""), "CARGO_PKG_VERSION": version}
+    env.update(zip(("CARGO_PKG_VERSION_MAJOR", "CARGO_PKG_VERSION_MINOR", "CARGO_PKG_VERSION_PATCH"), version.split("-")[0].split(".")))
+    features = closure(manifest.get("features", {}), wanted)
+    needs = [need.replace("-", "_") for need, how in manifest.get("dependencies", {}).items()
+             if not isinstance(how, dict) or not how.get("optional") or need in features]
+    edition = edition if isinstance(edition, str) else None     # (else it is that of a workspace)
+    crate = Crate(name or own_name, source, edition, features, needs, env, os.path.dirname(os.path.abspath(folder)))
+    crate.has_script = bool(package.get("build", os.path.exists(f"{folder}/build.rs")))
+    return crate
+
+
+def closure(features, wanted):
+    """The features that are on: those wanted, else `default`, and those that they turn on. `dep:NAME` and `NAME/FEATURE` turn NAME on,
+    `NAME?/FEATURE` nothing."""
+    on, todo = [], list(wanted) if wanted is not None else ["default"] * ("default" in features)
+    while todo:
+        feature = todo.pop().removeprefix("dep:").split("/")[0]
+        if feature not in on and not feature.endswith("?"):
+            on.append(feature)
+            todo += features.get(feature, [])
+    return sorted(on)
+
+
+def with_needs(crates):
+    """These, and those that they need and that lie beside them: NAME or NAME-VERSION, as in a folder of `cargo vendor` or of Debian."""
+    crates = list(crates)
+    for crate in crates:
+        for need in crate.needs or ():
+            patterns = [pattern for name in {need, need.replace("_", "-")} for pattern in (name, f"{name}-[0-9]*")]
+            folders = sorted(folder for pattern in patterns for folder in glob.glob(f"{glob.escape(crate.beside)}/{pattern}/Cargo.toml"))
+            if folders and need not in {other.name for other in crates}:
+                crates.append(crate_of_folder(None, os.path.dirname(folders[-1]), None))
+    return crates
+
+
+def in_order(crates):
+    """Each after those that it needs; a crate given by its file needs all before it."""
+    done, left = [], list(crates)
+    while left:
+        waiting = {crate.name for crate in left}
+        ready = next((crate for crate in left if (crate is left[0] if crate.needs is None else not waiting & set(crate.needs))), None)
+        if ready is None:
+            stop(f"the crates {', '.join(sorted(waiting))} need each other")
+        done.append(ready)
+        left.remove(ready)
+    return done
+
+
+# ---- what record/explore calls ----
+
+def is_rust(sources):
+    """Whether the sources of a test are those of one in Rust."""
+    return any(source.endswith(".rs") for source in sources)
+
+
+def build(sources, flags, program, room, explorer):
+    """Builds the program from the test, which comes first, and the crates that it needs. The flags go to rustc for each of them; --edition is
+    that of the test and of crates given by their file, 2021 if none is given. What is made on the way is left in the folder room. explorer returns
+    the explorer's object, for a C compiler and that folder."""
+    test, *words = sources
+    if not test.endswith(".rs"):
+        stop(f"{test}: a test in Rust is named first, then the crates that it needs")
+    if not os.path.isfile(test):
+        stop(f"{test}: there is no such file")
+    library = os.environ.get("LIBRARY", f"{os.path.dirname(RECORD)}/dist")
+    if not os.path.exists(f"{library}/libring_audit.a"):
+        stop(f"{library}/libring_audit.a: there is no such file; LIBRARY=FOLDER takes that of another folder")
+    compiler = Compiler(room)
+    crates = in_order(with_needs(map(crate_of, words)))
+    scripts = [crate.name for crate in crates if crate.has_script]
+    if scripts:
+        print(f"explore: the build script of {', '.join(scripts)} is not run: flags that it would set can be given after --, as --cfg NAME",
+              file=sys.stderr)
+    editions = [flag for flag in flags if flag.startswith("--edition=")] or ["--edition=2021"]
+    if "--edition" in flags:
+        at = flags.index("--edition")
+        editions, flags = [f"--edition={flags[at + 1] if at + 1 < len(flags) else ''}"], flags[:at] + flags[at + 2:]
+    flags = [flag for flag in flags if not flag.startswith("--edition=")]
+    known = [f"-L{room}"]
+    given = {crate.name for crate in crates}
+    for crate in [Crate("explore", f"{RECORD}/include/rust/explore.rs", "2021"), *crates]:
+        features = [word for feature in crate.features for word in ("--cfg", f'feature="{feature}"')]
+        own = [] if crate.name == "explore" else ["--cap-lints=allow", *flags]
+        missing = [need for need in crate.needs or () if need not in given]
+        hint = f"\n  ({crate.name} needs {', '.join(missing)}, too: give each by its folder or as NAME=FILE)" if missing else ""
+        edition = [f"--edition={crate.edition}"] if crate.edition else editions
+        run([*compiler.command, *compiler.seen, *edition, *own, *features, *known, f"--crate-name={crate.name}", "--crate-type=rlib",
+             f"--out-dir={room}", crate.source], crate.env, hint)
+        known += ["--extern", f"{crate.name}={room}/lib{crate.name}.rlib"]
+    linked = [f"-Clink-arg={explorer(compiler.c, room)}", f"-Clink-arg={os.path.abspath(library)}/libring_audit.a", f"-Clink-arg=@{compiler.waits(room)}", "-Clink-arg=-lc"]
+    run([*compiler.command, *compiler.seen, *editions, *flags, *known, *linked, "-o", program, test])
