@@ -190,3 +190,22 @@ EXPLORE_CLANG = Program("explore by clang", f"{EXPLORE.needs} && command -v clan
 EXPLORE_REAL = Program("explore of real queues", f"{EXPLORE.needs} && for header in boost/lockfree/spsc_queue.hpp readerwriterqueue/readerwriterqueue.h; "
                        "do echo \"#include <$header>\" | g++ -x c++ -E - > $ROOM/none || exit 1; done", "apt-get install libboost-dev libreaderwriterqueue-dev",
                        "./explore -o $ROOM/explored real/explored.cpp -- -std=c++17 -Wall -Wextra -Werror; test -x $ROOM/explored", "$ROOM/explored")
+# What older values and the other choices show; and litmus tests, against the axioms and against Relacy.
+EXPLORE_ORDERS = Program("explore of orders", EXPLORE.needs, EXPLORE.get, "true", "")
+EXPLORE_LITMUS = Program("explore of litmus tests", EXPLORE.needs, EXPLORE.get,
+                         f"{CPP} tests/litmus/axioms.cpp -o $ROOM/axioms && ./explore -o $ROOM/litmus tests/litmus/litmus.c -- -Wall -Wextra -Werror < /dev/null 2> $ROOM/none; "
+                         "test -x $ROOM/litmus", "python3 tests/litmus/compare.py $ROOM/litmus $ROOM/axioms 600 1")
+EXPLORE_RELACY = Program("explore of litmus tests by relacy", f"{RELACY.needs} && {EXPLORE.needs}", RELACY.get,
+                         " && ".join(f"g++ -std=c++17 -O1 -DTEST={test} tests/litmus/relacy.cpp -o $ROOM/relacy_{test}" for test in (1, 2, 3)), "")
+# Tests in Rust: what they may use of std, and queues of Debian's packages of crates.
+EXPLORED_CRATES = ("concurrent-queue", "crossbeam-channel", "crossbeam-queue", "futures-channel")
+EXPLORE_RUST = Program("explore of rust", " && ".join([EXPLORE.needs, "command -v rustc && command -v readelf && command -v c++filt",
+                                                       *(f"ls -d {CRATES}/{each}-[0-9]*" for each in EXPLORED_CRATES)]),
+                       f"{EXPLORE.get} rustc {' '.join(f'librust-{each}-dev' for each in EXPLORED_CRATES)}",
+                       "(./explore -o $ROOM/of_std tests/rust/of_std.rs; "
+                       f"./explore -o $ROOM/of_crates tests/rust/of_crates.rs {' '.join(f'{CRATES}/{each}-[0-9]*' for each in EXPLORED_CRATES)}; "
+                       "test -x $ROOM/of_std && test -x $ROOM/of_crates)", "$ROOM/of_std")
+# The judge by happens-before, against a search of all orders.
+EXPLORE_JUDGE = Program("explore: the judge by happens-before", "command -v gcc && test -e $LIBRARY/libring_audit.so.1", EXPLORE.get,
+                        "gcc -std=c11 -O2 -Wall -Wextra -Wpedantic -Werror tests/order/judge.c -o $ROOM/order_judge",
+                        "RING_AUDIT_LIB=$LIBRARY/libring_audit.so.1 python3 tests/order/compare.py 10000 1 $ROOM/order_judge")

@@ -90,10 +90,10 @@ class Tries:
         return self.kept() == before and any(line.startswith(words) for line in again.split("\n"))
 
     def ways(self, name, lawful=LAWFUL, found=FOUND):
-        """What is right is lawful in more than one interleaving; what is wrong is found, and its schedule can be played again."""
+        """What is right is lawful in more than one execution; what is wrong is found, and its schedule can be played again."""
         for way in lawful:
             status, printed = self.explore(f"$ROOM/{name} {way}")
-            count = re.match(r"([\d,]+) interleavings with at most 3 preemptions, \d+\.\d\d s: all lawful\nreached: ", printed)
+            count = re.match(r"([\d,]+) executions within a bound of 3, \d+\.\d\d s: all lawful\nreached: ", printed)
             good = status == 0 and count and int(count[1].replace(",", "")) > 1 and printed.endswith("no data race was seen.\n")
             self.check(f"{name} {way}", good, (status, printed))
         for way, want, words in found:
@@ -133,16 +133,19 @@ class Tries:
 
     def limits(self):
         test = "$ROOM/explore_test"
-        status, printed = self.explore(f"{test} twice")
-        self.check("explore twice", status == 0 and re.findall(r"(?m)^(\d+) inter", printed) == ["130", "268"], (status, printed))
+        status, printed = self.explore(f"{test} twice", OLDER=0)
+        self.check("explore twice", status == 0 and re.findall(r"(?m)^(\d+) exec", printed) == ["130", "268"], (status, printed))
         for way, options, want, words in (
-            ("spin_long", {"PREEMPTIONS": 0}, 0, "2 interleavings with at most 0 preemptions, "),
+            ("spin_long", {"BOUND": 0}, 0, "2 executions within a bound of 0, "),
             ("no_fence", {"RACES": 0}, 0, "data races were not looked for."),
-            ("counts", {"PREEMPTIONS": 0}, 0, "2 of them were cut, after 10,000 steps "),
-            ("counts", {"PREEMPTIONS": 0, "STEPS": 50000}, 0, "2 interleavings with at most 0 preemptions, "),
-            ("condition", {"SECONDS": 0, "PREEMPTIONS": 8}, 0, "\nnot all: the time was over at those with "),
+            ("counts", {"BOUND": 0}, 0, "2 of them were cut, after 10,000 steps "),
+            ("counts", {"BOUND": 0, "STEPS": 50000}, 0, "2 executions within a bound of 0, "),
+            ("condition", {"SECONDS": 0, "BOUND": 8}, 0, "\nnot all: the time was over at those with "),
             ("mutex", {"HELP": 1}, 0, "EXPLORE_SCHEDULE="),
-            ("mutex", {"PREEMPTIONS": 9}, 2, "EXPLORE_PREEMPTIONS is no such number\n"),
+            ("mutex", {"BOUND": 25}, 2, "EXPLORE_BOUND is no number up to 24\n"),
+            ("mutex", {"WAKES": "x"}, 2, "EXPLORE_WAKES is no number up to 24\n"),
+            ("mutex", {"PART": "5/4"}, 2, "EXPLORE_PART is as `1/4`\n"),
+            ("mutex", {"SCHEDULE": "P C1:olds"}, 2, "EXPLORE_SCHEDULE is as "),
             ("mutex", {"STEPS": "x"}, 2, "EXPLORE_STEPS is no such number\n"),
             ("mutex", {"RACES": 2}, 2, "EXPLORE_RACES is 0 or 1\n"),
             ("mutex", {"SCHEDULE": "P1C"}, 2, "EXPLORE_SCHEDULE is as "),
@@ -156,7 +159,7 @@ class Tries:
     def verdicts(self):
         """All recordings of a test are judged as the audit judges them, lawful ones and others."""
         dump = f"{os.environ['ROOM']}/dump"
-        self.explore("$ROOM/explore_test no_lock", PREEMPTIONS=4, DUMP=dump)
+        self.explore("$ROOM/explore_test no_lock", BOUND=4, OLDER=0, DUMP=dump)
         with open(dump, encoding="ascii") as file:
             texts = sorted(set(file.read().split("\n\n")[:-1]))
         seen = {"lawful": 0, "fault:": 0}
@@ -169,10 +172,10 @@ class Tries:
         print(f"explore: {len(texts)} recordings judged as by the audit: {seen}", flush=True)
 
     def none_is_missed(self, way, preemptions, tried):
-        """Of schedules drawn at random, in which a side may stop at any access, how many have no interleaving tried with the same calls in an
+        """Of schedules drawn at random, in which a side may stop at any access, how many have no execution tried with the same calls in an
         order that is as strict."""
         dump, draw, missed, played = f"{os.environ['ROOM']}/dump", random.Random(f"{way} {preemptions}"), 0, 0
-        self.explore(f"$ROOM/explore_test {way}", PREEMPTIONS=tried, DUMP=dump)
+        self.explore(f"$ROOM/explore_test {way}", BOUND=tried, OLDER=0, WAKES=0, DUMP=dump)
         orders = {}
         with open(dump, encoding="ascii") as file:
             for text in file.read().split("\n\n")[:-1]:
@@ -203,10 +206,10 @@ class Tries:
             status, _, said = self.run(programs.explored(name, "gcc -std=gnu11", "broken/twelve.c", f"-DEXPLORED -DBUG={bug}"))
             self.check(f"{name}: is built", status == 0, said)
             status, printed = self.explore(f"$ROOM/{name}", KEEP=f"{os.environ['ROOM']}/kept.calls")
-            took = re.search(r"(?:after |preemptions, )(\d+\.\d\d) s", printed)
+            took = re.search(r"(?:after |bound of 3, )(\d+\.\d\d) s", printed)
             good = status == (4 if bug == 8 else 3) and re.search(words, printed) and took and float(took[1]) < 1
             self.check(f"explore: bug {bug}", good, (status, printed))
-            line = next((line for line in printed.split("\n") if "interleaving" in line), "")
+            line = next((line for line in printed.split("\n") if "execution" in line), "")
             print(f"explore: bug {bug} of twelve.h: {words}: {line}", flush=True)
             if bug != 1:
                 self.check(f"explore: bug {bug}: again", self.is_played_again(f"$ROOM/{name}", printed), printed)
@@ -214,7 +217,7 @@ class Tries:
             name = f"form_{form}"
             status, _, said = self.run(programs.explored(name, "gcc -std=gnu11", "broken/twelve.c", f"-DEXPLORED -DBUG=0 -DFORM={form}"))
             status, printed = self.explore(f"$ROOM/{name}")
-            good = status == 0 and re.match(r"[\d,]{3,} interleavings with at most 3 preemptions, ", printed) and " all lawful\n" in printed
+            good = status == 0 and re.match(r"[\d,]{3,} executions within a bound of 3, ", printed) and " all lawful\n" in printed
             self.check(f"explore: form {form}", good and "no data race was seen." in printed, (status, printed, said))
 
     def weakened(self, here):
@@ -242,7 +245,7 @@ class Tries:
         for bug in range(21):
             puts, preemptions, seed = RING.get(bug, (10, 2, 1))
             seed = seed * 7919 * 104729 + 12345 if bug in RING else seed
-            status, printed = self.explore(f"$ROOM/{name} {bug} {puts} {seed}", PREEMPTIONS=preemptions)
+            status, printed = self.explore(f"$ROOM/{name} {bug} {puts} {seed}", BOUND=preemptions, OLDER=0)
             good = status == 3 and printed.startswith("fault: line ") if bug else status == 0 and " all lawful\n" in printed
             self.check(f"{name}: bug {bug}", good, (status, printed[-2000:]))
 
@@ -255,14 +258,14 @@ class Tries:
             names = "#include <stdbool.h>\nbool my_put(uint64_t), my_take(uint64_t *);\nextern uint64_t slot[2];\nextern _Atomic uint64_t head, tail;"
             file.write(test.read().replace('#include "my_ring.h"', names))
         status, out, said = self.run(f"cd $ROOM && {shlex.quote(here)}/explore my_two.c my_ring.c")
-        good = status == 3 and b"\nfound in interleaving 4, with 1 preemption, " in out and b" (my_ring.c:20), which the producer wrote (my_ring.c:13) with" in out
+        good = status == 3 and b"\nfound in execution 4, with 1 preemption, " in out and b" (my_ring.c:20), which the producer wrote (my_ring.c:13) with" in out
         self.check("explore of two files", good, (status, out, said))
 
     def readme(self, here):
         """The test in README.md is explored by the two commands there and by ./explore."""
         room = os.environ["ROOM"]
         with open(f"{here}/README.md", encoding="utf-8") as file:
-            section = file.read().split("## Every interleaving of a small test")[1].split("\n## ")[0]
+            section = file.read().split("## Every execution of a small test")[1].split("\n## ")[0]
         for name, text in zip(("my_ring.h", "my_explore.c"), re.findall(r"(?s)```c\n(.*?)```", section)):
             with open(f"{room}/{name}", "w", encoding="utf-8") as file:
                 file.write(text)
@@ -322,7 +325,7 @@ def try_real(tries):
     for queue in ("boost", "boost_several", "moodycamel", "moodycamel_enqueue", "moodycamel_blocking"):
         status, printed = tries.explore(f"$ROOM/explored {queue}")
         print(f"explore of {queue}: {printed.split(chr(10))[0]}", flush=True)
-        good = status == 0 and re.match(r"[\d,]{3,} interleavings with at most 3 preemptions, .* all lawful\n", printed)
+        good = status == 0 and re.match(r"[\d,]{3,} executions within a bound of 3, .* all lawful\n", printed)
         good = good and printed.endswith("no data race was seen.\n")
         tries.check(f"explore of {queue}", good and " overlapped 0" not in printed, (status, printed))
 

@@ -1,0 +1,134 @@
+"""Tests what record/explore finds by older values and by the other choices, for record/test: the queues of broken/orders.h, right and with 15 bugs; the
+weakest orders of five of them; a test that draws; parts of all executions; and conditions that gcc alone would make racy."""
+import json
+import os
+import re
+import shlex
+from xml.etree import ElementTree
+
+# Of each bug of broken/orders.h the status, and what is printed.
+BUGS = (
+    (3, "item 0 was not inside"), (3, "item 0 was not inside"), (3, "item 0 was not inside"), (3, "item 0 was not inside"), (3, "item 0 was not inside"),
+    (3, "item 0 was not inside"), (3, "item 0 was not inside"), (3, "closed, but item 1 of line 2 is inside"), (3, "closed, but item 1 of line 2 is inside"),
+    (3, "data race: .* at (full|slot) "), (4, "waits for ever: the producer is over, the consumer waits at orders.h:"),
+    (4, "waits for ever: the producer is over, the consumer waits at orders.h:"), (3, "item 1 comes again|item 0 was not inside"),
+    (3, "full, but at most 0 inside"), (3, "empty, but item 1 was inside"),
+)
+# The one that a sequentially consistent execution shows, with no wake-up and no failure that need not be.
+OF_LOGIC = 12
+FORMS = range(1, 10)
+# Orders that textbooks have, by form: of each a line of the text, its kind, and the weakest order that suffices.
+TEXTBOOK = {
+    1: (("LOAD(head, acquire) == CAPACITY", "load", None), ("STORE_BUT(1, tail", "store", "release"), ("LOAD_BUT(2, tail", "load", "acquire"),
+        ("STORE(head, h + 1, release)", "store", "release"), ("const uint64_t t = LOAD(tail", "load", "relaxed")),
+    2: (("STORE_BUT(3", "store", "release"), ("LOAD_BUT(4", "load", "acquire")),
+    4: (("LOAD_BUT(7, tail", "load", "acquire"), ("STORE(tail, t + 1, release)", "store", "release")),
+    7: (("if (BUG != 11) atomic_thread_fence", "fence", "seq_cst"), ("atomic_thread_fence(memory_order_seq_cst);\n        if (h ==", "fence", "seq_cst")),
+}
+
+
+class Orders:
+    def __init__(self, check, run, here):
+        self.check, self.run, self.here = check, run, here
+
+    def explore(self, words, options="", **limits):
+        env = " ".join(f"EXPLORE_{name}={shlex.quote(str(value))}" for name, value in limits.items())
+        status, out, said = self.run(f"{env} {shlex.quote(self.here)}/explore {options} {words}")
+        return status, out.decode(errors="replace") + said
+
+    def bugs(self):
+        """Each is found within the default bound, and its schedule shows it again; no execution that is sequentially consistent shows those of orders."""
+        for bug, (want, words) in enumerate(BUGS, 1):
+            program = f"$ROOM/orders_{bug}"
+            status, printed = self.explore(f"broken/orders.c -- -DBUG={bug} -Wall -Wextra -Werror", f"-o {program}")
+            took = re.search(r"(?:after |bound of 3, )(\d+\.\d\d) s", printed)
+            self.check(f"orders: bug {bug}", status == want and re.search(words, printed) and took and float(took[1]) < 10, (status, printed[-2000:]))
+            print(f"explore: bug {bug} of orders.h: {next((line for line in printed.split(chr(10)) if 'execution' in line), '')}", flush=True)
+            schedule = re.search(r"(?m)^schedule: (.*)$", printed)
+            status, out, said = self.run(f"EXPLORE_SCHEDULE={shlex.quote(schedule[1] if schedule else '')} {program}")
+            self.check(f"orders: bug {bug}: again", status == want and re.search(words, out.decode() + said), (status, out[-1000:], said))
+            status, out, said = self.run(f"EXPLORE_OLDER=0 EXPLORE_FAILS=0 EXPLORE_WAKES=0 {program}")
+            self.check(f"orders: bug {bug}: sequentially consistent", (status == 0) == (bug != OF_LOGIC), (status, out[-1000:], said))
+
+    def forms(self):
+        for form in FORMS:
+            status, printed = self.explore(f"broken/orders.c -- -DBUG=0 -DFORM={form} -Wall -Wextra -Werror")
+            good = status == 0 and re.match(r"[\d,]{3,} executions within a bound of 3, .* all lawful\n", printed) and "no data race was seen." in printed
+            self.check(f"orders: form {form}", good, (status, printed))
+
+    def weakest(self):
+        """The weakest orders are those that textbooks have, and are found within five seconds."""
+        with open(f"{self.here}/broken/orders.h", encoding="ascii") as file:
+            text = file.read()
+        for form, wanted in TEXTBOOK.items():
+            name = next(name for name, number in re.findall(r"#define (\w+) (\d)\n", text) if number == str(form))
+            section = text.index(f"#if FORM == {name}\n")
+            status, printed = self.explore(f"broken/orders.c -- -DFORM={form}", "--orders")
+            took = re.search(r"(?m)^\d+ explorations, (\d+\.\d) s$", printed)
+            self.check(f"orders: weakest of form {form}", status == 0 and took and float(took[1]) < 5, (status, printed))
+            found = dict(re.findall(r"(?m)^  (orders\.h:\d+ +\w+) (\w+)", printed.split("all lowered together")[-1]))
+            for line, kind, order in wanted:
+                at = text[:text.index(line, section)].count("\n") + 1
+                got = next((value for key, value in found.items() if key.split() == [f"orders.h:{at}", kind]), None)
+                self.check(f"orders: weakest of form {form}, line {at}", got == order if order else got in ("relaxed", "acquire"), (got, printed))
+        status, printed = self.explore("broken/orders.c -- -DBUG=1", "--orders")
+        good = status == 3 and printed.startswith("the orders of the text do not suffice: fault: ") and "seq_cst everywhere does" in printed
+        self.check("orders: weakest of a bug", good and re.search(r"store release \(relaxed in the text\)", printed), (status, printed))
+
+    def draws(self):
+        """What a test draws needs no seed."""
+        status, printed = self.explore("tests/draws.c", "-o $ROOM/draws")
+        self.check("explore: draws", status == 0 and " all lawful\n" in printed, (status, printed))
+        status, out, _ = self.run("$ROOM/draws bug")
+        printed = out.decode()
+        good = status == 3 and re.search(r"(?m)^found in execution [\d,]+, with (\d preemptions?, )?2 draws, after", printed) and " draws 2 at draws.c:" in printed
+        self.check("explore: draws, a bug", good, (status, printed))
+        schedule = re.search(r"(?m)^schedule: (.*)$", printed)[1]
+        status, out, _ = self.run(f"EXPLORE_SCHEDULE={shlex.quote(schedule)} $ROOM/draws bug")
+        self.check("explore: draws, again", status == 3 and "draws 2  (draws.c:" in out.decode(), (status, out))
+        status, out, _ = self.run("EXPLORE_DRAWS=1 $ROOM/draws bug")
+        self.check("explore: at most one draw", status == 0, (status, out))
+
+    def parts(self):
+        """The parts of all executions are as many as there are, and each once; several processes print the same."""
+        room = os.environ["ROOM"]
+        self.explore("broken/orders.c -- -DFORM=7", "-o $ROOM/parts")
+        for bound in (2, 3):
+            _, whole, _ = self.run(f"EXPLORE_BOUND={bound} EXPLORE_REPORT=$ROOM/whole.json EXPLORE_DUMP=$ROOM/whole.txt $ROOM/parts")
+            reports, texts, sums = [], [], set()
+            for part in range(1, 6):
+                _, out, _ = self.run(f"EXPLORE_BOUND={bound} EXPLORE_PART={part}/5 EXPLORE_REPORT=$ROOM/part.json EXPLORE_DUMP=$ROOM/part.txt $ROOM/parts")
+                sums.update(re.findall(r"has the sum (\w+) ", out.decode()))
+                with open(f"{room}/part.json", encoding="utf-8") as file, open(f"{room}/part.txt", encoding="ascii") as dump:
+                    reports.append(json.load(file))
+                    texts += dump.read().split("\n\n")[:-1]
+            with open(f"{room}/whole.json", encoding="utf-8") as file, open(f"{room}/whole.txt", encoding="ascii") as dump:
+                report, all_texts = json.load(file), dump.read().split("\n\n")[:-1]
+            same = all(sum(part[name] for part in reports) == report[name] for name in ("executions", "older", "empty", "overlapped"))
+            self.check(f"explore: five parts within {bound}", same and sorted(texts) == sorted(all_texts) and len(sums) == 1, (reports, report, sums, whole))
+        status, printed = self.explore("broken/orders.c -- -DFORM=7", "--jobs 3 --junit $ROOM/junit.xml")
+        good = status == 0 and re.match(rf"{report['executions']:,} executions within a bound of 3, in 3 parts, .* all lawful\n", printed)
+        suite = ElementTree.parse(f"{room}/junit.xml").getroot()
+        self.check("explore --jobs", good and suite.attrib["failures"] == "0", (status, printed, report))
+        status, printed = self.explore("broken/orders.c -- -DBUG=11", "--jobs 3 --junit $ROOM/junit.xml")
+        suite = ElementTree.parse(f"{room}/junit.xml").getroot()
+        good = status == 4 and "waits for ever: " in printed and suite.attrib["failures"] == "1"
+        self.check("explore --jobs of a bug", good and "waits for ever: " in suite.find("testcase/failure").attrib["message"], (status, printed))
+
+    def guards(self):
+        """Seven ways of writing a condition are lawful, by gcc and by clang."""
+        for compiler in ("gcc", "clang"):
+            if self.run(f"command -v {compiler}")[0] != 0:
+                print(f"missing: guards by {compiler}: apt-get install {compiler}", flush=True)
+                continue
+            for guard in range(1, 8):
+                for level in ("-O0", "-O1", "-O2"):
+                    status, out, said = self.run(f"CC={compiler} {shlex.quote(self.here)}/explore tests/guards.c -- {level} -DGUARD={guard} -Wall -Wextra")
+                    good = status == 0 and b" all lawful\n" in out and b"no data race was seen." in out
+                    self.check(f"explore: guard {guard} by {compiler} {level}", good, (status, out, said))
+
+
+def try_all(check, run, here):
+    it = Orders(check, run, here)
+    for attempt in (it.bugs, it.forms, it.weakest, it.draws, it.parts, it.guards):
+        attempt()
