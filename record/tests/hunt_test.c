@@ -166,13 +166,34 @@ static void judges(void) {
 }
 
 static void hangs(void) { begins_to_write(); for (;;) pause(); }
+/* One thread waits for nobody, one spins. */
+static pthread_mutex_t lock_of_nobody = PTHREAD_MUTEX_INITIALIZER;
+static pthread_cond_t rung_by_nobody = PTHREAD_COND_INITIALIZER;
+static volatile int goes_on = 1;
+static __attribute__((noinline)) void *wait_for_nobody(void *unused) {
+    pthread_mutex_lock(&lock_of_nobody);
+    while (goes_on) pthread_cond_wait(&rung_by_nobody, &lock_of_nobody);
+    return unused;
+}
+static __attribute__((noinline)) void *spin_for_ever(void *unused) {
+    while (goes_on) continue;
+    return unused;
+}
+static void hangs_in_threads(void) {
+    pthread_t waits, spins;
+    begins_to_write();
+    pthread_create(&waits, NULL, wait_for_nobody, NULL);
+    pthread_create(&spins, NULL, spin_for_ever, NULL);
+    pthread_join(waits, NULL);
+    pthread_join(spins, NULL);
+}
 static void hangs_for_good(void) { signal(SIGQUIT, SIG_IGN); for (;;) pause(); }
 
 int main(int argc, char **argv) {
     static const struct { const char *name; void (*do_it)(void); } ways[] = {
         {"many", many}, {"c11", c11}, {"forks", forks}, {"signal_before", signal_before}, {"signal_after", signal_after},
         {"blocked", blocked}, {"cancelled", cancelled}, {"waits", waits}, {"crashes", crashes}, {"fails", fails}, {"judges", judges},
-        {"hangs", hangs}, {"hangs_and_writes", hangs_and_writes}, {"hangs_for_good", hangs_for_good}};
+        {"hangs", hangs}, {"hangs_in_threads", hangs_in_threads}, {"hangs_and_writes", hangs_and_writes}, {"hangs_for_good", hangs_for_good}};
     for (size_t i = 0; argc == 2 && i < sizeof ways / sizeof *ways; i++) {
         if (strcmp(argv[1], ways[i].name) != 0) continue;
         ways[i].do_it();

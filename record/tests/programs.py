@@ -92,7 +92,7 @@ RELACY = Program("relacy", "echo '#include <relacy/relacy.hpp>' | g++ -x c++ -E 
 
 # The ring that does not wait in the middle of a call, and what is hard on a hunt.
 HUNT = Program("hunt", "command -v g++ && command -v cc", "apt-get install build-essential",
-               f"{CPP} -DNO_HOLD broken/ring.cpp -o $ROOM/ring_that_runs && {C} tests/hunt_test.c -o $ROOM/hunt_test && {C} -static tests/hunt_test.c -o $ROOM/hunt_test_static",
+               f"{CPP} -DNO_HOLD broken/ring.cpp -o $ROOM/ring_that_runs && {C} -g tests/hunt_test.c -o $ROOM/hunt_test && {C} -static tests/hunt_test.c -o $ROOM/hunt_test_static",
                "$ROOM/ring_that_runs")
 
 SANITIZED = "-g -fsanitize=address,undefined -fno-sanitize-recover=all"

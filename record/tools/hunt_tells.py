@@ -3,6 +3,8 @@ import dataclasses
 import json
 import re
 import shlex
+import shutil
+import subprocess
 from xml.etree import ElementTree
 
 # What the lawful runs may reach, of the lines of their reports. Of nothing no hunt knows whether the queue has such ends: it is told where it was reached.
@@ -46,8 +48,9 @@ def told(hunt):
 def told_of(kind, runs):
     """What is told of a kind of finding."""
     if kind.lawful_as:
-        yield f"the whole recording is lawful as {kind.lawful_as}"
+        yield f"as `{kind.lawful_as}` the whole recording is lawful: is that what the queue promises? If not, the fault is one"
     yield f"in {kind.runs:,} of {runs:,} runs, first in run {kind.first_run:,} after {kind.seconds:,} s, by {kind.way}"
+    yield from kind.stands
     if kind.stderr:
         yield from (f"it said: {line}" for line in said_of(text_of(kind.stderr)))
     yield from (file for file in (kind.stderr, kind.recording) if file)
@@ -60,6 +63,30 @@ def told_of(kind, runs):
         yield from (f"({line})" for line in kind.small_remarks)
     elif kind.sort == "fault":
         yield f"(not made small yet: record/shrink {kind.recording})"
+
+
+# What rests.c prints of a thread: a call that it is in.
+STANDS = re.compile(r"(?m)^rests: thread (\d+) stands at (\S+) \+0x([0-9a-f]+)\n")
+
+
+def place_of(path, offset):
+    """A call in words: its function, and file and line if the program was built with -g; nothing if it is of no text that can be found."""
+    if not shutil.which("addr2line"):
+        return f"{path} +{offset:#x}"
+    # (the address is that after the call)
+    done = subprocess.run(["addr2line", "-f", "-C", "-e", path, hex(offset - 1)], capture_output=True, text=True, check=False)
+    function, place = (done.stdout.split("\n") + ["", ""])[:2]
+    return "" if function in ("", "??") else function if place.startswith("??") else f"{function} ({place.rsplit('/', 1)[-1].split(' ')[0]})"
+
+
+def stands_of(said):
+    """Of what a run that hung said: where each thread stood, a line each, with the calls of the program from the innermost; and the rest."""
+    threads = {}
+    for thread, path, offset in STANDS.findall(said):
+        calls = threads.setdefault(thread, [])
+        if "/libc." not in path and "/rests-" not in path and len(calls) < 8:
+            calls += [words] if (words := place_of(path, int(offset, 16))) else []
+    return [f"thread {number} stands in {', called by '.join(calls)}" for number, calls in enumerate(threads.values(), 1) if calls], STANDS.sub("", said)
 
 
 def said_of(text):

@@ -16,17 +16,24 @@
  * The signal is the first one from SIGRTMIN+7 on that the program has no handler for. A program that takes it later has at most one of
  * each thread's, and no rests from there on: nothing sets the timers again. With SA_RESTART most calls of the system go on behind a
  * signal; nanosleep, poll, select, epoll_wait and a few more end with EINTR. A child that a fork makes has no rests before it makes a
- * thread. */
+ * thread.
+ *
+ * At SIGQUIT each thread prints on standard error where it stands, a line `rests: thread 7 stands at /path/my +0x1234` for each call that it is in, the
+ * innermost first; then the process ends as it does without this. A program that has a handler of its own for SIGQUIT when it makes its first thread
+ * keeps it, and prints nothing of this. */
 #define _GNU_SOURCE
 #include <dlfcn.h>
 #include <errno.h>
+#include <execinfo.h>
 #include <fcntl.h>
 #include <pthread.h>
 #include <sched.h>
 #include <signal.h>
 #include <stdatomic.h>
 #include <stdint.h>
+#include <stdio.h>
 #include <stdlib.h>
+#include <string.h>
 #include <sys/mman.h>
 #include <sys/resource.h>
 #include <sys/syscall.h>
@@ -39,7 +46,7 @@
 
 /* In nanoseconds: after how long at most a thread is looked at again that waits in the kernel, and how short it has to have run since then;
  * how much further off every eighth rest is, on average, so that a thread goes on where signals are slow. */
-enum { LONGEST_WAIT = 10000000, LEAST_RUN = 30000, FURTHER = 50000, MOST_PROCESSORS = 64 };
+enum { MOST_CALLS = 32, LONGEST_WAIT = 10000000, LEAST_RUN = 30000, FURTHER = 50000, MOST_PROCESSORS = 64 };
 
 typedef struct { _Atomic uint64_t threads, rests; } counts;
 /* How long a thread has run, and how often it has waited in the kernel. */
@@ -106,10 +113,71 @@ static void rest(void) {
     atomic_fetch_add_explicit(&told->rests, 1, memory_order_relaxed);
 }
 
+/* ---- where each thread stands ---- */
+
+/* Whether that is asked; how many have printed it. */
+static _Atomic int stand_is_asked, have_stood;
+
+/* Prints the calls that this thread is in, without those of the handlers, which come first. */
+static void print_stand(int handlers) {
+    void *calls[MOST_CALLS];
+    const int count = backtrace(calls, MOST_CALLS);
+    char text[4096];
+    size_t used = 0;
+    for (int i = handlers; i < count; i++) {
+        Dl_info it;
+        if (!dladdr(calls[i], &it) || !it.dli_fname) continue;
+        const int n = snprintf(text + used, sizeof text - used, "rests: thread %ld stands at %s +0x%lx\n", syscall(SYS_gettid), it.dli_fname,
+                               (unsigned long)((char *)calls[i] - (char *)it.dli_fbase));
+        if (n > 0 && used + (size_t)n < sizeof text) used += (size_t)n;
+    }
+    if (write(2, text, used) < 0) return;
+    atomic_fetch_add(&have_stood, 1);
+}
+
+/* Asks each other thread, and waits for it for a moment. */
+static void ask_others(void) {
+    struct { uint64_t inode; int64_t offset; unsigned short length; char type, name[]; } *it;
+    char room[4096];
+    const int folder = open("/proc/self/task", O_RDONLY | O_DIRECTORY | O_CLOEXEC);
+    const long me = syscall(SYS_gettid);
+    long n;
+    while (folder >= 0 && (n = syscall(SYS_getdents64, folder, room, sizeof room)) > 0) {
+        for (long at = 0; at < n; at += it->length) {
+            it = (void *)(room + at);
+            const long thread = strtol(it->name, NULL, 10);
+            const int before = have_stood;
+            if (thread <= 0 || thread == me || syscall(SYS_tgkill, getpid(), thread, signal_of_rests) != 0) continue;
+            for (int tries = 0; have_stood == before && tries < 200; tries++) {
+                const struct timespec moment = {0, 1000000};
+                syscall(SYS_nanosleep, &moment, NULL);
+            }
+        }
+    }
+}
+
+static void on_quit(int number) {
+    stand_is_asked = 1;
+    print_stand(2);
+    if (signal_of_rests) ask_others();
+    signal(number, SIG_DFL);
+    raise(number);
+}
+
+/* (backtrace loads a library when it is called first, which a handler must not) */
+static void watch_quit(void) {
+    void *call[1];
+    struct sigaction now, ours = {.sa_handler = on_quit, .sa_flags = SA_ONSTACK};
+    backtrace(call, 1);
+    if (sigaction(SIGQUIT, NULL, &now) == 0 && !(now.sa_flags & SA_SIGINFO) && now.sa_handler == SIG_DFL) sigaction(SIGQUIT, &ours, NULL);
+}
+
 static void on_signal(int number) {
     int kept = errno;
     (void)number;
-    if (mine.has_timer) {
+    if (stand_is_asked) {
+        print_stand(2);
+    } else if (mine.has_timer) {
         past now = look();
         if (now.waits == mine.seen.waits || now.ran - mine.seen.ran > LEAST_RUN) {
             mine.wait = every;
@@ -164,7 +232,7 @@ static void prepare(void) {
     *(void **)&make_thread = dlsym(RTLD_NEXT, "pthread_create");
     *(void **)&make_thread_c11 = dlsym(RTLD_NEXT, "thrd_create");
     read_environment();
-    signal_of_rests = every ? free_signal() : 0;
+    signal_of_rests = free_signal();
     if (signal_of_rests && pthread_key_create(&at_end_of_thread, end_of_thread) == 0) {
         struct sigaction action = {.sa_handler = on_signal, .sa_flags = SA_RESTART | SA_ONSTACK};
         sigaction(signal_of_rests, &action, NULL);
@@ -172,6 +240,7 @@ static void prepare(void) {
         signal_of_rests = 0;
     }
     pthread_atfork(NULL, NULL, in_child);
+    watch_quit();
     errno = kept;
 }
 
@@ -191,7 +260,7 @@ static void meet(void) {
     }
     struct sigevent event = {.sigev_notify = SIGEV_THREAD_ID, .sigev_signo = signal_of_rests};
     event.sigev_notify_thread_id = (pid_t)syscall(SYS_gettid);
-    if (signal_of_rests && timer_create(CLOCK_MONOTONIC, &event, &mine.timer) == 0) {
+    if (signal_of_rests && every && timer_create(CLOCK_MONOTONIC, &event, &mine.timer) == 0) {
         sigset_t ours;
         mine.random = (seed * 64 + place + 1) * UINT64_C(0x9e3779b97f4a7c15);
         mine.wait = every;
