@@ -47,7 +47,7 @@ class Orders:
             schedule = re.search(r"(?m)^schedule: (.*)$", printed)
             status, out, said = self.run(f"EXPLORE_SCHEDULE={shlex.quote(schedule[1] if schedule else '')} {program}")
             self.check(f"orders: bug {bug}: again", status == want and re.search(words, out.decode() + said), (status, out[-1000:], said))
-            status, out, said = self.run(f"EXPLORE_OLDER=0 EXPLORE_FAILS=0 EXPLORE_WAKES=0 {program}")
+            status, out, said = self.run(f"EXPLORE_OLDER=0 EXPLORE_FAILS=0 EXPLORE_WAKES=0 EXPLORE_HANDED=0 {program}")
             self.check(f"orders: bug {bug}: sequentially consistent", (status == 0) == (bug != OF_LOGIC), (status, out[-1000:], said))
 
     def forms(self):
