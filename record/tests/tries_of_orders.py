@@ -115,6 +115,26 @@ class Orders:
         good = status == 4 and "waits for ever: " in printed and suite.attrib["failures"] == "1"
         self.check("explore --jobs of a bug", good and "waits for ever: " in suite.find("testcase/failure").attrib["message"], (status, printed))
 
+    def options(self):
+        """One order for both sides; loads that come late; files with their folders; places that accesses of several sizes have; words that are none."""
+        status, printed = self.explore("broken/orders.c -- -DFORM=1", "--strict")
+        good = status == 3 and re.match(r"not strict: line \d+: empty, and line \d+: full: no order has both, ", printed)
+        self.check("explore --strict of a ring by acquire and release", good, (status, printed))
+        status, printed = self.explore("broken/orders.c -- -DFORM=1", "--strict", OLDER=0)
+        self.check("explore --strict, sequentially consistent", status == 0, (status, printed))
+        status, printed = self.explore("tests/late.c", "--late")
+        good = status == 0 and re.search(r"(?m)^perhaps late: the consumer's load of slot(\+8)? \(late.c:\d+\) may find the producer's later store \(late.c:\d+\), ", printed)
+        self.check("explore --late", good and re.search(r"(?m)^schedule: P", printed), (status, printed))
+        status, printed = self.explore("tests/late.c", "")
+        self.check("explore without --late", status == 0 and "perhaps late" not in printed, (status, printed))
+        status, printed = self.explore("tests/late.c -- -DSIZES", "")
+        self.check("explore: several sizes", status == 0 and re.search(r"(?m)^of (slot\S* ?)+,?.* not all older values are tried: ", printed), (status, printed))
+        status, printed = self.explore("broken/orders.c -- -DBUG=1", "--paths")
+        self.check("explore --paths", status == 3 and f" finds at {self.here}/broken/orders.h:" in printed, (status, printed))
+        for words, wanted in (("--jobs 0 x.c", "--jobs needs a number from 1"), ("--bound x x.c", "invalid int value: 'x'"), ("--what x.c", "--what")):
+            status, printed = self.explore(words)
+            self.check(f"explore {words}", status == 2 and wanted in printed, (status, printed))
+
     def guards(self):
         """Seven ways of writing a condition are lawful, by gcc and by clang."""
         for compiler in ("gcc", "clang"):
@@ -130,5 +150,5 @@ class Orders:
 
 def try_all(check, run, here):
     it = Orders(check, run, here)
-    for attempt in (it.bugs, it.forms, it.weakest, it.draws, it.parts, it.guards):
+    for attempt in (it.bugs, it.forms, it.weakest, it.draws, it.parts, it.options, it.guards):
         attempt()
