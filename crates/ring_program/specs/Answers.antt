@@ -138,7 +138,8 @@ TellsRun Recording shape items put calls full taken takes empty closed time text
 
 -- what came of a run, in a ring of the shape of its numbers: it is counted in one lawful history whose two sides follow their
 -- programs; the items taken are the first ones, in order, and all of them once the taker was told that the ring is closed.
--- The text has what the history counts, and some time that a clock told, or none; or it is a recording of the calls
+-- The taker was told so, or a side reached its limit. The text has what the history counts, and some time that a clock told, or none;
+-- or it is a recording of the calls
 pub record AnswersRun (run : Run) (text : List ℕ) (ending : Ending) : Type 0 where
   pub shape : Shape
   pub put : ℕ
@@ -155,6 +156,7 @@ pub record AnswersRun (run : Run) (text : List ℕ) (ending : Ending) : Type 0 w
   pub all : closed ≡ true → taken ≡ run_items run
   pub within : put ≤ length taken + run.capacity
   pub words : TellsRun run.text shape (run_items run) put calls full taken takes empty closed time text
+  pub reached : (closed ≡ true) ⊎ ((calls ≡ run.limits.puts) ⊎ (length taken + empty ≡ run.limits.takes))
   pub ends : ending ≡ relay_ending_of closed
 
 -- memory ran out, as a trace or a script was read or elsewhere
@@ -162,10 +164,11 @@ unfoldable pub IsOutOfMemory : Refusal → Type 0
 IsOutOfMemory e = (e ≡ refusal.App app.OutOfMemory)
     ⊎ ((e ≡ refusal.Trace trace.OutOfMemory) ⊎ (e ≡ refusal.Script script.OutOfMemory))
 
--- a true cause of a refusal of a run: its numbers are no shape's, or memory ran out, or calls that it was to record were not recorded
+-- a true cause of a refusal of a run: its numbers are no shape's, or memory ran out, or there was no second thread, or calls that it was to
+-- record were not recorded
 abbrev pub IsRunCause : Run → Refusal → Type 0
-IsRunCause run e = IsOutOfMemory e ⊎ (((e ≡ refusal.App app.NotOfRun) × (run.text ≡ Recording))
-    ⊎ ((fault : ShapeFault) × (e ≡ refusal.Shape fault) × IsRefusedBatches run.capacity run.modulus run.width run.batch run.take_batch fault))
+IsRunCause run e = IsOutOfMemory e ⊎ (((e ≡ refusal.App app.NotOfRun) × (run.text ≡ Recording)) ⊎ ((e ≡ refusal.NoSecondThread)
+    ⊎ ((fault : ShapeFault) × (e ≡ refusal.Shape fault) × IsRefusedBatches run.capacity run.modulus run.width run.batch run.take_batch fault)))
 
 -- the request, on this input, is answered by this text and this ending; an input that is kept is not too large
 abbrev pub Answers : Request → List ℕ → List ℕ → Ending → Type 0

@@ -27,13 +27,14 @@ app_fault_number fault = (app_fault_told fault).0
 abbrev pub app_fault_words : AppFault → List ℕ
 app_fault_words fault = (app_fault_told fault).1
 
--- the words of a refusal: those of the fault that it holds
+-- the words of a refusal: those of the fault that it holds, if it holds one
 abbrev pub refusal_words : Refusal → List ℕ
 refusal_words (refusal.App fault) = app_fault_words fault
 refusal_words (refusal.Trace fault) = trace_fault_words fault
 refusal_words (refusal.Calls fault) = recording_fault_words fault
 refusal_words (refusal.Script fault) = script_fault_words fault
 refusal_words (refusal.Shape fault) = shape_fault_words fault
+refusal_words refusal.NoSecondThread = codes "no second thread"
 
 -- the line that tells it
 abbrev pub refusal_line : Refusal → List ℕ

@@ -68,7 +68,8 @@ impl From<AllocError> for AppFault {
 
 /// Why a command gave no answer.
 ///
-/// For example, it is printed as the fault that it holds: `trace line 3 is not a line of the format`.
+/// For example, it is printed as the fault that it holds: `trace line 3 is not a line of the format`; a run with no second
+/// thread as `no second thread`.
 #[derive(Clone, Copy, Debug, PartialEq, Eq)]
 pub enum Refusal {
     /// For the program's surroundings.
@@ -81,6 +82,8 @@ pub enum Refusal {
     Script(ScriptFault),
     /// The numbers of a run are no shape's.
     Shape(ShapeFault),
+    /// A run had no second thread.
+    NoSecondThread,
 }
 
 impl fmt::Display for Refusal {
@@ -88,7 +91,7 @@ impl fmt::Display for Refusal {
 
     ghost output = { λ refusal. Some (refusal_words refusal) };
 
-    /// The words of the fault that it holds.
+    /// The words of the fault that it holds, if it holds one.
     fn fmt<W: fmt::Write>(&self, f: &mut fmt::Formatter<W>) -> fmt::Result {
         match self {
             Refusal::App(fault) => write!(f, "{fault}"),
@@ -96,6 +99,7 @@ impl fmt::Display for Refusal {
             Refusal::Calls(fault) => write!(f, "{fault}"),
             Refusal::Script(fault) => write!(f, "{fault}"),
             Refusal::Shape(fault) => write!(f, "{fault}"),
+            Refusal::NoSecondThread => f.write_str("no second thread"),
         }
     }
 }

@@ -20,7 +20,7 @@ use ring_run::{
 };
 use std::alloc::Allocator;
 use std::io;
-use std::thread::Threads;
+use std::thread::{self, Threads};
 use std::time::{Clock, Duration, Instant};
 
 // An item of so many binary digits.
@@ -183,14 +183,36 @@ fn time_since<C: Clock>(clock: &C, start: io::Result<Instant>) -> Option<Duratio
     }
 }
 
-// How a run ends.
-fn relay_ending(closed: bool) -> Ending
-    ensures { result ≡ relay_ending_of closed }
+// Whether a second thread can be had: one is made and does nothing.
+fn find_second_thread<R: Threads>(rt: &R) -> Result<(), Refusal>
+    ensures refused { IfErr result (λ e. e ≡ Refusal.NoSecondThread) }
 {
-    if closed {
-        Ending::Done
+    match thread::spawn(rt, || ()) {
+        Ok(second) => {
+            second.join(rt);
+            Ok(())
+        }
+        Err(_refused) => Err(Refusal::NoSecondThread),
+    }
+}
+
+// How a run ends: its taker was told that the ring is closed, or a side reached its limit. Else each side ended because it saw that
+// the other one made no more calls, and one of them before the other began: the thread that was found before could not be had again.
+fn relay_ending<A: Allocator>(limits: Limits, outcome: &Outcome<A>) -> Result<Ending, Refusal>
+    ensures ending { IfOk result (λ ending. ending ≡ relay_ending_of outcome.now.closed) }
+    ensures reached { OnOk result ((outcome.now.closed ≡ true) ⊎ ((outcome.now.calls ≡ limits.puts) ⊎
+        (length outcome.now.taken.items + outcome.now.empty ≡ limits.takes))) }
+    ensures refused { IfErr result (λ e. (e ≡ Refusal.NoSecondThread) × (outcome.now.closed ≡ false) ×
+        (outcome.now.calls ≢ limits.puts)) }
+{
+    if outcome.closed {
+        return Ok(Ending::Done);
+    }
+    let used = outcome.empty.checked_add(outcome.taken.len() as u64);
+    if outcome.calls == limits.puts || used == Some(limits.takes) {
+        Ok(Ending::LimitReached)
     } else {
-        Ending::LimitReached
+        Err(Refusal::NoSecondThread)
     }
 }
 
@@ -271,6 +293,7 @@ pub fn run_answer<R: Threads + Clock, A: Allocator + Copy>(
         run.batch,
         run.take_batch,
     )?;
+    find_second_thread(rt)?;
     let items = items_of(alloc, &run)?;
     let puts = slots_for(alloc, run.text)?;
     let takes = slots_for(alloc, run.text)?;
@@ -279,7 +302,7 @@ pub fn run_answer<R: Threads + Clock, A: Allocator + Copy>(
     let offered = items.as_slice();
     let outcome = relay_run(rt, alloc, &run, shape, offered, &recorder)?;
     let time = time_since(rt, start);
+    let ending = relay_ending(run.limits, &outcome)?;
     let text = run_text(alloc, run.text, &shape, offered, &recorder, &outcome, time)?;
-    let ending = relay_ending(outcome.closed);
     Ok(Answer { text, ending })
 }

@@ -35,11 +35,11 @@ pub record PutsAre (shape : Shape) (list : List Event) (items : List ℕ) (put m
   pub full_is : fulls calls.puts ≡ full
   pub closes_is : calls.closes ≡ closes
 
--- all items were stored, or as many puts as the limit were made; a close stands exactly where all were stored
+-- all items were stored, or as many puts as the limit were made, or the last one found the ring full; a close stands exactly if all were stored
 pub record HasRelayedPuts (shape : Shape) (list : List Event) (items : List ℕ) (limit put made full : ℕ) : Type 0 where
   pub puts : PutsAre shape list items put made full (put == length items)
   pub most : made ≤ limit
-  pub all_or_limit : (put ≡ length items) ⊎ (made ≡ limit)
+  pub all_or_limit : (put ≡ length items) ⊎ ((made ≡ limit) ⊎ (1 ≤ full))
 
 -- how much of a relay's limit a take uses up: one for each item that it took, and one where it found the ring empty
 abbrev pub used_by : Take → ℕ
@@ -70,7 +70,7 @@ pub record TakesAre (shape : Shape) (list : List Event) (limit : ℕ) (taken : L
 pub record HasRelayedTakes (shape : Shape) (list : List Event) (limit : ℕ) (taken : List ℕ) (made empty : ℕ) (closed : Bool) : Type 0 where
   pub takes : TakesAre shape list limit taken made empty closed
   pub most : length taken + empty + (if closed then 1 else 0) ≤ limit
-  pub all : closed ≡ false → length taken + empty ≡ limit
+  pub all : closed ≡ false → (length taken + empty ≡ limit) ⊎ (1 ≤ empty)
 
 -- whole takes were made, within the limit; they took more items than this number, and none was told that the ring is closed
 pub record HasTakenMore (shape : Shape) (list : List Event) (limit number : ℕ) : Type 0 where

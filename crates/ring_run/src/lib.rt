@@ -7,6 +7,7 @@ mod gates;
 pub mod laws;
 mod recorders;
 mod relays;
+mod sides;
 
 pub use gates::{FreeGate, Gate, RestGate, YieldGate};
 pub use recorders::{RecordedLines, Recorder, Slot};

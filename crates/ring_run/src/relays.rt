@@ -7,6 +7,7 @@ ghost use Rattle.ring_ends.specs.Ends.{HasTakenAll, number_brought};
 ghost use Rattle.ring_run.specs.Relays.{HasMadePuts, HasRelayedPuts, HasRelayedTakes, HasTakenMore, IsRelayed};
 
 use crate::gates::Gate;
+use crate::sides::{Stage, Watch};
 use bits_core::{Oracle, Shape, Side};
 use queue_calls::Event;
 use ring_core::{BatchReply, TakeBatchReply, TakeReply};
@@ -47,15 +48,17 @@ fn next_batch(shape: &Shape, left: usize) -> usize
 }
 
 // Puts the items in order, as many at a time as the shape's batch has, each again while the ring is full, and
-// closes behind the last. Tells how many items were stored, how many puts were made, and how many found the
-// ring full.
+// closes after the last. It ends as well with a put that found the ring full and began when the taker was seen to be over.
+// Returns how many items were stored, how many puts were made, and how many found the ring full.
 #[tactic(auto, using(ring_core::proofs::LawLemmas::puts_are_read))]
 fn put_in_order<E: PutEnd, G: Gate>(
     putter: &mut E,
     items: &[u64],
     limit: u64,
     gate: &G,
+    taker: &mut Watch<'_>,
 ) -> (u64, u64, u64)
+    requires first { (taker.old.waited ≡ 0) × (taker.old.vain ≡ 0) }
     requires idle { E.idle putter.old }
     requires fresh { (E.end putter.old).list ≡ [] }
     requires fit { AllFit (E.end putter.old).ring.shape items.now }
@@ -63,14 +66,18 @@ fn put_in_order<E: PutEnd, G: Gate>(
     ensures same { IsSameEnd (E.end putter.old) (E.end putter.new) }
     ensures puts { HasRelayedPuts (E.end putter.new).ring.shape (E.end putter.new).list items.now limit result.0
         result.1 result.2 }
+    ensures ends { (result.0 ≡ length items.now) ⊎ ((result.1 ≡ limit) ⊎ (taker.new.vain ≡ 1)) }
+    ensures once { taker.new.vain ≤ 1 }
+    ensures full { result.2 ≡ taker.new.waited }
 {
     let shape = putter.shape();
     let mut put = 0;
     let mut made = 0;
     let mut full = 0;
     let mut waits = 0;
-    'puts: while put < items.len() && made < limit {
+    'puts: while put < items.len() && made < limit && taker.vain == 0 {
         gate.pass(Side::P, made);
+        taker.look(waits);
         let next = put + next_batch(&shape, items.len() - put);
         gate.hears(Event::PutBegins(&items[put..next]));
         let reply = putter.put_all(&items[put..next]);
@@ -82,6 +89,7 @@ fn put_in_order<E: PutEnd, G: Gate>(
             }
             BatchReply::Full => {
                 gate.hears(Event::PutFull);
+                taker.waits();
                 full += 1;
                 waits += 1;
                 gate.wait(Side::P, waits);
@@ -165,14 +173,17 @@ fn append<A: Allocator>(items: &mut Vec<u64, A>, more: &[u64]) -> Result<(), All
 }
 
 // Takes until the ring is closed, into a list with no item yet, as many items at a time as the shape's take batch, but no more than
-// are left of the limit. Tells how many takes were made, how many found the ring empty, and whether one was told that the ring is
-// closed. Where the list has no room for the items of a take, and can get none, they are lost, and no more takes are made.
+// are left of the limit. It ends as well with a take that found the ring empty and began when the putter was seen to be over.
+// Returns how many takes were made, how many found the ring empty, and whether one was told that the ring is
+// closed. If the list has no room for the items of a take, and can get none, they are lost, and no more takes are made.
 fn take_all<A: Allocator, E: TakeEnd, G: Gate>(
     items: &mut Vec<u64, A>,
     taker: &mut E,
     limit: u64,
     gate: &G,
+    putter: &mut Watch<'_>,
 ) -> Result<(u64, u64, bool), RunFault>
+    requires first { (putter.old.waited ≡ 0) × (putter.old.vain ≡ 0) }
     requires none { items.old.items ≡ [] }
     requires idle { E.idle taker.old }
     requires fresh { (E.end taker.old).list ≡ [] }
@@ -182,6 +193,10 @@ fn take_all<A: Allocator, E: TakeEnd, G: Gate>(
         items.new.items t.0 t.1 t.2) }
     ensures fault { IfErr result (λ _. HasTakenMore (E.end taker.new).ring.shape (E.end taker.new).list limit
         (vec_capacity items.old)) }
+    ensures ends { IfOk result (λ t. (t.2 ≡ true) ⊎
+        ((length items.new.items + t.1 ≡ limit) ⊎ (putter.new.vain ≡ 1))) }
+    ensures once { putter.new.vain ≤ 1 }
+    ensures empty { IfOk result (λ t. t.1 ≡ putter.new.waited) }
 {
     let shape = taker.shape();
     let mut room = [0; 64];
@@ -189,8 +204,9 @@ fn take_all<A: Allocator, E: TakeEnd, G: Gate>(
     let mut empty = 0;
     let mut closed = false;
     let mut waits = 0;
-    'takes: while !closed && items.len() as u64 + empty < limit {
+    'takes: while !closed && items.len() as u64 + empty < limit && putter.vain == 0 {
         gate.pass(Side::C, made);
+        putter.look(waits);
         made += 1;
         let wanted = next_take(&shape, limit - (items.len() as u64 + empty));
         gate.hears(Event::TakeBegins(wanted));
@@ -204,6 +220,7 @@ fn take_all<A: Allocator, E: TakeEnd, G: Gate>(
             }
             TakeBatchReply::Empty => {
                 gate.hears(Event::TakeEmpty);
+                putter.waits();
                 empty += 1;
                 waits += 1;
                 gate.wait(Side::C, waits);
@@ -247,6 +264,54 @@ fn room_for<A: Allocator>(alloc: A, items: &[u64], limits: Limits) -> Result<Vec
     Ok(taken)
 }
 
+// The side that puts: lets the other one see that it begins, and that it is over.
+fn work_putter<E: PutEnd, G: Gate>(
+    putter: &mut E,
+    items: &[u64],
+    limit: u64,
+    gate: &G,
+    own: &Stage,
+    other: &Stage,
+) -> (u64, u64, u64)
+    requires idle { E.idle putter.old }
+    requires fresh { (E.end putter.old).list ≡ [] }
+    requires fit { AllFit (E.end putter.old).ring.shape items.now }
+    ensures idle { E.idle putter.new }
+    ensures same { IsSameEnd (E.end putter.old) (E.end putter.new) }
+    ensures puts { HasRelayedPuts (E.end putter.new).ring.shape (E.end putter.new).list items.now limit result.0
+        result.1 result.2 }
+{
+    own.begin();
+    let made = put_in_order(putter, items, limit, gate, &mut Watch::of(other));
+    own.end();
+    made
+}
+
+// The side that takes, which does the same.
+fn work_taker<A: Allocator, E: TakeEnd, G: Gate>(
+    items: &mut Vec<u64, A>,
+    taker: &mut E,
+    limit: u64,
+    gate: &G,
+    own: &Stage,
+    other: &Stage,
+) -> Result<(u64, u64, bool), RunFault>
+    requires none { items.old.items ≡ [] }
+    requires idle { E.idle taker.old }
+    requires fresh { (E.end taker.old).list ≡ [] }
+    ensures idle { E.idle taker.new }
+    ensures same { IsSameEnd (E.end taker.old) (E.end taker.new) }
+    ensures takes { IfOk result (λ t. HasRelayedTakes (E.end taker.new).ring.shape (E.end taker.new).list limit
+        items.new.items t.0 t.1 t.2) }
+    ensures fault { IfErr result (λ _. HasTakenMore (E.end taker.new).ring.shape (E.end taker.new).list limit
+        (vec_capacity items.old)) }
+{
+    own.begin();
+    let made = take_all(items, taker, limit, gate, &mut Watch::of(other));
+    own.end();
+    made
+}
+
 // A relay with the list that the items taken come into.
 fn relay_into<R: Threads, A: Allocator, E: PutEnd + Send, F: TakeEnd + Send, G: Gate + Sync>(
     rt: &R,
@@ -271,8 +336,10 @@ fn relay_into<R: Threads, A: Allocator, E: PutEnd + Send, F: TakeEnd + Send, G: 
         limits.puts × HasTakenMore (F.end taker.new).ring.shape (F.end taker.new).list limits.takes
         (length items.now)) }
 {
+    let (puts, takes) = (Stage::new(), Stage::new());
+    let (puts, takes) = (&puts, &takes);
     let into = &mut taken;
-    let ((put, calls, full), takes) = join_mut(
+    let ((put, calls, full), outcome) = join_mut(
         rt,
         &mut || -> (u64, u64, u64)
             requires { E.idle putter.now × ((E.end putter.now).list ≡ []) ×
@@ -280,7 +347,7 @@ fn relay_into<R: Threads, A: Allocator, E: PutEnd + Send, F: TakeEnd + Send, G: 
             ensures { E.idle putter.exit.now × IsSameEnd (E.end putter.entry.now) (E.end putter.exit.now) ×
                 HasRelayedPuts (E.end putter.exit.now).ring.shape (E.end putter.exit.now).list items.entry.now
                 limits.puts result.0 result.1 result.2 }
-        { put_in_order(putter, items, limits.puts, gate) },
+        { work_putter(putter, items, limits.puts, gate, puts, takes) },
         &mut || -> Result<(u64, u64, bool), RunFault>
             requires { (into.now.items ≡ []) × F.idle taker.now × ((F.end taker.now).list ≡ []) }
             ensures { F.idle taker.exit.now × IsSameEnd (F.end taker.entry.now) (F.end taker.exit.now) ×
@@ -288,9 +355,9 @@ fn relay_into<R: Threads, A: Allocator, E: PutEnd + Send, F: TakeEnd + Send, G: 
                 limits.takes into.exit.now.items t.0 t.1 t.2) ×
                 IfErr result (λ _. HasTakenMore (F.end taker.exit.now).ring.shape (F.end taker.exit.now).list
                 limits.takes (vec_capacity into.entry.now)) }
-        { take_all(into, taker, limits.takes, gate) },
+        { work_taker(into, taker, limits.takes, gate, takes, puts) },
     );
-    let (takes, empty, closed) = takes?;
+    let (takes, empty, closed) = outcome?;
     Ok(Outcome {
         put,
         calls,

@@ -142,7 +142,8 @@ fn a_taker_that_is_held_leaves_the_ring_full(rt: HostRuntime) {
     }
 }
 
-// All but the first of 1,000 puts find the ring full where nothing is taken. With no such limit the whole relay ends.
+// Once the first put is stored, all others find the ring full, if nothing is taken; the taker is over at once, so the putter may end
+// before its limit. With no such limit the whole relay ends.
 fn expect_unchanged<G: Gate + Sync>(
     rt: &(impl Abort + AllocGlobal + Threads),
     kind: Kind,
@@ -153,7 +154,8 @@ fn expect_unchanged<G: Gate + Sync>(
         takes: 0,
     };
     let outcome = expect_relay(rt, kind, &ONE, &[1, 0], limits, gate);
-    assert!(rt; outcome.put == 1 && outcome.calls == 1000 && outcome.full == 999);
+    assert!(rt; outcome.put == 1 && (2..=1000).contains(&outcome.calls));
+    assert!(rt; Some(outcome.full) == outcome.calls.checked_sub(1));
     let limits = Limits::both(u64::MAX);
     let outcome = expect_relay(rt, kind, &SHAPES[0], &ITEMS, limits, gate);
     assert!(rt; outcome.closed);
@@ -189,8 +191,9 @@ fn a_rest_grows_with_the_ring(rt: HostRuntime) {
     }
 }
 
-// The side that goes ahead makes so many calls, and then waits until the one call of the other side is over, which begins behind
-// these. Keeps what it was told where it had to wait, a decimal digit each.
+// The side that goes ahead makes so many calls, and then waits until the first call of the other side is over, which begins after
+// these. The other side's next call begins once the first side was told four times. Keeps what it was told when it had to wait,
+// a decimal digit each.
 #[derive(Drop)]
 struct InTurn {
     ahead: Side,
@@ -198,6 +201,7 @@ struct InTurn {
     has_come: AtomicBool,
     is_over: AtomicBool,
     told: AtomicU64,
+    is_told: AtomicBool,
     ran_out: AtomicBool,
 }
 
@@ -209,6 +213,7 @@ impl InTurn {
             has_come: AtomicBool::new(false),
             is_over: AtomicBool::new(false),
             told: AtomicU64::new(0),
+            is_told: AtomicBool::new(false),
             ran_out: AtomicBool::new(false),
         }
     }
@@ -237,7 +242,7 @@ impl Gate for InTurn {
             self.hold(&self.is_over);
         }
         if side != self.ahead {
-            self.hold(&self.has_come);
+            self.hold(if count == 0 { &self.has_come } else { &self.is_told });
         }
     }
 
@@ -254,6 +259,7 @@ impl Gate for InTurn {
             let told = self.told.load(Ordering::SeqCst);
             let more = told.wrapping_mul(10).wrapping_add(times);
             self.told.store(more, Ordering::SeqCst);
+            self.is_told.store(more >= 1000, Ordering::SeqCst);
         }
     }
 }
@@ -275,9 +281,9 @@ fn expect_in_turn(
 #[test]
 fn a_side_is_told_how_often_in_a_row_it_had_to_wait(rt: HostRuntime) {
     for kind in [Kind::Flicker, Kind::Counter] {
-        let limits = Limits { puts: 6, takes: 1 };
+        let limits = Limits { puts: 6, takes: 2 };
         expect_in_turn(&rt, kind, &InTurn::new(Side::P, 3), limits);
-        let limits = Limits { puts: 1, takes: 5 };
+        let limits = Limits { puts: 2, takes: 5 };
         expect_in_turn(&rt, kind, &InTurn::new(Side::C, 2), limits);
     }
 }

@@ -5,7 +5,7 @@ ghost use Rattle.ring_run.specs.Steppers.{IsSameEnd};
 use crate::tests::expects::{ITEMS, KINDS, Kind, Numbers, ONE, expect, expect_relay, shape_of};
 use bits_core::{Flip, Shape};
 use ring_run::{CounterRing, FlickerRing, FreeGate, Limits, Outcome, PutEnd, relay};
-use std::alloc::{AllocGlobal, Allocator};
+use std::alloc::{AllocGlobal, Allocator, Global};
 use std::process::Abort;
 use std::thread::Threads;
 
@@ -59,8 +59,10 @@ static LIMITED: [Case; 6] = [
     case!("no call but the close, as there is no item", SIX, &[], (0, 0) => &[(0, 0, &[], false, [0, 0])]),
     case!("a take before the put, or after it", SIX, &ITEMS, (1, 1)
         => &[(1, 1, &[0], false, [0, 0]), (1, 1, &[], false, [0, 1])]),
-    case!("takes alone", ONE, &[1, 0, 1], (0, 5) => &[(0, 0, &[], false, [0, 5])]),
-    case!("puts alone", ONE, &[1, 0], (5, 0) => &[(1, 5, &[], false, [4, 0])]),
+    case!("takes alone", ONE, &[1, 0, 1], (0, 3)
+        => &[(0, 0, &[], false, [0, 1]), (0, 0, &[], false, [0, 2]), (0, 0, &[], false, [0, 3])]),
+    case!("puts alone", ONE, &[1, 0], (3, 0)
+        => &[(1, 2, &[], false, [1, 0]), (1, 3, &[], false, [2, 0])]),
     case!("a take before the close, or after it", ONE, &[], (0, 1)
         => &[(0, 0, &[], true, [0, 0]), (0, 0, &[], false, [0, 1])]),
 ];
@@ -69,6 +71,40 @@ static LIMITED: [Case; 6] = [
 fn a_relay_stops_at_its_limits(rt: HostRuntime) {
     for kind in KINDS {
         expect_cases(&rt, kind, &LIMITED);
+    }
+}
+
+// A relay of three items whose one side has this limit and whose other side has none: with more calls than a test makes.
+fn expect_one_limited(
+    rt: &(impl Abort + AllocGlobal + Threads),
+    kind: Kind,
+    limits: Limits,
+) -> Outcome<Global> {
+    let outcome = expect_relay(rt, kind, &SIX, &ITEMS[..3], limits, &FreeGate);
+    expect(rt, !outcome.closed, "an end before the close", kind.name());
+    outcome
+}
+
+// A side that is over ends the other one, though that may make more calls than a test can.
+#[test]
+fn a_side_that_is_over_ends_the_other(rt: HostRuntime) {
+    for kind in KINDS {
+        for most in [0, 1] {
+            let puts = Limits {
+                puts: u64::MAX,
+                takes: most,
+            };
+            let outcome = expect_one_limited(&rt, kind, puts);
+            let used = outcome.empty.saturating_add(outcome.taken.len() as u64);
+            assert!(rt; used == most && outcome.full > 0 && outcome.put < 3);
+            let takes = Limits {
+                puts: most,
+                takes: u64::MAX,
+            };
+            let outcome = expect_one_limited(&rt, kind, takes);
+            let is_all = outcome.taken.len() as u64 == outcome.put;
+            assert!(rt; outcome.calls == most && outcome.put == most && is_all && outcome.empty > 0);
+        }
     }
 }
 

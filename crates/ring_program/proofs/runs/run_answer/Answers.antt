@@ -37,5 +37,6 @@ returns-clause-answered g c =
       within = omega (arith, told.within, c.in_ok-shape.ensures.capacity_is);
       words = subst (λ (items : List ℕ). TellsRun run.text c.in_ok-shape.shape items o.put o.calls o.full o.taken.items o.takes o.empty o.closed (option_map as_nanos c.time_since-time.result)
           (string_bytes c.in_ok-text.text)) is c.in_ok-text.ensures.text;
-      ends = c.relay_ending-ending.ensures;
+      reached = c.in_ok-ending.ensures.reached;
+      ends = c.in_ok-ending.ensures.ending;
     }

@@ -13,7 +13,7 @@ use Rattle.ring_run.proofs.relays.put_in_order.Goals as goal
 pub puts-init : goal.puts-init
 puts-init g c =
     let e = g.E.PutEnd.end c.args.putter.now in
-    (c.requires.idle, record { ring = refl; side = refl; known = refl }, no_puts_are e.ring.shape e.list c.args.items.now c.requires.fresh, omega arith, omega arith, refl, refl, c.shape-shape.ensures.shape, omega arith)
+    (c.requires.idle, record { ring = refl; side = refl; known = refl }, no_puts_are e.ring.shape e.list c.args.items.now c.requires.fresh, omega arith, omega arith, refl, refl, c.shape-shape.ensures.shape, omega arith, c.requires.first.0, omega (arith, c.requires.first.1), omega (arith, c.requires.first.1))
 
 pub put_all-reply-requires-clause-batch : goal.put_all-reply-requires-clause-batch
 put_all-reply-requires-clause-batch g c =
@@ -52,4 +52,16 @@ puts-preserved g c =
       refl,
       i.7 ∙ sym (ap (λ (x : Ring). x.shape) s.same.ring),
       elim c.match-reply.branch [ in-Stored w ↦ omega (arith, w.waits-is) | in-Full w ↦ omega (arith, i.8, w.full-is, w.waits-is) ],
+      elim c.match-reply.branch [
+        | in-Stored w ↦ omega (arith, ap (λ t. t.waited) w.taker-is, c.look.ensures.0, i.9, w.full-is)
+        | in-Full w ↦ omega (arith, ap (λ t. t.waited) w.taker-is, w.waits.ensures.waited, c.look.ensures.0, i.9, w.full-is)
+      ],
+      elim c.match-reply.branch [
+        | in-Stored w ↦ omega (arith, ap (λ t. t.vain) w.taker-is, c.look.ensures.1, i.10)
+        | in-Full w ↦ omega (arith, ap (λ t. t.vain) w.taker-is, w.waits.ensures.most, c.look.ensures.1, c.if-taker-eq0.true)
+      ],
+      elim c.match-reply.branch [
+        | in-Stored w ↦ omega (arith, ap (λ t. t.vain) w.taker-is, c.look.ensures.1, i.11, w.full-is)
+        | in-Full w ↦ omega (arith, ap (λ t. t.vain) w.taker-is, w.waits.ensures.most, c.look.ensures.1, i.11, w.full-is)
+      ],
     )

@@ -44,6 +44,9 @@ takes-init g c =
       omega arith,
       omega arith,
       c.shape-shape.ensures.shape,
+      c.requires.first.0,
+      omega (arith, c.requires.first.1),
+      omega (arith, c.requires.first.1),
     )
 
 abbrev Came : (g : Over) (c : After-take_into g) → replies.TakeBatchReply → Type 0
@@ -85,7 +88,9 @@ takes-preserved-in-Taken g c =
       omega arith,
       subst (λ (z : Bool). c.takes.made + 1 ≤ length c.append.new.items.items + c.takes.empty + (if z then 1 else 0)) (sym open_yet)
           (omega (arith, long, more.0, subst (λ (z : Bool). c.takes.made ≤ length c.takes.items.items + c.takes.empty + (if z then 1 else 0)) open_yet i.7)),
-      i.8 ∙ sym (ap (λ (r : Ring). r.shape) s.same.ring),
+      i.8 ∙ sym (ap (λ (r : Ring). r.shape) s.same.ring),      c.look.ensures.0 ∙ i.9,
+      omega (arith, c.look.ensures.1, i.10),
+      omega (arith, c.look.ensures.1, i.11),
     )
 
 pub takes-smaller-in-Taken : goal.takes-smaller-in-Taken
@@ -115,7 +120,9 @@ takes-preserved-in-Empty g c =
       omega (arith, i.6),
       subst (λ (z : Bool). c.takes.made + 1 ≤ length c.takes.items.items + (c.takes.empty + 1) + (if z then 1 else 0)) (sym open_yet)
           (omega (arith, subst (λ (z : Bool). c.takes.made ≤ length c.takes.items.items + c.takes.empty + (if z then 1 else 0)) open_yet i.7)),
-      i.8 ∙ sym (ap (λ (r : Ring). r.shape) s.same.ring),
+      i.8 ∙ sym (ap (λ (r : Ring). r.shape) s.same.ring),      omega (arith, c.waits.ensures.waited, c.look.ensures.0, i.9),
+      omega (arith, c.waits.ensures.most, c.look.ensures.1, c.if-putter-eq0.true),
+      omega (arith, c.waits.ensures.most, c.look.ensures.1, i.11),
     )
 
 pub takes-preserved : goal.takes-preserved
@@ -131,7 +138,9 @@ takes-preserved g c =
       i.5,
       i.6,
       omega (arith, subst (λ (z : Bool). c.takes.made ≤ length c.takes.items.items + c.takes.empty + (if z then 1 else 0)) c.takes-test.true i.7),
-      i.8 ∙ sym (ap (λ (r : Ring). r.shape) s.same.ring),
+      i.8 ∙ sym (ap (λ (r : Ring). r.shape) s.same.ring),      c.look.ensures.0 ∙ i.9,
+      omega (arith, c.look.ensures.1, i.10),
+      omega (arith, c.look.ensures.1, i.11),
     )
 
 pub returns-in_err-append-in-Taken-clause-fault : goal.returns-in_err-append-in-Taken-clause-fault
