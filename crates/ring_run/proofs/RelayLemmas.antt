@@ -23,7 +23,7 @@ use Rattle.ring_core.proofs.OverSpans.CallSpans.{stored_number}
 use Rattle.ring_seats.specs.Ring.{Ring, RingEnd}
 use Rattle.ring_seats.specs.Steppers.{IsSameEnd}
 use Rattle.ring_ends.specs.Ends.{HasPuts, HasPutAll, PutAdds}
-use Rattle.ring_run.specs.Relays.{AreGiven, PutsAre, TakesAre}
+use Rattle.ring_run.specs.Relays.{AreGiven, EndsFull, PutsAre, TakesAre}
 pub use Rattle.ring_seats.proofs.CounterSteps.{same_end as same_trans}
 
 -- ---- lists
@@ -172,6 +172,13 @@ module _ (read : PutsAreRead) (shape : Shape) (list list' : List Event) (items :
         full_is = fulls_full p.calls.puts seen ∙ ap suc p.full_is;
         closes_is = refl;
       }
+
+  pub ends_full : (given : List ℕ) → HasPutAll shape given list list' batch_reply.Full → EndsFull shape list'
+  ends_full given h = go (adds_false given batch_reply.Full h)
+    where
+      go : PutAdds false shape p.calls given batch_reply.Full list list' → EndsFull shape list'
+      go (puts.Stored seen i, of, reply, has) = absurd (cc)
+      go (puts.Full seen, of, reply, has) = record { before = p.calls; seen = seen; list_is = has }
 
   pub not_closed : (given : List ℕ) → HasPutAll shape given list list' batch_reply.Closed → ⊥
   not_closed given h = go (adds_false given batch_reply.Closed h)

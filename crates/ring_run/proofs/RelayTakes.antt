@@ -15,7 +15,7 @@ use Rattle.ring_core.specs.Over.{empties}
 use Rattle.ring_core.specs.Readings.{TakesAreRead}
 use Rattle.ring_core.specs.ConsumerCalls.{and_take, and_end, no_takes, ends_closed, IsTakeOf, items_at_end, reply_at_end, take_batch_reply, take_reply_to}
 use Rattle.ring_ends.specs.Ends.{HasTakenAll, HasTakes, TakeAllAdds, number_brought}
-use Rattle.ring_run.specs.Relays.{AreAsked, TakesAre, used_by}
+use Rattle.ring_run.specs.Relays.{AreAsked, EndsEmpty, TakesAre, used_by}
 use Rattle.ring_core.proofs.OverSpans.CallSpans.{taken_number as counted_is}
 pub use Rattle.ring_core.proofs.Machines.TakeCalls.{items-push as items_snoc}
 use Rattle.ring_core.proofs.Machines.TakeCalls.{all_taken-push, reply-push as last-snoc}
@@ -107,6 +107,14 @@ never_closed (takes.ItemAfterClose seen again []) e = cc
 never_closed (takes.ItemAfterClose seen again (item ∷ items)) e = cc
 never_closed (takes.Empty seen) e = cc
 
+-- a take that is answered so found the ring empty
+was_one_empty : (x : Take) → Some reply.Empty ≡ take_batch_reply (Some (take_reply_to x)) (taken_of x) → (seen : ℕ) × (x ≡ takes.Empty seen)
+was_one_empty (takes.Item seen []) e = absurd (cc)
+was_one_empty (takes.Item seen (item ∷ items)) e = absurd (cc)
+was_one_empty (takes.ItemAfterClose seen again []) e = absurd (cc)
+was_one_empty (takes.ItemAfterClose seen again (item ∷ items)) e = absurd (cc)
+was_one_empty (takes.Empty seen) e = (seen, refl)
+
 -- the take that was made, and what it was answered
 record Made (shape : Shape) (list' : List Event) (calls : Takes) (wanted : ℕ) (y : replies.TakeBatchReply) (into : List ℕ) : Type 0 where
   x : Take
@@ -165,6 +173,12 @@ module _ (read : TakesAreRead) (shape : Shape) (list list' : List Event) (limit 
   unfolding empty_one
   was_empty h =
       subst (λ (l : List ℕ). TakesAre shape list' limit l (made + 1) (empty + 1) false) (append-nil taken) (one_more reply.Empty (made_so reply.Empty (λ e. cc) h))
+
+  pub ends_empty : HasTakenAll shape wanted list list' reply.Empty into → EndsEmpty shape list'
+  ends_empty h =
+      let m = made_so reply.Empty (λ e. cc) h in
+      let (seen, is) = was_one_empty m.x m.told in
+      record { before = p.calls; seen = seen; list_is = subst (λ x. HasTakes shape list' (and_take p.calls x)) is m.has }
 
   pub was_told : HasTakenAll shape wanted list list' reply.Closed into → TakesAre shape list' limit taken (made + 1) empty true
   was_told h =

@@ -6,14 +6,14 @@ use Rattle.bits_core.specs.declared.events.Side.TheVariants.{P, C}
 use Rattle.bits_core.specs.Made.{subhistory}
 use Rattle.ring_seats.specs.Programs.{IsRing}
 use Rattle.ring_core.specs.Linear.{EachReadingIsLinearizable}
-use Rattle.ring_core.specs.Puts.{Put, Puts, number_after}
+use Rattle.ring_core.specs.Puts.{Put, Puts, Full, number_after}
 use Rattle.ring_core.specs.Takes.{Take, Takes, Item, ItemAfterClose, Empty, taken_after}
 use Rattle.ring_core.specs.Items.{all_put, all_taken}
 use Rattle.bits_core.specs.Shape.{batch_of, take_batch_of}
 use Rattle.ring_core.specs.CallsAt.{stored_by}
-use Rattle.ring_core.specs.ProducerCalls.{IsPutOf}
+use Rattle.ring_core.specs.ProducerCalls.{IsPutOf, and_put}
 use Rattle.ring_core.specs.Over.{fulls, empties}
-use Rattle.ring_core.specs.ConsumerCalls.{ends_closed, IsTakeOf}
+use Rattle.ring_core.specs.ConsumerCalls.{and_take, ends_closed, IsTakeOf}
 use Rattle.ring_ends.specs.Ends.{HasPuts, HasTakes}
 
 -- These puts, behind n items, were given the items in order: each as many of those not yet stored as the shape's batch has, or
@@ -35,11 +35,17 @@ pub record PutsAre (shape : Shape) (list : List Event) (items : List ℕ) (put m
   pub full_is : fulls calls.puts ≡ full
   pub closes_is : calls.closes ≡ closes
 
+-- the last call of the list is a put that found the ring full
+pub record EndsFull (shape : Shape) (list : List Event) : Type 0 where
+  pub before : Puts
+  pub seen : ℕ
+  pub list_is : HasPuts shape list (and_put before (Full seen))
+
 -- all items were stored, or as many puts as the limit were made, or the last one found the ring full; a close stands exactly if all were stored
 pub record HasRelayedPuts (shape : Shape) (list : List Event) (items : List ℕ) (limit put made full : ℕ) : Type 0 where
   pub puts : PutsAre shape list items put made full (put == length items)
   pub most : made ≤ limit
-  pub all_or_limit : (put ≡ length items) ⊎ ((made ≡ limit) ⊎ (1 ≤ full))
+  pub all_or_limit : (put ≡ length items) ⊎ ((made ≡ limit) ⊎ EndsFull shape list)
 
 -- how much of a relay's limit a take uses up: one for each item that it took, and one where it found the ring empty
 abbrev pub used_by : Take → ℕ
@@ -65,12 +71,18 @@ pub record TakesAre (shape : Shape) (list : List Event) (limit : ℕ) (taken : L
   pub empty_is : empties calls.takes ≡ empty
   pub told_is : ends_closed calls.end ≡ told
 
--- The items taken and the takes that brought none are at most as many as the limit, so the takes are; and they are as many where none
--- was told that the ring is closed.
+-- the last call of the list is a take that found the ring empty
+pub record EndsEmpty (shape : Shape) (list : List Event) : Type 0 where
+  pub before : Takes
+  pub seen : ℕ
+  pub list_is : HasTakes shape list (and_take before (Empty seen))
+
+-- The items taken and the takes that brought none are at most as many as the limit, so the takes are. If none was told that the ring is
+-- closed, they are as many, or the last take found the ring empty.
 pub record HasRelayedTakes (shape : Shape) (list : List Event) (limit : ℕ) (taken : List ℕ) (made empty : ℕ) (closed : Bool) : Type 0 where
   pub takes : TakesAre shape list limit taken made empty closed
   pub most : length taken + empty + (if closed then 1 else 0) ≤ limit
-  pub all : closed ≡ false → (length taken + empty ≡ limit) ⊎ (1 ≤ empty)
+  pub all : closed ≡ false → (length taken + empty ≡ limit) ⊎ EndsEmpty shape list
 
 -- whole takes were made, within the limit; they took more items than this number, and none was told that the ring is closed
 pub record HasTakenMore (shape : Shape) (list : List Event) (limit number : ℕ) : Type 0 where

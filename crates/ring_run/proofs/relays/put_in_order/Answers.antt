@@ -5,7 +5,7 @@ use Rattle.bits_core.specs.Shape.{batch_of}
 use Rattle.ring_core.specs.Puts.{IsBatch}
 use Rattle.ring_seats.specs.Ring.{Ring}
 use Rattle.ring_run.specs.Relays.{PutsAre}
-use Rattle.ring_run.proofs.RelayLemmas.{fit_there, no_puts_are, offers, given_there, stored, was_full, same_trans, puts_there}
+use Rattle.ring_run.proofs.RelayLemmas.{fit_there, ends_full, no_puts_are, offers, given_there, stored, was_full, same_trans, puts_there}
 use Rattle.ring_core.proofs.LawLemmas.{puts_are_read}
 use Rattle.ring_run.proofs.relays.put_in_order.Goals.{in-Stored, in-Full}
 use Rattle.ring_run.proofs.relays.put_in_order.Goals as goal
@@ -13,7 +13,7 @@ use Rattle.ring_run.proofs.relays.put_in_order.Goals as goal
 pub puts-init : goal.puts-init
 puts-init g c =
     let e = g.E.PutEnd.end c.args.putter.now in
-    (c.requires.idle, record { ring = refl; side = refl; known = refl }, no_puts_are e.ring.shape e.list c.args.items.now c.requires.fresh, omega arith, omega arith, refl, refl, c.shape-shape.ensures.shape, omega arith, c.requires.first.0, omega (arith, c.requires.first.1), omega (arith, c.requires.first.1))
+    (c.requires.idle, record { ring = refl; side = refl; known = refl }, no_puts_are e.ring.shape e.list c.args.items.now c.requires.fresh, omega arith, omega arith, refl, refl, c.shape-shape.ensures.shape, omega arith, c.requires.first.0, omega (arith, c.requires.first.1), omega (arith, c.requires.first.1), λ e. absurd (omega (arith, e, c.requires.first.1)))
 
 pub put_all-reply-requires-clause-batch : goal.put_all-reply-requires-clause-batch
 put_all-reply-requires-clause-batch g c =
@@ -63,5 +63,9 @@ puts-preserved g c =
       elim c.match-reply.branch [
         | in-Stored w ↦ omega (arith, ap (λ t. t.vain) w.taker-is, c.look.ensures.1, i.11, w.full-is)
         | in-Full w ↦ omega (arith, ap (λ t. t.vain) w.taker-is, w.waits.ensures.most, c.look.ensures.1, i.11, w.full-is)
+      ],
+      elim c.match-reply.branch [
+        | in-Stored w ↦ λ e. absurd (omega (arith, e, ap (λ t. t.vain) w.taker-is, c.look.ensures.1, c.if-taker-eq0.true))
+        | in-Full w ↦ λ e. ends_full puts_are_read b.ring.shape a.list b.list c.args.items.now c.puts.put c.puts.made c.puts.full there given w.in-Full.ensures.phrase
       ],
     )

@@ -8,7 +8,7 @@ use Rattle.ring_seats.specs.Ring.{Ring}
 use Rattle.ring_ends.specs.Ends.{HasTakenAll}
 use Rattle.ring_run.specs.Relays.{HasTakenMore, TakesAre}
 use Rattle.ring_run.proofs.RelayLemmas.{same_trans, takes_there, if_err}
-use Rattle.ring_run.proofs.RelayTakes.{no_takes_are, took, was_empty, was_told}
+use Rattle.ring_run.proofs.RelayTakes.{ends_empty, no_takes_are, took, was_empty, was_told}
 use Rattle.ring_run.proofs.relays.take_all.Given.{Over}
 use Rattle.ring_core.proofs.LawLemmas.{takes_are_read}
 use Rattle.ring_run.proofs.relays.take_all.Goals.{After-take_into}
@@ -47,6 +47,7 @@ takes-init g c =
       c.requires.first.0,
       omega (arith, c.requires.first.1),
       omega (arith, c.requires.first.1),
+      λ e. absurd (omega (arith, e, c.requires.first.1)),
     )
 
 abbrev Came : (g : Over) (c : After-take_into g) → replies.TakeBatchReply → Type 0
@@ -91,6 +92,7 @@ takes-preserved-in-Taken g c =
       i.8 ∙ sym (ap (λ (r : Ring). r.shape) s.same.ring),      c.look.ensures.0 ∙ i.9,
       omega (arith, c.look.ensures.1, i.10),
       omega (arith, c.look.ensures.1, i.11),
+      λ e. absurd (omega (arith, e, c.look.ensures.1, c.if-putter-eq0.true)),
     )
 
 pub takes-smaller-in-Taken : goal.takes-smaller-in-Taken
@@ -123,6 +125,7 @@ takes-preserved-in-Empty g c =
       i.8 ∙ sym (ap (λ (r : Ring). r.shape) s.same.ring),      omega (arith, c.waits.ensures.waited, c.look.ensures.0, i.9),
       omega (arith, c.waits.ensures.most, c.look.ensures.1, c.if-putter-eq0.true),
       omega (arith, c.waits.ensures.most, c.look.ensures.1, i.11),
+      λ e. ends_empty takes_are_read _ _ _ c.args.limit c.takes.items.items c.takes.made c.takes.empty (yet g t) _ (asks g t) c.take_into.new.into s.phrase,
     )
 
 pub takes-preserved : goal.takes-preserved
@@ -141,6 +144,7 @@ takes-preserved g c =
       i.8 ∙ sym (ap (λ (r : Ring). r.shape) s.same.ring),      c.look.ensures.0 ∙ i.9,
       omega (arith, c.look.ensures.1, i.10),
       omega (arith, c.look.ensures.1, i.11),
+      λ e. absurd (omega (arith, e, c.look.ensures.1, c.if-putter-eq0.true)),
     )
 
 pub returns-in_err-append-in-Taken-clause-fault : goal.returns-in_err-append-in-Taken-clause-fault
