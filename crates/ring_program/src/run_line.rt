@@ -37,7 +37,8 @@ is faster. What they promise is the same.
   H  how many items a take has at most, from 1 to B; 1 where it is left out
 \nA limit counts every call of put or take, also one that finds the ring full or
 empty, and a take that brings items by how many these are; the close is not
-counted. A side that has made so many makes no more.
+counted. A side that has made so many makes no more, and ends the other, once
+that finds the ring full, or empty, in vain.
 Where the taker was not told then that the ring is closed, the text is printed
 all the same, standard error says `refused: limit reached`, and the status is 1.
 \nWith --report four lines follow: `calls`, how many puts were made; `full`, how
@@ -54,8 +55,8 @@ side has no more room, which is behind some 2 million lines of either side.
     --limit 1000000000
 \nExit status:
   0  the taker was told that the ring is closed: all items were put and taken
-  1  refused: a limit was reached before, the numbers are no ring's, or the
-     output failed
+  1  refused: a limit was reached before, the numbers are no ring's, there is
+     no second thread, or the output failed
   2  the command line is wrong";
 
 /// Which ring a run goes through.

@@ -1,5 +1,5 @@
 //! The answer of `run`: items relayed through a ring by two threads.
-ghost use Rattle.std.specs.Prelude.{◌≡◌, ◌≢◌, ◌⊎◌, ◌+◌, ◌++◌, ◌≤◌, ◌<◌, ◌^◌, IfErr, IfOk, OnOk, List, ℕ, if◌then◌else◌, length, option_and_then, option_map, string_bytes, take, true};
+ghost use Rattle.std.specs.Prelude.{◌≡◌, ◌≢◌, ◌⊎◌, ◌+◌, ◌++◌, ◌≤◌, ◌<◌, ◌^◌, IfErr, IfOk, OnOk, List, ℕ, if◌then◌else◌, length, option_and_then, option_map, string_bytes, take, false, true};
 ghost use Rattle.std.specs.Duration.{as_nanos};
 ghost use Rattle.bits_core.specs.Made.{IsPrefix};
 ghost use Rattle.bits_core.specs.Shape.{AllFit, capacity_of};

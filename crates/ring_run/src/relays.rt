@@ -370,18 +370,23 @@ fn relay_into<R: Threads, A: Allocator, E: PutEnd + Send, F: TakeEnd + Send, G: 
 }
 
 /// Works the two ends at the same time, in two threads. The one side puts the items in order, as many at a time as the
-/// shape's batch has, goes on behind those that were stored, and closes behind the last; so a put that found the ring
+/// shape's batch has, goes on after those that were stored, and closes after the last; so a put that found the ring
 /// full is made again. The other side takes as many items at a time as the shape's take batch, but no more than are left of its
 /// limit, until it is told that the ring is closed. Neither makes more puts or takes than its limit (the close is not counted,
 /// and a take that brings several items counts as so many), and each passes the gate before each of them, with the number that
-/// it has made. The gate is told where each put, each take and the close begins and where it ends, by the thread that makes it; and
-/// behind each put that found the ring full, and each take that found it empty, how many have in a row.
+/// it has made. The gate is told when each put, each take and the close begins and when it ends, by the thread that makes it; and
+/// after each put that found the ring full, and each take that found it empty, how many have in a row.
+///
+/// A side that is over ends the other one: a put that found the ring full, or a take that found it empty, is the last if it began
+/// after the first side was over, as nothing can change for the next. So it is if the first side has not begun while the other's calls
+/// were in vain 16,777,216 times in a row, as if no second thread can be had. If the taker was not told that the ring is closed, and
+/// neither side has used up its limit, one of them had not begun when the other ended. No progress is promised.
 ///
 /// The ends have made no call yet, and every item has to fit the width. It takes memory for the items that are taken:
 /// before any call it makes room for as many as there are items, or takes by the limit where these are fewer.
 /// `OutOfMemory` is answered only where the allocator refused some. Where it refused that room, no call was made and
-/// both ends are as they were. Ends of two rings may give more items than were put; where it refused room for one of
-/// these, no more takes are made, the puts are made all the same, and both ends keep the whole calls that they have
+/// both ends are as they were. Ends of two rings may give more items than were put; if it refused room for one of
+/// these, no more takes are made, and both ends keep the whole calls that they have
 /// made. In a relay through one ring that does not occur.
 ///
 /// In use: by [`relay_counter`](crate::relay_counter), over the ends of a new ring.

@@ -5,7 +5,9 @@ use std::sync::atomic::{AtomicU64, Ordering};
 
 // A side that has not begun, is at work, or is over.
 const BEFORE: u64 = 0;
+
 const AT_WORK: u64 = 1;
+
 const OVER: u64 = 2;
 
 // How many calls in vain, in a row, a side makes while the other one has not begun. A thread that was made begins long before.

@@ -156,7 +156,7 @@ fn reports_have_their_text(rt: HostRuntime) {
     expect_report(&rt, &[0, u64::MAX], true, (u64::MAX, 1, 20), text);
 }
 
-static WORDS: [(Refusal, &str); 3] = [
+static WORDS: [(Refusal, &str); 4] = [
     (
         Refusal::Script(ScriptFault::BadSchedule(7)),
         "schedule is wrong at byte 7",
@@ -166,6 +166,7 @@ static WORDS: [(Refusal, &str); 3] = [
         Refusal::Shape(ShapeFault::Width),
         "width must be from 1 to 64",
     ),
+    (Refusal::NoSecondThread, "no second thread"),
 ];
 
 #[test]

@@ -7,7 +7,7 @@ const ALL: &str = "put 64\ntaken 64\nclosed yes\n";
 const LIMIT: &str = "refused: limit reached\n";
 
 // What follows the options of the shape, the status, the output and the standard error.
-static RUNS: [(&str, u8, &str, &str); 12] = [
+static RUNS: [(&str, u8, &str, &str); 13] = [
     ("--count 64 --limit 1000000000", 0, ALL, ""),
     ("--count 64 --limit 1000000000 --ring flicker", 0, ALL, ""),
     (
@@ -39,6 +39,13 @@ static RUNS: [(&str, u8, &str, &str); 12] = [
     // one item is put, and the ring stays full
     (
         "--count 2 --limit 5 --takes 0",
+        1,
+        "put 1\ntaken 0\nclosed no\n",
+        LIMIT,
+    ),
+    // the taker is over, so the putter ends, with more calls than a test makes
+    (
+        "--count 2 --limit 18446744073709551615 --takes 0",
         1,
         "put 1\ntaken 0\nclosed no\n",
         LIMIT,
@@ -202,11 +209,11 @@ static REPORTED: [(&str, u8, &str, &[&str]); 3] = [
         ALL,
         COUNTS,
     ),
-    // one item is put, the other four puts find the ring full, and no take is made
+    // one item is put, the other put finds the ring full, and no take is made
     (
-        "lamport_ring run --report --capacity=1 --modulus=3 --width=6 --count=2 --limit=5 --takes=0",
+        "lamport_ring run --report --capacity=1 --modulus=3 --width=6 --count=2 --limit=2 --takes=0",
         1,
-        "put 1\ntaken 0\nclosed no\ncalls 5\nfull 4\nempty 0\n",
+        "put 1\ntaken 0\nclosed no\ncalls 2\nfull 1\nempty 0\n",
         &["items a second"],
     ),
 ];

@@ -242,7 +242,11 @@ impl Gate for InTurn {
             self.hold(&self.is_over);
         }
         if side != self.ahead {
-            self.hold(if count == 0 { &self.has_come } else { &self.is_told });
+            self.hold(if count == 0 {
+                &self.has_come
+            } else {
+                &self.is_told
+            });
         }
     }
 

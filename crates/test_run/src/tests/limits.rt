@@ -103,7 +103,9 @@ fn a_side_that_is_over_ends_the_other(rt: HostRuntime) {
             };
             let outcome = expect_one_limited(&rt, kind, takes);
             let is_all = outcome.taken.len() as u64 == outcome.put;
-            assert!(rt; outcome.calls == most && outcome.put == most && is_all && outcome.empty > 0);
+            assert!(rt;
+                outcome.calls == most && outcome.put == most && is_all && outcome.empty > 0
+            );
         }
     }
 }
