@@ -1,8 +1,13 @@
 -- What the near misses do otherwise than a ring.
 use Rattle.std.specs.Prelude.{◌≡◌, ℕ, ◌+◌, ◌<◌, ◌≤◌, max, Bool, true, false, List, [], ◌∷◌, Option, Some, None, codes, if◌then◌else◌, slice_index_or}
 use Rattle.std.specs.Str.{bytes_eq}
+use Rattle.bits_core.specs.declared.events.Access.{Access}
+use Rattle.bits_core.specs.declared.events.Access.TheVariants.{Read, Write}
+use Rattle.bits_core.specs.declared.events.Side.{Side}
 use Rattle.bits_core.specs.declared.shapes.Shape.{Shape}
 use Rattle.bits_core.specs.Shape.{batch_of, capacity_of, modulus_of, take_batch_of}
+use Rattle.register_core.specs.Row.{row_bit}
+use Rattle.near_misses.specs.declared.rows.Order as order
 use Rattle.near_misses.specs.declared.misses.NearMiss.{NearMiss}
 use Rattle.near_misses.specs.declared.misses.NearMiss.TheVariants.{CountBeforeCell, NoSecondScan, SmallModulus, ClearsFirst, ClearsUpwards}
 
@@ -38,3 +43,31 @@ IsLowestSet bits below i = (i < below) × (slice_index_or bits i false ≡ true)
 
 abbrev pub IsHighestSet : List Bool → ℕ → ℕ → Type 0
 IsHighestSet bits below i = (i < below) × (slice_index_or bits i false ≡ true) × AreClear bits (i + 1) below
+
+-- the order of a near miss: only the two that break this rule have another order than a ring
+abbrev pub order_of : NearMiss → order.Order
+order_of ClearsUpwards = order.TheVariants.Upwards
+order_of ClearsFirst = order.TheVariants.ClearsFirst
+order_of _ = order.TheVariants.Downwards
+
+-- the bit below a value that is cleared next, by the order
+abbrev pub IsClearedNext : order.Order → List Bool → (value i : ℕ) → Type 0
+IsClearedNext order.TheVariants.Upwards bits value i = IsLowestSet bits value i
+IsClearedNext order.TheVariants.Downwards bits value i = IsHighestSet bits value i
+IsClearedNext order.TheVariants.ClearsFirst bits value i = IsHighestSet bits value i
+
+-- The write of a row that is to show a value is due: a bit below it is cleared, which waits for the value's own bit unless the order
+-- clears first; or the value's own bit is set, which waits for those below if the order clears first. None is due once the row shows
+-- the value.
+abbrev pub IsWriteDue : order.Order → List Bool → (value : ℕ) → Option (ℕ × Bool) → Type 0
+IsWriteDue order.TheVariants.ClearsFirst bits value (Some (i, false)) = IsClearedNext order.TheVariants.ClearsFirst bits value i
+IsWriteDue order bits value (Some (i, false)) = (slice_index_or bits value false ≡ true) × IsClearedNext order bits value i
+IsWriteDue order.TheVariants.ClearsFirst bits value (Some (i, true)) = (i ≡ value) × (slice_index_or bits value false ≡ false) × AreClear bits 0 value
+IsWriteDue order bits value (Some (i, true)) = (i ≡ value) × (slice_index_or bits value false ≡ false)
+IsWriteDue order bits value None = (slice_index_or bits value false ≡ true) × AreClear bits 0 value
+
+-- the access that is due of a side's row: that write
+abbrev pub IsRowAccess : Side → order.Order → List Bool → (value : ℕ) → Option Access → Type 0
+IsRowAccess side order bits value (Some (Write b v)) = (i : ℕ) × (b ≡ row_bit side i) × IsWriteDue order bits value (Some (i, v))
+IsRowAccess side order bits value (Some (Read b)) = ⊥
+IsRowAccess side order bits value None = IsWriteDue order bits value None

@@ -1,13 +1,16 @@
 //! The count that a side writes, and that it scans.
-ghost use Rattle.std.specs.Prelude.{◌≡◌, IfNone, IfSome, None};
-ghost use Rattle.near_misses.specs.Misses.{AreClear, IsHighestSet, IsLowestSet};
+ghost use Rattle.std.specs.Prelude.{◌≡◌, true, if◌then◌else◌, IfNone, IfSome, None, Some};
+ghost use Rattle.near_misses.specs.Misses.{AreClear, IsClearedNext, IsHighestSet, IsLowestSet, IsRowAccess, IsWriteDue, order_of};
 ghost use Rattle.near_misses.specs.NearSides.{digit_read};
+ghost use Rattle.register_core.specs.Row.{row_bit};
 
 use crate::misses::NearMiss;
 use bits_core::{Access, Bit, Side};
 
 // Bit i of the count that a side writes.
-pub fn row_bit(side: Side, i: u8) -> Bit {
+pub fn row_bit(side: Side, i: u8) -> Bit
+    ensures { result ≡ row_bit side i }
+{
     match side {
         Side::P => Bit::S(i),
         Side::C => Bit::R(i),
@@ -65,7 +68,9 @@ pub(crate) enum Order {
 
 impl Order {
     /// The order of a near miss.
-    pub fn of(miss: NearMiss) -> Order {
+    pub fn of(miss: NearMiss) -> Order
+        ensures { result ≡ order_of miss }
+    {
         match miss {
             NearMiss::ClearsUpwards => Order::Upwards,
             NearMiss::ClearsFirst => Order::ClearsFirst,
@@ -85,7 +90,9 @@ pub(crate) struct NearRow {
 
 impl NearRow {
     /// A row that shows 0: its bit 0 is set.
-    pub fn new(side: Side, order: Order) -> NearRow {
+    pub fn new(side: Side, order: Order) -> NearRow
+        ensures { (result.side ≡ side) × (result.order ≡ order) }
+    {
         let mut bits = [false; 256];
         bits[0] = true;
         NearRow {
@@ -97,31 +104,52 @@ impl NearRow {
     }
 
     /// Begins a count write.
-    pub fn write(&mut self, value: u8) {
+    pub fn write(&mut self, value: u8)
+        ensures { self.new ≡ record self.old { value = value } }
+    {
         self.value = value;
     }
 
     /// The value that was written last, or that is being written.
-    pub fn value(&self) -> u8 {
+    pub fn value(&self) -> u8
+        ensures { result ≡ self.now.value }
+    {
         self.value
     }
 
-    // The bit that is written next, with its new value.
-    fn due(&self) -> Option<(u8, bool)> {
-        let clear = match self.order {
+    // The bit that is cleared next, of those below the value.
+    fn clear_due(&self) -> Option<u8>
+        ensures found { IfSome result (IsClearedNext self.now.order self.now.bits self.now.value) }
+        ensures none { IfNone result (AreClear self.now.bits 0 self.now.value) }
+    {
+        match self.order {
             Order::Upwards => lowest_set(&self.bits, self.value),
             Order::Downwards | Order::ClearsFirst => highest_set(&self.bits, self.value),
-        };
+        }
+    }
+
+    // The bit that is written next, with its new value.
+    fn due(&self) -> Option<(u8, bool)>
+        ensures { IsWriteDue self.now.order self.now.bits self.now.value result }
+    {
+        let clear = self.clear_due();
         let is_set = self.bits[self.value as usize];
-        let clears = is_set || self.order == Order::ClearsFirst;
-        match clear {
-            Some(bit) if clears => Some((bit, false)),
-            _ => self.set_due(is_set),
+        match self.order {
+            Order::ClearsFirst => match clear {
+                Some(bit) => Some((bit, false)),
+                None => self.set_due(is_set),
+            },
+            Order::Downwards | Order::Upwards => match clear {
+                Some(bit) if is_set => Some((bit, false)),
+                _ => self.set_due(is_set),
+            },
         }
     }
 
     // The write that sets the value's own bit, where that is clear.
-    fn set_due(&self, is_set: bool) -> Option<(u8, bool)> {
+    fn set_due(&self, is_set: bool) -> Option<(u8, bool)>
+        ensures { result ≡ (if is_set then None else Some (self.now.value, true)) }
+    {
         if is_set {
             None
         } else {
@@ -131,14 +159,17 @@ impl NearRow {
 
     /// The access that is due, and none once the row shows the value.
     pub fn next(&self) -> Option<Access>
-        ensures { IfSome result (λ access. digit_read access ≡ None) }
+        ensures write { IsRowAccess self.now.side self.now.order self.now.bits self.now.value result }
+        ensures no_digit { IfSome result (λ access. digit_read access ≡ None) }
     {
         let (bit, value) = self.due()?;
         Some(Access::Write(row_bit(self.side, bit), value))
     }
 
     /// The access that was due has ended.
-    pub fn feed(&mut self) {
+    pub fn feed(&mut self)
+        ensures { (self.new.side ≡ self.old.side) × (self.new.order ≡ self.old.order) × (self.new.value ≡ self.old.value) }
+    {
         match self.due() {
             Some((bit, value)) => self.bits[bit as usize] = value,
             None => {}
