@@ -1,4 +1,5 @@
 pub mod Misses
+pub mod NearEnds
 pub mod NearPlays
 pub mod NearSides
 pub mod TakeStages

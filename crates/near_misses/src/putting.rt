@@ -1,5 +1,7 @@
 //! The producer of a near miss.
-ghost use Rattle.std.specs.Prelude.{◌≡◌, ℕ, ◌+◌, ◌-◌, ◌≤◌, true, length};
+ghost use Rattle.std.specs.Prelude.{◌≡◌, ◌⊎◌, ℕ, ◌+◌, ◌-◌, ◌≤◌, true, IsSome, None, Some, if◌then◌else◌, length};
+ghost use Rattle.bits_core.specs.declared.events.Side.TheVariants.{P};
+ghost use Rattle.near_misses.specs.Misses.{order_of};
 
 use crate::misses::NearMiss;
 use crate::plays::NearCall;
@@ -39,6 +41,8 @@ pub(crate) struct NearPutter<'a> {
     stopped: bool,
     row: NearRow,
     ghost within: { stored + storing ≤ length items.now },
+    // the count's bits are written in the order of the near miss
+    ghost order: { (row.side ≡ P) × (row.order ≡ order_of miss) },
 }
 
 impl<'a> NearPutter<'a> {
@@ -198,7 +202,6 @@ impl<'a> NearPutter<'a> {
 
 impl NearSide for NearPutter<'_> {
     ghost use Rattle.std.specs.Prelude.{◌≡◌};
-    ghost use Rattle.bits_core.specs.declared.events.Side.TheVariants.{P};
     ghost use Rattle.near_misses.specs.declared.putting.Stage.TheVariants.{Between};
     ghost use Rattle.near_misses.specs.NearSides.{IsAskedToPut, put_stand};
 

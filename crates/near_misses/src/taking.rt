@@ -1,6 +1,8 @@
 //! The consumer of a near miss.
-ghost use Rattle.std.specs.Prelude.{◌≡◌, ◌≤◌, ◌<◌, ◌+◌, ◌-◌, ◌++◌, ◌∷◌, [], ℕ, List, true, length, min, take};
+ghost use Rattle.std.specs.Prelude.{◌≡◌, ◌≤◌, ◌<◌, ◌+◌, ◌-◌, ◌++◌, ◌∷◌, [], ℕ, List, true, IsSome, None, Some, if◌then◌else◌, length, min, take};
 ghost use Rattle.bits_core.specs.Shape.{take_batch_of};
+ghost use Rattle.bits_core.specs.declared.events.Side.TheVariants.{C};
+ghost use Rattle.near_misses.specs.Misses.{order_of};
 ghost use Rattle.near_misses.specs.NearPlays.{with_digit};
 ghost use Rattle.near_misses.specs.TakeStages.{IsTakeWithin};
 
@@ -71,11 +73,16 @@ pub(crate) struct NearTaker {
     row: NearRow,
     ghost room: { whole ≤ 64 },
     ghost within: { IsTakeWithin stage whole most (min (take_batch_of shape) (takes - used)) },
+    // the count's bits are written in the order of the near miss
+    ghost order: { (row.side ≡ C) × (row.order ≡ order_of miss) },
 }
 
 impl NearTaker {
     ghost use Rattle.bits_core.specs.Shape.{width_of};
-    ghost use Rattle.near_misses.specs.declared.taking.Stage.TheVariants.{Counting, Reading};
+    ghost use Rattle.near_misses.specs.declared.taking.Stage.TheVariants.{Counting, Reading, ScanningAgain};
+    ghost use Rattle.bits_core.specs.declared.events.Access.{Access};
+    ghost use Rattle.near_misses.specs.Misses.{IsRowAccess};
+    ghost use Rattle.near_misses.specs.NearEnds.{items_seen, look_told, scan_told, stage_after_scan};
     ghost use Rattle.near_misses.specs.NearPlays.{NearAsked, near_start, with_digit_read};
     ghost use Rattle.near_misses.specs.NearSides.{IsAskedToTake, TakerEnds, take_stand, taker_wants};
 
@@ -123,7 +130,9 @@ impl NearTaker {
     fn scan_ends(&mut self, zeros: u8, answer: bool, again: bool) -> Option<NearCall>
         requires in_take { (take_stand self.old).in_call ≡ true }
         requires none { (self.old.whole ≡ 0) × (1 ≤ taker_wants self.old) }
-        ensures { TakerEnds self.old result self.new }
+        ensures ends { TakerEnds self.old result self.new }
+        ensures told { result ≡ (if answer then scan_told (min (items_seen self.old.miss self.old.shape self.old.count zeros)
+            (taker_wants self.old)) again else None) }
     {
         if answer {
             return self.scanned(u64::from(zeros), again);
@@ -140,7 +149,7 @@ impl NearTaker {
 
     // How many items a take reads that sees this count: as many as it shows, and no more than the take wants.
     fn shown(&self, seen: u64) -> u64
-        ensures { result ≤ taker_wants self.now }
+        ensures { result ≡ min (items_seen self.now.miss self.now.shape self.now.count seen) (taker_wants self.now) }
     {
         let modulus = self.miss.modulus(&self.shape);
         let count = u64::from(self.count);
@@ -159,7 +168,11 @@ impl NearTaker {
     fn scanned(&mut self, seen: u64, again: bool) -> Option<NearCall>
         requires in_take { (take_stand self.old).in_call ≡ true }
         requires none { (self.old.whole ≡ 0) × (1 ≤ taker_wants self.old) }
-        ensures { TakerEnds self.old result self.new }
+        ensures ends { TakerEnds self.old result self.new }
+        ensures told { result ≡ scan_told (min (items_seen self.old.miss self.old.shape self.old.count seen)
+            (taker_wants self.old)) again }
+        ensures goes_on { self.new.stage ≡ stage_after_scan (min (items_seen self.old.miss self.old.shape self.old.count seen)
+            (taker_wants self.old)) again }
     {
         let most = self.shown(seen);
         if most > 0 {
@@ -181,7 +194,9 @@ impl NearTaker {
     fn looked(&mut self, closed: bool) -> Option<NearCall>
         requires in_take { (take_stand self.old).in_call ≡ true }
         requires none { (self.old.whole ≡ 0) × (1 ≤ taker_wants self.old) }
-        ensures { TakerEnds self.old result self.new }
+        ensures ends { TakerEnds self.old result self.new }
+        ensures told { result ≡ look_told self.old.miss closed }
+        ensures goes_on { result ≡ None → self.new.stage ≡ ScanningAgain 0 }
     {
         if !closed {
             self.used += 1;
@@ -224,7 +239,11 @@ impl NearTaker {
     // A bit of the count was written.
     fn counted(&mut self) -> Option<NearCall>
         requires { self.old.stage ≡ Counting }
-        ensures { TakerEnds self.old result self.new }
+        ensures ends { TakerEnds self.old result self.new }
+        // All bits of the count are written.
+        ensures told { IsSome result → IsRowAccess C self.new.row.order self.new.row.bits self.new.row.value None }
+        ensures goes_on { result ≡ None → (access : Access) × IsRowAccess C self.new.row.order self.new.row.bits
+            self.new.row.value (Some access) }
     {
         self.row.feed();
         if self.row.next().is_some() {
@@ -242,7 +261,6 @@ impl NearTaker {
 
 impl NearSide for NearTaker {
     ghost use Rattle.std.specs.Prelude.{◌≡◌};
-    ghost use Rattle.bits_core.specs.declared.events.Side.TheVariants.{C};
     ghost use Rattle.near_misses.specs.declared.taking.Stage.TheVariants.{Between};
     ghost use Rattle.near_misses.specs.NearSides.{IsAskedToTake, IsDueToTake, take_stand};
 

@@ -1,0 +1,52 @@
+-- What is told of a call of a near miss, and at which of its accesses.
+use Rattle.std.specs.Prelude.{ℕ, Bool, true, false, ◌&&◌, nat_le, nat_lt, if◌then◌else◌, Option, Some, None}
+use Rattle.bits_core.specs.Shape.{capacity_of}
+use Rattle.bits_core.specs.declared.shapes.Shape.{Shape}
+use Rattle.ring_core.specs.Counts.{distance}
+use Rattle.queue_calls.specs.declared.events.CallEvent.{CallEvent}
+use Rattle.queue_calls.specs.declared.events.CallEvent.TheVariants.{PutStored, PutFull, TakeEmpty, TakeClosed}
+use Rattle.near_misses.specs.Misses.{near_modulus}
+use Rattle.near_misses.specs.declared.misses.NearMiss.{NearMiss}
+use Rattle.near_misses.specs.declared.misses.NearMiss.TheVariants.{CountBeforeCell, NoSecondScan}
+use Rattle.near_misses.specs.declared.putting.Stage as put
+use Rattle.near_misses.specs.declared.taking.Stage as taking
+
+-- both counts are below the number at which they go round
+abbrev pub AreBothCounts : NearMiss → Shape → (count seen : ℕ) → Bool
+AreBothCounts miss shape count seen = nat_lt seen (near_modulus miss shape) && nat_lt count (near_modulus miss shape)
+
+-- how many items a consumer with this count sees where it scans that one of the producer: as many as that is ahead, if the ring holds as many
+abbrev pub items_seen : NearMiss → Shape → (count seen : ℕ) → ℕ
+items_seen miss shape count seen = if AreBothCounts miss shape count seen && nat_le (distance (near_modulus miss shape) seen count) (capacity_of shape) then distance (near_modulus miss shape) seen count else 0
+
+-- what a take is told at the last read of a scan: Closed if it finds no item in its second scan
+abbrev pub scan_told : (found : ℕ) → (again : Bool) → Option (CallEvent ℕ ℕ)
+scan_told found again = if nat_lt 0 found then None else if again then Some TakeClosed else None
+
+-- and how it goes on: with the items, or past its end, or with the close bit
+abbrev pub stage_after_scan : (found : ℕ) → (again : Bool) → taking.Stage
+stage_after_scan found again = if nat_lt 0 found then taking.TheVariants.Reading 0 else if again then taking.TheVariants.Over else taking.TheVariants.Looking
+
+-- what a take is told that reads the close bit: Empty if that is 0, and Closed at once if that is 1 and there is no second scan
+abbrev pub look_told : NearMiss → (closed : Bool) → Option (CallEvent ℕ ℕ)
+look_told miss false = Some TakeEmpty
+look_told NoSecondScan true = Some TakeClosed
+look_told _ true = None
+
+-- what a put is told once it has scanned: Full if it finds no room
+abbrev pub room_told : (room : ℕ) → Option (CallEvent ℕ ℕ)
+room_told room = if nat_lt 0 room then None else Some PutFull
+
+-- with what a put goes on that has found room: with its count, or with its items
+abbrev pub first_stage : NearMiss → put.Stage
+first_stage CountBeforeCell = put.TheVariants.Counting
+first_stage _ = put.TheVariants.Storing 0 0
+
+-- what a put is told that has written its items, or its count: how many it has stored, if it wrote the other before
+abbrev pub items_written_told : NearMiss → (storing : ℕ) → Option (CallEvent ℕ ℕ)
+items_written_told CountBeforeCell storing = Some (PutStored storing)
+items_written_told _ storing = None
+
+abbrev pub count_written_told : NearMiss → (storing : ℕ) → Option (CallEvent ℕ ℕ)
+count_written_told CountBeforeCell storing = None
+count_written_told _ storing = Some (PutStored storing)
