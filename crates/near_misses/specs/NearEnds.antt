@@ -1,6 +1,6 @@
 -- What is told of a call of a near miss, and at which of its accesses.
-use Rattle.std.specs.Prelude.{ℕ, Bool, true, false, ◌&&◌, nat_le, nat_lt, if◌then◌else◌, Option, Some, None}
-use Rattle.bits_core.specs.Shape.{capacity_of}
+use Rattle.std.specs.Prelude.{ℕ, ◌-◌, min, Bool, true, false, ◌&&◌, nat_le, nat_lt, if◌then◌else◌, Option, Some, None}
+use Rattle.bits_core.specs.Shape.{batch_of, capacity_of}
 use Rattle.bits_core.specs.declared.shapes.Shape.{Shape}
 use Rattle.ring_core.specs.Counts.{distance}
 use Rattle.queue_calls.specs.declared.events.CallEvent.{CallEvent}
@@ -12,12 +12,12 @@ use Rattle.near_misses.specs.declared.putting.Stage as put
 use Rattle.near_misses.specs.declared.taking.Stage as taking
 
 -- both counts are below the number at which they go round
-abbrev pub AreBothCounts : NearMiss → Shape → (count seen : ℕ) → Bool
-AreBothCounts miss shape count seen = nat_lt seen (near_modulus miss shape) && nat_lt count (near_modulus miss shape)
+abbrev pub are_both_counts : NearMiss → Shape → (count seen : ℕ) → Bool
+are_both_counts miss shape count seen = nat_lt seen (near_modulus miss shape) && nat_lt count (near_modulus miss shape)
 
 -- how many items a consumer with this count sees where it scans that one of the producer: as many as that is ahead, if the ring holds as many
 abbrev pub items_seen : NearMiss → Shape → (count seen : ℕ) → ℕ
-items_seen miss shape count seen = if AreBothCounts miss shape count seen && nat_le (distance (near_modulus miss shape) seen count) (capacity_of shape) then distance (near_modulus miss shape) seen count else 0
+items_seen miss shape count seen = if are_both_counts miss shape count seen && nat_le (distance (near_modulus miss shape) seen count) (capacity_of shape) then distance (near_modulus miss shape) seen count else 0
 
 -- what a take is told at the last read of a scan: Closed if it finds no item in its second scan
 abbrev pub scan_told : (found : ℕ) → (again : Bool) → Option (CallEvent ℕ ℕ)
@@ -32,6 +32,10 @@ abbrev pub look_told : NearMiss → (closed : Bool) → Option (CallEvent ℕ �
 look_told miss false = Some TakeEmpty
 look_told NoSecondScan true = Some TakeClosed
 look_told _ true = None
+
+-- how many items a producer with this count has room for where it scans that one of the consumer, and may put at a time
+abbrev pub room_seen : NearMiss → Shape → (count seen : ℕ) → ℕ
+room_seen miss shape count seen = if are_both_counts miss shape count seen then min (capacity_of shape - distance (near_modulus miss shape) count seen) (batch_of shape) else 0
 
 -- what a put is told once it has scanned: Full if it finds no room
 abbrev pub room_told : (room : ℕ) → Option (CallEvent ℕ ℕ)

@@ -1,5 +1,5 @@
 //! The producer of a near miss.
-ghost use Rattle.std.specs.Prelude.{◌≡◌, ◌⊎◌, ℕ, ◌+◌, ◌-◌, ◌≤◌, true, IsSome, None, Some, if◌then◌else◌, length};
+ghost use Rattle.std.specs.Prelude.{◌≡◌, ◌⊎◌, ◌||◌, ℕ, ◌+◌, ◌-◌, ◌≤◌, true, IsSome, None, Some, if◌then◌else◌, length, min, nat_lt};
 ghost use Rattle.bits_core.specs.declared.events.Side.TheVariants.{P};
 ghost use Rattle.near_misses.specs.Misses.{order_of};
 
@@ -46,8 +46,15 @@ pub(crate) struct NearPutter<'a> {
 }
 
 impl<'a> NearPutter<'a> {
+    ghost use Rattle.bits_core.specs.Shape.{width_of};
+    ghost use Rattle.bits_core.specs.declared.events.Access.{Access};
+    ghost use Rattle.near_misses.specs.Misses.{IsRowAccess};
+    ghost use Rattle.near_misses.specs.NearEnds.{count_written_told, first_stage, items_written_told, room_seen, room_told};
     ghost use Rattle.near_misses.specs.NearPlays.{NearAsked, near_start};
     ghost use Rattle.near_misses.specs.NearSides.{IsAskedToPut, PutterEnds, put_stand};
+    ghost use Rattle.near_misses.specs.declared.misses.NearMiss.TheVariants.{CountBeforeCell};
+    ghost use Rattle.near_misses.specs.declared.putting.Stage.TheVariants.{Counting, Storing};
+    ghost use Rattle.queue_calls.specs.declared.events.CallEvent.TheVariants.{PutStored};
 
     pub fn new(miss: NearMiss, shape: Shape, items: &'a [u64], closes: bool) -> Self
         ensures starts { put_stand result ≡ near_start }
@@ -104,7 +111,8 @@ impl<'a> NearPutter<'a> {
     // A bit of the consumer's count answered 0: the next one is read. (One that answers 0 to the last gives no count, and the side stops.)
     fn scan_on(&mut self, zeros: u8) -> Option<NearCall>
         requires { (put_stand self.old).in_call ≡ true }
-        ensures { PutterEnds self.old result self.new }
+        ensures ends { PutterEnds self.old result self.new }
+        ensures told { result ≡ None }
     {
         self.stage = if u64::from(zeros) + 1 < self.shape.modulus() {
             Stage::Scanning(zeros + 1)
@@ -116,7 +124,8 @@ impl<'a> NearPutter<'a> {
 
     // How many items a put stores that sees this count: as many as there is room for, of those that are left, and no more than a batch.
     fn room_behind(&self, seen: u64) -> u64
-        ensures { result ≤ length self.now.items.now - self.now.stored }
+        ensures { result ≡ min (room_seen self.now.miss self.now.shape self.now.count seen)
+            (length self.now.items.now - self.now.stored) }
     {
         let modulus = self.miss.modulus(&self.shape);
         let count = u64::from(self.count);
@@ -127,14 +136,17 @@ impl<'a> NearPutter<'a> {
         let left = self.items.len().saturating_sub(self.stored) as u64;
         capacity
             .saturating_sub(distance(count, seen, modulus))
-            .min(left)
             .min(self.shape.batch())
+            .min(left)
     }
 
     // The scan gave this count: a put that finds room goes on, with its items or with its count.
     fn scanned(&mut self, seen: u64) -> Option<NearCall>
         requires { (put_stand self.old).in_call ≡ true }
-        ensures { PutterEnds self.old result self.new }
+        ensures ends { PutterEnds self.old result self.new }
+        ensures told { result ≡ room_told (min (room_seen self.old.miss self.old.shape self.old.count seen)
+            (length self.old.items.now - self.old.stored)) }
+        ensures goes_on { result ≡ None → self.new.stage ≡ first_stage self.old.miss }
     {
         let most = self.room_behind(seen);
         if most == 0 {
@@ -155,7 +167,12 @@ impl<'a> NearPutter<'a> {
     // A digit was written.
     fn stored_digit(&mut self, done: usize, digit: u8) -> Option<NearCall>
         requires { (put_stand self.old).in_call ≡ true }
-        ensures { PutterEnds self.old result self.new }
+        ensures ends { PutterEnds self.old result self.new }
+        ensures told { result ≡ (if nat_lt (digit + 1) (width_of self.old.shape) || nat_lt (done + 1) self.old.storing
+            then None else items_written_told self.old.miss self.old.storing) }
+        // With the last digit of the last item the count is next, if it is not written yet.
+        ensures goes_on { result ≡ None → width_of self.old.shape ≤ digit + 1 → self.old.storing ≤ done + 1 →
+            self.new.stage ≡ Counting }
     {
         if u64::from(digit) + 1 < self.shape.width() {
             self.stage = Stage::Storing(done, digit + 1);
@@ -174,7 +191,12 @@ impl<'a> NearPutter<'a> {
     // A bit of the count was written.
     fn counted(&mut self) -> Option<NearCall>
         requires { (put_stand self.old).in_call ≡ true }
-        ensures { PutterEnds self.old result self.new }
+        ensures ends { PutterEnds self.old result self.new }
+        // All bits of the count are written.
+        ensures told { IsSome result → (result ≡ count_written_told self.old.miss self.old.storing) ×
+            IsRowAccess P self.new.row.order self.new.row.bits self.new.row.value None }
+        ensures goes_on { result ≡ None → (self.new.stage ≡ Storing 0 0 × self.old.miss ≡ CountBeforeCell) ⊎
+            ((access : Access) × IsRowAccess P self.new.row.order self.new.row.bits self.new.row.value (Some access)) }
     {
         self.row.feed();
         if self.row.next().is_some() {
@@ -189,7 +211,9 @@ impl<'a> NearPutter<'a> {
 
     fn put_is_over(&mut self) -> Option<NearCall>
         requires { (put_stand self.old).in_call ≡ true }
-        ensures { PutterEnds self.old result self.new }
+        ensures ends { PutterEnds self.old result self.new }
+        ensures told { result ≡ Some (PutStored self.old.storing) }
+        ensures row { self.new.row ≡ self.old.row }
     {
         let stored = self.storing;
         self.count = self.row.value();
