@@ -1,5 +1,5 @@
 -- A play by a near miss, with one letter more.
-use Rattle.std.proofs.Common.{◌≡◌, ◌∙◌, inl, inr, ℕ, suc, ◌+◌, ◌≤◌, length, arith, Bool, true, false, Option, Some, None, List, [], ◌∷◌, ◌++◌, refl, ap, sym, subst, append_assoc, append-nil, ap₂, zero-add}
+use Rattle.std.proofs.Common.{◌≡◌, ◌⊎◌, ◌∙◌, inl, inr, ℕ, suc, ◌+◌, ◌≤◌, length, arith, Bool, true, false, Option, Some, None, List, [], ◌∷◌, ◌++◌, refl, ap, sym, subst, append_assoc, append-nil, ap₂, zero-add}
 use Rattle.std.specs.Prelude.{if◌then◌else◌, nat_lt, slice_get}
 use Rattle.std.proofs.lemmas.List.{length-append}
 use Rattle.bits_core.specs.Lawful.{IsLawful}
@@ -11,6 +11,7 @@ use Rattle.ring_player.specs.Actors.{IsAtTurn}
 use Rattle.ring_player.proofs.LawLemmas.{TurnsAreByInterval}
 use Rattle.ring_player.proofs.Moves.{by_side, not_by}
 use Rattle.ring_script.specs.Content.{Content}
+use Rattle.near_misses.specs.declared.misses.NearMiss.{NearMiss}
 use Rattle.near_misses.specs.declared.plays.NearWorld.{NearWorld}
 use Rattle.bits_core.specs.declared.events.Access.{Access}
 use Rattle.bits_core.specs.declared.events.Access.TheVariants.{Read, Write}
@@ -24,8 +25,11 @@ use Rattle.bits_core.specs.declared.events.Side.TheVariants.{P, C}
 use Rattle.bits_core.specs.Bits.{begun_access, begun_by, other}
 use Rattle.bits_core.specs.History.{open_access}
 use Rattle.bits_core.specs.Laws.{OpenChanges}
+use Rattle.near_misses.specs.Misses.{IsRowAccess}
+use Rattle.near_misses.specs.NearEnds.{IsToldByWrite}
+use Rattle.near_misses.specs.declared.rows.Order.{Order}
 use Rattle.near_misses.specs.NearPlays.{IsNearPlay, NearAsked, NearBegins, NearEnds, NearMakes, NearStand, NearStands, NearStep, NearStops, asked_by_script, items_told, near_stand_of, near_start, near_starts, near_stopped, with_digit, with_digit_read, with_near_stand, with_read}
-use Rattle.near_misses.specs.NearSides.{IsAskedToPut, IsAskedToTake, IsInOpenCall, IsNearReady, IsOpenDue, NearHas, NearMoves, items_untold, put_stand, take_stand, with_ended}
+use Rattle.near_misses.specs.NearSides.{IsAskedToPut, IsAskedToTake, IsInOpenCall, IsNearReady, IsOpenDue, IsToldAt, NearHas, NearMoves, items_untold, put_stand, take_stand, with_ended}
 use Rattle.ring_player.specs.Tellings.{listed}
 use Rattle.queue_calls.specs.declared.events.CallEvent.{CallEvent}
 use Rattle.queue_calls.specs.declared.events.CallEvent.TheVariants.{PutBegins, CloseBegins, TakeBegins, TakeItems, TakeEmpty, TakeClosed}
@@ -142,8 +146,8 @@ read_held asked v X n = omega arith
 step_held : (asked : NearAsked) (before : NearStand) (act : Act) (b : Bit) (t : Option (CallEvent ℕ ℕ)) (after : NearStand) → NearStep asked C before act b t after → HoldsMore before t after 1
 step_held asked before ReadBegin b t after step = omega (arith, begins_held asked before t after step)
 step_held asked before (WriteBegin v) b t after step = omega (arith, begins_held asked before t after step)
-step_held asked before (ReadEnd v) b t after step = omega (arith, ends_held asked (with_read asked C v b before) t after step, read_held asked v b before)
-step_held asked before WriteEnd b t after step = omega (arith, ends_held asked before t after step)
+step_held asked before (ReadEnd v) b t after (step, told) = omega (arith, ends_held asked (with_read asked C v b before) t after step, read_held asked v b before)
+step_held asked before WriteEnd b t after (step, told) = omega (arith, ends_held asked before t after step)
 
 pub moves_held : (asked : NearAsked) (h : List Event) (before : NearStand) (t : Option (CallEvent ℕ ℕ)) (after : List Event) (next : NearStand) → NearMoves asked C h before t after next
     → length (items_told t next.read) + items_untold next ≤ items_untold before + 1
@@ -238,6 +242,13 @@ pub put_unread : (asked : NearAsked) (access : Access) (v : Bool) (n : NearStand
 put_unread asked (Read b) v n = refl
 put_unread asked (Write b w) v n = refl
 
+-- a write of a bit of the consumer's count, which was due, tells nothing or the end of its take
+pub row_told : (miss : NearMiss) (order : Order) (bits : List Bool) (value : ℕ) (access : Access) (v : Bool) (told : Option (CallEvent ℕ ℕ)) (taken : ℕ) → IsRowAccess C order bits value (Some access)
+    → (told ≡ None) ⊎ (told ≡ Some (TakeItems taken)) → IsToldAt miss access v told
+row_told miss order bits value (Write b w) v told taken (i, is, due) (inl none) = subst (λ (x : Bit). IsToldByWrite miss x told) (sym is) (inl none)
+row_told miss order bits value (Write b w) v told taken (i, is, due) (inr some) = subst (λ (x : Bit). IsToldByWrite miss x told) (sym is) (inr (taken, some))
+row_told miss order bits value (Read b) v told taken x way = absurd x
+
 -- ---- at the begin and at the end
 
 none_opens : (s : Side) (h : List Event) (stand : NearStand) → h ≡ [] → IsInOpenCall s h stand
@@ -265,6 +276,7 @@ ready_at_first w shape room fresh put_is take_is =
       take_shape = take_is ∙ sym shape_is;
       put_open = none_opens P w.memory.events (put_stand w.putter) none;
       take_open = none_opens C w.memory.events (take_stand w.taker) none;
+      put_due = none_due _ P w.memory.events (ap (open_access P) none);
       take_due = none_due _ C w.memory.events (ap (open_access C) none);
     }
 
@@ -280,12 +292,12 @@ has_at_first told items w shape room asked oracle fresh untold untaken put_is ta
       turns = turns_begin (turn oracle) (tape_answer w.oracle) w.memory.events none same;
     }
 
-pub near_play : {E T I : Type 0} (told : T → List (CallEvent ℕ ℕ)) (items : I → List ℕ) (w : NearWorld E T I) (script : Content) (letters : List Side) (h : List Event) → TurnsAreByInterval
-    → w.memory.shape ≡ script.shape → h ≡ w.memory.events → IsLawful w.memory.shape w.memory.events → NearHas told items (asked_by_script script) letters script.oracle w
-    → IsNearPlay script letters h (told w.told) (items w.taken)
-near_play told items w script letters h law shape_is h_is lawful has =
+pub near_play : {E T I : Type 0} (told : T → List (CallEvent ℕ ℕ)) (items : I → List ℕ) (w : NearWorld E T I) (miss : NearMiss) (script : Content) (letters : List Side) (h : List Event) → TurnsAreByInterval
+    → w.memory.shape ≡ script.shape → h ≡ w.memory.events → IsLawful w.memory.shape w.memory.events → NearHas told items (asked_by_script miss script) letters script.oracle w
+    → IsNearPlay miss script letters h (told w.told) (items w.taken)
+near_play told items w miss script letters h law shape_is h_is lawful has =
     let lawful_here : IsLawful script.shape w.memory.events = subst (λ (s : Shape). IsLawful s w.memory.events) shape_is lawful in
-    subst (λ (x : List Event). IsNearPlay script letters x (told w.told) (items w.taken)) (sym h_is) (record {
+    subst (λ (x : List Event). IsNearPlay miss script letters x (told w.told) (items w.taken)) (sym h_is) (record {
       lawful = lawful_here;
       stands = _;
       made = has.made;

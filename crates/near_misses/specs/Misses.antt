@@ -1,5 +1,5 @@
 -- What the near misses do otherwise than a ring.
-use Rattle.std.specs.Prelude.{◌≡◌, ℕ, ◌+◌, ◌<◌, ◌≤◌, max, Bool, true, false, List, [], ◌∷◌, Option, Some, None, codes, if◌then◌else◌, slice_index_or}
+use Rattle.std.specs.Prelude.{◌≡◌, ℕ, ◌+◌, ◌<◌, ◌≤◌, max, Bool, true, false, List, [], ◌∷◌, Option, Some, None, codes, if◌then◌else◌, slice_index_or, slice_set}
 use Rattle.std.specs.Str.{bytes_eq}
 use Rattle.bits_core.specs.declared.events.Access.{Access}
 use Rattle.bits_core.specs.declared.events.Access.TheVariants.{Read, Write}
@@ -65,6 +65,15 @@ IsWriteDue order bits value (Some (i, false)) = (slice_index_or bits value false
 IsWriteDue order.TheVariants.ClearsFirst bits value (Some (i, true)) = (i ≡ value) × (slice_index_or bits value false ≡ false) × AreClear bits 0 value
 IsWriteDue order bits value (Some (i, true)) = (i ≡ value) × (slice_index_or bits value false ≡ false)
 IsWriteDue order bits value None = (slice_index_or bits value false ≡ true) × AreClear bits 0 value
+
+-- the bits of a row with this write, if any
+abbrev pub with_row_write : Option (ℕ × Bool) → List Bool → List Bool
+with_row_write None bits = bits
+with_row_write (Some (i, v)) bits = slice_set bits i v
+
+-- the write that was due has ended
+abbrev pub IsRowWritten : order.Order → (before : List Bool) → (value : ℕ) → (after : List Bool) → Type 0
+IsRowWritten order before value after = (due : Option (ℕ × Bool)) × IsWriteDue order before value due × (after ≡ with_row_write due before)
 
 -- the access that is due of a side's row: that write
 abbrev pub IsRowAccess : Side → order.Order → List Bool → (value : ℕ) → Option Access → Type 0

@@ -1,10 +1,12 @@
 -- What is told of a call of a near miss, and at which of its accesses.
-use Rattle.std.specs.Prelude.{ℕ, ◌-◌, min, Bool, true, false, ◌&&◌, nat_le, nat_lt, if◌then◌else◌, Option, Some, None}
+use Rattle.std.specs.Prelude.{◌≡◌, ◌⊎◌, ℕ, ◌-◌, min, Bool, true, false, ◌&&◌, nat_le, nat_lt, if◌then◌else◌, Option, Some, None}
+use Rattle.bits_core.specs.declared.events.Bit.{Bit}
+use Rattle.bits_core.specs.declared.events.Bit.TheVariants.{S, R, X, Cell}
 use Rattle.bits_core.specs.Shape.{batch_of, capacity_of}
 use Rattle.bits_core.specs.declared.shapes.Shape.{Shape}
 use Rattle.ring_core.specs.Counts.{distance}
 use Rattle.queue_calls.specs.declared.events.CallEvent.{CallEvent}
-use Rattle.queue_calls.specs.declared.events.CallEvent.TheVariants.{PutStored, PutFull, TakeEmpty, TakeClosed}
+use Rattle.queue_calls.specs.declared.events.CallEvent.TheVariants.{PutStored, PutFull, CloseEnds, TakeItems, TakeEmpty, TakeClosed}
 use Rattle.near_misses.specs.Misses.{near_modulus}
 use Rattle.near_misses.specs.declared.misses.NearMiss.{NearMiss}
 use Rattle.near_misses.specs.declared.misses.NearMiss.TheVariants.{CountBeforeCell, NoSecondScan}
@@ -14,6 +16,11 @@ use Rattle.near_misses.specs.declared.taking.Stage as taking
 -- both counts are below the number at which they go round
 abbrev pub are_both_counts : NearMiss → Shape → (count seen : ℕ) → Bool
 are_both_counts miss shape count seen = nat_lt seen (near_modulus miss shape) && nat_lt count (near_modulus miss shape)
+
+-- a take scans the producer's count, for the first time or again, and so many bits of it answered 0
+abbrev pub scan_stage : (again : Bool) → (zeros : ℕ) → taking.Stage
+scan_stage true zeros = taking.TheVariants.ScanningAgain zeros
+scan_stage false zeros = taking.TheVariants.Scanning zeros
 
 -- how many items a consumer with this count sees where it scans that one of the producer: as many as that is ahead, if the ring holds as many
 abbrev pub items_seen : NearMiss → Shape → (count seen : ℕ) → ℕ
@@ -54,3 +61,18 @@ items_written_told _ storing = None
 abbrev pub count_written_told : NearMiss → (storing : ℕ) → Option (CallEvent ℕ ℕ)
 count_written_told CountBeforeCell storing = None
 count_written_told _ storing = Some (PutStored storing)
+
+-- What is told at the end of a read of a bit with this value: of the close bit as above; a read of a count gives an end at most where it
+-- is 1, of a take that finds no item, or of a put that finds no room
+abbrev pub IsToldByRead : NearMiss → Bit → Bool → Option (CallEvent ℕ ℕ) → Type 0
+IsToldByRead miss X v told = told ≡ look_told miss v
+IsToldByRead miss (S i) v told = (told ≡ None) ⊎ ((v ≡ true) × (told ≡ Some TakeClosed))
+IsToldByRead miss (R i) v told = (told ≡ None) ⊎ ((v ≡ true) × (told ≡ Some PutFull))
+IsToldByRead miss (Cell j i) v told = told ≡ None
+
+-- and at the end of a write of a bit: the close with the close bit, items taken with a count, items stored with what the near miss writes last
+abbrev pub IsToldByWrite : NearMiss → Bit → Option (CallEvent ℕ ℕ) → Type 0
+IsToldByWrite miss X told = told ≡ Some CloseEnds
+IsToldByWrite miss (S i) told = (told ≡ None) ⊎ ((stored : ℕ) × (told ≡ count_written_told miss stored))
+IsToldByWrite miss (R i) told = (told ≡ None) ⊎ ((taken : ℕ) × (told ≡ Some (TakeItems taken)))
+IsToldByWrite miss (Cell j i) told = (told ≡ None) ⊎ ((stored : ℕ) × (told ≡ items_written_told miss stored))

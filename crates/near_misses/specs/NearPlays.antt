@@ -13,19 +13,22 @@ use Rattle.bits_core.specs.Shape.{take_batch_of, width_of}
 use Rattle.bits_core.specs.declared.shapes.Shape.{Shape}
 use Rattle.ring_player.specs.Plays.{AreInTurn}
 use Rattle.ring_player.specs.Tellings.{listed}
+use Rattle.near_misses.specs.NearEnds.{IsToldByRead, IsToldByWrite}
+use Rattle.near_misses.specs.declared.misses.NearMiss.{NearMiss}
 use Rattle.queue_calls.specs.declared.events.CallEvent.{CallEvent}
 use Rattle.queue_calls.specs.declared.events.CallEvent.TheVariants.{PutBegins, PutStored, PutFull, CloseBegins, CloseEnds, TakeBegins, TakeItems, TakeEmpty, TakeClosed}
 use Rattle.ring_script.specs.Content.{Content}
 
--- what a script asks for: so many items, so many takes, and a close, of a ring of this shape
+-- what a script asks for, and of which near miss: so many items, so many takes, and a close, of a ring of this shape
 pub record NearAsked : Type 0 where
+  pub miss : NearMiss
   pub items : ℕ
   pub takes : ℕ
   pub closes : Bool
   pub shape : Shape
 
-abbrev pub asked_by_script : Content → NearAsked
-asked_by_script script = record { items = length script.items; takes = script.takes; closes = script.closes; shape = script.shape }
+abbrev pub asked_by_script : NearMiss → Content → NearAsked
+asked_by_script miss script = record { miss = miss; items = length script.items; takes = script.takes; closes = script.closes; shape = script.shape }
 
 -- Where a side is: whether it is in a call, and has stopped in it; how many items its puts have stored, or how many of the script's takes
 -- its takes have used up; the items that the last take has read whole, and the item of the digits that it has read of the next; and
@@ -92,8 +95,8 @@ with_read asked s v b n = n
 abbrev pub NearStep : NearAsked → Side → NearStand → Act → Bit → Option (CallEvent ℕ ℕ) → NearStand → Type 0
 NearStep asked s before ReadBegin b told after = NearBegins asked s before told after
 NearStep asked s before (WriteBegin v) b told after = NearBegins asked s before told after
-NearStep asked s before (ReadEnd v) b told after = NearEnds asked s (with_read asked s v b before) told after
-NearStep asked s before WriteEnd b told after = NearEnds asked s before told after
+NearStep asked s before (ReadEnd v) b told after = NearEnds asked s (with_read asked s v b before) told after × IsToldByRead asked.miss b v told
+NearStep asked s before WriteEnd b told after = NearEnds asked s before told after × IsToldByWrite asked.miss b told
 
 -- the items that an event tells, of a take that has read these
 abbrev pub items_told : Option (CallEvent ℕ ℕ) → List ℕ → List ℕ
@@ -133,9 +136,9 @@ NearMakes asked n (s ∷ letters) h told taken after =
     × NearStep asked s (near_stand_of s n) e.act e.bit t next × NearMakes asked (with_near_stand s next n) letters later others further after)
     ⊎ (NearStops asked s (near_stand_of s n) × NearMakes asked (with_near_stand s (near_stopped (near_stand_of s n)) n) letters h told taken after)
 
--- a play of these letters by a near miss
-pub record IsNearPlay (script : Content) (letters : List Side) (h : List Event) (told : List (CallEvent ℕ ℕ)) (taken : List ℕ) : Type 0 where
+-- a play of these letters by this near miss
+pub record IsNearPlay (miss : NearMiss) (script : Content) (letters : List Side) (h : List Event) (told : List (CallEvent ℕ ℕ)) (taken : List ℕ) : Type 0 where
   pub lawful : IsLawful script.shape h
   pub stands : NearStands
-  pub made : NearMakes (asked_by_script script) near_starts letters h told taken stands
+  pub made : NearMakes (asked_by_script miss script) near_starts letters h told taken stands
   pub answers : AreInTurn script.oracle h

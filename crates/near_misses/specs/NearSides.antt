@@ -3,7 +3,7 @@ use Rattle.std.specs.Prelude.{◌≡◌, ◌⊎◌, ℕ, ◌+◌, ◌-◌, min, 
 use Rattle.bits_core.specs.declared.events.Access.{Access}
 use Rattle.bits_core.specs.declared.events.Access.TheVariants.{Read, Write}
 use Rattle.bits_core.specs.declared.events.Act.TheVariants.{ReadEnd, WriteEnd}
-use Rattle.bits_core.specs.declared.events.Bit.TheVariants.{Cell}
+use Rattle.bits_core.specs.declared.events.Bit.TheVariants.{S, R, X, Cell}
 use Rattle.bits_core.specs.declared.events.Event.{Event}
 use Rattle.bits_core.specs.declared.events.Side.{Side}
 use Rattle.bits_core.specs.declared.events.Side.TheVariants.{P, C}
@@ -11,6 +11,9 @@ use Rattle.bits_core.specs.History.{open_access}
 use Rattle.bits_core.specs.Oracle.{tape_answer, turn}
 use Rattle.bits_core.specs.Shape.{take_batch_of}
 use Rattle.near_misses.specs.NearPlays.{NearAsked, NearEnds, NearMakes, NearStand, NearStep, NearStops, near_starts, near_stopped, with_read}
+use Rattle.near_misses.specs.Misses.{IsRowAccess}
+use Rattle.near_misses.specs.NearEnds.{IsToldByRead, IsToldByWrite}
+use Rattle.near_misses.specs.declared.misses.NearMiss.{NearMiss}
 use Rattle.near_misses.specs.declared.plays.NearWorld.{NearWorld}
 use Rattle.near_misses.specs.declared.putting.NearPutter.{NearPutter}
 use Rattle.near_misses.specs.declared.putting.Stage as put
@@ -53,10 +56,10 @@ take_stand t = record { in_call = is_in_call (take_phase t.stage); stopped = t.s
 
 -- they were asked so much
 abbrev pub IsAskedToPut : NearPutter → NearAsked → Type 0
-IsAskedToPut p asked = (asked.items ≡ length p.items.now) × (asked.closes ≡ p.closes)
+IsAskedToPut p asked = (asked.miss ≡ p.miss) × (asked.items ≡ length p.items.now) × (asked.closes ≡ p.closes)
 
 abbrev pub IsAskedToTake : NearTaker → NearAsked → Type 0
-IsAskedToTake t asked = (asked.takes ≡ t.takes) × (asked.shape ≡ t.shape)
+IsAskedToTake t asked = (asked.miss ≡ t.miss) × (asked.takes ≡ t.takes) × (asked.shape ≡ t.shape)
 
 -- behind the end of an access of its call a side is asked what it was, and has told the end of the call, where it is one
 abbrev pub PutterEnds : NearPutter → Option (CallEvent ℕ ℕ) → NearPutter → Type 0
@@ -72,15 +75,6 @@ TakerEnds old told new =
 -- how many items the consumer's next take wants, or that under way
 abbrev pub taker_wants : NearTaker → ℕ
 taker_wants t = min (take_batch_of t.shape) (t.takes - t.used)
-
--- the digit of a cell that an access reads, and the one that a take reads next; none where it reads another bit, or writes
-abbrev pub digit_read : Access → Option ℕ
-digit_read (Read (Cell j i)) = Some i
-digit_read _ = None
-
-abbrev pub digit_due : taking.Stage → Option ℕ
-digit_due (taking.TheVariants.Reading digit) = Some digit
-digit_due _ = None
 
 -- an access ends with an answer: the event, and the side with what was read
 abbrev pub ended_event : Side → Access → Bool → Event
@@ -105,9 +99,32 @@ IsInOpenCall s h stand = (access : Access) → open_access s h ≡ Some access �
 abbrev pub IsOpenDue : Side → List Event → (Access → Type 0) → Type 0
 IsOpenDue s h due = (access : Access) → open_access s h ≡ Some access → due access
 
--- an access that reads a digit is due where the take reads it next, and any other where it reads none next
+-- the access that is due in a call under way, by how far it has come
+abbrev pub IsPutDue : NearPutter → put.Stage → Access → Type 0
+IsPutDue p (put.TheVariants.Scanning zeros) access = access ≡ Read (R zeros)
+IsPutDue p (put.TheVariants.Storing done digit) access = (cell : ℕ) × (v : Bool) × (access ≡ Write (Cell cell digit) v)
+IsPutDue p put.TheVariants.Counting access = IsRowAccess P p.row.order p.row.bits p.row.value (Some access)
+IsPutDue p put.TheVariants.Closing access = access ≡ Write X true
+IsPutDue p _ access = ⊥
+
+abbrev pub IsDueToPut : NearPutter → Access → Type 0
+IsDueToPut p = IsPutDue p p.stage
+
+abbrev pub IsTakeDue : NearTaker → taking.Stage → Access → Type 0
+IsTakeDue t (taking.TheVariants.Scanning zeros) access = access ≡ Read (S zeros)
+IsTakeDue t taking.TheVariants.Looking access = access ≡ Read X
+IsTakeDue t (taking.TheVariants.ScanningAgain zeros) access = access ≡ Read (S zeros)
+IsTakeDue t (taking.TheVariants.Reading digit) access = (cell : ℕ) × (access ≡ Read (Cell cell digit))
+IsTakeDue t taking.TheVariants.Counting access = IsRowAccess C t.row.order t.row.bits t.row.value (Some access)
+IsTakeDue t _ access = ⊥
+
 abbrev pub IsDueToTake : NearTaker → Access → Type 0
-IsDueToTake t access = digit_read access ≡ digit_due t.stage
+IsDueToTake t = IsTakeDue t t.stage
+
+-- what is told at the end of an access with an answer
+abbrev pub IsToldAt : NearMiss → Access → Bool → Option (CallEvent ℕ ℕ) → Type 0
+IsToldAt miss (Read b) v told = IsToldByRead miss b v told
+IsToldAt miss (Write b w) v told = IsToldByWrite miss b told
 
 -- how many items of a take under way are whole
 abbrev pub items_untold : NearStand → ℕ
@@ -123,6 +140,7 @@ pub record IsNearReady {E T I : Type 0} (w : NearWorld E T I) : Type 0 where
   pub take_shape : w.taker.shape ≡ w.memory.shape
   pub put_open : IsInOpenCall P w.memory.events (put_stand w.putter)
   pub take_open : IsInOpenCall C w.memory.events (take_stand w.taker)
+  pub put_due : IsOpenDue P w.memory.events (IsDueToPut w.putter)
   pub take_due : IsOpenDue C w.memory.events (IsDueToTake w.taker)
 
 -- These letters have made what both sides have done, with what the lists of what is told and of what is taken have, and the oracle goes

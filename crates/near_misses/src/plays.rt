@@ -291,8 +291,8 @@ pub fn play_near<A: Allocator + Copy, B: Allocator>(
     miss: NearMiss,
     script: &Script<B>,
 ) -> Result<NearPlay<Vec<Event, A>, Vec<NearCall, A>, Vec<u64, A>>, NearFault>
-    ensures plays { IfOk result (λ play. IsNearPlay script.now script.now.letters play.history.items play.told.items
-        play.taken.items) }
+    ensures plays { IfOk result (λ play. IsNearPlay miss script.now script.now.letters play.history.items
+        play.told.items play.taken.items) }
     ensures of_shape { IfOk result (λ play. AreOfShape script.now.shape play.history.items) }
 {
     let letters = script.len();
@@ -323,7 +323,7 @@ pub fn play_near_first<E: Store<Event>, T: Store<NearCall>, I: Store<u64>>(
     requires no_events { E.items events ≡ [] }
     requires none_told { T.items told ≡ [] }
     requires none_taken { I.items taken ≡ [] }
-    ensures plays { IfOk result (λ play. IsNearPlay (content_of script.entry)
+    ensures plays { IfOk result (λ play. IsNearPlay miss (content_of script.entry)
         (take letters (content_of script.entry).letters) (E.items play.history) (T.items play.told)
         (I.items play.taken)) }
     ensures of_shape { IfOk result (λ play. AreOfShape (content_of script.entry).shape (E.items play.history)) }

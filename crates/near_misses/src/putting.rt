@@ -1,5 +1,5 @@
 //! The producer of a near miss.
-ghost use Rattle.std.specs.Prelude.{◌≡◌, ◌⊎◌, ◌||◌, ℕ, ◌+◌, ◌-◌, ◌≤◌, true, IsSome, None, Some, if◌then◌else◌, length, min, nat_lt};
+ghost use Rattle.std.specs.Prelude.{◌≡◌, ◌⊎◌, ◌||◌, ℕ, ◌+◌, ◌-◌, ◌≤◌, Bool, true, IsSome, None, Some, if◌then◌else◌, length, min, nat_lt};
 ghost use Rattle.bits_core.specs.declared.events.Side.TheVariants.{P};
 ghost use Rattle.near_misses.specs.Misses.{order_of};
 
@@ -51,14 +51,15 @@ impl<'a> NearPutter<'a> {
     ghost use Rattle.near_misses.specs.Misses.{IsRowAccess};
     ghost use Rattle.near_misses.specs.NearEnds.{count_written_told, first_stage, items_written_told, room_seen, room_told};
     ghost use Rattle.near_misses.specs.NearPlays.{NearAsked, near_start};
-    ghost use Rattle.near_misses.specs.NearSides.{IsAskedToPut, PutterEnds, put_stand};
+    ghost use Rattle.near_misses.specs.NearSides.{IsAskedToPut, IsDueToPut, IsToldAt, PutterEnds, put_stand};
     ghost use Rattle.near_misses.specs.declared.misses.NearMiss.TheVariants.{CountBeforeCell};
     ghost use Rattle.near_misses.specs.declared.putting.Stage.TheVariants.{Counting, Storing};
     ghost use Rattle.queue_calls.specs.declared.events.CallEvent.TheVariants.{PutStored};
 
     pub fn new(miss: NearMiss, shape: Shape, items: &'a [u64], closes: bool) -> Self
         ensures starts { put_stand result ≡ near_start }
-        ensures asked { (asked : NearAsked) → asked.items ≡ length items.entry.now → asked.closes ≡ closes →
+        ensures asked { (asked : NearAsked) → asked.miss ≡ miss → asked.items ≡ length items.entry.now →
+            asked.closes ≡ closes →
             IsAskedToPut result asked }
         ensures shape { result.shape ≡ shape }
     {
@@ -77,7 +78,9 @@ impl<'a> NearPutter<'a> {
     }
 
     // The write of a digit of an item to its cell, behind so many of the put.
-    fn digit_write(&self, done: usize, digit: u8) -> Access {
+    fn digit_write(&self, done: usize, digit: u8) -> Access
+        ensures { (cell : ℕ) × (value : Bool) × (result ≡ Access.Write (Bit.Cell cell digit) value) }
+    {
         let number = self.stored.saturating_add(done);
         let cell = number as u64 % self.shape.capacity();
         let item = self.items.get(number).copied().unwrap_or(0);
@@ -85,10 +88,12 @@ impl<'a> NearPutter<'a> {
         Access::Write(Bit::Cell(cell as u8, digit), value)
     }
 
-    // The access that was due has ended with this answer. Tells the end of a call, where it is one.
-    fn ended(&mut self, answer: bool) -> Option<NearCall>
-        requires { (put_stand self.old).in_call ≡ true }
-        ensures { PutterEnds self.old result self.new }
+    // This access, which was due, has ended with this answer. Tells the end of a call, where it is one.
+    fn ended(&mut self, _access: Access, answer: bool) -> Option<NearCall>
+        requires in_call { (put_stand self.old).in_call ≡ true }
+        requires due { IsDueToPut self.old _access }
+        ensures ends { PutterEnds self.old result self.new }
+        ensures told { IsToldAt self.old.miss _access answer result }
     {
         match self.stage {
             Stage::Between | Stage::Over | Stage::Stuck => None,
@@ -227,7 +232,7 @@ impl<'a> NearPutter<'a> {
 impl NearSide for NearPutter<'_> {
     ghost use Rattle.std.specs.Prelude.{◌≡◌};
     ghost use Rattle.near_misses.specs.declared.putting.Stage.TheVariants.{Between};
-    ghost use Rattle.near_misses.specs.NearSides.{IsAskedToPut, put_stand};
+    ghost use Rattle.near_misses.specs.NearSides.{IsAskedToPut, IsDueToPut, put_stand};
 
     ghost side = { λ _. P };
 
@@ -237,7 +242,7 @@ impl NearSide for NearPutter<'_> {
 
     ghost asked = { IsAskedToPut };
 
-    ghost due = { λ _ _. Unit {0} };
+    ghost due = { IsDueToPut };
 
     ghost between = { λ p. p.stage ≡ Between };
 
@@ -275,7 +280,7 @@ impl NearSide for NearPutter<'_> {
         self.stopped = self.stopped || !matches!(self.stage, Stage::Between | Stage::Over);
     }
 
-    fn end(&mut self, _access: Access, answer: bool) -> Option<NearCall> {
-        self.ended(answer)
+    fn end(&mut self, access: Access, answer: bool) -> Option<NearCall> {
+        self.ended(access, answer)
     }
 }

@@ -1,7 +1,7 @@
 //! The count that a side writes, and that it scans.
-ghost use Rattle.std.specs.Prelude.{◌≡◌, true, if◌then◌else◌, IfNone, IfSome, None, Some};
-ghost use Rattle.near_misses.specs.Misses.{AreClear, IsClearedNext, IsHighestSet, IsLowestSet, IsRowAccess, IsWriteDue, order_of};
-ghost use Rattle.near_misses.specs.NearSides.{digit_read};
+ghost use Rattle.std.specs.Prelude.{◌≡◌, ◌∷◌, true, false, if◌then◌else◌, replicate, IfNone, IfSome, None, Some};
+ghost use Rattle.bits_core.specs.Bits.{other};
+ghost use Rattle.near_misses.specs.Misses.{AreClear, IsRowWritten, IsClearedNext, IsHighestSet, IsLowestSet, IsRowAccess, IsWriteDue, order_of};
 ghost use Rattle.register_core.specs.Row.{row_bit};
 
 use crate::misses::NearMiss;
@@ -19,7 +19,7 @@ pub fn row_bit(side: Side, i: u8) -> Bit
 
 // Bit i of the count that it reads: the other side's.
 pub fn read_bit(side: Side, i: u8) -> Bit
-    ensures { digit_read (Access.Read result) ≡ None }
+    ensures { result ≡ row_bit (other side) i }
 {
     match side {
         Side::P => Bit::R(i),
@@ -91,7 +91,8 @@ pub(crate) struct NearRow {
 impl NearRow {
     /// A row that shows 0: its bit 0 is set.
     pub fn new(side: Side, order: Order) -> NearRow
-        ensures { (result.side ≡ side) × (result.order ≡ order) }
+        ensures kept { (result.side ≡ side) × (result.order ≡ order) }
+        ensures shows { (result.bits ≡ true ∷ replicate 255 false) × (result.value ≡ 0) }
     {
         let mut bits = [false; 256];
         bits[0] = true;
@@ -159,8 +160,7 @@ impl NearRow {
 
     /// The access that is due, and none once the row shows the value.
     pub fn next(&self) -> Option<Access>
-        ensures write { IsRowAccess self.now.side self.now.order self.now.bits self.now.value result }
-        ensures no_digit { IfSome result (λ access. digit_read access ≡ None) }
+        ensures { IsRowAccess self.now.side self.now.order self.now.bits self.now.value result }
     {
         let (bit, value) = self.due()?;
         Some(Access::Write(row_bit(self.side, bit), value))
@@ -168,7 +168,9 @@ impl NearRow {
 
     /// The access that was due has ended.
     pub fn feed(&mut self)
-        ensures { (self.new.side ≡ self.old.side) × (self.new.order ≡ self.old.order) × (self.new.value ≡ self.old.value) }
+        ensures same { (self.new.side ≡ self.old.side) × (self.new.order ≡ self.old.order) ×
+            (self.new.value ≡ self.old.value) }
+        ensures written { IsRowWritten self.old.order self.old.bits self.old.value self.new.bits }
     {
         match self.due() {
             Some((bit, value)) => self.bits[bit as usize] = value,

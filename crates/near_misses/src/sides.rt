@@ -10,7 +10,7 @@ pub(crate) trait NearSide {
     ghost use Rattle.bits_core.specs.declared.shapes.Shape.{Shape};
     ghost use Rattle.bits_core.specs.Open.{IsOpenRight};
     ghost use Rattle.near_misses.specs.NearPlays.{NearAsked, NearBegins, NearEnds, NearStand, NearStops, near_stopped};
-    ghost use Rattle.near_misses.specs.NearSides.{with_ended};
+    ghost use Rattle.near_misses.specs.NearSides.{IsToldAt, with_ended};
 
     ghost side: { Self → Side };
 
@@ -64,5 +64,6 @@ pub(crate) trait NearSide {
         ensures asked { (a : NearAsked) → asked self.old a → asked self.new a }
         ensures ends { (a : NearAsked) → asked self.old a →
             NearEnds a (side self.old) (with_ended a (side self.old) access answer (stand self.old)) result
-            (stand self.new) };
+            (stand self.new) }
+        ensures told { (a : NearAsked) → asked self.old a → IsToldAt a.miss access answer result };
 }

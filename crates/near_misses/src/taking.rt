@@ -1,5 +1,5 @@
 //! The consumer of a near miss.
-ghost use Rattle.std.specs.Prelude.{◌≡◌, ◌≤◌, ◌<◌, ◌+◌, ◌-◌, ◌++◌, ◌∷◌, [], ℕ, List, true, IsSome, None, Some, if◌then◌else◌, length, min, take};
+ghost use Rattle.std.specs.Prelude.{◌≡◌, ◌⊎◌, ◌≤◌, ◌<◌, ◌+◌, ◌-◌, ◌++◌, ◌∷◌, [], ℕ, List, true, IsSome, None, Some, false, nat_lt, if◌then◌else◌, length, min, take};
 ghost use Rattle.bits_core.specs.Shape.{take_batch_of};
 ghost use Rattle.bits_core.specs.declared.events.Side.TheVariants.{C};
 ghost use Rattle.near_misses.specs.Misses.{order_of};
@@ -78,17 +78,19 @@ pub(crate) struct NearTaker {
 }
 
 impl NearTaker {
-    ghost use Rattle.bits_core.specs.Shape.{width_of};
-    ghost use Rattle.near_misses.specs.declared.taking.Stage.TheVariants.{Counting, Reading, ScanningAgain};
+    ghost use Rattle.bits_core.specs.Shape.{modulus_of, width_of};
+    ghost use Rattle.near_misses.specs.declared.taking.Stage.TheVariants.{Counting, Looking, Reading, ScanningAgain, Stuck};
     ghost use Rattle.bits_core.specs.declared.events.Access.{Access};
     ghost use Rattle.near_misses.specs.Misses.{IsRowAccess};
-    ghost use Rattle.near_misses.specs.NearEnds.{items_seen, look_told, scan_told, stage_after_scan};
+    ghost use Rattle.near_misses.specs.NearEnds.{items_seen, look_told, scan_stage, scan_told, stage_after_scan};
     ghost use Rattle.near_misses.specs.NearPlays.{NearAsked, near_start, with_digit_read};
+    ghost use Rattle.queue_calls.specs.declared.events.CallEvent.TheVariants.{TakeItems};
     ghost use Rattle.near_misses.specs.NearSides.{IsAskedToTake, TakerEnds, take_stand, taker_wants};
 
     pub fn new(miss: NearMiss, shape: Shape, takes: u64) -> Self
         ensures starts { take_stand result ≡ near_start }
-        ensures asked { (asked : NearAsked) → asked.takes ≡ takes → asked.shape ≡ shape → IsAskedToTake result asked }
+        ensures asked { (asked : NearAsked) → asked.miss ≡ miss → asked.takes ≡ takes → asked.shape ≡ shape →
+            IsAskedToTake result asked }
         ensures shape { result.shape ≡ shape }
     {
         NearTaker {
@@ -128,11 +130,14 @@ impl NearTaker {
 
     // A bit of the producer's count was read. (A scan that reads 0 to the last bit gives no count, and the side stops.)
     fn scan_ends(&mut self, zeros: u8, answer: bool, again: bool) -> Option<NearCall>
-        requires in_take { (take_stand self.old).in_call ≡ true }
+        requires scan { self.old.stage ≡ scan_stage again zeros }
         requires none { (self.old.whole ≡ 0) × (1 ≤ taker_wants self.old) }
         ensures ends { TakerEnds self.old result self.new }
-        ensures told { result ≡ (if answer then scan_told (min (items_seen self.old.miss self.old.shape self.old.count zeros)
-            (taker_wants self.old)) again else None) }
+        ensures told { result ≡ (if answer then scan_told (min (items_seen self.old.miss self.old.shape
+            self.old.count zeros) (taker_wants self.old)) again else None) }
+        // After a 0 the next bit is read, by the same scan, or the side is stuck.
+        ensures goes_on { answer ≡ false → self.new.stage ≡ (if nat_lt (zeros + 1) (modulus_of self.old.shape)
+            then scan_stage again (zeros + 1) else Stuck) }
     {
         if answer {
             return self.scanned(u64::from(zeros), again);
@@ -171,8 +176,8 @@ impl NearTaker {
         ensures ends { TakerEnds self.old result self.new }
         ensures told { result ≡ scan_told (min (items_seen self.old.miss self.old.shape self.old.count seen)
             (taker_wants self.old)) again }
-        ensures goes_on { self.new.stage ≡ stage_after_scan (min (items_seen self.old.miss self.old.shape self.old.count seen)
-            (taker_wants self.old)) again }
+        ensures goes_on { self.new.stage ≡ stage_after_scan (min (items_seen self.old.miss self.old.shape
+            self.old.count seen) (taker_wants self.old)) again }
     {
         let most = self.shown(seen);
         if most > 0 {
@@ -192,7 +197,7 @@ impl NearTaker {
 
     // The close bit was read.
     fn looked(&mut self, closed: bool) -> Option<NearCall>
-        requires in_take { (take_stand self.old).in_call ≡ true }
+        requires look { self.old.stage ≡ Looking }
         requires none { (self.old.whole ≡ 0) × (1 ≤ taker_wants self.old) }
         ensures ends { TakerEnds self.old result self.new }
         ensures told { result ≡ look_told self.old.miss closed }
@@ -240,8 +245,9 @@ impl NearTaker {
     fn counted(&mut self) -> Option<NearCall>
         requires { self.old.stage ≡ Counting }
         ensures ends { TakerEnds self.old result self.new }
+        ensures told { (result ≡ None) ⊎ (result ≡ Some (TakeItems self.old.whole)) }
         // All bits of the count are written.
-        ensures told { IsSome result → IsRowAccess C self.new.row.order self.new.row.bits self.new.row.value None }
+        ensures shown { IsSome result → IsRowAccess C self.new.row.order self.new.row.bits self.new.row.value None }
         ensures goes_on { result ≡ None → (access : Access) × IsRowAccess C self.new.row.order self.new.row.bits
             self.new.row.value (Some access) }
     {

@@ -59,7 +59,7 @@ pub record TellsNearLetters (miss : NearMiss) (script : Content) (letters : ℕ)
   pub history : List Event
   pub calls : List (CallEvent ℕ ℕ)
   pub taken : List ℕ
-  pub plays : IsNearPlay script (take letters script.letters) history calls taken
+  pub plays : IsNearPlay miss script (take letters script.letters) history calls taken
   pub are_marks : AreMarksOf history (length history) marks
   pub fills : map said_in (take (length calls) tellings) ≡ map said_by (take (length tellings) calls)
   pub fills_items : Fills taken items

@@ -117,10 +117,10 @@ ShowsPlay (shown.Calls None) script text =
     (history : List Event) × IsPlayOf script script.letters history × (told : List (CallEvent ℕ TakenItems))
     × RecordsPlay script history told × IsRecording text (exactly (capacity_of script.shape)) (call_events script told)
 ShowsPlay (shown.Trace (Some miss)) script text =
-    (history : List Event) × (told : List (CallEvent ℕ ℕ)) × (taken : List ℕ) × IsNearPlay script script.letters history told taken
+    (history : List Event) × (told : List (CallEvent ℕ ℕ)) × (taken : List ℕ) × IsNearPlay miss script script.letters history told taken
     × IsTraceText text script.shape history
 ShowsPlay (shown.Calls (Some miss)) script text =
-    (history : List Event) × (told : List (CallEvent ℕ ℕ)) × (taken : List ℕ) × IsNearPlay script script.letters history told taken
+    (history : List Event) × (told : List (CallEvent ℕ ℕ)) × (taken : List ℕ) × IsNearPlay miss script script.letters history told taken
     × (text ≡ told_text_of script (near_calls script taken told))
 
 -- the input is a script, and the text is that of its play

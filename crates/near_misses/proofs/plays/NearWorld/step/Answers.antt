@@ -11,14 +11,15 @@ use Rattle.near_misses.proofs.plays.NearWorld.step.Goals as goal
 pub returns-in_ok-tell-in-P-clause-ready : goal.returns-in_ok-tell-in-P-clause-ready
 returns-in_ok-tell-in-P-clause-ready g c =
     let w = c.args.self.now in
-    let asked : NearAsked = record { items = length w.putter.items.now; takes = 0; closes = w.putter.closes; shape = w.putter.shape } in
-    let moves = c.in_ok-event-in-P.ensures.moves asked (refl, refl) in
+    let asked : NearAsked = record { miss = w.putter.miss; items = length w.putter.items.now; takes = 0; closes = w.putter.closes; shape = w.putter.shape } in
+    let moves = c.in_ok-event-in-P.ensures.moves asked (refl, refl, refl) in
     let opened = both_open open_changes asked P w.memory.events (stands_of w) _ _ _ refl moves c.requires.put_open c.requires.take_open in
     record {
       put_shape = c.in_ok-event-in-P.ensures.side.1;
       take_shape = c.requires.take_shape ∙ sym c.in_ok-event-in-P.ensures.shape;
       put_open = opened.0;
       take_open = opened.1;
+      put_due = c.in_ok-event-in-P.ensures.due;
       take_due = other_due _ open_changes asked P w.memory.events _ _ _ _ moves c.requires.take_due;
     }
 
@@ -31,14 +32,15 @@ returns-in_ok-tell-in-P-clause-has g c = rw c.in-P.is (λ asked letters oracle h
 pub returns-in_ok-keep-in-C-clause-ready : goal.returns-in_ok-keep-in-C-clause-ready
 returns-in_ok-keep-in-C-clause-ready g c =
     let w = c.args.self.now in
-    let asked : NearAsked = record { items = 0; takes = w.taker.takes; closes = false; shape = w.taker.shape } in
-    let moves = c.in_ok-event-in-C.ensures.moves asked (refl, refl) in
+    let asked : NearAsked = record { miss = w.taker.miss; items = 0; takes = w.taker.takes; closes = false; shape = w.taker.shape } in
+    let moves = c.in_ok-event-in-C.ensures.moves asked (refl, refl, refl) in
     let opened = both_open open_changes asked C w.memory.events (stands_of w) _ _ _ refl moves c.requires.put_open c.requires.take_open in
     record {
       put_shape = c.requires.put_shape ∙ sym c.in_ok-event-in-C.ensures.shape;
       take_shape = c.in_ok-event-in-C.ensures.side.1;
       put_open = opened.0;
       take_open = opened.1;
+      put_due = other_due _ open_changes asked C w.memory.events _ _ _ _ moves c.requires.put_due;
       take_due = c.in_ok-event-in-C.ensures.due;
     }
 
@@ -51,15 +53,15 @@ returns-in_ok-keep-in-C-clause-has g c = rw c.in-C.is (λ asked letters oracle h
 pub returns-in_err-keep-in-C-clause-full : goal.returns-in_err-keep-in-C-clause-full
 returns-in_err-keep-in-C-clause-full g c =
     let w = c.args.self.now in
-    let asked : NearAsked = record { items = 0; takes = w.taker.takes; closes = false; shape = w.taker.shape } in
-    let held = moves_held asked w.memory.events (take_stand w.taker) c.in_ok-event-in-C.event _ _ (c.in_ok-event-in-C.ensures.moves asked (refl, refl)) in
+    let asked : NearAsked = record { miss = w.taker.miss; items = 0; takes = w.taker.takes; closes = false; shape = w.taker.shape } in
+    let held = moves_held asked w.memory.events (take_stand w.taker) c.in_ok-event-in-C.event _ _ (c.in_ok-event-in-C.ensures.moves asked (refl, refl, refl)) in
     on_err _ (inr (inr (omega (arith, held, c.in_err-keep-in-C.ensures.full, ap (λ l. length (items_told c.in_ok-event-in-C.event l)) c.items.ensures))))
 
 pub returns-in_ok-keep-in-C-clause-few : goal.returns-in_ok-keep-in-C-clause-few
 returns-in_ok-keep-in-C-clause-few g c =
     let w = c.args.self.now in
-    let asked : NearAsked = record { items = 0; takes = w.taker.takes; closes = false; shape = w.taker.shape } in
-    let held = moves_held asked w.memory.events (take_stand w.taker) c.in_ok-event-in-C.event _ _ (c.in_ok-event-in-C.ensures.moves asked (refl, refl)) in
+    let asked : NearAsked = record { miss = w.taker.miss; items = 0; takes = w.taker.takes; closes = false; shape = w.taker.shape } in
+    let held = moves_held asked w.memory.events (take_stand w.taker) c.in_ok-event-in-C.event _ _ (c.in_ok-event-in-C.ensures.moves asked (refl, refl, refl)) in
     let longer = ap length c.in_ok-keep-in-C.ensures.taken ∙ length-append (g.I.Store.items w.taken) _ in (
       c.in_ok-event-in-C.ensures.few,
       c.in_ok-tell-in-C.ensures.few,

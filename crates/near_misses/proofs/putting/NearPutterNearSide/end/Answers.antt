@@ -7,4 +7,4 @@ use Rattle.near_misses.proofs.putting.NearPutterNearSide.end.Goals as goal
 
 pub returns-clause-ends : goal.returns-clause-ends
 returns-clause-ends c asked is =
-    subst (λ (n : NearStand). NearEnds asked P n c.ended.result (put_stand c.ended.new.self)) (sym (put_unread asked c.args._access c.args.answer (put_stand c.args.self.now))) (c.ended.ensures.2 asked is)
+    subst (λ (n : NearStand). NearEnds asked P n c.ended.result (put_stand c.ended.new.self)) (sym (put_unread asked c.args.access c.args.answer (put_stand c.args.self.now))) (c.ended.ensures.ends.2 asked is)
