@@ -242,16 +242,20 @@ static int tell_not_the_same(void) {
 /* ---- a run that does not end well ---- */
 
 /* Stops where the test crashes, or where a run does not end: a wait that is not modelled, a loop without any access. */
-static void on_signal(int number) {
+static void on_signal(int number, siginfo_t *info, void *context) {
     static char words[128];
+    (void)info;
     if (number == SIGALRM && goes_on()) return;
     const bool was_on = run.on;
+    if (number != SIGALRM && number != SIGABRT) crashed_at = (const char *)((ucontext_t *)context)->uc_mcontext.gregs[REG_RIP] + 1;
     run.on = arena.on = false;
     if (number == SIGALRM) snprintf(words, sizeof words, "hangs: the %s does not come to its next step", name_of_side[now]);
     else snprintf(words, sizeof words, "crash: %s, in the %s", strsignal(number), was_on ? name_of_side[now] : "reset");
     if (was_on) {
         /* (steps that were learned in this run are none of its plan) */
-        if (number != SIGALRM && !run.learned && !comes_again(sign_of_run(number))) { tell_not_the_same(); _exit(2); }
+        if (replay.on && !crashed_at) settle_trace();
+        if (replay.on) tell_trace(&rec);
+        else if (number != SIGALRM && !run.learned && !comes_again(sign_of_run(number))) { tell_not_the_same(); _exit(2); }
         ring_audit_judge(&audit, &rec, test.head);
         audit.found.line = 0;
         tell_finding(words);
@@ -262,13 +266,17 @@ static void on_signal(int number) {
     _exit(4);
 }
 
-static void watch(void) {
+static void watch_signals(void) {
     static char stack[1 << 16];
     stack_t there = { .ss_sp = stack, .ss_size = sizeof stack };
-    struct sigaction action = { .sa_handler = on_signal, .sa_flags = SA_ONSTACK | SA_RESTART };
+    struct sigaction action = { .sa_sigaction = on_signal, .sa_flags = SA_SIGINFO | SA_ONSTACK | SA_RESTART };
     const int numbers[] = { SIGSEGV, SIGBUS, SIGFPE, SIGILL, SIGABRT, SIGALRM };
     sigaltstack(&there, NULL);
     for (size_t i = 0; i < sizeof numbers / sizeof *numbers; i++) sigaction(numbers[i], &action, NULL);
+}
+
+static void watch(void) {
+    watch_signals();
     const struct itimerval often = { { 5, 0 }, { 5, 0 } };
     setitimer(ITIMER_REAL, &often, NULL);
 }
@@ -447,14 +455,17 @@ static void tell_how_many(bool stopped) {
             printf("part %llu of %llu; what is shared has the sum %08x in each part, else all are to be made again with what EXPLORE_KNOWN kept\n",
                    (unsigned long long)option.part, (unsigned long long)option.parts, sum_of_known());
         }
-        if (result.time_is_over) printf("not all: the time was over at those with %llu choices\n", (unsigned long long)result.level);
+        if (result.time_is_over) {
+            printf("not all: the time was over at those with %llu choice%s (EXPLORE_SECONDS)\n", (unsigned long long)result.level, result.level == 1 ? "" : "s");
+        }
     }
     if (result.cut) printf("%s of them were cut, after %s steps or where the log was full\n", grouped(result.cut), grouped(limit_steps));
 }
 
 /* What is said where nothing was found. */
 static void tell_what_it_means(void) {
-    printf("This holds of this test, and %s, within this bound; ", may_be_older ? "of what C11 lets a load find" : "of sequentially consistent executions alone");
+    const char *what = result.time_is_over ? "the executions that were made" : option.parts > 1 ? "this part of the executions" : "this test";
+    printf("This holds of %s, and %s, within this bound; ", what, may_be_older ? "of what C11 lets a load find" : "of sequentially consistent executions alone");
     printf("%s\n", races_on ? "no data race was seen." : "data races were not looked for.");
 }
 
@@ -492,12 +503,14 @@ static void tell_all(void) {
 static int play_again(void) {
     limit_steps = MOST_STEPS;
     replay.until = replay.accesses[0];
+    watch_signals();                                /* (no timer: a debugger may stop the run for as long as it likes) */
     make_run();
     tell_trace(&rec);
     if (run.end == MISFIT) {
         fprintf(stderr, "explore: the schedule is none of this test\n");
         return 2;
     }
+    tell_choices_not_made();
     result.status = 0;
     if (judge_run() == GO_ON) printf("lawful\n");
     tell_handing_over();

@@ -101,7 +101,7 @@ class Tries:
                 continue  # its memcpy and its free are the sanitizer's
             status, printed = self.explore(f"$ROOM/{name} {way}", KEEP=f"{os.environ['ROOM']}/kept.calls")
             self.check(f"{name} {way}", status == want and re.search(words, printed, re.M), (status, printed[-2000:]))
-            if status in (3, 4) and "sanitized" not in name and printed.startswith(("fault", "wait", "both", "hang")):
+            if status in (3, 4) and "sanitized" not in name and printed.startswith(("fault", "wait", "both", "hang", "crash")):
                 self.check(f"{name} {way}: again", self.is_played_again(f"$ROOM/{name} {way}", printed), printed)
 
     def refused(self):

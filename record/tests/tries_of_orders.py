@@ -131,7 +131,18 @@ class Orders:
         self.check("explore: several sizes", status == 0 and re.search(r"(?m)^of (slot\S* ?)+,?.* not all older values are tried: ", printed), (status, printed))
         status, printed = self.explore("broken/orders.c -- -DBUG=1", "--paths")
         self.check("explore --paths", status == 3 and f" finds at {self.here}/broken/orders.h:" in printed, (status, printed))
-        for words, wanted in (("--jobs 0 x.c", "--jobs needs a number from 1"), ("--bound x x.c", "invalid int value: 'x'"), ("--what x.c", "--what")):
+        status, printed = self.explore("broken/orders.c -- -DBUG=14", "", SCHEDULE="P14 C P4:fail C9:old2")
+        good = status == 3 and "C9:old2 is no choice of this test" in printed and "P4:fail is no" not in printed
+        self.check("explore: a choice of a schedule that is none", good, (status, printed))
+        status, printed = self.explore("broken/orders.c -- -DFORM=7", "--orders")
+        self.check("explore --orders: never reached", status == 0 and "\nnever reached: full, empty\n" in printed, (status, printed))
+        status, printed = self.explore("broken/orders.c -- -DFORM=7", "--part 1/4")
+        self.check("explore --part", status == 0 and "This holds of this part of the executions, " in printed, (status, printed))
+        status, printed = self.explore("broken/orders.c -- -DFORM=7", "--jobs 4")
+        self.check("explore --jobs: what it means", status == 0 and "This holds of this test, " in printed, (status, printed))
+        for words, wanted in (("--jobs 0 x.c", "--jobs needs a number from 1"), ("--bound x x.c", "invalid int value: 'x'"), ("--what x.c", "--what"),
+                              ("--jobs 2 --part 1/2 x.c", "it goes without --part"), ("--orders --jobs 2 x.c", "--orders goes without --jobs"),
+                              ("--junit /nowhere/x.xml tests/late.c", "explore: /nowhere/x.xml: No such file or directory")):
             status, printed = self.explore(words)
             self.check(f"explore {words}", status == 2 and wanted in printed, (status, printed))
 

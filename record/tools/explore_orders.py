@@ -13,6 +13,8 @@ import subprocess
 import sys
 import time
 
+import explore_parts
+
 # As weak as this one or weaker.
 WEAKER = {"relaxed": {"relaxed"}, "acquire": {"relaxed", "acquire"}, "release": {"relaxed", "release"},
           "acq_rel": {"relaxed", "acquire", "release", "acq_rel"}, "seq_cst": {"relaxed", "acquire", "release", "acq_rel", "seq_cst"}}
@@ -36,7 +38,7 @@ def name_of(order, what):
 
 def short(words):
     """A finding without what its schedule shows: `data race at slot+8 (my.c:10 and my.c:13)`."""
-    race = re.match(r"(data race|use after free): .*? at (\S+) \((.*?)\), which .*? \((.*?)\)", words)
+    race = re.match(r"(data race|use after free): .*? at (\S+|block \S+|the stack of the \S+) \((.*?)\), which .*? \((.*?)\)", words)
     return f"{race[1]} at {race[2]} ({race[3]}, {race[4]})" if race else words
 
 
@@ -166,5 +168,8 @@ def search(program, name, env, room):
     print_set(it, lowest, wide)
     executions, bound = it.report.get("executions", 0), it.report.get("bound", 0)
     print(f"This holds of {os.path.basename(name)} within a bound of {bound} ({executions:,} executions with the last orders): a larger test, or bound, may need more.")
+    never = explore_parts.never_reached(it.report)
+    if never:
+        print(f"never reached: {', '.join(never)}")
     print(f"{it.runs} explorations, {time.monotonic() - began:.1f} s")
     return 3 if of_text else 0

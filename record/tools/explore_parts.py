@@ -80,6 +80,13 @@ def merge(all_parts, seconds):
     return whole
 
 
+def never_reached(whole):
+    never = [name for name in ("full", "empty", "told", "overlapped") if not whole[name] and (name != "told" or whole["closes"])]
+    if whole["stored"] > whole["taken"]:
+        never.append(f"items stored and never taken: {whole['stored'] - whole['taken']:,}")
+    return never
+
+
 def print_merged(whole, parts, last):
     """In the words of the test itself."""
     print(f"{whole['executions']:,} executions within a bound of {whole['level']}, in {parts} parts, {whole['seconds']:.2f} s: all lawful")
@@ -89,12 +96,10 @@ def print_merged(whole, parts, last):
         print(f"{whole['cut']:,} of them were cut")
     print(f"reached: full {whole['full']:,}, empty {whole['empty']:,}, no reason given {whole['nothing']:,}, told {whole['told']:,}, overlapped "
           f"{whole['overlapped']:,}, inside {whole['surely_inside']} {whole['perhaps_inside']}, older values in {whole['older']:,}")
-    never = [name for name in ("full", "empty", "told", "overlapped") if not whole[name] and (name != "told" or whole["closes"])]
-    if whole["stored"] > whole["taken"]:
-        never.append(f"items stored and never taken: {whole['stored'] - whole['taken']:,}")
+    never = never_reached(whole)
     if never:
         print(f"never reached: {', '.join(never)}")
-    print(last)
+    print(last if not whole["whole"] else last.replace("this part of the executions", "this test"))
 
 
 def write_junit(path, name, status, text, seconds):
@@ -106,7 +111,12 @@ def write_junit(path, name, status, text, seconds):
         ElementTree.SubElement(case, "failure" if status in (3, 4) else "error", message=words).text = text
     else:
         ElementTree.SubElement(case, "system-out").text = text
-    ElementTree.ElementTree(suite).write(path, encoding="utf-8", xml_declaration=True)
+    try:
+        ElementTree.ElementTree(suite).write(path, encoding="utf-8", xml_declaration=True)
+    except OSError as error:
+        print(f"explore: {path}: {error.strerror}", file=sys.stderr)
+        return False
+    return True
 
 
 def run(program, name, env, room, parts, junit):
@@ -130,6 +140,6 @@ def run(program, name, env, room, parts, junit):
         sys.stdout.write(text)
     else:
         print_merged(merge(all_parts, seconds), parts, text.rstrip("\n").split("\n")[-1])
-    if junit:
-        write_junit(junit, os.path.basename(name), status, text, seconds)
+    if junit and not write_junit(junit, os.path.basename(name), status, text, seconds):
+        return 2
     return status
