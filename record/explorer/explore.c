@@ -26,8 +26,8 @@
  *     after the end, and the call ends sooner. The audit permits a history with wider intervals wherever it permits the narrower one.
  *  4. A side that is preempted makes at least one step before the other is preempted in turn; else the two preemptions do nothing.
  * Of happens-before 2 and 3 change nothing: a side comes to know of the other by its own accesses alone. A fence is part of the step before it.
- * What is left out, and is said in README.md: a side that yields, sleeps or waits with a time limit lets the other make a step first,
- * and its time passes only if the other waits or is over; a side that looks a third time at the same place for what nobody has
+ * What is left out, and README.md says so: values older than the last KEPT_STORES of a place. A side that yields, sleeps or waits with a time limit
+ * lets the other make a step first, and its time passes only if the other waits or is over; a side that looks a third time at the same place for what nobody has
  * changed, within one call, is not preempted there, and after limit_spins of such looks it is taken for one that yields; so is one that
  * makes TURN accesses of nothing shared, between two steps.
  * What is not seen: assembly, libraries that are not compiled so, copies that the compiler expands itself (-fno-builtin leaves them to
@@ -643,8 +643,11 @@ static const char *take_switches(void) {
     return NULL;
 }
 
+/* Of a test in C++20 or later, by its explore.h. */
+extern int explore_release_sequences __attribute__((weak));
+
 static const char *take_options(void) {
-    uint64_t whole_seconds = 60, sequences = 11;
+    uint64_t whole_seconds = 60, sequences = &explore_release_sequences ? (uint64_t)explore_release_sequences : 11;
     const char *why = take_bounds();
     if (!why) why = take_switches();
     if (why) return why;

@@ -35,6 +35,11 @@ unsigned explore_choose(unsigned n);
 /* For litmus tests: a value of this execution, as of a load; or a word whose last value counts. Each outcome is printed once. */
 void explore_outcome(uint64_t value);
 void explore_outcome_at_end(const uint64_t *word);
+#if defined __cplusplus && __cplusplus > 201703L
+/* From C++20 stores of the same side do not continue a release sequence: the explorer is told by this. EXPLORE_SEQUENCES takes another. */
+extern int explore_release_sequences;
+__attribute__((weak)) int explore_release_sequences = 20;
+#endif
 #ifdef __cplusplus
 }
 #endif

@@ -36,6 +36,10 @@ class Orders:
         status, out, said = self.run(f"{env} {shlex.quote(self.here)}/explore {options} {words}")
         return status, out.decode(errors="replace") + said
 
+    def called(self, program):
+        status, out, said = self.run(program)
+        return status, out.decode(errors="replace") + said
+
     def bugs(self):
         """Each is found within the default bound, and its schedule shows it again; no execution that is sequentially consistent shows those of orders."""
         for bug, (want, words) in enumerate(BUGS, 1):
@@ -134,6 +138,10 @@ class Orders:
         status, printed = self.explore("broken/orders.c -- -DBUG=14", "", SCHEDULE="P14 C P4:fail C9:old2")
         good = status == 3 and "C9:old2 is no choice of this test" in printed and "P4:fail is no" not in printed
         self.check("explore: a choice of a schedule that is none", good, (status, printed))
+        for standard, want in ((17, 0), (20, 3)):
+            for words, options in (("", "-o $ROOM/sequences "), ("$ROOM/sequences", "")):
+                status, printed = self.explore(f"tests/sequences.cpp -- -std=c++{standard} -Wall -Wextra -Werror", options) if options else self.called(words)
+                self.check(f"explore: release sequences of C++{standard}", status == want and ("data race: " in printed) == (want == 3), (status, printed))
         status, printed = self.explore("broken/orders.c -- -DFORM=7", "--orders")
         self.check("explore --orders: never reached", status == 0 and "\nnever reached: full, empty\n" in printed, (status, printed))
         status, printed = self.explore("broken/orders.c -- -DFORM=7", "--part 1/4")
