@@ -1,4 +1,4 @@
-/* orders.h: small queues for one producer and one consumer in C11, of nine usual forms, each right if BUG is 0; and 15 bugs of memory orders and of what
+/* orders.h: small queues for one producer and one consumer in C11, of eleven usual forms, each right if BUG is 0; and 15 bugs of memory orders and of what
  * an operation may do, as such queues have had. No execution that is sequentially consistent shows 1 to 11: what the other side stored has to be seen
  * late. README.md has a table of them. -DBUG=n takes a bug, and the form that has it; -DBUG=0 -DFORM=n a form. Slots are atomic, so none is a data race,
  * but for 10, whose slot is plain. */
@@ -20,6 +20,8 @@
 #define BELL 7
 #define CONDITION 8
 #define STATES 9
+#define NODES 10
+#define SEQLOCK 11
 #ifndef FORM
 #if BUG == 1 || BUG == 2
 #define FORM RING
@@ -373,6 +375,75 @@ static int q_take(uint64_t *item) {
     if (!change(FULL, BUSY, BUG == 15)) return NONE;
     *item = LOAD(slot, relaxed);
     STORE(state, FREE, release);
+    return ITEM;
+}
+#endif
+
+#if FORM == NODES
+/* Nodes out of a pool, each used once, with plain items: a put links its node to the last one, a take goes on to the next. */
+#define HEAD_LINE "queue"
+enum { POOL = 8 };
+static struct { _Atomic unsigned next; uint64_t item; } node[POOL];
+static unsigned last, first, used;
+
+static void q_reset(void) {
+    for (int i = 0; i < POOL; i++) {
+        STORE(node[i].next, 0, relaxed);
+        node[i].item = 0;
+    }
+    last = first = 0;
+    used = 1;
+}
+
+static bool q_put(uint64_t item) {
+    const unsigned mine = used++;
+    node[mine].item = item;
+    STORE(node[last].next, mine, release);
+    last = mine;
+    return true;
+}
+
+static int q_take(uint64_t *item) {
+    const unsigned next = LOAD(node[first].next, acquire);
+    if (next == 0) return NONE;
+    *item = node[next].item;
+    first = next;
+    return ITEM;
+}
+#endif
+
+#if FORM == SEQLOCK
+/* One slot of two words and a number, odd while the slot is written: a take reads the number, the words, and the number again, and takes nothing if it
+ * has changed. The producer writes only once the last item was taken. */
+#define HEAD_LINE "queue 1"
+static _Atomic uint64_t number, taken, half[2];
+
+static void q_reset(void) {
+    STORE(number, 0, relaxed);
+    STORE(taken, 0, relaxed);
+    STORE(half[0], 0, relaxed);
+    STORE(half[1], 0, relaxed);
+}
+
+static bool q_put(uint64_t item) {
+    const uint64_t n = LOAD(number, relaxed);
+    if (LOAD(taken, acquire) != n) return false;
+    STORE(number, n + 1, relaxed);
+    atomic_thread_fence(memory_order_release);
+    STORE(half[0], item, relaxed);
+    STORE(half[1], item, relaxed);
+    STORE(number, n + 2, release);
+    return true;
+}
+
+static int q_take(uint64_t *item) {
+    const uint64_t n = LOAD(number, acquire);
+    if (n % 2 == 1 || n == LOAD(taken, relaxed)) return NONE;
+    const uint64_t one = LOAD(half[0], relaxed), other = LOAD(half[1], relaxed);
+    atomic_thread_fence(memory_order_acquire);
+    if (LOAD(number, relaxed) != n) return NONE;
+    *item = one == other ? one : UINT64_MAX;
+    STORE(taken, n, release);
     return ITEM;
 }
 #endif

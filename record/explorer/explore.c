@@ -484,7 +484,7 @@ static void tell_all(void) {
     const bool stopped = result.status != 0 && !result.dump;
     tell_how_many(stopped);
     if (!stopped) tell_sums();
-    tell_mixed();
+    tell_left_out();
     tell_outcomes();
     tell_lates();
     if (!result.calls && !outcomes.used) fputs("explore: no call was recorded: do the two functions record their calls, by the names of ring_calls.h?\n", stderr);

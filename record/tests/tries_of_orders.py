@@ -1,5 +1,5 @@
 """Tests what record/explore finds by older values and by the other choices, for record/test: the queues of broken/orders.h, right and with 15 bugs; the
-weakest orders of five of them; a test that draws; parts of all executions; and conditions that gcc alone would make racy."""
+weakest orders of six of them; a test that draws; parts of all executions; and conditions that gcc alone would make racy."""
 import json
 import os
 import re
@@ -16,13 +16,16 @@ BUGS = (
 )
 # The one that a sequentially consistent execution shows, with no wake-up and no failure that need not be.
 OF_LOGIC = 12
-FORMS = range(1, 10)
+FORMS = range(1, 12)
 # Orders that textbooks have, by form: of each a line of the text, its kind, and the weakest order that suffices.
 TEXTBOOK = {
     1: (("LOAD(head, acquire) == CAPACITY", "load", None), ("STORE_BUT(1, tail", "store", "release"), ("LOAD_BUT(2, tail", "load", "acquire"),
         ("STORE(head, h + 1, release)", "store", "release"), ("const uint64_t t = LOAD(tail", "load", "relaxed")),
     2: (("STORE_BUT(3", "store", "release"), ("LOAD_BUT(4", "load", "acquire")),
     4: (("LOAD_BUT(7, tail", "load", "acquire"), ("STORE(tail, t + 1, release)", "store", "release")),
+    10: (("STORE(node[last].next", "store", "release"), ("LOAD(node[first].next", "load", "acquire")),
+    11: (("STORE(number, n + 2, release)", "store", "release"), ("const uint64_t n = LOAD(number, acquire)", "load", "acquire"),
+         ("STORE(taken, n, release)", "store", "release")),
     7: (("if (BUG != 11) atomic_thread_fence", "fence", "seq_cst"), ("atomic_thread_fence(memory_order_seq_cst);\n        if (h ==", "fence", "seq_cst")),
 }
 
@@ -65,7 +68,7 @@ class Orders:
         with open(f"{self.here}/broken/orders.h", encoding="ascii") as file:
             text = file.read()
         for form, wanted in TEXTBOOK.items():
-            name = next(name for name, number in re.findall(r"#define (\w+) (\d)\n", text) if number == str(form))
+            name = next(name for name, number in re.findall(r"#define (\w+) (\d+)\n", text) if number == str(form))
             section = text.index(f"#if FORM == {name}\n")
             status, printed = self.explore(f"broken/orders.c -- -DFORM={form}", "--orders")
             took = re.search(r"(?m)^\d+ explorations, (\d+\.\d) s$", printed)
