@@ -1,5 +1,6 @@
 """Tests what record/explore finds by older values and by the other choices, for record/test: the queues of broken/orders.h, right and with 15 bugs; the
 weakest orders of six of them; a test that draws; parts of all executions; and conditions that gcc alone would make racy."""
+import concurrent.futures
 import json
 import os
 import re
@@ -163,9 +164,10 @@ class Orders:
             if self.run(f"command -v {compiler}")[0] != 0:
                 print(f"missing: guards by {compiler}: apt-get install {compiler}", flush=True)
                 continue
-            for guard in range(1, 8):
-                for level in ("-O0", "-O1", "-O2"):
-                    status, out, said = self.run(f"CC={compiler} {shlex.quote(self.here)}/explore tests/guards.c -- {level} -DGUARD={guard} -Wall -Wextra")
+            ways = [(guard, level) for guard in range(1, 8) for level in ("-O0", "-O1", "-O2")]
+            commands = [f"CC={compiler} {shlex.quote(self.here)}/explore tests/guards.c -- {level} -DGUARD={guard} -Wall -Wextra" for guard, level in ways]
+            with concurrent.futures.ThreadPoolExecutor(os.cpu_count()) as side_by_side:
+                for (guard, level), (status, out, said) in zip(ways, side_by_side.map(self.run, commands)):
                     good = status == 0 and b" all lawful\n" in out and b"no data race was seen." in out
                     self.check(f"explore: guard {guard} by {compiler} {level}", good, (status, out, said))
 
