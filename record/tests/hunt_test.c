@@ -137,7 +137,8 @@ static void waits(void) {
     int early = 0;
     pthread_t thread;
     if (pthread_create(&thread, NULL, sleeps, &early) || pthread_join(thread, NULL)) fail("no thread");
-    if (early > 200) fail("a thread that waits is woken too often");
+    /* (2,000 times if it were not left alone; a busy machine, on which a wake-up takes long, makes it some 300) */
+    if (early > 600) fail("a thread that waits is woken too often");
 }
 
 static void write_what_there_is(int number) {
