@@ -1,4 +1,4 @@
--- What is told of a call of a near miss, and at which of its accesses.
+-- How a call of a near miss ends, and at which of its accesses.
 use Rattle.std.specs.Prelude.{◌≡◌, ◌⊎◌, ℕ, ◌-◌, min, Bool, true, false, ◌&&◌, nat_le, nat_lt, if◌then◌else◌, Option, Some, None}
 use Rattle.bits_core.specs.declared.events.Bit.{Bit}
 use Rattle.bits_core.specs.declared.events.Bit.TheVariants.{S, R, X, Cell}
@@ -17,7 +17,7 @@ use Rattle.near_misses.specs.declared.taking.Stage as taking
 abbrev pub are_both_counts : NearMiss → Shape → (count seen : ℕ) → Bool
 are_both_counts miss shape count seen = nat_lt seen (near_modulus miss shape) && nat_lt count (near_modulus miss shape)
 
--- a take scans the producer's count, for the first time or again, and so many bits of it answered 0
+-- a take scans the producer's count, for the first time or again, and n bits of it were read as 0
 abbrev pub scan_stage : (again : Bool) → (zeros : ℕ) → taking.Stage
 scan_stage true zeros = taking.TheVariants.ScanningAgain zeros
 scan_stage false zeros = taking.TheVariants.Scanning zeros
@@ -26,7 +26,7 @@ scan_stage false zeros = taking.TheVariants.Scanning zeros
 abbrev pub items_seen : NearMiss → Shape → (count seen : ℕ) → ℕ
 items_seen miss shape count seen = if are_both_counts miss shape count seen && nat_le (distance (near_modulus miss shape) seen count) (capacity_of shape) then distance (near_modulus miss shape) seen count else 0
 
--- what a take is told at the last read of a scan: Closed if it finds no item in its second scan
+-- how a take ends at the last read of a scan: Closed if it finds no item in its second scan
 abbrev pub scan_told : (found : ℕ) → (again : Bool) → Option (CallEvent ℕ ℕ)
 scan_told found again = if nat_lt 0 found then None else if again then Some TakeClosed else None
 
@@ -34,7 +34,7 @@ scan_told found again = if nat_lt 0 found then None else if again then Some Take
 abbrev pub stage_after_scan : (found : ℕ) → (again : Bool) → taking.Stage
 stage_after_scan found again = if nat_lt 0 found then taking.TheVariants.Reading 0 else if again then taking.TheVariants.Over else taking.TheVariants.Looking
 
--- what a take is told that reads the close bit: Empty if that is 0, and Closed at once if that is 1 and there is no second scan
+-- how a take ends that reads the close bit: Empty if that is 0, and Closed at once if that is 1 and there is no second scan
 abbrev pub look_told : NearMiss → (closed : Bool) → Option (CallEvent ℕ ℕ)
 look_told miss false = Some TakeEmpty
 look_told NoSecondScan true = Some TakeClosed
@@ -44,7 +44,7 @@ look_told _ true = None
 abbrev pub room_seen : NearMiss → Shape → (count seen : ℕ) → ℕ
 room_seen miss shape count seen = if are_both_counts miss shape count seen then min (capacity_of shape - distance (near_modulus miss shape) count seen) (batch_of shape) else 0
 
--- what a put is told once it has scanned: Full if it finds no room
+-- how a put ends once it has scanned: Full if it finds no room
 abbrev pub room_told : (room : ℕ) → Option (CallEvent ℕ ℕ)
 room_told room = if nat_lt 0 room then None else Some PutFull
 
@@ -53,7 +53,7 @@ abbrev pub first_stage : NearMiss → put.Stage
 first_stage CountBeforeCell = put.TheVariants.Counting
 first_stage _ = put.TheVariants.Storing 0 0
 
--- what a put is told that has written its items, or its count: how many it has stored, if it wrote the other before
+-- how a put ends that has written its items, or its count: how many it has stored, if it wrote the other before
 abbrev pub items_written_told : NearMiss → (storing : ℕ) → Option (CallEvent ℕ ℕ)
 items_written_told CountBeforeCell storing = Some (PutStored storing)
 items_written_told _ storing = None
@@ -62,7 +62,7 @@ abbrev pub count_written_told : NearMiss → (storing : ℕ) → Option (CallEve
 count_written_told CountBeforeCell storing = None
 count_written_told _ storing = Some (PutStored storing)
 
--- What is told at the end of a read of a bit with this value: of the close bit as above; a read of a count gives an end at most where it
+-- What ends with a read of a bit with this value: of the close bit as above; a read of a count ends a call at most if it
 -- is 1, of a take that finds no item, or of a put that finds no room
 abbrev pub IsToldByRead : NearMiss → Bit → Bool → Option (CallEvent ℕ ℕ) → Type 0
 IsToldByRead miss X v told = told ≡ look_told miss v
