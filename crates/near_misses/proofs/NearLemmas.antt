@@ -242,7 +242,7 @@ pub put_unread : (asked : NearAsked) (access : Access) (v : Bool) (n : NearStand
 put_unread asked (Read b) v n = refl
 put_unread asked (Write b w) v n = refl
 
--- a write of a bit of the consumer's count, which was due, tells nothing or the end of its take
+-- a write of a bit of the consumer's count, which was due, ends nothing or its take
 pub row_told : (miss : NearMiss) (order : Order) (bits : List Bool) (value : ℕ) (access : Access) (v : Bool) (told : Option (CallEvent ℕ ℕ)) (taken : ℕ) → IsRowAccess C order bits value (Some access)
     → (told ≡ None) ⊎ (told ≡ Some (TakeItems taken)) → IsToldAt miss access v told
 row_told miss order bits value (Write b w) v told taken (i, is, due) (inl none) = subst (λ (x : Bit). IsToldByWrite miss x told) (sym is) (inl none)
