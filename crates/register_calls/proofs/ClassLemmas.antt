@@ -1,0 +1,106 @@
+-- The classes of a history: each is in the weaker ones, and each beginning has them.
+use Rattle.std.proofs.Common.{◌≡◌, ℕ, Some, List, [], ◌∷◌, length, refl, sym, subst, ◌∙◌, inl, inr, arith}
+use Rattle.std.specs.Prelude.{slice_get}
+use Rattle.std.proofs.lemmas.Option.{none-some}
+use Rattle.register_calls.specs.declared.events.Register.{Register}
+use Rattle.register_calls.specs.declared.events.RegisterEvent.{RegisterEvent}
+use Rattle.register_calls.specs.declared.events.RegisterEvent.TheVariants.{WriteBegins, WriteEnds, ReadBegins, ReadEnds}
+use Rattle.register_calls.specs.declared.events.Class.TheVariants.{Safe, Regular, AtomicByReader, Atomic}
+use Rattle.register_calls.specs.Histories.{IsValue, started, finished, written_values, before_read, IsWellFormed}
+use Rattle.register_calls.specs.Classes.{IsOf, IsSafe, IsRegular, Scope, Together, EachAlone, Choice, NoneIsLater, Orders, HasOrder}
+use Rattle.register_calls.specs.Findings.{BeginningHasClass, StrongerHasWeaker}
+use Rattle.register_calls.proofs.Sets.{get_more, get_nothing}
+
+module _ (s : Scope) (first : ℕ) (of : Choice) where
+  ordered_is_regular : (h : List RegisterEvent) → Orders s first of h → IsRegular first h
+  ordered_is_regular [] o = tt
+  ordered_is_regular (WriteBegins v ∷ h) o = ordered_is_regular h o
+  ordered_is_regular (WriteEnds ∷ h) o = ordered_is_regular h o
+  ordered_is_regular (ReadBegins i ∷ h) o = ordered_is_regular h o
+  ordered_is_regular (ReadEnds i v ∷ h) o = (ordered_is_regular h o.0, (of (length h), o.1))
+
+-- a history with an order is regular
+pub order_is_regular : (s : Scope) (first : ℕ) (h : List RegisterEvent) → HasOrder s first h → IsRegular first h
+order_is_regular s first h (of, o) = ordered_is_regular s first of h o
+
+later_alone : (of : Choice) (i n : ℕ) (h : List RegisterEvent) → NoneIsLater Together of i n h → NoneIsLater EachAlone of i n h
+later_alone of i n [] x = tt
+later_alone of i n (WriteBegins v ∷ h) x = later_alone of i n h x
+later_alone of i n (WriteEnds ∷ h) x = later_alone of i n h x
+later_alone of i n (ReadBegins j ∷ h) x = later_alone of i n h x
+later_alone of i n (ReadEnds j v ∷ h) x = (later_alone of i n h x.0, λ seen. x.1 refl)
+
+orders_alone : (first : ℕ) (of : Choice) (h : List RegisterEvent) → Orders Together first of h → Orders EachAlone first of h
+orders_alone first of [] o = tt
+orders_alone first of (WriteBegins v ∷ h) o = orders_alone first of h o
+orders_alone first of (WriteEnds ∷ h) o = orders_alone first of h o
+orders_alone first of (ReadBegins i ∷ h) o = orders_alone first of h o
+orders_alone first of (ReadEnds i v ∷ h) o = (orders_alone first of h o.0, o.1, later_alone of i (of (length h)) (before_read i h) o.2)
+
+-- what is atomic is atomic by reader
+pub atomic_is_alone : (first : ℕ) (h : List RegisterEvent) → HasOrder Together first h → HasOrder EachAlone first h
+atomic_is_alone first h (of, o) = (of, orders_alone first of h o)
+
+-- each value that was written is one of the register
+written_is_value : (r : Register) (h : List RegisterEvent) (n v : ℕ) → IsWellFormed r h → slice_get (written_values r.first h) n ≡ Some v → IsValue r v
+written_is_value r [] n v well at = elim (get_more [] r.first v n at) [
+  | inl past ↦ absurd (none-some v (sym (get_nothing n) ∙ past))
+  | inr same ↦ subst (λ (z : ℕ). IsValue r z) same well
+]
+written_is_value r (WriteBegins u ∷ h) n v well at = elim (get_more (written_values r.first h) u v n at) [
+  | inl before ↦ written_is_value r h n v well.0 before
+  | inr same ↦ subst (λ (z : ℕ). IsValue r z) same well.1
+]
+written_is_value r (WriteEnds ∷ h) n v well at = written_is_value r h n v well.0 at
+written_is_value r (ReadBegins i ∷ h) n v well at = written_is_value r h n v well.0 at
+written_is_value r (ReadEnds i u ∷ h) n v well at = written_is_value r h n v well.0 at
+
+last_of : (first : ℕ) (start h : List RegisterEvent) (v n : ℕ) → finished start ≡ started h → IsOf first start h v n → IsOf first start h v (started h)
+last_of first start h v n quiet is =
+    let p = is.0 in let q = is.1 in let same : n ≡ started h = omega (arith, p, q, quiet) in
+    subst (λ (m : ℕ). IsOf first start h v m) same is
+
+-- what is regular is safe
+pub regular_is_safe : (r : Register) (h : List RegisterEvent) → IsWellFormed r h → IsRegular r.first h → IsSafe r h
+regular_is_safe r [] well x = tt
+regular_is_safe r (WriteBegins v ∷ h) well x = regular_is_safe r h well.0 x
+regular_is_safe r (WriteEnds ∷ h) well x = regular_is_safe r h well.0 x
+regular_is_safe r (ReadBegins i ∷ h) well x = regular_is_safe r h well.0 x
+regular_is_safe r (ReadEnds i v ∷ h) well x =
+    let (n, is) = x.1 in (regular_is_safe r h well.0 x.0, written_is_value r h n v well.0 is.2, λ quiet. last_of r.first (before_read i h) h v n quiet is)
+
+pub beginning : BeginningHasClass
+beginning Safe r (WriteBegins v) h has = has
+beginning Safe r WriteEnds h has = has
+beginning Safe r (ReadBegins i) h has = has
+beginning Safe r (ReadEnds i v) h has = has.0
+beginning Regular r (WriteBegins v) h has = has
+beginning Regular r WriteEnds h has = has
+beginning Regular r (ReadBegins i) h has = has
+beginning Regular r (ReadEnds i v) h has = has.0
+beginning AtomicByReader r (WriteBegins v) h has = has
+beginning AtomicByReader r WriteEnds h has = has
+beginning AtomicByReader r (ReadBegins i) h has = has
+beginning AtomicByReader r (ReadEnds i v) h (of, orders) = (of, orders.0)
+beginning Atomic r (WriteBegins v) h has = has
+beginning Atomic r WriteEnds h has = has
+beginning Atomic r (ReadBegins i) h has = has
+beginning Atomic r (ReadEnds i v) h (of, orders) = (of, orders.0)
+
+pub stronger : StrongerHasWeaker
+stronger Safe Safe r h well is has = has
+stronger Safe Regular r h well is has = absurd cc
+stronger Safe AtomicByReader r h well is has = absurd cc
+stronger Safe Atomic r h well is has = absurd cc
+stronger Regular Safe r h well is has = regular_is_safe r h well has
+stronger Regular Regular r h well is has = has
+stronger Regular AtomicByReader r h well is has = absurd cc
+stronger Regular Atomic r h well is has = absurd cc
+stronger AtomicByReader Safe r h well is has = regular_is_safe r h well (order_is_regular EachAlone r.first h has)
+stronger AtomicByReader Regular r h well is has = order_is_regular EachAlone r.first h has
+stronger AtomicByReader AtomicByReader r h well is has = has
+stronger AtomicByReader Atomic r h well is has = absurd cc
+stronger Atomic Safe r h well is has = regular_is_safe r h well (order_is_regular Together r.first h has)
+stronger Atomic Regular r h well is has = order_is_regular Together r.first h has
+stronger Atomic AtomicByReader r h well is has = atomic_is_alone r.first h has
+stronger Atomic Atomic r h well is has = has

@@ -1,0 +1,17 @@
+pub mod Sets
+pub mod ReadLemmas
+pub mod OrderLemmas
+pub mod Keeping
+pub mod Readers
+pub mod Hearing
+pub mod ClassLemmas
+pub mod MissLemmas
+pub mod Places
+pub mod Endings
+pub mod Beginnings
+pub mod ByIntervals
+pub mod IntervalLaws
+pub mod OrderByIntervals
+pub mod LinearLemmas
+pub mod ToOrders
+pub mod FromOrders
