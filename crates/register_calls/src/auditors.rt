@@ -3,7 +3,7 @@ ghost use Rattle.std.specs.Prelude.{◌≡◌, true, ◌<◌, ◌≤◌, ◌+◌
 ghost use Rattle.register_calls.specs.Histories.{IsValue};
 ghost use Rattle.register_calls.specs.Classes.{IsStrongest, HasClass};
 ghost use Rattle.register_calls.specs.Judging.{IsFirstPlace, IsGreater, IsOlder, IsRaised, still};
-ghost use Rattle.register_calls.specs.Audits.{AuditsRegister, HearsEvent, IsOldest, IsOldestKept, reader_at};
+ghost use Rattle.register_calls.specs.Audits.{AuditsRegister, HearsEvent, IsOldest, IsOldestKept, fresh_reader, reader_at};
 ghost use Rattle.register_calls.specs.declared.events.RegisterEvent.{RegisterEvent};
 ghost use Rattle.register_calls.specs.declared.events.RegisterEvent.TheVariants.{WriteBegins, WriteEnds, ReadBegins, ReadEnds};
 
@@ -59,6 +59,16 @@ pub struct RegisterAuditor<W: Fifo<u64>, R: Fifo<ReaderState>> {
 }
 
 impl ReaderState {
+    /// What is kept of a reader that has not read yet: for slots that an auditor is to use.
+    pub fn new() -> ReaderState
+        ensures { result ≡ fresh_reader }
+    {
+        ReaderState {
+            own: 0,
+            reading: None,
+        }
+    }
+
     // The lesser of a number and of the writes that had ended where the read under way began, if there is one.
     fn older(self, number: usize) -> usize
         ensures { IsOlder self.reading number result }
@@ -121,10 +131,7 @@ fn reach<R: Fifo<ReaderState>>(readers: &mut R, reader: usize) -> Result<(), All
     ensures room { R.room readers.new ≡ R.room readers.old }
 {
     while readers.len() <= reader {
-        readers.push_back(ReaderState {
-            own: 0,
-            reading: None,
-        })?;
+        readers.push_back(ReaderState::new())?;
     }
     Ok(())
 }
@@ -195,10 +202,7 @@ impl<W: Fifo<u64>, R: Fifo<ReaderState>> RegisterAuditor<W, R> {
     {
         match self.readers.get(reader) {
             Some(state) => *state,
-            None => ReaderState {
-                own: 0,
-                reading: None,
-            },
+            None => ReaderState::new(),
         }
     }
 

@@ -3,4 +3,6 @@ mod cases;
 mod growths;
 mod histories;
 mod recordings;
+mod register_lines;
+mod registers;
 mod slots;

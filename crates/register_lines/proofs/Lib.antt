@@ -1,0 +1,2 @@
+mod LineReadings
+pub mod LineLemmas
