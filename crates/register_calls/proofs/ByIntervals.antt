@@ -112,7 +112,7 @@ module _ (first : ℕ) (r : Register) (s b : List RegisterEvent) (part : IsBegin
 
 -- with one more event, what was before it is as it was
 module _ (e : RegisterEvent) (b : List RegisterEvent) where
-  ends_more : (w place : ℕ) → place ≤ length b → WriteHasEnded b w place → WriteHasEnded (e ∷ b) w place
+  pub ends_more : (w place : ℕ) → place ≤ length b → WriteHasEnded b w place → WriteHasEnded (e ∷ b) w place
   ends_more w place le (q, after, before, is) = (q, after, before, placed_event-before e b q (omega (arith, before, le)) ∙ is)
 
   ends_less : (w place : ℕ) → place ≤ length b → WriteHasEnded (e ∷ b) w place → WriteHasEnded b w place

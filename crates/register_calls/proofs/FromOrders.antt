@@ -10,7 +10,8 @@ use Rattle.register_calls.specs.Histories.{IsWellFormed}
 use Rattle.register_calls.specs.Classes.{Together}
 use Rattle.register_calls.specs.Intervals.{placed_event, IsReadFrom, IsWriteFrom, WriteHasEnded, MayBeOf, HasChoice}
 use Rattle.register_calls.specs.Linearizations.{RegisterOperation, AWrite, ARead, IsOperationOf, HasEndedBy, IsOrdered, AreLegal, KeepsRealTime, RegisterLinearization, AtomicIsLinearizable}
-use Rattle.register_calls.proofs.Places.{chosen, left, placed_event-within}
+use Rattle.register_calls.proofs.ReadLemmas.{chosen, left}
+use Rattle.register_calls.proofs.Places.{placed_event-within}
 use Rattle.register_calls.proofs.OrderByIntervals.{order_is}
 use Rattle.register_calls.proofs.LinearLemmas.{one_operation, ended_next, Holds, may_be}
 use Rattle.register_calls.proofs.ToOrders.{to_order}

@@ -8,6 +8,7 @@ use Rattle.register_calls.specs.declared.events.RegisterEvent.TheVariants.{Write
 use Rattle.register_calls.specs.Histories.{started, finished, ComesInTurn, IsWellFormed}
 use Rattle.register_calls.specs.Intervals.{placed_event, IsOfReader, IsReadFrom, IsWriteFrom, WriteHasEnded, MayBeOf}
 use Rattle.register_calls.specs.Linearizations.{RegisterOperation, AWrite, ARead, IsOperationOf}
+use Rattle.register_calls.proofs.ByIntervals.{ends_more}
 use Rattle.register_calls.proofs.Places.{placed_event-here, placed_event-before, placed_event-within, placed_event-cases}
 use Rattle.register_calls.proofs.Beginnings.{read_still, read_before}
 
@@ -75,9 +76,6 @@ operation_cases e b o is = elim (placed_event-cases e b (place_of o) (event_of o
 ]
 
 -- each write has ended where the next one begins
-ended_more : (e : RegisterEvent) (b : List RegisterEvent) (w place : ℕ) → place ≤ length b → WriteHasEnded b w place → WriteHasEnded (e ∷ b) w place
-ended_more e b w place le (q, after, before, is) = (q, after, before, placed_event-before e b q (omega arith) ∙ is)
-
 ended_on : (h : List RegisterEvent) (w place later : ℕ) → place ≤ later → WriteHasEnded h w place → WriteHasEnded h w later
 ended_on h w place later le (q, after, before, is) = (q, after, omega arith, is)
 
@@ -90,11 +88,11 @@ all_ended r (WriteEnds ∷ b) w v formed idle is = elim (placed_event-cases Writ
 ]
 all_ended r (ReadBegins i ∷ b) w v formed idle is = elim (placed_event-cases (ReadBegins i) b w (WriteBegins v) is) [
   | inl here ↦ (let k = here.1 in absurd cc)
-  | inr early ↦ ended_on (ReadBegins i ∷ b) w (length b) (suc (length b)) (omega arith) (ended_more (ReadBegins i) b w (length b) (omega arith) (all_ended r b w v formed.0 idle early.1))
+  | inr early ↦ ended_on (ReadBegins i ∷ b) w (length b) (suc (length b)) (omega arith) (ends_more (ReadBegins i) b w (length b) (omega arith) (all_ended r b w v formed.0 idle early.1))
 ]
 all_ended r (ReadEnds i u ∷ b) w v formed idle is = elim (placed_event-cases (ReadEnds i u) b w (WriteBegins v) is) [
   | inl here ↦ (let k = here.1 in absurd cc)
-  | inr early ↦ ended_on (ReadEnds i u ∷ b) w (length b) (suc (length b)) (omega arith) (ended_more (ReadEnds i u) b w (length b) (omega arith) (all_ended r b w v formed.0 idle early.1))
+  | inr early ↦ ended_on (ReadEnds i u ∷ b) w (length b) (suc (length b)) (omega arith) (ends_more (ReadEnds i u) b w (length b) (omega arith) (all_ended r b w v formed.0 idle early.1))
 ]
 
 pub ended_next : (r : Register) (h : List RegisterEvent) (w v x u : ℕ) → IsWellFormed r h → IsWriteFrom h v w → IsWriteFrom h u x → w < x → WriteHasEnded h w x
@@ -103,10 +101,10 @@ ended_next r (e ∷ b) w v x u formed is that less = elim (placed_event-cases e 
   | inl here ↦
       let place = here.0 in
       let idle : started b ≡ finished b = subst (λ (f : RegisterEvent). ComesInTurn b f) here.1 formed.2 in
-      ended_on (e ∷ b) w (length b) x (omega arith) (ended_more e b w (length b) (omega arith) (all_ended r b w v formed.0 idle (sym (placed_event-before e b w (omega arith)) ∙ is)))
+      ended_on (e ∷ b) w (length b) x (omega arith) (ends_more e b w (length b) (omega arith) (all_ended r b w v formed.0 idle (sym (placed_event-before e b w (omega arith)) ∙ is)))
   | inr early ↦
       let place = early.0 in
-      ended_more e b w x (omega arith) (ended_next r b w v x u formed.0 (sym (placed_event-before e b w (omega arith)) ∙ is) early.1 less)
+      ends_more e b w x (omega arith) (ended_next r b w v x u formed.0 (sym (placed_event-before e b w (omega arith)) ∙ is) early.1 less)
 ]
 
 -- what a register holds: by 0 the first value, and by suc of a place that of the write that begins there

@@ -1,5 +1,5 @@
 -- Events at their places, and writes by place and by number.
-use Rattle.std.proofs.Common.{◌≡◌, ◌≢◌, ◌⊎◌, inl, inr, ℕ, suc, ◌≤◌, ◌<◌, Bool, true, false, Some, List, [], ◌∷◌, ◌++◌, length, refl, ap, sym, subst, ◌∙◌, arith}
+use Rattle.std.proofs.Common.{◌≡◌, ◌≢◌, ◌⊎◌, inl, inr, ℕ, suc, ◌≤◌, ◌<◌, Some, List, [], ◌∷◌, ◌++◌, length, refl, ap, sym, subst, ◌∙◌, arith}
 use Rattle.std.specs.Prelude.{◌==◌, if◌then◌else◌, slice_get}
 use Rattle.std.proofs.lemmas.Bool.{eq-eqb, ne_eqb, cases_lt}
 use Rattle.std.proofs.lemmas.Bool.Decides.{eqb_tells}
@@ -8,17 +8,10 @@ use Rattle.register_calls.specs.declared.events.RegisterEvent.{RegisterEvent}
 use Rattle.register_calls.specs.declared.events.RegisterEvent.TheVariants.{WriteBegins, WriteEnds, ReadBegins, ReadEnds}
 use Rattle.register_calls.specs.Histories.{started, written_values}
 use Rattle.register_calls.specs.Intervals.{placed_event, IsWriteFrom}
-use Rattle.register_calls.proofs.ReadLemmas.{length-written}
+use Rattle.register_calls.proofs.ReadLemmas.{chosen, left, length-written}
 use Rattle.register_calls.proofs.Sets.{get_left, get_end}
 
 -- a choice by a test that is known
-pub chosen : {X : Type 0} (b : Bool) (x y : X) → b ≡ true → (if b then x else y) ≡ x
-chosen b x y e = rw e
-
-pub left : {X : Type 0} (b : Bool) (x y : X) → b ≡ false → (if b then x else y) ≡ y
-left b x y e = rw e
-
--- the last event is at the last place, and the others are where they were
 pub placed_event-here : (e : RegisterEvent) (b : List RegisterEvent) → placed_event (e ∷ b) (length b) ≡ Some e
 placed_event-here e b = chosen (length b == length b) (Some e) (placed_event b (length b)) (eq-eqb (length b) (length b) refl)
 
@@ -68,6 +61,7 @@ code-zero (WriteEnds ∷ b) = code-zero b
 code-zero (ReadBegins i ∷ b) = code-zero b
 code-zero (ReadEnds i v ∷ b) = code-zero b
 
+-- again, since this crate stands on no registers of bits
 le_cases : (n m : ℕ) → n ≤ suc m → (n ≡ suc m) ⊎ (n ≤ m)
 le_cases n m le = elim (cases_lt m n) [
   | inl lt ↦ (let k : n ≡ suc m = omega arith in inl k)

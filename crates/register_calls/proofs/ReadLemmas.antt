@@ -7,10 +7,10 @@ use Rattle.register_calls.specs.declared.events.RegisterEvent.TheVariants.{Write
 use Rattle.register_calls.specs.Histories.{started, finished, written_values, has_read_open, before_read}
 
 -- a choice by a test that is known
-chosen : {X : Type 0} (b : Bool) (x y : X) → b ≡ true → (if b then x else y) ≡ x
+pub chosen : {X : Type 0} (b : Bool) (x y : X) → b ≡ true → (if b then x else y) ≡ x
 chosen b x y e = rw e
 
-left : {X : Type 0} (b : Bool) (x y : X) → b ≡ false → (if b then x else y) ≡ y
+pub left : {X : Type 0} (b : Bool) (x y : X) → b ≡ false → (if b then x else y) ≡ y
 left b x y e = rw e
 
 pub before_read-begin : (i : ℕ) (h : List RegisterEvent) → before_read i (ReadBegins i ∷ h) ≡ h
@@ -47,7 +47,7 @@ either : (b : Bool) (h rest : List RegisterEvent) (n : ℕ) → finished h ≤ n
 either true h rest n p q = p
 either false h rest n p q = q
 
--- and so are the writes that had finished there
+-- and so are the writes that had ended there
 pub finished-before_read : (i : ℕ) (h : List RegisterEvent) → finished (before_read i h) ≤ finished h
 finished-before_read i [] = omega arith
 finished-before_read i (WriteBegins v ∷ h) = finished-before_read i h

@@ -1,22 +1,7 @@
--- A list in which one item was set.
-use Rattle.std.proofs.Common.{◌≡◌, ◌≢◌, ◌⊎◌, ◌<◌, inl, inr, ℕ, zero, suc, Some, None, List, [], ◌∷◌, ◌++◌, ◌+◌, drop, length, refl, ap, sym, ◌∙◌, arith}
-use Rattle.std.proofs.Math.ListN.{set}
+-- Items of lists: of one with one more, of two, one after the other, and after a beginning that is left out.
+use Rattle.std.proofs.Common.{◌≡◌, ◌⊎◌, ◌<◌, inl, inr, ℕ, zero, suc, Some, None, List, [], ◌∷◌, ◌++◌, ◌+◌, drop, length, refl, ap, sym, ◌∙◌, arith}
 use Rattle.std.specs.Prelude.{slice_get}
 use Rattle.std.proofs.lemmas.Option.{none-some, same_Some}
-
--- an item that was set is the one that stands there
-pub set_here : {X : Type 0} (xs : List X) (i : ℕ) (y z : X) → slice_get (set xs i y) i ≡ Some z → y ≡ z
-set_here [] i y z e = absurd (none-some z e)
-set_here (x ∷ xs) zero y z e = same_Some y z e
-set_here (x ∷ xs) (suc i) y z e = set_here xs i y z e
-
--- and the others are as they were
-pub set_elsewhere : {X : Type 0} (xs : List X) (i j : ℕ) (y : X) → j ≢ i → slice_get (set xs i y) j ≡ slice_get xs j
-set_elsewhere [] i j y apart = refl
-set_elsewhere (x ∷ xs) zero zero y apart = absurd (apart refl)
-set_elsewhere (x ∷ xs) zero (suc j) y apart = refl
-set_elsewhere (x ∷ xs) (suc i) zero y apart = refl
-set_elsewhere (x ∷ xs) (suc i) (suc j) y apart = set_elsewhere xs i j y (λ e. apart (ap suc e))
 
 -- an item of a list with one more is of the list, or that one
 pub get_more : {X : Type 0} (xs : List X) (y z : X) (i : ℕ) → slice_get (xs ++ y ∷ []) i ≡ Some z → (slice_get xs i ≡ Some z) ⊎ (y ≡ z)
@@ -24,12 +9,6 @@ get_more [] y z zero e = inr (same_Some y z e)
 get_more [] y z (suc i) e = absurd (none-some z e)
 get_more (x ∷ xs) y z zero e = inl e
 get_more (x ∷ xs) y z (suc i) e = get_more xs y z i e
-
--- a list has an item at each number below its length
-pub get_below : {X : Type 0} (xs : List X) (i : ℕ) → slice_get xs i ≡ None → ¬ (i < length xs)
-get_below [] i e lt = omega (arith, lt)
-get_below (x ∷ xs) zero e lt = none-some x (sym e)
-get_below (x ∷ xs) (suc i) e lt = get_below xs i e (omega (arith, lt))
 
 -- the items of two lists, one after the other
 pub get_left : {X : Type 0} (xs ys : List X) (i : ℕ) → i < length xs → slice_get (xs ++ ys) i ≡ slice_get xs i

@@ -18,18 +18,11 @@ use Rattle.register_calls.specs.declared.events.RegisterEvent.{RegisterEvent}
 use Rattle.register_calls.specs.declared.events.RegisterEvent.TheVariants.{WriteBegins, WriteEnds, ReadBegins, ReadEnds}
 use Rattle.register_calls.specs.Histories.{started, finished, written_values, before_read, IsWellFormed}
 use Rattle.register_calls.specs.Classes.{IsOf, IsRegular}
+use Rattle.register_calls.proofs.Endings.{finished-started}
 use Rattle.register_calls.proofs.ReadLemmas.{finished-before_read, length-written}
 use Rattle.register_calls.proofs.Sets.{get_left, get_end}
 use Rattle.unary_recordings.specs.Recorded.{bit_writes_of, AreRecorded, NeverFalls, RecordedUnaryIsRegular}
 use Rattle.unary_recordings.proofs.Numbering.{numbered_count, ends_count, begins_count, count_more, passes, value_at, first_shows}
-
--- no write finishes that has not started
-finished_started : (r : Register) (x : List RegisterEvent) → IsWellFormed r x → finished x ≤ started x
-finished_started r [] well = zero-le
-finished_started r (WriteBegins v ∷ x) well = let k = finished_started r x well.0 in omega arith
-finished_started r (WriteEnds ∷ x) well = let turn : started x ≡ suc (finished x) = well.2 in omega arith
-finished_started r (ReadBegins i ∷ x) well = finished_started r x well.0
-finished_started r (ReadEnds i v ∷ x) well = finished_started r x well.0
 
 module _ (s : Side) (h : List Event) (values : List ℕ) (at : ℕ → ℕ) where
   -- how many bit writes of the count had ended before a place
@@ -123,7 +116,7 @@ module _ (s : Side) (h : List Event) (values : List ℕ) (at : ℕ → ℕ) wher
           let t : ℕ = length (count_begun s (take (stop v) h)) in
           let fits : t ≤ bit_writes_of values g = omega (arith, begun_rises (count_write s) h (stop v) (at (length x)) (omega arith), began) in
           omega (arith, begins_count values first_bits g t fits, found.has_begun) in
-          let ordered : f ≤ g = omega (arith, finished-before_read i x, finished_started r x well) in
+          let ordered : f ≤ g = omega (arith, finished-before_read i x, finished-started r x well) in
           let p = passes (numbered_count first_bits values) (count_more values first_bits) found.number (g - f) f g (omega arith) low high in
           let within : p.0 ≤ length values = omega (arith, p.2, started_within x a) in (
             p.0,
