@@ -1,3 +1,4 @@
 mod driving;
 mod machines;
 mod memories;
+mod recorded;
