@@ -94,7 +94,7 @@ LacksRoomFor writes readers h (WriteBegins v) = (number : ℕ) × IsOldest h num
 LacksRoomFor writes readers h (ReadBegins i) = readers ≤ i
 LacksRoomFor writes readers h e = ⊥
 
--- why an event is refused after a history, by lists with room for so many writes and readers
+-- why an event is refused after a history, by lists with room for this many writes and readers
 abbrev pub RefusesRegisterEvent : (writes readers most : ℕ) → RegisterFault → Register → List RegisterEvent → RegisterEvent → Type 0
 RefusesRegisterEvent writes readers most NoValue r h e = ¬ WritesValue r e
 RefusesRegisterEvent writes readers most OutOfTurn r h e = WritesValue r e × ¬ ComesInTurn h e

@@ -38,7 +38,8 @@ pub struct ReaderState {
 /// choice does better.
 ///
 /// It keeps the writes that a read under way may be of, or one that begins now, and a few numbers of each reader: in lists of an
-/// allocator, or in slots that the caller gives. A read takes as many comparisons as there are writes that it may be of.
+/// allocator, or in slots that the caller gives. A read is compared with
+/// each write that it may be of, at most three times.
 #[derive(Drop)]
 pub struct RegisterAuditor<W: Fifo<u64>, R: Fifo<ReaderState>> {
     pub(crate) register: Register,
@@ -113,7 +114,7 @@ fn raised(floor: usize, number: Option<usize>) -> usize
     }
 }
 
-// Takes so many items at the front of a list away.
+// Takes items at the front of a list away: as many as the count.
 fn drop_front<W: Fifo<u64>>(list: &mut W, count: usize)
     ensures items { W.items list.new ≡ drop count (W.items list.old) }
     ensures room { W.room list.new ≡ W.room list.old }
@@ -123,7 +124,7 @@ fn drop_front<W: Fifo<u64>>(list: &mut W, count: usize)
     }
 }
 
-// Makes a list of readers so long that this one is in it.
+// Makes a list of readers long enough for this one.
 fn reach<R: Fifo<ReaderState>>(readers: &mut R, reader: usize) -> Result<(), AllocError>
     ensures within { OnOk result (reader < length (R.items readers.new)) }
     ensures full { OnErr result (R.room readers.old ≤ reader) }
@@ -326,8 +327,8 @@ impl<W: Fifo<u64>, R: Fifo<ReaderState>> RegisterAuditor<W, R> {
         Ok(())
     }
 
-    // Whether the history is safe with a read of this value before which so many writes had ended, and which may be of such a write or
-    // of none.
+    // Whether the history is safe with a read of this value: how many writes had ended where the read began, and the number of a write
+    // that it may be of, if there is one.
     fn is_safe_still(&self, before: usize, value: u64, number: Option<usize>) -> bool
         ensures { (result ≡ true) ↔ ((self.now.is_safe ≡ true) × IsValue self.now.register value ×
             ((before < self.now.begun) ⊎ (still true number ≡ true))) }

@@ -2,7 +2,7 @@ mod beginnings;
 mod cases;
 mod growths;
 mod histories;
+mod lines_of_registers;
 mod recordings;
-mod register_lines;
 mod registers;
 mod slots;
