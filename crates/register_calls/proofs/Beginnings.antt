@@ -6,16 +6,11 @@ use Rattle.std.proofs.lemmas.Bool.Decides.{eqb_tells}
 use Rattle.register_calls.specs.declared.events.Register.{Register}
 use Rattle.register_calls.specs.declared.events.RegisterEvent.{RegisterEvent}
 use Rattle.register_calls.specs.declared.events.RegisterEvent.TheVariants.{WriteBegins, WriteEnds, ReadBegins, ReadEnds}
-use Rattle.register_calls.specs.Histories.{started, finished, has_read_open, before_read, IsWellFormed}
+use Rattle.register_calls.specs.Histories.{started, finished, has_read_open, before_read, IsBeginning, IsWellFormed}
 use Rattle.register_calls.specs.Intervals.{placed_event, IsWriteFrom, WriteHasEnded, IsOfReader, IsReadFrom}
 use Rattle.register_calls.proofs.ReadLemmas.{before_read-begin, before_read-other, read_open-begin_other, read_open-end, read_open-end_other}
 use Rattle.register_calls.proofs.Places.{placed_event-here, placed_event-before, placed_event-within, code, code-less, stands, code-one, numbered}
 use Rattle.register_calls.proofs.Endings.{finished-started, few_ended, all_ended}
-
--- events with which a history begins
-abbrev pub IsBeginning : List RegisterEvent → List RegisterEvent → Type 0
-IsBeginning s [] = s ≡ []
-IsBeginning s (e ∷ b) = (s ≡ e ∷ b) ⊎ IsBeginning s b
 
 pub beginning_all : (h : List RegisterEvent) → IsBeginning h h
 beginning_all [] = refl

@@ -6,14 +6,14 @@ use Rattle.std.proofs.lemmas.Option.{same_Some}
 use Rattle.register_calls.specs.declared.events.Register.{Register}
 use Rattle.register_calls.specs.declared.events.RegisterEvent.{RegisterEvent}
 use Rattle.register_calls.specs.declared.events.RegisterEvent.TheVariants.{WriteBegins, WriteEnds, ReadBegins, ReadEnds}
-use Rattle.register_calls.specs.Histories.{started, finished, written_values, IsWellFormed}
+use Rattle.register_calls.specs.Histories.{started, finished, written_values, IsWellFormed, IsBeginning}
 use Rattle.register_calls.specs.Classes.{IsOf}
 use Rattle.register_calls.specs.Intervals.{IsWriteFrom, WriteHasEnded, WriteOverlaps, MayBeOf}
 use Rattle.register_calls.proofs.Sets.{get_left}
 use Rattle.register_calls.proofs.ReadLemmas.{length-written}
 use Rattle.register_calls.proofs.Places.{placed_event-before, placed_event-within, code, code-zero, code-later, code-le, stands, IsNumbered, numbered}
 use Rattle.register_calls.proofs.Endings.{finished-started}
-use Rattle.register_calls.proofs.Beginnings.{IsBeginning, started-beginning, formed-beginning, is_few, is_ended}
+use Rattle.register_calls.proofs.Beginnings.{started-beginning, formed-beginning, is_few, is_ended}
 
 written-zero : (first : ℕ) (h : List RegisterEvent) → slice_get (written_values first h) 0 ≡ Some first
 written-zero first [] = refl

@@ -15,3 +15,4 @@ pub mod OrderByIntervals
 pub mod LinearLemmas
 pub mod ToOrders
 pub mod FromOrders
+pub mod ReasonLemmas

@@ -6,12 +6,12 @@ use Rattle.std.proofs.lemmas.Option.{none-some}
 use Rattle.register_calls.specs.declared.events.Register.{Register}
 use Rattle.register_calls.specs.declared.events.RegisterEvent.{RegisterEvent}
 use Rattle.register_calls.specs.declared.events.RegisterEvent.TheVariants.{WriteBegins, WriteEnds, ReadBegins, ReadEnds}
-use Rattle.register_calls.specs.Histories.{started, before_read, IsWellFormed}
+use Rattle.register_calls.specs.Histories.{started, before_read, IsWellFormed, IsBeginning}
 use Rattle.register_calls.specs.Classes.{Scope, sees, IsOf, Choice, NoneIsLater, Orders, HasOrder}
 use Rattle.register_calls.specs.Intervals.{placed_event, IsReadFrom, MayBeOf, Chooses, HasChoice, OrderIsByIntervals}
 use Rattle.register_calls.proofs.ReadLemmas.{chosen, left}
 use Rattle.register_calls.proofs.Places.{placed_event-before, placed_event-cases, code, code-zero, code-last, code-less, code-later, code-le, code-within, numbered}
-use Rattle.register_calls.proofs.Beginnings.{IsBeginning, beginning_all, beginning_tail, beginning_in, before_read-beginning, started-beginning, length-beginning, placed_event-beginning, code-beginning, formed-beginning, reading_began, read_there, read_still, read_before, last_read, of_last}
+use Rattle.register_calls.proofs.Beginnings.{beginning_all, beginning_tail, beginning_in, before_read-beginning, started-beginning, length-beginning, placed_event-beginning, code-beginning, formed-beginning, reading_began, read_there, read_still, read_before, last_read, of_last}
 use Rattle.register_calls.proofs.ByIntervals.{of_places, of_coded, may_more, may_less}
 
 -- what stands for a number is the same with one more event

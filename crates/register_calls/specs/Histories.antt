@@ -1,6 +1,6 @@
 -- Histories of a register of one writer and several readers: the list of its events, the last one first. The writes are numbered from 1
 -- in their order; number 0 is the first value.
-use Rattle.std.specs.Prelude.{◌≡◌, ℕ, suc, ◌<◌, ◌==◌, Bool, true, false, Option, Some, None, List, [], ◌∷◌, ◌++◌, if◌then◌else◌}
+use Rattle.std.specs.Prelude.{◌≡◌, ◌⊎◌, ℕ, suc, ◌<◌, ◌==◌, Bool, true, false, Option, Some, None, List, [], ◌∷◌, ◌++◌, if◌then◌else◌}
 use Rattle.register_calls.specs.declared.events.Register.{Register}
 use Rattle.register_calls.specs.declared.events.RegisterEvent.{RegisterEvent}
 use Rattle.register_calls.specs.declared.events.RegisterEvent.TheVariants.{WriteBegins, WriteEnds, ReadBegins, ReadEnds}
@@ -53,6 +53,11 @@ before_read r (WriteBegins v ∷ before) = before_read r before
 before_read r (WriteEnds ∷ before) = before_read r before
 before_read r (ReadBegins i ∷ before) = if r == i then before else before_read r before
 before_read r (ReadEnds i v ∷ before) = before_read r before
+
+-- events with which a history begins
+abbrev pub IsBeginning : List RegisterEvent → List RegisterEvent → Type 0
+IsBeginning s [] = s ≡ []
+IsBeginning s (e ∷ before) = (s ≡ e ∷ before) ⊎ IsBeginning s before
 
 -- an event comes in its turn: a begin if its side has nothing under way, an end if it has
 abbrev pub ComesInTurn : List RegisterEvent → RegisterEvent → Type 0

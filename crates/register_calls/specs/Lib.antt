@@ -5,3 +5,4 @@ pub mod Audits
 pub mod Findings
 pub mod Intervals
 pub mod Linearizations
+pub mod Reasons

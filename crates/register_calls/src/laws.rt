@@ -1,6 +1,7 @@
 //! What follows of the classes of a history. Each law is the contract of a function that does nothing: a body that calls it has the
 //! statement at hand in its proof.
 ghost use Rattle.register_calls.specs.Findings.{BeginningHasClass, OneFirstMiss, StrongerHasWeaker};
+ghost use Rattle.register_calls.specs.Reasons.{ReasonIsFact};
 ghost use Rattle.register_calls.specs.Linearizations.{AtomicIsLinearizable};
 ghost use Rattle.register_calls.specs.Intervals.{OrderIsByIntervals, RegularIsByIntervals, SafeIsByIntervals};
 
@@ -41,4 +42,9 @@ pub fn order_is_by_intervals()
 /// legal for a register and keeps real time.
 pub fn atomic_is_linearizable()
     ensures { AtomicIsLinearizable }
+{}
+
+/// A reason is a fact: if one speaks against the read that ends, the history with it lacks the class, whatever write each read is of.
+pub fn reason_is_fact()
+    ensures { ReasonIsFact }
 {}

@@ -7,8 +7,10 @@ mod events;
 mod faults;
 mod findings;
 pub mod laws;
+mod reasons;
 
 pub use auditors::{OpenRead, ReaderState, RegisterAuditor};
 pub use events::{Class, Register, RegisterEvent};
 pub use faults::RegisterFault;
 pub use findings::first_miss;
+pub use reasons::{EarlierRead, MissReason};
