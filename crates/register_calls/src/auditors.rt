@@ -186,6 +186,40 @@ impl<W: Fifo<u64>, R: Fifo<ReaderState>> RegisterAuditor<W, R> {
         })
     }
 
+    /// Forgets what it has read, and audits a history of this register from its begin, in the same lists. The first value of the
+    /// register is one of its values.
+    ///
+    /// It is an error if the list of writes has no room for one number; it is of no further use then.
+    pub fn restart(&mut self, register: Register) -> Result<(), AllocError>
+        requires { IsValue register register.first }
+        ensures register { OnOk result (self.new.register ≡ register) }
+        ensures audits { OnOk result (AuditsRegister W.items R.items self.new []) }
+        ensures rooms { (W.room self.new.window ≡ W.room self.old.window) ×
+            (R.room self.new.readers ≡ R.room self.old.readers) }
+        ensures full { OnErr result (W.room self.old.window ≡ 0) }
+    {
+        self.window.truncate(0);
+        self.window.push_back(register.first)?;
+        self.readers.truncate(0);
+        self.register = register;
+        self.base = 0;
+        self.begun = 0;
+        self.is_writing = false;
+        self.floor = 0;
+        self.is_safe = true;
+        self.is_regular = true;
+        self.is_by_reader = true;
+        self.is_atomic = true;
+        Ok(())
+    }
+
+    /// The register whose history it audits.
+    pub fn register(&self) -> Register
+        ensures { result ≡ self.now.register }
+    {
+        self.register
+    }
+
     // How many writes have ended.
     fn ended(&self) -> usize
         ensures { result ≡ (if self.now.is_writing then self.now.begun - 1 else self.now.begun) }

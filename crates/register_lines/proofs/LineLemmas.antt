@@ -1,10 +1,14 @@
--- A line: what is read of bytes is their line, they have no other, and it is not long.
-use Rattle.std.proofs.Common.{◌≡◌, ℕ, ◌+◌, ◌<◌, ◌≤◌, ◌^◌, Option, Some, None, List, [], ◌++◌, length, length-append, refl, ap, sym, subst, ◌∙◌, append_assoc, inl, inr, arith}
-use Rattle.std.specs.Prelude.{codes, decimal, option_map, option_and_then}
+-- A line: what is read of bytes is their line, they have no other, it is not long, and there is no line feed in it.
+use Rattle.std.proofs.Common.{◌≡◌, ℕ, ◌+◌, ◌<◌, ◌≤◌, ◌^◌, true, Option, Some, None, List, [], ◌++◌, length, length-append, refl, ap, sym, subst, ◌∙◌, append_assoc, inl, inr, arith}
+use Rattle.std.specs.List.{list_all}
+use Rattle.std.specs.Prelude.{codes, decimal, nat_lt, option_map, option_and_then}
 use Rattle.std.proofs.lemmas.Fmt.{length-decimal-le}
 use Rattle.std.proofs.lemmas.List.{append-nil}
+use Rattle.std.proofs.lemmas.List.Elements.{All-append}
 use Rattle.std.proofs.lemmas.Option.{none-some, option_and_then_some, same_Some}
+use Rattle.line_parts.specs.LineEnds.{HasNoFeed}
 use Rattle.line_parts.specs.Parts.{after, number_at}
+use Rattle.line_parts.proofs.LineFeeds.{IsOther, no_feed_digits, no_feed_text}
 use Rattle.line_parts.proofs.TextReading.{after-text}
 use Rattle.line_parts.proofs.NumberReading.{number_at-text, number_at-again}
 use Rattle.register_lines.specs.declared.lines.RegisterLine.{RegisterLine}
@@ -121,6 +125,10 @@ no_line_read bytes none line is = none-some line (none ∙ read_of_line bytes li
 pub no_line_allowed : (bytes : List ℕ) (this : RegisterLine) → Some this ≡ line_at bytes → ¬ AllowsNumbers this → (line : RegisterLine) → ¬ IsRegisterLine bytes line
 no_line_allowed bytes this read none line is = none (subst AllowsNumbers (sym (same_Some this line (read ∙ read_of_line bytes line is))) is.allowed)
 
+-- bytes are one line at most
+pub line_same : (bytes : List ℕ) (one other : RegisterLine) → IsRegisterLine bytes one → IsRegisterLine bytes other → one ≡ other
+line_same bytes one other is too = same_Some one other (sym (read_of_line bytes one is) ∙ read_of_line bytes other too)
+
 -- ---- how long a line is
 
 digits : (n : ℕ) → n < 2 ^ 64 → length (decimal n) ≤ 20
@@ -142,3 +150,34 @@ text_limit (Got reader value) allowed = omega (arith, two_numbers reader value (
 
 pub line_limit : (bytes : List ℕ) (line : RegisterLine) → IsRegisterLine bytes line → length bytes ≤ 54
 line_limit bytes line is = subst (λ (t : List ℕ). length t ≤ 54) (sym is.text) (text_limit line is.allowed)
+
+-- ---- no line feed
+
+-- a number or a text after bytes
+number_after : (front : List ℕ) (n : ℕ) → n < 2 ^ 64 → HasNoFeed front → HasNoFeed (front ++ decimal n)
+number_after front n small none = All-append IsOther front (decimal n) none (no_feed_digits n small)
+
+text_after : (front text : List ℕ) → list_all (λ b. nat_lt 10 b) text ≡ true → HasNoFeed front → HasNoFeed (front ++ text)
+text_after front text plain none = All-append IsOther front text none (no_feed_text text plain)
+
+-- two numbers after a text, with a space between them
+numbers_after : (text : List ℕ) (first values : ℕ) → list_all (λ b. nat_lt 10 b) text ≡ true → first < 2 ^ 64 → values < 2 ^ 64 → HasNoFeed (text ++ decimal first ++ codes " " ++ decimal values)
+numbers_after text first values plain small too =
+    number_after (text ++ decimal first ++ codes " ") values too (text_after (text ++ decimal first) (codes " ") refl (number_after text first small (no_feed_text text plain)))
+
+-- the number of a reader
+reader_no_feed : (reader : ℕ) → reader ≤ 64 → HasNoFeed (codes "R" ++ decimal reader)
+reader_no_feed reader few = number_after (codes "R") reader (reader_small reader few) (no_feed_text (codes "R") refl)
+
+text_no_feed : (line : RegisterLine) → AllowsNumbers line → HasNoFeed (register_line_text line)
+text_no_feed (Register first) allowed = number_after (codes "register ") first allowed (no_feed_text (codes "register ") refl)
+text_no_feed (Valued first values) allowed = numbers_after (codes "register ") first values refl (omega (arith, allowed.0, allowed.1)) allowed.1
+text_no_feed (Cut first) allowed = number_after (codes "cut register ") first allowed (no_feed_text (codes "cut register ") refl)
+text_no_feed (CutValued first values) allowed = numbers_after (codes "cut register ") first values refl (omega (arith, allowed.0, allowed.1)) allowed.1
+text_no_feed (Write value) allowed = number_after (codes "W write ") value allowed (no_feed_text (codes "W write ") refl)
+text_no_feed Wrote allowed = no_feed_text (codes "W wrote") refl
+text_no_feed (Read reader) allowed = text_after (codes "R" ++ decimal reader) (codes " read") refl (reader_no_feed reader allowed.1)
+text_no_feed (Got reader value) allowed = number_after (codes "R" ++ decimal reader ++ codes " got ") value allowed.2 (text_after (codes "R" ++ decimal reader) (codes " got ") refl (reader_no_feed reader allowed.1))
+
+pub line_no_feed : (bytes : List ℕ) (line : RegisterLine) → IsRegisterLine bytes line → HasNoFeed bytes
+line_no_feed bytes line is = subst HasNoFeed (sym is.text) (text_no_feed line is.allowed)

@@ -6,3 +6,4 @@ mod lines_of_registers;
 mod recordings;
 mod registers;
 mod slots;
+mod texts_of_registers;

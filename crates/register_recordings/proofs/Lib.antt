@@ -1,0 +1,3 @@
+mod EventLemmas
+mod FurtherLines
+mod RecordingLemmas

@@ -1,0 +1,236 @@
+-- The text of a recording of a register, line by line: where a line ends, what its end shows, and that its lines are one list of lines.
+use Rattle.std.proofs.Common.{◌≡◌, ◌≢◌, Bool, ℕ, ◌+◌, ◌-◌, ◌^◌, ◌<◌, ◌≤◌, List, [], ◌∷◌, ◌++◌, length, get_or, drop, refl, ap, ap₂, sym, subst, ◌∙◌, append_assoc, length-append, arith}
+use Rattle.std.specs.Prelude.{All}
+use Rattle.std.specs.List.{filter_map}
+use Rattle.std.proofs.lemmas.Grind.{flat_map-append}
+use Rattle.std.proofs.lemmas.List.{append-nil}
+use Rattle.std.proofs.lemmas.List.Elements.{All-append, All-head, All-nil, All-tail}
+use Rattle.line_parts.specs.LineEnds.{HasNoFeed}
+use Rattle.line_parts.proofs.LineFeeds.{IsOther, feed_nowhere, feed_once}
+use Rattle.register_calls.specs.declared.auditors.ReaderState.{ReaderState}
+use Rattle.register_calls.specs.declared.events.Register.{Register}
+use Rattle.register_calls.specs.declared.events.RegisterEvent.{RegisterEvent}
+use Rattle.register_lines.specs.Lines.{register_line_text, AllowsNumbers}
+use Rattle.register_lines.specs.declared.lines.RegisterLine.{RegisterLine}
+use Rattle.register_lines.proofs.LineLemmas.{line_limit, line_no_feed, line_same}
+use Rattle.register_recordings.specs.declared.faults.RegisterTextFault.{RegisterTextFault}
+use Rattle.register_recordings.specs.declared.faults.RegisterTextFault.TheVariants.{BadLine, TooLong, OutOfMemory}
+use Rattle.register_recordings.specs.declared.findings.RegisterFinding.{RegisterFinding}
+use Rattle.register_recordings.specs.declared.recordings.JudgedLines.{JudgedLines}
+use Rattle.register_recordings.specs.declared.recordings.RegisterRecording.{RegisterRecording}
+use Rattle.register_recordings.specs.Recordings.{recorded_event, lacks_operations, register_line_bytes, register_text, AreRegisterLines, IsBadRegisterLine, IsRegisterFinding, IsRegisterFound, IsRegisterRecording, RefusesRegisterText}
+use Rattle.register_recordings.specs.Reading.{ContinuesRegister, HasJudged, HasReadEvents, HasReadRegister, RefusesRegisterLine}
+use Rattle.register_recordings.proofs.FurtherLines.{all_allowed, last_allowed}
+
+-- ---- lines
+
+-- the text of a line, and what comes after it
+line_and : (l : RegisterLine) (more : List ℕ) → register_line_bytes l ++ more ≡ register_line_text l ++ 10 ∷ more
+line_and l more = append_assoc (register_line_text l) (10 ∷ []) more
+
+line_text_limit : (l : RegisterLine) → AllowsNumbers l → length (register_line_text l) ≤ 54
+line_text_limit l allowed = line_limit (register_line_text l) l (record { text = refl; allowed = allowed })
+
+no_feed_within : (l : RegisterLine) → AllowsNumbers l → HasNoFeed (register_line_text l)
+no_feed_within l allowed = line_no_feed (register_line_text l) l (record { text = refl; allowed = allowed })
+
+text_more : (before : List RegisterLine) (l : RegisterLine) → register_text (before ++ l ∷ []) ≡ register_text before ++ register_line_bytes l
+text_more before l = flat_map-append register_line_bytes before (l ∷ []) ∙ ap (λ (t : List ℕ). register_text before ++ t) (append-nil (register_line_bytes l))
+
+-- a line has a byte
+many_bytes : (lines : List RegisterLine) → length lines ≤ length (register_text lines)
+many_bytes [] = omega arith
+many_bytes (l ∷ lines) =
+    let whole : length (register_text (l ∷ lines)) ≡ length (register_line_bytes l) + length (register_text lines) = length-append (register_line_bytes l) (register_text lines) in
+    let one : length (register_line_bytes l) ≡ length (register_line_text l) + 1 = length-append (register_line_text l) (10 ∷ []) in
+    let later : length lines ≤ length (register_text lines) = many_bytes lines in
+    omega (arith, whole, one, later)
+
+pub too_long : (before : List RegisterLine) (bytes more : List ℕ) → bytes ≡ register_text before ++ more → 2 ^ 64 - 1 ≤ length before → 2 ^ 64 - 1 ≤ length bytes
+too_long before bytes more text long =
+    let whole : length bytes ≡ length (register_text before) + length more = ap (λ (t : List ℕ). length t) text ∙ length-append (register_text before) more in
+    let many : length before ≤ length (register_text before) = many_bytes before in
+    omega (arith, whole, long, many)
+
+-- ---- a line that ends
+
+-- the bytes of a line that ends, after lines
+ended_text : (before : List RegisterLine) (bytes cut end more : List ℕ) → bytes ≡ register_text before ++ cut → bytes ++ (end ++ 10 ∷ more) ≡ register_text before ++ ((cut ++ end) ++ 10 ∷ more)
+ended_text before bytes cut end more text =
+    ap (λ (t : List ℕ). t ++ (end ++ 10 ∷ more)) text ∙ append_assoc (register_text before) cut (end ++ 10 ∷ more)
+    ∙ ap (λ (t : List ℕ). register_text before ++ t) (sym (append_assoc cut end (10 ∷ more)))
+
+nothing_kept : (cut : List ℕ) → cut ≡ [] → length cut ≤ 54
+nothing_kept cut none = let long : length cut ≡ 0 = ap (λ (t : List ℕ). length t) none in omega (arith, long)
+
+no_feed_kept : (cut : List ℕ) → cut ≡ [] → HasNoFeed cut
+no_feed_kept cut none = subst HasNoFeed (sym none) (All-nil IsOther)
+
+module _ {W R B : Type 0} (window : W → List ℕ) (states : R → List ReaderState) (bytes_of : B → List ℕ) where
+  -- nothing was read
+  pub nothing_read : (new : RegisterRecording W R B) → bytes_of new.cut ≡ [] → HasJudged window states new.lines [] → HasReadRegister window states bytes_of new []
+  nothing_read new none lines = record {
+    ended = [];
+    text = sym none;
+    no_feed = no_feed_kept (bytes_of new.cut) none;
+    few = nothing_kept (bytes_of new.cut) none;
+    lines = lines;
+  }
+
+  -- a line was read, and no byte of another one
+  pub line_ended :
+      (old new : RegisterRecording W R B) (bytes end whole : List ℕ) (has : HasReadRegister window states bytes_of old bytes) → whole ≡ bytes_of old.cut ++ end → bytes_of new.cut ≡ [] →
+      (l : RegisterLine) × ContinuesRegister has.ended whole l × HasJudged window states new.lines (has.ended ++ l ∷ []) → HasReadRegister window states bytes_of new (bytes ++ end ++ 10 ∷ [])
+  line_ended old new bytes end whole has all none (l, on, lines) =
+      let is : bytes_of old.cut ++ end ≡ register_line_text l = sym all ∙ on.1 in
+      record {
+        ended = has.ended ++ l ∷ [];
+        text = append_assoc bytes end (10 ∷ []) ∙ ended_text has.ended bytes (bytes_of old.cut) end [] has.text ∙ ap (λ (t : List ℕ). register_text has.ended ++ (t ++ 10 ∷ [])) is ∙ sym (text_more has.ended l)
+            ∙ sym (append-nil (register_text (has.ended ++ l ∷ []))) ∙ ap (λ (t : List ℕ). register_text (has.ended ++ l ∷ []) ++ t) (sym none);
+        no_feed = no_feed_kept (bytes_of new.cut) none;
+        few = nothing_kept (bytes_of new.cut) none;
+        lines = lines;
+      }
+
+  -- more bytes of a line were kept
+  pub bytes_kept :
+      (old new : RegisterRecording W R B) (text bytes : List ℕ) (has : HasReadRegister window states bytes_of old text) → HasNoFeed bytes → bytes_of new.cut ≡ bytes_of old.cut ++ bytes → length (bytes_of old.cut) + length bytes ≤ 54 →
+      HasJudged window states new.lines has.ended → HasReadRegister window states bytes_of new (text ++ bytes)
+  bytes_kept old new text bytes has free cut short lines =
+      let all : length (bytes_of new.cut) ≡ length (bytes_of old.cut) + length bytes = ap (λ (t : List ℕ). length t) cut ∙ length-append (bytes_of old.cut) bytes in
+      let few : length (bytes_of new.cut) ≤ 54 = omega (arith, all, short) in
+      record {
+        ended = has.ended;
+        text = ap (λ (t : List ℕ). t ++ bytes) has.text ∙ append_assoc (register_text has.ended) (bytes_of old.cut) bytes ∙ ap (λ (t : List ℕ). register_text has.ended ++ t) (sym cut);
+        no_feed = subst HasNoFeed (sym cut) (All-append IsOther (bytes_of old.cut) bytes has.no_feed free);
+        few = few;
+        lines = lines;
+      }
+
+-- ---- refusals
+
+-- no line ends in bytes without a line feed, if it is shorter
+feed_later : (xs ys more others : List ℕ) → HasNoFeed xs → length ys < length xs → xs ++ more ≢ ys ++ 10 ∷ others
+feed_later [] ys more others none fewer e = absurd (omega (arith, fewer))
+feed_later (x ∷ xs) [] more others none fewer e = All-head IsOther x xs none (ap (λ (t : List ℕ). get_or t 0 0) e)
+feed_later (x ∷ xs) (y ∷ ys) more others none fewer e = feed_later xs ys more others (All-tail IsOther x xs none) (omega (arith, fewer)) (ap (λ (t : List ℕ). drop 1 t) e)
+
+-- bytes of a line that has not ended, more than a line has, are a bad line, whatever comes after them
+pub long_bad :
+    (before : List RegisterLine) (text cut bytes more : List ℕ) (number : ℕ) → text ≡ register_text before ++ cut → AreRegisterLines before → HasNoFeed cut → HasNoFeed bytes → length before + 1 ≡ number → 54 < length cut + length bytes →
+    IsBadRegisterLine (text ++ (bytes ++ more)) number
+long_bad before text cut bytes more number parts are none free is long =
+    let all : length (cut ++ bytes) ≡ length cut + length bytes = length-append cut bytes in
+    record {
+      before = before;
+      rest = (cut ++ bytes) ++ more;
+      text = ap (λ (t : List ℕ). t ++ (bytes ++ more)) parts ∙ append_assoc (register_text before) cut (bytes ++ more) ∙ ap (λ (t : List ℕ). register_text before ++ t) (sym (append_assoc cut bytes more));
+      are = are;
+      is_number = is;
+      is_bad = λ l others on e.
+          let short : length (register_line_text l) ≤ 54 = line_text_limit l (last_allowed before l on) in
+          feed_later (cut ++ bytes) (register_line_text l) more others (All-append IsOther cut bytes none free) (omega (arith, short, long, all)) (e ∙ line_and l others);
+      is_there = λ nothing.
+          let some : length ((cut ++ bytes) ++ more) ≡ 0 = ap (λ (t : List ℕ). length t) nothing in
+          let parts_too : length ((cut ++ bytes) ++ more) ≡ length (cut ++ bytes) + length more = length-append (cut ++ bytes) more in
+          absurd (omega (arith, long, all, some, parts_too));
+    }
+
+pub end_refused :
+    (fault : RegisterTextFault) (before : List RegisterLine) (bytes cut end whole more : List ℕ) → bytes ≡ register_text before ++ cut → AreRegisterLines before → HasNoFeed cut → HasNoFeed end → whole ≡ cut ++ end →
+    RefusesRegisterLine fault before whole → RefusesRegisterText fault (bytes ++ (end ++ 10 ∷ more))
+end_refused (BadLine number) before bytes cut end whole more text are none free all refused = record {
+  before = before;
+  rest = (cut ++ end) ++ 10 ∷ more;
+  text = ended_text before bytes cut end more text;
+  are = are;
+  is_number = refused.0;
+  is_bad = λ l others on e.
+      let same = feed_once (cut ++ end) (register_line_text l) more others (All-append IsOther cut end none free) (no_feed_within l (last_allowed before l on)) (e ∙ line_and l others) in
+      refused.1 l (on, all ∙ same.0);
+  is_there = λ nothing.
+      let some : length ((cut ++ end) ++ 10 ∷ more) ≡ 0 = ap (λ (t : List ℕ). length t) nothing in
+      let parts : length ((cut ++ end) ++ 10 ∷ more) ≡ length (cut ++ end) + length (10 ∷ more) = length-append (cut ++ end) (10 ∷ more) in
+      absurd (omega (arith, some, parts));
+}
+end_refused TooLong before bytes cut end whole more text are none free all refused = too_long before (bytes ++ (end ++ 10 ∷ more)) ((cut ++ end) ++ 10 ∷ more) (ended_text before bytes cut end more text) refused
+end_refused OutOfMemory before bytes cut end whole more text are none free all refused = tt
+
+-- at the end of the text
+pub cut_bad : (before : List RegisterLine) (bytes cut : List ℕ) (number : ℕ) → bytes ≡ register_text before ++ cut → AreRegisterLines before → HasNoFeed cut → length before + 1 ≡ number → (cut ≡ [] → before ≡ []) → IsBadRegisterLine bytes number
+cut_bad before bytes cut number text are none is there = record {
+  before = before;
+  rest = cut;
+  text = text;
+  are = are;
+  is_number = is;
+  is_bad = λ l more on e. feed_nowhere cut (register_line_text l) more none (e ∙ line_and l more);
+  is_there = there;
+}
+
+-- ---- findings
+
+module _ {W R : Type 0} (window : W → List ℕ) (states : R → List ReaderState) where
+  pub found :
+      (lines : JudgedLines W R) (finding : RegisterFinding) (ended : List RegisterLine) (bytes cut : List ℕ) → bytes ≡ register_text ended ++ cut → cut ≡ [] → ended ≢ [] → HasJudged window states lines ended →
+      ((events : List RegisterEvent) → HasReadEvents window states lines lines.out_of_turn events → IsRegisterFound lines.auditor.register events finding) → IsRegisterFinding bytes finding
+  found lines finding [] bytes cut text none some has finds = absurd (some refl)
+  found lines finding (head ∷ further) bytes cut text none some has finds =
+      let read = has.events head further refl in
+      let is : IsRegisterRecording bytes lines.auditor.register (filter_map recorded_event further) = record {
+        is_cut = lines.is_cut;
+        head = head;
+        further = further;
+        text = text ∙ ap (λ (t : List ℕ). register_text (head ∷ further) ++ t) none ∙ append-nil (register_text (head ∷ further));
+        are = has.are;
+        gives_cut = read.1;
+        gives_register = read.0;
+        gives_events = refl;
+      } in
+      (lines.auditor.register, filter_map recorded_event further, is, finds (filter_map recorded_event further) read.2)
+
+-- ---- one list of lines
+
+-- one line at the front of a text
+front_same : (l m : RegisterLine) (a b : List ℕ) → AllowsNumbers l → AllowsNumbers m → register_line_bytes l ++ a ≡ register_line_bytes m ++ b → (l ≡ m) × (a ≡ b)
+front_same l m a b one other e =
+    let L : List ℕ = register_line_text l in
+    let M : List ℕ = register_line_text m in
+    let same = feed_once L M a b (no_feed_within l one) (no_feed_within m other) (sym (line_and l a) ∙ e ∙ line_and m b) in
+    (line_same L l m (record { text = refl; allowed = one }) (record { text = same.0; allowed = other }), same.1)
+
+-- lines at the front of the text of lines are its first ones
+first_ones :
+    (before all : List RegisterLine) (rest : List ℕ) → All AllowsNumbers before → All AllowsNumbers all → register_text before ++ rest ≡ register_text all →
+    (more : List RegisterLine) × (all ≡ before ++ more) × (rest ≡ register_text more)
+first_ones [] all rest is are e = (all, refl, e)
+first_ones (l ∷ before) [] rest is are e =
+    let some : length ((register_line_bytes l ++ register_text before) ++ rest) ≡ 0 = ap (λ (t : List ℕ). length t) e in
+    let one : length ((register_line_bytes l ++ register_text before) ++ rest) ≡ length (register_line_bytes l ++ register_text before) + length rest = length-append (register_line_bytes l ++ register_text before) rest in
+    let two : length (register_line_bytes l ++ register_text before) ≡ length (register_line_bytes l) + length (register_text before) = length-append (register_line_bytes l) (register_text before) in
+    let three : length (register_line_bytes l) ≡ length (register_line_text l) + 1 = length-append (register_line_text l) (10 ∷ []) in
+    absurd (omega (arith, some, one, two, three))
+first_ones (l ∷ before) (m ∷ all) rest is are e =
+    let same =
+    front_same l m (register_text before ++ rest) (register_text all) (All-head AllowsNumbers l before is) (All-head AllowsNumbers m all are) (sym (append_assoc (register_line_bytes l) (register_text before) rest) ∙ e) in
+    let later = first_ones before all rest (All-tail AllowsNumbers l before is) (All-tail AllowsNumbers m all are) same.1 in
+    (later.0, ap₂ (λ (x : RegisterLine) (xs : List RegisterLine). x ∷ xs) (sym same.0) later.1, later.2)
+
+module _ {W R : Type 0} (window : W → List ℕ) (states : R → List ReaderState) where
+  one_cut :
+      (lines : JudgedLines W R) (is_cut : Bool) (ended more further : List RegisterLine) (head : RegisterLine) (cut : List ℕ) → HasJudged window states lines ended → lacks_operations head ≡ is_cut →
+      head ∷ further ≡ ended ++ more → cut ≡ register_text more → HasNoFeed cut → lines.is_cut ≡ is_cut
+  one_cut lines is_cut [] more further head cut has gives parts rest none =
+      absurd (feed_nowhere cut (register_line_text head) (register_text further) none (rest ∙ ap (λ (ls : List RegisterLine). register_text ls) (sym parts) ∙ line_and head (register_text further)))
+  one_cut lines is_cut (l ∷ ended) more further head cut has gives parts rest none =
+      let same : head ≡ l = ap (λ (ls : List RegisterLine). get_or ls 0 head) parts in
+      let read = has.events l ended refl in
+      sym read.1 ∙ ap (λ (x : RegisterLine). lacks_operations x) (sym same) ∙ gives
+
+  -- its first line says what that of every recording says that the bytes are
+  pub cut_is :
+      {B : Type 0} (bytes_of : B → List ℕ) (recording : RegisterRecording W R B) (bytes : List ℕ) → HasReadRegister window states bytes_of recording bytes →
+      (r : Register) (events : List RegisterEvent) (is : IsRegisterRecording bytes r events) → recording.lines.is_cut ≡ is.is_cut
+  cut_is bytes_of recording bytes has r events is =
+      let parts = first_ones has.ended (is.head ∷ is.further) (bytes_of recording.cut) (all_allowed has.ended has.lines.are) (all_allowed (is.head ∷ is.further) is.are) (sym has.text ∙ is.text) in
+      one_cut recording.lines is.is_cut has.ended parts.0 is.further is.head (bytes_of recording.cut) has.lines is.gives_cut parts.1 parts.2 has.no_feed

@@ -1,0 +1,42 @@
+use Rattle.std.proofs.Common.{◌≡◌, ◌≢◌, ◌+◌, [], length, ap, refl, sym, arith}
+use Rattle.std.proofs.lemmas.List.{nil_from_length}
+use Rattle.lists.proofs.Results.{then_err, then_ok}
+use Rattle.register_recordings.proofs.FurtherLines.{first_read, first_refused, further_read, further_refused, goes_on_line, no_event}
+use Rattle.register_recordings.proofs.recordings.JudgedLines.read.Goals as goal
+
+pub returns-in_default-clause-refused : goal.returns-in_default-clause-refused
+returns-in_default-clause-refused g c before has = omega (arith, has.count, c.in_default.ensures)
+
+pub returns-in_default-read_register_line-clause-refused : goal.returns-in_default-read_register_line-clause-refused
+returns-in_default-read_register_line-clause-refused g c before has =
+    (omega (arith, has.count, c.in-Some.ensures.1), λ l on. c.in_default-read_register_line.ensures.none refl l (goes_on_line before c.args.bytes.now l on))
+
+pub begin-requires : goal.begin-requires
+begin-requires g c = let is = c.in-Some-read_register_line.ensures.line in is.allowed
+
+pub returns-then-count-eq1-clause-read : goal.returns-then-count-eq1-clause-read
+returns-then-count-eq1-clause-read g c = then_ok c.begin.result c.begin.ensures.read (λ judged before has.
+    let none : before ≡ [] = nil_from_length before (omega (arith, has.count, c.in-Some.ensures.1, c.if-count-eq1.true)) in
+    first_read g.W.Fifo.items g.R.Fifo.items c.begin.new.self before c.args.bytes.now c.in-Some-read_register_line.line none c.in-Some-read_register_line.ensures.line judged)
+
+pub returns-then-count-eq1-clause-refused : goal.returns-then-count-eq1-clause-refused
+returns-then-count-eq1-clause-refused g c = then_err c.begin.result c.begin.ensures.refused (λ e refuses before has.
+    let none : before ≡ [] = nil_from_length before (omega (arith, has.count, c.in-Some.ensures.1, c.if-count-eq1.true)) in
+    first_refused e before c.args.bytes.now c.in-Some-read_register_line.line none c.in-Some-read_register_line.ensures.line refuses)
+
+pub returns-in_default-recorded_event-clause-refused : goal.returns-in_default-recorded_event-clause-refused
+returns-in_default-recorded_event-clause-refused g c before has =
+    let some : before ≢ [] = λ none. c.if-count-eq1.false (omega (arith, has.count, c.in-Some.ensures.1, ap length none)) in
+    (omega (arith, has.count, c.in-Some.ensures.1), no_event before c.args.bytes.now c.in-Some-read_register_line.line some c.in-Some-read_register_line.ensures.line (sym c.in_default-recorded_event.ensures))
+
+pub returns-clause-read : goal.returns-clause-read
+returns-clause-read g c =
+    let next : c.in-Some.count ≡ c.args.self.now.count + 1 = omega (arith, c.in-Some.ensures.1) in
+    further_read g.W.Fifo.items g.R.Fifo.items c.args.self.now c.hear.new.self c.args.bytes.now c.in-Some-read_register_line.line c.in-Some.count c.in-Some-recorded_event.event next c.if-count-eq1.false
+    c.in-Some-read_register_line.ensures.line (sym c.in-Some-recorded_event.ensures) c.hear.result c.hear.ensures
+
+pub returns-clause-refused : goal.returns-clause-refused
+returns-clause-refused g c =
+    let next : c.in-Some.count ≡ c.args.self.now.count + 1 = omega (arith, c.in-Some.ensures.1) in
+    further_refused g.W.Fifo.items g.R.Fifo.items c.args.self.now c.hear.new.self c.args.bytes.now c.in-Some-read_register_line.line c.in-Some.count c.in-Some-recorded_event.event next c.if-count-eq1.false
+    c.in-Some-read_register_line.ensures.line (sym c.in-Some-recorded_event.ensures) c.hear.result c.hear.ensures
