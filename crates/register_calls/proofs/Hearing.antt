@@ -10,14 +10,15 @@ use Rattle.register_calls.specs.declared.events.RegisterEvent.{RegisterEvent}
 use Rattle.register_calls.specs.declared.events.RegisterEvent.TheVariants.{WriteBegins, WriteEnds, ReadBegins, ReadEnds}
 use Rattle.register_calls.specs.declared.auditors.OpenRead.{OpenRead}
 use Rattle.register_calls.specs.declared.auditors.ReaderState.{ReaderState}
+use Rattle.register_calls.specs.declared.auditors.FoundWrites.{FoundWrites}
 use Rattle.register_calls.specs.Histories.{IsValue, started, finished, written_values, has_read_open, before_read}
 use Rattle.register_calls.specs.Classes.{IsOf, IsSafe, IsRegular, sees, Together, EachAlone}
 use Rattle.register_calls.specs.Judging.{IsFirstPlace, IsGreater, IsRaised, still}
-use Rattle.register_calls.specs.Audits.{reader_at, KeepsRead, KeepsHistory, IsToldBy, IsOldest, IsOldestKept, lows, own_lows, own_floors}
+use Rattle.register_calls.specs.Audits.{MovesReader, FindsWrites, reader_at, KeepsRead, KeepsHistory, IsToldBy, IsOldest, IsOldestKept, lows, own_lows, own_floors}
 use Rattle.register_calls.proofs.ReadLemmas.{before_read-begin, before_read-other, read_open-begin, read_open-begin_other, read_open-end, read_open-end_other, length-written, finished-before_read}
 use Rattle.register_calls.proofs.Keeping.{keeps_nothing, scope_write, scope_wrote, scope_read, scope_got, scope_same}
 use Rattle.register_calls.proofs.Sets.{drop_twice, get-drop}
-use Rattle.register_calls.proofs.Readers.{Moves, lows_others, own_lows_others}
+use Rattle.register_calls.proofs.Readers.{lows_others, own_lows_others}
 
 pub turn_of : (b : Bool) (start stop : ℕ) → start ≡ (if b then suc stop else stop) → stop ≤ start
 turn_of true start stop q = omega arith
@@ -80,7 +81,7 @@ module _ (r : Register) (h : List RegisterEvent) (kept : List ℕ) (base begun :
     -- a read begins
     pub read_begins :
         (writing : Bool) (ys : List ReaderState) (i : ℕ) (own : ℕ) (read : OpenRead) → (reader_at readers i).reading ≡ None → own ≡ (reader_at readers i).own →
-        Moves readers ys i (record { own = own; reading = Some read }) → read.before ≡ (if writing then begun - 1 else begun) → IsGreater read.before floor read.low →
+        MovesReader readers ys i (record { own = own; reading = Some read }) → read.before ≡ (if writing then begun - 1 else begun) → IsGreater read.before floor read.low →
         IsGreater read.before own read.own_low → KeepsHistory r h kept base begun writing readers floor safe regular each all →
         KeepsHistory r (ReadBegins i ∷ h) kept base begun writing ys floor safe regular each all
     read_begins writing ys i own read free mine moves before low own_low k = record {
@@ -193,7 +194,7 @@ module _ (r : Register) (h : List RegisterEvent) (kept : List ℕ) (base begun :
   -- a read ends
   pub read_ends :
       (ys : List ReaderState) (i v top own : ℕ) (read : OpenRead) (of_any of_own of_all : Option ℕ) (now : Bool) → (reader_at readers i).reading ≡ Some read →
-      Moves readers ys i (record { own = own; reading = None }) → IsFirstPlace (written_values r.first h) read.before v of_any → IsFirstPlace (written_values r.first h) read.own_low v of_own →
+      MovesReader readers ys i (record { own = own; reading = None }) → IsFirstPlace (written_values r.first h) read.before v of_any → IsFirstPlace (written_values r.first h) read.own_low v of_own →
       IsFirstPlace (written_values r.first h) read.low v of_all → IsRaised (reader_at readers i).own of_own own → IsRaised floor of_all top →
       (now ≡ true) ↔ ((safe ≡ true) × IsValue r v × ((read.before < begun) ⊎ (still true of_any ≡ true))) →
       KeepsHistory r h kept base begun writing readers floor safe regular each all →
@@ -382,28 +383,49 @@ module _ (r : Register) (h : List RegisterEvent) (kept : List ℕ) (base begun :
       subst (λ (xs : List ℕ). KeepsHistory r (WriteBegins v ∷ h) xs base next true readers floor safe regular each all) (sym is)
       (subst (λ (n : ℕ). KeepsHistory r (WriteBegins v ∷ h) (kept ++ v ∷ []) base n true readers floor safe regular each all) (sym up) then_)
 
+-- the first writes, of all that have begun, that a read under way may be of if it ends with this value
+pub record FirstWrites (first : ℕ) (h : List RegisterEvent) (i v base : ℕ) (found : FoundWrites) : Type 0 where
+  pub is_open : has_read_open i h ≡ true
+  pub began : found.read.before ≡ finished (before_read i h)
+  pub kept : base ≤ found.read.before
+  pub low : found.read.before ≤ found.read.low
+  pub own_low : found.read.before ≤ found.read.own_low
+  pub any : IsFirstPlace (written_values first h) found.read.before v found.of_any
+  pub own : IsFirstPlace (written_values first h) found.read.own_low v found.of_own
+  pub all : IsFirstPlace (written_values first h) found.read.low v found.of_all
+
 module _ (r : Register) (h : List RegisterEvent) (kept : List ℕ) (base begun : ℕ) (writing : Bool) (readers : List ReaderState) (floor : ℕ) (safe regular each all : Bool) where
-  -- what is found among the writes that are kept is the first of all from there on
-  abbrev pub FindsFirst : (from v : ℕ) → Option ℕ → Type 0
-  FindsFirst from v found = (written : List ℕ) → kept ≡ drop base written → base ≤ from → length written ≡ suc begun → IsFirstPlace written from v found
+  -- what is found among the writes that are kept is the first of all
+  pub first_writes :
+      (i v : ℕ) (found : FoundWrites) → (reader_at readers i).reading ≡ Some found.read → FindsWrites kept base begun v found →
+      KeepsHistory r h kept base begun writing readers floor safe regular each all → FirstWrites r.first h i v base found
+  first_writes i v found at finds k =
+      let mine : KeepsRead i h (Some found.read) = subst (λ (o : Option OpenRead). KeepsRead i h o) at (k.reads i) in
+      let low = k.needed i found.read at in
+      let long : length (written_values r.first h) ≡ suc begun = length-written r.first h ∙ ap suc (sym k.count) in
+      record {
+        is_open = mine.0;
+        began = mine.1;
+        kept = low;
+        low = mine.2;
+        own_low = mine.3;
+        any = finds.any (written_values r.first h) k.values low long;
+        own = finds.own (written_values r.first h) k.values (let p = mine.3 in omega (arith, p, low)) long;
+        all = finds.all (written_values r.first h) k.values (let p = mine.2 in omega (arith, p, low)) long;
+      }
 
   -- a read ends, by what was found among the writes that are kept
   pub read_ends_as :
-      (ys : List ReaderState) (i v top own : ℕ) (read : OpenRead) (of_any of_own of_all : Option ℕ) (safe' regular' each' all' : Bool) → (reader_at readers i).reading ≡ Some read →
-      Moves readers ys i (record { own = own; reading = None }) → FindsFirst read.before v of_any → FindsFirst read.own_low v of_own → FindsFirst read.low v of_all →
-      IsRaised (reader_at readers i).own of_own own → IsRaised floor of_all top →
-      (safe' ≡ true) ↔ ((safe ≡ true) × IsValue r v × ((read.before < begun) ⊎ (still true of_any ≡ true))) →
-      regular' ≡ still regular of_any → each' ≡ still each of_own → all' ≡ still all of_all →
+      (ys : List ReaderState) (i v top own : ℕ) (found : FoundWrites) (safe' regular' each' all' : Bool) → (reader_at readers i).reading ≡ Some found.read →
+      MovesReader readers ys i (record { own = own; reading = None }) → FindsWrites kept base begun v found → IsRaised (reader_at readers i).own found.of_own own → IsRaised floor found.of_all top →
+      (safe' ≡ true) ↔ ((safe ≡ true) × IsValue r v × ((found.read.before < begun) ⊎ (still true found.of_any ≡ true))) →
+      regular' ≡ still regular found.of_any → each' ≡ still each found.of_own → all' ≡ still all found.of_all →
       KeepsHistory r h kept base begun writing readers floor safe regular each all →
       KeepsHistory r (ReadEnds i v ∷ h) kept base begun writing ys top safe' regular' each' all'
-  read_ends_as ys i v top own read of_any of_own of_all safe' regular' each' all' at moves any_at own_at all_at own_raised all_raised is r_is e_is a_is k =
-      let mine : KeepsRead i h (Some read) = subst (λ (o : Option OpenRead). KeepsRead i h o) at (k.reads i) in
-      let low = k.needed i read at in
-      let long : length (written_values r.first h) ≡ suc begun = length-written r.first h ∙ ap suc (sym k.count) in
-      let after = read_ends r h kept base begun writing readers floor safe regular each all ys i v top own read of_any of_own of_all safe' at moves
-      (any_at (written_values r.first h) k.values low long)
-      (own_at (written_values r.first h) k.values (let p = mine.3 in omega (arith, p, low)) long)
-      (all_at (written_values r.first h) k.values (let p = mine.2 in omega (arith, p, low)) long) own_raised all_raised is k in
+  read_ends_as ys i v top own found safe' regular' each' all' at moves finds own_raised all_raised is r_is e_is a_is k =
+      let firsts = first_writes i v found at finds k in
+      let after = read_ends r h kept base begun writing readers floor safe regular each all ys i v top own found.read found.of_any found.of_own found.of_all safe' at moves
+      firsts.any firsts.own firsts.all own_raised all_raised is k in
       subst (λ (t : Bool). KeepsHistory r (ReadEnds i v ∷ h) kept base begun writing ys top safe' t each' all') (sym r_is)
-      (subst (λ (t : Bool). KeepsHistory r (ReadEnds i v ∷ h) kept base begun writing ys top safe' (still regular of_any) t all') (sym e_is)
-      (subst (λ (t : Bool). KeepsHistory r (ReadEnds i v ∷ h) kept base begun writing ys top safe' (still regular of_any) (still each of_own) t) (sym a_is) after))
+      (subst (λ (t : Bool). KeepsHistory r (ReadEnds i v ∷ h) kept base begun writing ys top safe' (still regular found.of_any) t all') (sym e_is)
+      (subst (λ (t : Bool). KeepsHistory r (ReadEnds i v ∷ h) kept base begun writing ys top safe' (still regular found.of_any) (still each found.of_own) t) (sym a_is) after))

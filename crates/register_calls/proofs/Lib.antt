@@ -16,3 +16,6 @@ pub mod LinearLemmas
 pub mod ToOrders
 pub mod FromOrders
 pub mod ReasonLemmas
+pub mod Bounds
+pub mod Remembering
+pub mod FoundReasons

@@ -1,26 +1,21 @@
 -- Lists of readers: what is kept of each, where one is set or added; and the reads under way.
-use Rattle.std.proofs.Common.{◌≡◌, ◌≢◌, ◌<◌, ℕ, zero, suc, Some, List, [], ◌∷◌, ◌++◌, length, refl, ap, arith, get_or-set_other, get_or-set_same}
+use Rattle.std.proofs.Common.{◌≡◌, ◌<◌, ℕ, zero, suc, Some, List, [], ◌∷◌, ◌++◌, length, refl, ap, arith, get_or-set_other, get_or-set_same}
 use Rattle.std.proofs.Math.ListN.{set}
 use Rattle.std.specs.Prelude.{option_map}
 use Rattle.std.proofs.lemmas.Option.{none-some}
 use Rattle.register_calls.specs.declared.auditors.OpenRead.{OpenRead}
 use Rattle.register_calls.specs.declared.auditors.ReaderState.{ReaderState}
-use Rattle.register_calls.specs.Audits.{fresh_reader, reader_at, lows, own_lows}
+use Rattle.register_calls.specs.Audits.{MovesReader, fresh_reader, reader_at, lows, own_lows}
 use Rattle.register_calls.proofs.Keeping.{KeepsOthers}
 
--- what is kept of a reader is this now, and of each other one what was
-pub record Moves (xs ys : List ReaderState) (i : ℕ) (state : ReaderState) : Type 0 where
-  pub here : reader_at ys i ≡ state
-  pub others : (j : ℕ) → j ≢ i → reader_at ys j ≡ reader_at xs j
-
-pub moves_set : (xs ys : List ReaderState) (i : ℕ) (state : ReaderState) → i < length ys → ((j : ℕ) → reader_at ys j ≡ reader_at xs j) → Moves xs (set ys i state) i state
+pub moves_set : (xs ys : List ReaderState) (i : ℕ) (state : ReaderState) → i < length ys → ((j : ℕ) → reader_at ys j ≡ reader_at xs j) → MovesReader xs (set ys i state) i state
 moves_set xs ys i state within same = record { here = rw get_or-set_same; others = λ j apart. rw get_or-set_other (same j) }
 
 -- the lows of the others stay
-pub lows_others : (xs ys : List ReaderState) (i : ℕ) (state : ReaderState) → Moves xs ys i state → KeepsOthers i (lows xs) (lows ys)
+pub lows_others : (xs ys : List ReaderState) (i : ℕ) (state : ReaderState) → MovesReader xs ys i state → KeepsOthers i (lows xs) (lows ys)
 lows_others xs ys i state moves = record { each = λ j apart. ap (λ (s : ReaderState). option_map (λ (r : OpenRead). r.low) s.reading) (moves.others j apart) }
 
-pub own_lows_others : (xs ys : List ReaderState) (i : ℕ) (state : ReaderState) → Moves xs ys i state → KeepsOthers i (own_lows xs) (own_lows ys)
+pub own_lows_others : (xs ys : List ReaderState) (i : ℕ) (state : ReaderState) → MovesReader xs ys i state → KeepsOthers i (own_lows xs) (own_lows ys)
 own_lows_others xs ys i state moves = record { each = λ j apart. ap (λ (s : ReaderState). option_map (λ (r : OpenRead). r.own_low) s.reading) (moves.others j apart) }
 
 -- no read is under way of a reader past the end of the list

@@ -1,5 +1,5 @@
 -- What speaks against a read is a fact: with it the history lacks the class.
-use Rattle.std.proofs.Common.{◌≡◌, ◌⊎◌, inl, inr, ℕ, suc, ◌≤◌, ◌<◌, true, Option, Some, None, List, [], ◌∷◌, length, refl, sym, subst, ◌∙◌, arith}
+use Rattle.std.proofs.Common.{◌≡◌, inl, inr, ℕ, ◌≤◌, Some, List, [], ◌∷◌, length, sym, subst, ◌∙◌, arith}
 use Rattle.std.specs.Prelude.{slice_get}
 use Rattle.std.proofs.lemmas.Bool.{cases_lt}
 use Rattle.std.proofs.lemmas.Option.{same_Some}
@@ -9,12 +9,11 @@ use Rattle.register_calls.specs.declared.events.RegisterEvent.TheVariants.{Write
 use Rattle.register_calls.specs.declared.events.Class.{Class}
 use Rattle.register_calls.specs.declared.events.Class.TheVariants.{Safe, Regular, AtomicByReader, Atomic}
 use Rattle.register_calls.specs.declared.reasons.EarlierRead.{EarlierRead}
-use Rattle.register_calls.specs.declared.reasons.MissReason.{MissReason}
 use Rattle.register_calls.specs.declared.reasons.MissReason.TheVariants.{NoValue, Held, NotWritten, Inverted}
-use Rattle.register_calls.specs.Histories.{IsValue, IsWellFormed, IsBeginning, started, finished, written_values, before_read}
-use Rattle.register_calls.specs.Classes.{Scope, Together, EachAlone, IsOf, IsSafe, IsRegular, Choice, NoneIsLater, Orders, HasOrder, HasClass}
+use Rattle.register_calls.specs.Histories.{IsWellFormed, IsBeginning, started, finished, written_values, before_read}
+use Rattle.register_calls.specs.Classes.{Scope, Together, EachAlone, IsSafe, IsRegular, Choice, NoneIsLater, Orders, HasOrder, HasClass}
 use Rattle.register_calls.specs.Judging.{HasNone}
-use Rattle.register_calls.specs.Reasons.{IsBound, IsInverted, IsHeldFrom, IsMissReason, ReasonIsFact}
+use Rattle.register_calls.specs.Reasons.{IsBound, IsInverted, ReasonIsFact}
 use Rattle.register_calls.proofs.Beginnings.{before_read-beginning}
 use Rattle.register_calls.proofs.ClassLemmas.{order_is_regular, regular_is_safe}
 

@@ -1,5 +1,5 @@
 -- What an auditor of a register keeps of a history, and what it answers.
-use Rattle.std.specs.Prelude.{◌≡◌, ◌⊎◌, ℕ, suc, ◌-◌, ◌≤◌, ◌<◌, Bool, true, false, Option, Some, None, List, ◌∷◌, drop, slice_index_or, option_map, Result, MatchResult, if◌then◌else◌}
+use Rattle.std.specs.Prelude.{◌≡◌, ◌≢◌, ◌⊎◌, ℕ, suc, ◌-◌, ◌≤◌, ◌<◌, Bool, true, false, Option, Some, None, List, ◌∷◌, drop, slice_index_or, option_map, Result, MatchResult, if◌then◌else◌}
 use Rattle.register_calls.specs.declared.events.Register.{Register}
 use Rattle.register_calls.specs.declared.events.RegisterEvent.{RegisterEvent}
 use Rattle.register_calls.specs.declared.events.RegisterEvent.TheVariants.{WriteBegins, ReadBegins}
@@ -7,8 +7,10 @@ use Rattle.register_calls.specs.declared.faults.RegisterFault.{RegisterFault}
 use Rattle.register_calls.specs.declared.faults.RegisterFault.TheVariants.{NoValue, OutOfTurn, TooMany, OutOfMemory}
 use Rattle.register_calls.specs.declared.auditors.OpenRead.{OpenRead}
 use Rattle.register_calls.specs.declared.auditors.ReaderState.{ReaderState}
+use Rattle.register_calls.specs.declared.auditors.FoundWrites.{FoundWrites}
 use Rattle.register_calls.specs.declared.auditors.RegisterAuditor.{RegisterAuditor}
 use Rattle.register_calls.specs.Histories.{started, finished, written_values, has_read_open, before_read, IsWellFormed, ComesInTurn, WritesValue}
+use Rattle.register_calls.specs.Judging.{FindsFirst, IsGreater, IsRaised}
 use Rattle.register_calls.specs.Classes.{Scope, Together, EachAlone, Choice, NoneIsLater, Orders, HasOrder, IsSafe, IsRegular}
 
 -- what is kept of a reader that has not read yet, and of a reader of a list
@@ -17,6 +19,31 @@ fresh_reader = record { own = 0; reading = None }
 
 abbrev pub reader_at : List ReaderState → (reader : ℕ) → ReaderState
 reader_at readers i = slice_index_or readers i fresh_reader
+
+-- what is kept of a reader is this now, and of each other one what was
+pub record MovesReader (xs ys : List ReaderState) (i : ℕ) (state : ReaderState) : Type 0 where
+  pub here : reader_at ys i ≡ state
+  pub others : (j : ℕ) → j ≢ i → reader_at ys j ≡ reader_at xs j
+
+-- a read of a reader has begun: its lows are the greater of the number of writes that had ended and of the floors
+pub record StartsRead (ended floor : ℕ) (xs ys : List ReaderState) (i : ℕ) : Type 0 where
+  pub read : OpenRead
+  pub moves : MovesReader xs ys i (record { own = (reader_at xs i).own; reading = Some read })
+  pub low : IsGreater ended floor read.low
+  pub own_low : IsGreater ended (reader_at xs i).own read.own_low
+
+-- what a read that ends with this value may be of, by the writes that are kept
+pub record FindsWrites (kept : List ℕ) (base begun value : ℕ) (found : FoundWrites) : Type 0 where
+  pub any : FindsFirst kept base begun found.read.before value found.of_any
+  pub own : FindsFirst kept base begun found.read.own_low value found.of_own
+  pub all : FindsFirst kept base begun found.read.low value found.of_all
+
+-- the read of a reader has ended, and raised the floors to the first writes that it may be of
+pub record EndsRead (found : FoundWrites) (xs ys : List ReaderState) (i floor top : ℕ) : Type 0 where
+  pub own : ℕ
+  pub moves : MovesReader xs ys i (record { own = own; reading = None })
+  pub own_raised : IsRaised (reader_at xs i).own found.of_own own
+  pub raised : IsRaised floor found.of_all top
 
 -- what is kept of the read that a reader has under way: how many writes had ended where it began
 abbrev pub KeepsRead : (reader : ℕ) → List RegisterEvent → Option OpenRead → Type 0

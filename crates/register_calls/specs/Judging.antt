@@ -1,5 +1,5 @@
 -- Where a value stands in a list, and which of two numbers is the greater or the lesser one.
-use Rattle.std.specs.Prelude.{◌≡◌, ◌≢◌, ◌⊎◌, ℕ, ◌<◌, ◌≤◌, Bool, false, Option, Some, None, List, slice_get, MatchOption}
+use Rattle.std.specs.Prelude.{◌≡◌, ◌≢◌, ◌⊎◌, ℕ, suc, ◌<◌, ◌≤◌, Bool, false, Option, Some, None, List, length, drop, slice_get, MatchOption}
 use Rattle.register_calls.specs.declared.auditors.OpenRead.{OpenRead}
 
 -- from a place on the value stands nowhere; or first at this place
@@ -12,6 +12,11 @@ IsLeast values from value place = (from ≤ place) × (slice_get values place �
 -- the first place from there on, if there is one
 abbrev pub IsFirstPlace : (values : List ℕ) → (from value : ℕ) → Option ℕ → Type 0
 IsFirstPlace values from value found = MatchOption found (HasNone values from value) (λ place. IsLeast values from value place)
+
+-- what is found among the values of the writes that are kept, those from a base on, is the first of all from a number on
+abbrev pub FindsFirst : (kept : List ℕ) (base begun from value : ℕ) → Option ℕ → Type 0
+FindsFirst kept base begun from value found =
+    (written : List ℕ) → kept ≡ drop base written → base ≤ from → length written ≡ suc begun → IsFirstPlace written from value found
 
 -- the greater of two numbers
 pub record IsGreater (a b top : ℕ) : Type 0 where

@@ -6,3 +6,5 @@ pub mod Findings
 pub mod Intervals
 pub mod Linearizations
 pub mod Reasons
+pub mod Chains
+pub mod Witnesses

@@ -4,7 +4,7 @@ use Rattle.register_calls.specs.declared.events.Register.{Register}
 use Rattle.register_calls.specs.declared.events.RegisterEvent.{RegisterEvent}
 use Rattle.register_calls.specs.declared.events.RegisterEvent.TheVariants.{WriteBegins, WriteEnds, ReadEnds}
 use Rattle.register_calls.specs.declared.events.Class.{Class}
-use Rattle.register_calls.specs.declared.events.Class.TheVariants.{Safe, Regular, AtomicByReader, Atomic}
+use Rattle.register_calls.specs.declared.events.Class.TheVariants.{Safe, AtomicByReader, Atomic}
 use Rattle.register_calls.specs.declared.reasons.EarlierRead.{EarlierRead}
 use Rattle.register_calls.specs.declared.reasons.MissReason.{MissReason}
 use Rattle.register_calls.specs.declared.reasons.MissReason.TheVariants.{NoValue, Held, NotWritten, Inverted}

@@ -1,9 +1,9 @@
 //! The auditor of a register's history.
-ghost use Rattle.std.specs.Prelude.{◌≡◌, true, ◌<◌, ◌≤◌, ◌+◌, suc, ◌-◌, ◌↔◌, ◌⊎◌, ℕ, List, [], ◌∷◌, ◌++◌, if◌then◌else◌, length, drop, IsTrue, IfOk, IfErr, OnOk, OnErr, MatchOption, Some, None, slice_get, unwrap_or};
+ghost use Rattle.std.specs.Prelude.{◌≡◌, true, ◌<◌, ◌≤◌, ◌+◌, suc, ◌-◌, ◌↔◌, ◌⊎◌, ℕ, List, [], ◌∷◌, ◌++◌, if◌then◌else◌, length, drop, IsTrue, IfOk, IfErr, OnOk, OnErr, MatchOption, MatchResult, Some, None, slice_get, unwrap_or};
 ghost use Rattle.register_calls.specs.Histories.{IsValue};
 ghost use Rattle.register_calls.specs.Classes.{IsStrongest, HasClass};
 ghost use Rattle.register_calls.specs.Judging.{IsFirstPlace, IsGreater, IsOlder, IsRaised, still};
-ghost use Rattle.register_calls.specs.Audits.{AuditsRegister, HearsEvent, IsOldest, IsOldestKept, fresh_reader, reader_at};
+ghost use Rattle.register_calls.specs.Audits.{AuditsRegister, StartsRead, EndsRead, FindsWrites, HearsEvent, IsOldest, IsOldestKept, fresh_reader, reader_at};
 ghost use Rattle.register_calls.specs.declared.events.RegisterEvent.{RegisterEvent};
 ghost use Rattle.register_calls.specs.declared.events.RegisterEvent.TheVariants.{WriteBegins, WriteEnds, ReadBegins, ReadEnds};
 
@@ -29,6 +29,16 @@ pub struct ReaderState {
     // the least write that its next read may be of, as far as its own reads say
     pub(crate) own: usize,
     pub(crate) reading: Option<OpenRead>,
+}
+
+// What a read under way may be of, if it ends with a value: numbers of writes.
+#[derive(Clone, Copy)]
+pub(crate) struct FoundWrites {
+    pub(crate) read: OpenRead,
+    // the first write of the value from where the read began; and from its lows, by the reads of its reader and by those of all
+    pub(crate) of_any: Option<usize>,
+    pub(crate) of_own: Option<usize>,
+    pub(crate) of_all: Option<usize>,
 }
 
 /// An auditor of a recorded history of one register, of one writer and any number of readers.
@@ -232,7 +242,7 @@ impl<W: Fifo<u64>, R: Fifo<ReaderState>> RegisterAuditor<W, R> {
     }
 
     // What is kept of a reader.
-    fn reader(&self, reader: usize) -> ReaderState
+    pub(crate) fn reader(&self, reader: usize) -> ReaderState
         ensures { result ≡ reader_at (R.items self.now.readers) reader }
     {
         match self.readers.get(reader) {
@@ -283,7 +293,10 @@ impl<W: Fifo<u64>, R: Fifo<ReaderState>> RegisterAuditor<W, R> {
     // Forgets the writes that no read can be of any more.
     fn forget(&mut self)
         ensures others { (self.new.register ≡ self.old.register) × (self.new.begun ≡ self.old.begun) ×
-            (self.new.is_writing ≡ self.old.is_writing) × (self.new.readers ≡ self.old.readers) }
+            (self.new.is_writing ≡ self.old.is_writing) × (self.new.readers ≡ self.old.readers) ×
+            (self.new.floor ≡ self.old.floor) }
+        ensures up { (h : List RegisterEvent) → AuditsRegister W.items R.items self.old h →
+            self.old.base ≤ self.new.base }
         ensures base { (h : List RegisterEvent) → AuditsRegister W.items R.items self.old h → IsOldest h self.new.base }
         ensures audits { (h : List RegisterEvent) → AuditsRegister W.items R.items self.old h →
             AuditsRegister W.items R.items self.new h }
@@ -295,8 +308,11 @@ impl<W: Fifo<u64>, R: Fifo<ReaderState>> RegisterAuditor<W, R> {
     }
 
     // A write begins.
-    fn write_begins(&mut self, value: u64) -> Result<(), RegisterFault>
+    pub(crate) fn write_begins(&mut self, value: u64) -> Result<(), RegisterFault>
         ensures hears { HearsEvent W.items R.items W.room R.room usize.MAX self.old (WriteBegins value) result self.new }
+        ensures up { (h : List RegisterEvent) → AuditsRegister W.items R.items self.old h →
+            self.old.base ≤ self.new.base }
+        ensures others { (R.items self.new.readers ≡ R.items self.old.readers) × (self.new.floor ≡ self.old.floor) }
         ensures rooms { (W.room self.new.window ≡ W.room self.old.window) ×
             (R.room self.new.readers ≡ R.room self.old.readers) }
     {
@@ -320,8 +336,10 @@ impl<W: Fifo<u64>, R: Fifo<ReaderState>> RegisterAuditor<W, R> {
     }
 
     // The write ends.
-    fn write_ends(&mut self) -> Result<(), RegisterFault>
+    pub(crate) fn write_ends(&mut self) -> Result<(), RegisterFault>
         ensures hears { HearsEvent W.items R.items W.room R.room usize.MAX self.old WriteEnds result self.new }
+        ensures others { (self.new.base ≡ self.old.base) × (R.items self.new.readers ≡ R.items self.old.readers) ×
+            (self.new.floor ≡ self.old.floor) }
         ensures rooms { (W.room self.new.window ≡ W.room self.old.window) ×
             (R.room self.new.readers ≡ R.room self.old.readers) }
     {
@@ -333,8 +351,12 @@ impl<W: Fifo<u64>, R: Fifo<ReaderState>> RegisterAuditor<W, R> {
     }
 
     // A read begins.
-    fn read_begins(&mut self, reader: usize) -> Result<(), RegisterFault>
+    pub(crate) fn read_begins(&mut self, reader: usize) -> Result<(), RegisterFault>
         ensures hears { HearsEvent W.items R.items W.room R.room usize.MAX self.old (ReadBegins reader) result self.new }
+        ensures readers { MatchResult result (λ _. StartsRead (if self.old.is_writing then self.old.begun - 1 else
+            self.old.begun) self.old.floor (R.items self.old.readers) (R.items self.new.readers) reader)
+            (λ _. (i : ℕ) → reader_at (R.items self.new.readers) i ≡ reader_at (R.items self.old.readers) i) }
+        ensures others { (self.new.base ≡ self.old.base) × (self.new.floor ≡ self.old.floor) }
         ensures rooms { (W.room self.new.window ≡ W.room self.old.window) ×
             (R.room self.new.readers ≡ R.room self.old.readers) }
     {
@@ -370,6 +392,55 @@ impl<W: Fifo<u64>, R: Fifo<ReaderState>> RegisterAuditor<W, R> {
         self.is_safe && self.register.has_value(value) && (before < self.begun || number.is_some())
     }
 
+    // What the read under way of this reader may be of, if it ends with this value; `None` if it has none.
+    pub(crate) fn found(&self, reader: usize, value: u64) -> Option<FoundWrites>
+        ensures { MatchOption result ((reader_at (R.items self.now.readers) reader).reading ≡ None)
+            (λ found. ((reader_at (R.items self.now.readers) reader).reading ≡ Some found.read) ×
+            FindsWrites (W.items self.now.window) self.now.base self.now.begun value found) }
+    {
+        let state = self.reader(reader);
+        match state.reading {
+            Some(read) => {
+                let of_any = self.least(read.before, value);
+                let of_own = self.least(read.own_low, value);
+                let of_all = self.least(read.low, value);
+                Some(FoundWrites {
+                    read,
+                    of_any,
+                    of_own,
+                    of_all,
+                })
+            }
+            None => None,
+        }
+    }
+
+    // The read under way of this reader ends with this value, by what it may be of.
+    pub(crate) fn end_read(&mut self, reader: usize, value: u64, found: FoundWrites)
+        requires reading { (reader_at (R.items self.old.readers) reader).reading ≡ Some found.read }
+        requires found { FindsWrites (W.items self.old.window) self.old.base self.old.begun value found }
+        ensures register { self.new.register ≡ self.old.register }
+        ensures audits { (h : List RegisterEvent) → AuditsRegister W.items R.items self.old h →
+            AuditsRegister W.items R.items self.new (ReadEnds reader value ∷ h) }
+        ensures ends { EndsRead found (R.items self.old.readers) (R.items self.new.readers) reader self.old.floor
+            self.new.floor }
+        ensures base { self.new.base ≡ self.old.base }
+        ensures rooms { (W.room self.new.window ≡ W.room self.old.window) ×
+            (R.room self.new.readers ≡ R.room self.old.readers) }
+    {
+        let state = self.reader(reader);
+        let ended = ReaderState {
+            own: raised(state.own, found.of_own),
+            reading: None,
+        };
+        self.readers.set(reader, ended);
+        self.floor = raised(self.floor, found.of_all);
+        self.is_safe = self.is_safe_still(found.read.before, value, found.of_any);
+        self.is_regular = still(self.is_regular, found.of_any);
+        self.is_by_reader = still(self.is_by_reader, found.of_own);
+        self.is_atomic = still(self.is_atomic, found.of_all);
+    }
+
     // A read ends, and returned this value.
     fn read_ends(&mut self, reader: usize, value: u64) -> Result<(), RegisterFault>
         ensures hears { HearsEvent W.items R.items W.room R.room usize.MAX self.old (ReadEnds reader value) result
@@ -377,24 +448,13 @@ impl<W: Fifo<u64>, R: Fifo<ReaderState>> RegisterAuditor<W, R> {
         ensures rooms { (W.room self.new.window ≡ W.room self.old.window) ×
             (R.room self.new.readers ≡ R.room self.old.readers) }
     {
-        let state = self.reader(reader);
-        let Some(read) = state.reading else {
-            return Err(RegisterFault::OutOfTurn);
-        };
-        let of_any = self.least(read.before, value);
-        let of_own = self.least(read.own_low, value);
-        let of_all = self.least(read.low, value);
-        let ended = ReaderState {
-            own: raised(state.own, of_own),
-            reading: None,
-        };
-        self.readers.set(reader, ended);
-        self.floor = raised(self.floor, of_all);
-        self.is_safe = self.is_safe_still(read.before, value, of_any);
-        self.is_regular = still(self.is_regular, of_any);
-        self.is_by_reader = still(self.is_by_reader, of_own);
-        self.is_atomic = still(self.is_atomic, of_all);
-        Ok(())
+        match self.found(reader, value) {
+            Some(found) => {
+                self.end_read(reader, value, found);
+                Ok(())
+            }
+            None => Err(RegisterFault::OutOfTurn),
+        }
     }
 
     // Reads the next event.

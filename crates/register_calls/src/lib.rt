@@ -3,14 +3,18 @@
 #![tactic(auto)]
 
 mod auditors;
+mod chains;
 mod events;
 mod faults;
 mod findings;
 pub mod laws;
 mod reasons;
+mod witnesses;
 
 pub use auditors::{OpenRead, ReaderState, RegisterAuditor};
+pub use chains::Chain;
 pub use events::{Class, Register, RegisterEvent};
 pub use faults::RegisterFault;
 pub use findings::first_miss;
 pub use reasons::{EarlierRead, MissReason};
+pub use witnesses::{ReaderChains, RegisterWitness};

@@ -3,6 +3,7 @@ mod cases;
 mod growths;
 mod histories;
 mod lines_of_registers;
+mod reasons_of_registers;
 mod recordings;
 mod registers;
 mod slots;

@@ -20,3 +20,8 @@ returns-clause-audits g c = λ h k.
     forgets s.register h kept s.base s.begun s.is_writing readers s.floor s.is_safe s.is_regular s.is_by_reader s.is_atomic (g.W.Fifo.items c.drop_front.new.list) c.oldest-oldest.result
     (oldest_up s.register h kept s.base s.begun s.is_writing readers s.floor s.is_safe s.is_regular s.is_by_reader s.is_atomic c.oldest-oldest.result c.oldest-oldest.ensures k)
     (c.drop_front.ensures.items ∙ ap (λ (n : ℕ). drop n kept) c.saturating_sub.ensures) oldest k
+
+pub returns-clause-up : goal.returns-clause-up
+returns-clause-up g c = λ h k.
+    let s = c.args.self.now in
+    oldest_up s.register h (g.W.Fifo.items s.window) s.base s.begun s.is_writing (g.R.Fifo.items s.readers) s.floor s.is_safe s.is_regular s.is_by_reader s.is_atomic c.oldest-oldest.result c.oldest-oldest.ensures k

@@ -35,3 +35,15 @@ returns-clause-hears g c =
             λ v same. c.forget.ensures.base h k,
           ),
     )
+
+pub returns-in-Err-clause-others : goal.returns-in-Err-clause-others
+returns-in-Err-clause-others g c = (ap g.R.Fifo.items c.forget.ensures.others.3, c.forget.ensures.others.4)
+
+pub returns-clause-others : goal.returns-clause-others
+returns-clause-others g c = (ap g.R.Fifo.items c.forget.ensures.others.3, c.forget.ensures.others.4)
+
+pub returns-in-Err-clause-up : goal.returns-in-Err-clause-up
+returns-in-Err-clause-up g c = c.forget.ensures.up
+
+pub returns-clause-up : goal.returns-clause-up
+returns-clause-up g c = c.forget.ensures.up

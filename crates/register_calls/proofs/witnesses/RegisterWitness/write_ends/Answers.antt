@@ -1,0 +1,48 @@
+use Rattle.std.proofs.Common.{ℕ, suc, Some, drop, refl, ap, sym, ◌∙◌}
+use Rattle.register_calls.specs.declared.events.RegisterEvent.TheVariants.{WriteEnds}
+use Rattle.register_calls.specs.declared.auditors.ReaderState.{ReaderState}
+use Rattle.register_calls.specs.Audits.{reader_at}
+use Rattle.register_calls.specs.Witnesses.{begin_places}
+use Rattle.register_calls.proofs.Remembering.{each_same, all_same, each_next, all_next}
+use Rattle.std.proofs.Common.{List}
+use Rattle.register_calls.proofs.witnesses.RegisterWitness.write_ends.Goals as goal
+
+pub returns-in-Ok : goal.returns-in-Ok
+returns-in-Ok g c =
+    let s = c.args.self.now in
+    let a = s.auditor in
+    let b = c.write_ends.new.self in
+    let e = c.in-Ok.ensures in
+    let xs = g.R.Fifo.items a.readers in
+    let ys = g.R.Fifo.items b.readers in
+    let cs = g.C.Fifo.items s.chains in (
+      e.hears.0,
+      λ h k. record {
+        audits = (e.hears.1 h k.audits).0;
+        count = c.requires ∙ ap suc k.count;
+        places_kept = k.places_kept ∙ ap (λ (n : ℕ). drop n (begin_places h)) (sym e.others.0);
+        last_ended = ap Some k.count;
+        of_each = each_next a.register b.register h xs ys cs cs e.hears.0 (λ j. ap (λ (zs : List ReaderState). reader_at zs j) e.others.1) (λ j. refl) WriteEnds (λ j. refl) k.of_each;
+        of_all = all_next a.register b.register h xs ys cs cs e.hears.0 (λ j. ap (λ (zs : List ReaderState). reader_at zs j) e.others.1) (λ j. refl) WriteEnds a.floor b.floor s.floor (λ j. refl) e.others.2 k.of_all;
+      },
+    )
+
+pub returns-in-Err : goal.returns-in-Err
+returns-in-Err g c =
+    let s = c.args.self.now in
+    let a = s.auditor in
+    let b = c.write_ends.new.self in
+    let e = c.in-Err.ensures in
+    let xs = g.R.Fifo.items a.readers in
+    let ys = g.R.Fifo.items b.readers in
+    let cs = g.C.Fifo.items s.chains in (
+      e.hears.0,
+      λ h k. record {
+        audits = (e.hears.1 h k.audits).0;
+        count = k.count;
+        places_kept = k.places_kept ∙ ap (λ (n : ℕ). drop n (begin_places h)) (sym e.others.0);
+        last_ended = k.last_ended;
+        of_each = each_same a.register b.register h xs ys cs cs e.hears.0 (λ j. ap (λ (zs : List ReaderState). reader_at zs j) e.others.1) (λ j. refl) k.of_each;
+        of_all = all_same a.register b.register h xs ys cs cs e.hears.0 (λ j. ap (λ (zs : List ReaderState). reader_at zs j) e.others.1) (λ j. refl) a.floor b.floor s.floor e.others.2 k.of_all;
+      },
+    )

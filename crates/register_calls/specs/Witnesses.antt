@@ -1,0 +1,110 @@
+-- What a witness of a register's history keeps, and what it answers.
+use Rattle.std.specs.Prelude.{◌≡◌, ◌⊎◌, ℕ, ◌-◌, ◌≤◌, ◌<◌, nat_lt, if◌then◌else◌, Option, Some, None, List, [], ◌∷◌, ◌++◌, length, drop, slice_index_or, Result, MatchResult}
+use Rattle.register_calls.specs.declared.events.Register.{Register}
+use Rattle.register_calls.specs.declared.events.RegisterEvent.{RegisterEvent}
+use Rattle.register_calls.specs.declared.events.RegisterEvent.TheVariants.{WriteBegins, WriteEnds, ReadBegins, ReadEnds}
+use Rattle.register_calls.specs.declared.events.Class.{Class}
+use Rattle.register_calls.specs.declared.events.Class.TheVariants.{Safe, Regular, AtomicByReader, Atomic}
+use Rattle.register_calls.specs.declared.faults.RegisterFault.{RegisterFault}
+use Rattle.register_calls.specs.declared.auditors.ReaderState.{ReaderState}
+use Rattle.register_calls.specs.declared.chains.Chain.{Chain}
+use Rattle.register_calls.specs.declared.reasons.EarlierRead.{EarlierRead}
+use Rattle.register_calls.specs.declared.reasons.MissReason.{MissReason}
+use Rattle.register_calls.specs.declared.reasons.MissReason.TheVariants.{NoValue, Held, NotWritten, Inverted}
+use Rattle.register_calls.specs.declared.witnesses.ReaderChains.{ReaderChains}
+use Rattle.register_calls.specs.declared.witnesses.RegisterWitness.{RegisterWitness}
+use Rattle.register_calls.specs.Histories.{finished, before_read}
+use Rattle.register_calls.specs.Classes.{Scope, Together, EachAlone, IsStrongest}
+use Rattle.register_calls.specs.Audits.{AuditsRegister, lows, own_lows, own_floors}
+use Rattle.register_calls.specs.Chains.{ShowsReads, fresh_chain}
+use Rattle.register_calls.specs.Reasons.{IsBound, IsMissReason}
+
+-- the places where the writes begin, each at its number, after a 0 for the first value
+abbrev pub begin_places : List RegisterEvent → List ℕ
+begin_places [] = 0 ∷ []
+begin_places (WriteBegins v ∷ before) = begin_places before ++ length before ∷ []
+begin_places (WriteEnds ∷ before) = begin_places before
+begin_places (ReadBegins i ∷ before) = begin_places before
+begin_places (ReadEnds i v ∷ before) = begin_places before
+
+-- the place where the last write ended, if one has
+abbrev pub last_end : List RegisterEvent → Option ℕ
+last_end [] = None
+last_end (WriteBegins v ∷ before) = last_end before
+last_end (WriteEnds ∷ before) = Some (length before)
+last_end (ReadBegins i ∷ before) = last_end before
+last_end (ReadEnds i v ∷ before) = last_end before
+
+-- what is kept of a reader that has not read yet, and of a reader of a list
+abbrev pub fresh_chains : ReaderChains
+fresh_chains = record { own = fresh_chain; low = fresh_chain; own_low = fresh_chain }
+
+abbrev pub chains_at : List ReaderChains → (reader : ℕ) → ReaderChains
+chains_at chains i = slice_index_or chains i fresh_chains
+
+-- The chain of a reader shows reads that bound its next read by its floor; and that of its read under way shows reads that bound it by its
+-- low, or the writes that had ended where it began do.
+pub record KeepsBounds (s : Scope) (first : ℕ) (h : List RegisterEvent) (floor : ℕ → ℕ) (by : ℕ → Chain) (low : ℕ → Option ℕ) (low_by : ℕ → Chain) : Type 0 where
+  pub floors : (i : ℕ) → (reads : List EarlierRead) × ShowsReads (by i) reads × IsBound s first reads i h (floor i)
+  pub lows : (i n : ℕ) → low i ≡ Some n → (reads : List EarlierRead) × ShowsReads (low_by i) reads × ((n ≤ finished (before_read i h)) ⊎ IsBound s first reads i (before_read i h) n)
+
+-- a witness, whose lists have these items, has read this history
+pub record RemembersRegister {W R P C : Type 0} (window : W → List ℕ) (states : R → List ReaderState) (places : P → List ℕ) (chains : C → List ReaderChains) (w : RegisterWitness W R P C) (h : List RegisterEvent) : Type 0 where
+  pub audits : AuditsRegister window states w.auditor h
+  pub count : w.count ≡ length h
+  pub places_kept : places w.places ≡ drop w.auditor.base (begin_places h)
+  pub last_ended : w.ended ≡ last_end h
+  pub of_each : KeepsBounds EachAlone w.auditor.register.first h (own_floors (states w.auditor.readers)) (λ i. (chains_at (chains w.chains) i).own)
+      (own_lows (states w.auditor.readers)) (λ i. (chains_at (chains w.chains) i).own_low)
+  pub of_all : KeepsBounds Together w.auditor.register.first h (λ i. w.auditor.floor) (λ i. w.floor)
+      (lows (states w.auditor.readers)) (λ i. (chains_at (chains w.chains) i).low)
+
+-- the read that ends now, as a chain names it, with the place where the write of this number began
+abbrev pub link_of : (places : List ℕ) (base count reader value number : ℕ) → EarlierRead
+link_of places base count i v n = record { reader = i; ended = count; value = v; written = slice_index_or places (n - base) 0 }
+
+-- The chain that says why a read which ends is of no write before its low. It is empty if the writes that had ended where the read began
+-- are reason enough: the first write of its value that it may be of by these, the optional number, does not come before the low.
+abbrev pub leaning_chain : Option ℕ → (low : ℕ) → Chain → Chain
+leaning_chain None low chain = fresh_chain
+leaning_chain (Some n) low chain = if nat_lt n low then chain else fresh_chain
+
+-- The chain of a floor after a read that ends, which is of the write of this number or of a later one: if that write comes after the floor,
+-- the read, and after it the chain that says why it is of none before; else the chain stays.
+abbrev pub IsRaisedChain : (chain leaning : Chain) (floor : ℕ) → Option ℕ → (link : ℕ → EarlierRead) → (next : Chain) → Type 0
+IsRaisedChain chain leaning floor None link next = next ≡ chain
+IsRaisedChain chain leaning floor (Some n) link next =
+    (n ≤ floor → next ≡ chain) × (floor < n → (reads : List EarlierRead) → ShowsReads leaning reads → ShowsReads next (link n ∷ reads))
+
+-- the chain of the read under way: by the reads of all readers for the class atomic, and else by those of its own
+abbrev pub low_chain : Class → ReaderChains → Chain
+low_chain Safe chains = chains.own_low
+low_chain Regular chains = chains.own_low
+low_chain AtomicByReader chains = chains.own_low
+low_chain Atomic chains = chains.low
+
+-- after each history that it remembers, a witness reads an event, or refuses it and remembers what it did
+abbrev pub RemembersEvent :
+    {W R P C T : Type 0} → (window : W → List ℕ) → (states : R → List ReaderState) → (places : P → List ℕ) → (chains : C → List ReaderChains) →
+    RegisterWitness W R P C → RegisterEvent → Result T RegisterFault → RegisterWitness W R P C → Type 0
+RemembersEvent window states places chains old event result new =
+    (new.auditor.register ≡ old.auditor.register) ×
+    ((h : List RegisterEvent) → RemembersRegister window states places chains old h →
+    MatchResult result (λ _. RemembersRegister window states places chains new (event ∷ h)) (λ fault. RemembersRegister window states places chains new h))
+
+-- after each history that it remembers, a witness reads an event and returns the strongest class, or refuses it and remembers what it did
+abbrev pub HearsAndRemembers :
+    {W R P C : Type 0} → (window : W → List ℕ) → (states : R → List ReaderState) → (places : P → List ℕ) → (chains : C → List ReaderChains) →
+    RegisterWitness W R P C → RegisterEvent → Result (Option Class) RegisterFault → RegisterWitness W R P C → Type 0
+HearsAndRemembers window states places chains old event result new =
+    (new.auditor.register ≡ old.auditor.register) ×
+    ((h : List RegisterEvent) → RemembersRegister window states places chains old h →
+    MatchResult result (λ class. RemembersRegister window states places chains new (event ∷ h) × IsStrongest class old.auditor.register (event ∷ h))
+    (λ fault. RemembersRegister window states places chains new h))
+
+-- a reason with a chain is the one with the reads that the chain shows
+abbrev pub IsShownReason : Class → Register → List RegisterEvent → (reader value : ℕ) → MissReason Chain → Type 0
+IsShownReason c r h i v NoValue = IsMissReason c r h i v NoValue
+IsShownReason c r h i v (Held value since) = IsMissReason c r h i v (Held value since)
+IsShownReason c r h i v NotWritten = IsMissReason c r h i v NotWritten
+IsShownReason c r h i v (Inverted chain) = (reads : List EarlierRead) × ShowsReads chain reads × IsMissReason c r h i v (Inverted reads)

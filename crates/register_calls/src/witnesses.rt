@@ -1,0 +1,442 @@
+//! What is kept of a register's history, beside its classes, to say why it lacks one.
+ghost use Rattle.std.specs.Prelude.{◌≡◌, ◌-◌, ◌<◌, ◌↔◌, ℕ, suc, List, [], ◌∷◌, IsTrue, IfOk, OnOk, length, drop, take, slice_index_or};
+ghost use Rattle.register_calls.specs.Histories.{IsValue, IsWellFormed};
+ghost use Rattle.register_calls.specs.Classes.{HasClass};
+ghost use Rattle.register_calls.specs.Audits.{FindsWrites, reader_at};
+ghost use Rattle.register_calls.specs.Witnesses.{HearsAndRemembers, IsRaisedChain, IsShownReason, RemembersEvent, RemembersRegister, chains_at, fresh_chains, leaning_chain, link_of, low_chain};
+ghost use Rattle.register_calls.specs.declared.events.RegisterEvent.{RegisterEvent};
+ghost use Rattle.register_calls.specs.declared.events.RegisterEvent.TheVariants.{WriteBegins, WriteEnds, ReadBegins, ReadEnds};
+
+use crate::auditors::{FoundWrites, ReaderState, RegisterAuditor};
+use crate::chains::Chain;
+use crate::events::{Class, Register, RegisterEvent};
+use crate::faults::RegisterFault;
+use crate::reasons::{EarlierRead, MissReason};
+use lists::Fifo;
+use std::alloc::AllocError;
+
+/// What is kept of a reader to say why a read of it speaks against a class: the earlier reads that bound its next read, and the one that
+/// is under way.
+#[derive(Clone, Copy, PartialEq, Eq, Debug)]
+pub struct ReaderChains {
+    // its next read, by its own reads
+    pub(crate) own: Chain,
+    // the read under way, by the reads of all readers, and by its own
+    pub(crate) low: Chain,
+    pub(crate) own_low: Chain,
+}
+
+/// An auditor of a register's history that can say why the history lacks a class.
+///
+/// It keeps, beside what a [`RegisterAuditor`] keeps, the places where the writes that are kept began, and of each reader the first 8 of the
+/// reads that bound its next one.
+#[derive(Drop)]
+pub struct RegisterWitness<
+    W: Fifo<u64>,
+    R: Fifo<ReaderState>,
+    P: Fifo<usize>,
+    C: Fifo<ReaderChains>,
+> {
+    pub(crate) auditor: RegisterAuditor<W, R>,
+    // where the writes that are kept began
+    pub(crate) places: P,
+    pub(crate) chains: C,
+    // the reads that bound each read that begins now
+    pub(crate) floor: Chain,
+    // how many events were read, and the place where the last write ended
+    pub(crate) count: usize,
+    pub(crate) ended: Option<usize>,
+}
+
+impl ReaderChains {
+    /// What is kept of a reader that has not read yet: for slots that a witness is to use.
+    pub fn new() -> ReaderChains
+        ensures { result ≡ fresh_chains }
+    {
+        ReaderChains {
+            own: Chain::new(),
+            low: Chain::new(),
+            own_low: Chain::new(),
+        }
+    }
+
+    // The chain of the read under way: by the reads of all readers for the class atomic, and else by those of its own.
+    fn low_of(&self, class: Class) -> Chain
+        ensures { result ≡ low_chain class self.now }
+    {
+        match class {
+            Class::Safe => self.own_low,
+            Class::Regular => self.own_low,
+            Class::AtomicByReader => self.own_low,
+            Class::Atomic => self.low,
+        }
+    }
+}
+
+// The chain that says why a read which ends is of no write before its low: an empty one if the first write that it may be of, by the writes
+// that had ended where it began, does not come before the low.
+fn leaning(of_any: Option<usize>, low: usize, chain: Chain) -> Chain
+    ensures { result ≡ leaning_chain of_any low chain }
+{
+    match of_any {
+        Some(number) => { if number < low { chain } else { Chain::new() } }
+        None => Chain::new(),
+    }
+}
+
+// Removes places from the front of a list: as many as the count.
+fn drop_places<P: Fifo<usize>>(places: &mut P, count: usize)
+    ensures { P.items places.new ≡ drop count (P.items places.old) }
+{
+    for _index in 0..count {
+        let _ = places.pop_front();
+    }
+}
+
+// Keeps the first places, as many as the count, and then removes some from the front.
+fn keep_places<P: Fifo<usize>>(places: &mut P, count: usize, dropped: usize)
+    ensures { P.items places.new ≡ drop dropped (take count (P.items places.old)) }
+{
+    places.truncate(count);
+    drop_places(places, dropped);
+}
+
+// Makes a list of chains long enough for this reader.
+fn reach_chains<C: Fifo<ReaderChains>>(chains: &mut C, reader: usize) -> Result<(), AllocError>
+    ensures within { OnOk result (reader < length (C.items chains.new)) }
+    ensures same { (i : ℕ) → chains_at (C.items chains.new) i ≡ chains_at (C.items chains.old) i }
+{
+    while chains.len() <= reader {
+        chains.push_back(ReaderChains::new())?;
+    }
+    Ok(())
+}
+
+impl<W: Fifo<u64>, R: Fifo<ReaderState>, P: Fifo<usize>, C: Fifo<ReaderChains>> RegisterWitness<
+    W,
+    R,
+    P,
+    C,
+> {
+    /// A witness of a register that has read no event yet, with these lists. What they hold is taken away.
+    ///
+    /// It is an error if the list of writes or that of places has no room for one number.
+    pub fn with(
+        window: W,
+        readers: R,
+        places: P,
+        chains: C,
+        register: Register,
+    ) -> Result<RegisterWitness<W, R, P, C>, AllocError>
+        requires { IsValue register register.first }
+        ensures register { IfOk result (λ w. w.auditor.register ≡ register) }
+        ensures remembers { IfOk result (λ w. RemembersRegister W.items R.items P.items C.items w []) }
+    {
+        let mut begun = places;
+        begun.truncate(0);
+        begun.push_back(0)?;
+        let mut states = chains;
+        states.truncate(0);
+        let auditor = RegisterAuditor::with(window, readers, register)?;
+        let floor = Chain::new();
+        Ok(RegisterWitness {
+            auditor,
+            places: begun,
+            chains: states,
+            floor,
+            count: 0,
+            ended: None,
+        })
+    }
+
+    // What is kept of a reader.
+    fn reader_chains(&self, reader: usize) -> ReaderChains
+        ensures { result ≡ chains_at (C.items self.now.chains) reader }
+    {
+        match self.chains.get(reader) {
+            Some(chains) => *chains,
+            None => ReaderChains::new(),
+        }
+    }
+
+    // Where the write of this number began, of those that are kept.
+    fn place(&self, number: usize) -> usize
+        ensures { result ≡ slice_index_or (P.items self.now.places) (number - self.now.auditor.base) 0 }
+    {
+        match self.places.get(number.saturating_sub(self.auditor.base)) {
+            Some(place) => *place,
+            None => 0,
+        }
+    }
+
+    // The read that ends now, as a read of the write of this number.
+    fn link(&self, reader: usize, value: u64, number: usize) -> EarlierRead
+        ensures { result ≡ link_of (P.items self.now.places) self.now.auditor.base self.now.count reader value number }
+    {
+        let written = self.place(number);
+        EarlierRead {
+            reader,
+            ended: self.count,
+            value,
+            written,
+        }
+    }
+
+    // The chain of a floor after the read that ends now, which is of the write of this number or of a later one, if there is one.
+    fn raised_chain(
+        &self,
+        chain: Chain,
+        leaning: Chain,
+        floor: usize,
+        number: Option<usize>,
+        reader: usize,
+        value: u64,
+    ) -> Chain
+        ensures { IsRaisedChain chain leaning floor number (link_of (P.items self.now.places) self.now.auditor.base
+            self.now.count reader value) result }
+    {
+        match number {
+            Some(first) => {
+                if floor < first {
+                    let link = self.link(reader, value, first);
+                    leaning.after(link)
+                } else {
+                    chain
+                }
+            }
+            None => chain,
+        }
+    }
+
+    // A write begins. With it, this many events have been read.
+    fn write_begins(&mut self, value: u64, count: usize) -> Result<(), RegisterFault>
+        requires { count ≡ suc self.old.count }
+        ensures { RemembersEvent W.items R.items P.items C.items self.old (WriteBegins value) result self.new }
+    {
+        let base = self.auditor.base;
+        let length = self.places.len();
+        match self.places.push_back(self.count) {
+            Ok(()) => {}
+            Err(_) => return Err(RegisterFault::OutOfMemory),
+        }
+        match self.auditor.write_begins(value) {
+            Ok(()) => {
+                let gone = self.auditor.base.saturating_sub(base);
+                drop_places(&mut self.places, gone);
+                self.count = count;
+                Ok(())
+            }
+            Err(fault) => {
+                let dropped = self.auditor.base.saturating_sub(base);
+                keep_places(&mut self.places, length, dropped);
+                Err(fault)
+            }
+        }
+    }
+
+    // The write ends.
+    fn write_ends(&mut self, count: usize) -> Result<(), RegisterFault>
+        requires { count ≡ suc self.old.count }
+        ensures { RemembersEvent W.items R.items P.items C.items self.old WriteEnds result self.new }
+    {
+        match self.auditor.write_ends() {
+            Ok(()) => {
+                self.ended = Some(self.count);
+                self.count = count;
+                Ok(())
+            }
+            Err(fault) => Err(fault),
+        }
+    }
+
+    // A read begins of a reader for which the list of chains is long enough.
+    fn begin_read(&mut self, reader: usize, count: usize) -> Result<(), RegisterFault>
+        requires within { reader < length (C.items self.old.chains) }
+        requires count { count ≡ suc self.old.count }
+        ensures { RemembersEvent W.items R.items P.items C.items self.old (ReadBegins reader) result self.new }
+    {
+        match self.auditor.read_begins(reader) {
+            Ok(()) => {
+                let chains = self.reader_chains(reader);
+                let begun = ReaderChains {
+                    own: chains.own,
+                    low: self.floor,
+                    own_low: chains.own,
+                };
+                self.chains.set(reader, begun);
+                self.count = count;
+                Ok(())
+            }
+            Err(fault) => Err(fault),
+        }
+    }
+
+    // A read begins.
+    fn read_begins(&mut self, reader: usize, count: usize) -> Result<(), RegisterFault>
+        requires { count ≡ suc self.old.count }
+        ensures { RemembersEvent W.items R.items P.items C.items self.old (ReadBegins reader) result self.new }
+    {
+        match reach_chains(&mut self.chains, reader) {
+            Ok(()) => self.begin_read(reader, count),
+            Err(_) => Err(RegisterFault::OutOfMemory),
+        }
+    }
+
+    // The read under way of a reader for which the list of chains is long enough ends, by what it may be of.
+    fn end_read(
+        &mut self,
+        reader: usize,
+        value: u64,
+        found: FoundWrites,
+        count: usize,
+    ) -> Result<(), RegisterFault>
+        requires within { reader < length (C.items self.old.chains) }
+        requires count { count ≡ suc self.old.count }
+        requires reading { (reader_at (R.items self.old.auditor.readers) reader).reading ≡ Some found.read }
+        requires found { FindsWrites (W.items self.old.auditor.window) self.old.auditor.base self.old.auditor.begun value
+            found }
+        ensures { RemembersEvent W.items R.items P.items C.items self.old (ReadEnds reader value) result self.new }
+    {
+        let chains = self.reader_chains(reader);
+        let state = self.auditor.reader(reader);
+        let by_own = leaning(found.of_any, found.read.own_low, chains.own_low);
+        let own = self.raised_chain(chains.own, by_own, state.own, found.of_own, reader, value);
+        let by_all = leaning(found.of_any, found.read.low, chains.low);
+        let floor = self.raised_chain(
+            self.floor,
+            by_all,
+            self.auditor.floor,
+            found.of_all,
+            reader,
+            value,
+        );
+        self.auditor.end_read(reader, value, found);
+        let ended = ReaderChains {
+            own,
+            low: chains.low,
+            own_low: chains.own_low,
+        };
+        self.chains.set(reader, ended);
+        self.floor = floor;
+        self.count = count;
+        Ok(())
+    }
+
+    // A read ends, and returned this value.
+    fn read_ends(&mut self, reader: usize, value: u64, count: usize) -> Result<(), RegisterFault>
+        requires { count ≡ suc self.old.count }
+        ensures { RemembersEvent W.items R.items P.items C.items self.old (ReadEnds reader value) result self.new }
+    {
+        let Some(found) = self.auditor.found(reader, value) else {
+            return Err(RegisterFault::OutOfTurn);
+        };
+        match reach_chains(&mut self.chains, reader) {
+            Ok(()) => self.end_read(reader, value, found, count),
+            Err(_) => Err(RegisterFault::OutOfMemory),
+        }
+    }
+
+    // Reads the next event.
+    fn hear(&mut self, event: RegisterEvent) -> Result<(), RegisterFault>
+        ensures { RemembersEvent W.items R.items P.items C.items self.old event result self.new }
+    {
+        let Some(count) = self.count.checked_add(1) else {
+            return Err(RegisterFault::TooMany);
+        };
+        match event {
+            RegisterEvent::WriteBegins(value) => self.write_begins(value, count),
+            RegisterEvent::WriteEnds => self.write_ends(count),
+            RegisterEvent::ReadBegins(reader) => self.read_begins(reader, count),
+            RegisterEvent::ReadEnds(reader, value) => self.read_ends(reader, value, count),
+        }
+    }
+
+    /// Reads the next event of the history, and returns the strongest class of the history with it, as [`RegisterAuditor::feed`] does. It
+    /// returns `TooMany` after `usize::MAX` events too, and `OutOfMemory` if any of its lists has no room. Nothing of a refused event is
+    /// kept.
+    pub fn feed(&mut self, event: RegisterEvent) -> Result<Option<Class>, RegisterFault>
+        ensures hears { HearsAndRemembers W.items R.items P.items C.items self.old event result self.new }
+    {
+        match self.hear(event) {
+            Ok(()) => Ok(self.auditor.class()),
+            Err(fault) => Err(fault),
+        }
+    }
+
+    /// Whether the history that it has read has the class.
+    pub fn has(&self, class: Class) -> bool
+        ensures { (h : List RegisterEvent) → RemembersRegister W.items R.items P.items C.items self.now h →
+            IsTrue result ↔ HasClass class self.now.auditor.register h }
+    {
+        self.auditor.has(class)
+    }
+
+    // The value that the register holds, if no write is under way.
+    fn held(&self) -> u64
+        ensures { result ≡ slice_index_or (W.items self.now.auditor.window) (self.now.auditor.begun - self.now.auditor.base) 0 }
+    {
+        match self
+            .auditor
+            .window
+            .get(self.auditor.begun.saturating_sub(self.auditor.base))
+        {
+            Some(value) => *value,
+            None => 0,
+        }
+    }
+
+    // What speaks against the class, if the read under way of this reader ends now with this value of the register, by what it may be of.
+    fn found_reason(
+        &self,
+        class: Class,
+        reader: usize,
+        value: u64,
+        found: FoundWrites,
+    ) -> MissReason<Chain>
+        requires reading { (reader_at (R.items self.now.auditor.readers) reader).reading ≡ Some found.read }
+        requires found { FindsWrites (W.items self.now.auditor.window) self.now.auditor.base self.now.auditor.begun value
+            found }
+        requires value { IsValue self.now.auditor.register value }
+        ensures { (h : List RegisterEvent) → RemembersRegister W.items R.items P.items C.items self.now h →
+            HasClass class self.now.auditor.register h →
+            (HasClass class self.now.auditor.register (ReadEnds reader value ∷ h) → ⊥) →
+            IsShownReason class self.now.auditor.register h reader value result }
+    {
+        match found.of_any {
+            Some(_) => {
+                let chains = self.reader_chains(reader);
+                MissReason::Inverted(chains.low_of(class))
+            }
+            None => {
+                if found.read.before == self.auditor.begun {
+                    MissReason::Held {
+                        value: self.held(),
+                        since: self.ended,
+                    }
+                } else {
+                    MissReason::NotWritten
+                }
+            }
+        }
+    }
+
+    /// What speaks against the class, if this reader ends its read now with this value, and the history has the class so far and would
+    /// lack it then.
+    ///
+    /// In the order of [`MissReason`], the first reason that there is.
+    pub fn reason(&self, class: Class, reader: usize, value: u64) -> MissReason<Chain>
+        ensures { (h : List RegisterEvent) → RemembersRegister W.items R.items P.items C.items self.now h →
+            IsWellFormed self.now.auditor.register (ReadEnds reader value ∷ h) →
+            HasClass class self.now.auditor.register h →
+            (HasClass class self.now.auditor.register (ReadEnds reader value ∷ h) → ⊥) →
+            IsShownReason class self.now.auditor.register h reader value result }
+    {
+        if !self.auditor.register.has_value(value) {
+            return MissReason::NoValue;
+        }
+        match self.auditor.found(reader, value) {
+            Some(found) => self.found_reason(class, reader, value, found),
+            None => MissReason::NotWritten,
+        }
+    }
+}
