@@ -158,7 +158,7 @@ module _ (s : Scope) (first i v l : ℕ) (h : List RegisterEvent) (chain leaning
   ]
 
 module _ (s : Scope) (first : ℕ) where
-  -- the same bounds, by other functions; and after the begin or the end of a write
+  -- the same bounds, by other functions; and after a write begins or ends
   pub bounds_same :
       (h : List RegisterEvent) (floor floor' : ℕ → ℕ) (by by' : ℕ → Chain) (low low' : ℕ → Option ℕ) (low_by low_by' : ℕ → Chain) → ((j : ℕ) → floor' j ≡ floor j) → ((j : ℕ) → by' j ≡ by j) →
       ((j : ℕ) → low' j ≡ low j) → ((j : ℕ) → low_by' j ≡ low_by j) → KeepsBounds s first h floor by low low_by → KeepsBounds s first h floor' by' low' low_by'

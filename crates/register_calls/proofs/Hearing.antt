@@ -302,7 +302,7 @@ module _ (r : Register) (h : List RegisterEvent) (kept : List ℕ) (base begun :
           let mine : KeepsRead i h (Some read) = subst (λ (o : Option OpenRead). KeepsRead i h o) at (k.reads i) in
           let p = oldest.each i mine.0 in let q = mine.1 in omega (arith, p, q)
 
-  -- the lists of readers are the same, of which one may be longer
+  -- the same readers, in a list that may be longer
   pub keeps_same :
       (ys : List ReaderState) → ((j : ℕ) → reader_at ys j ≡ reader_at readers j) → KeepsHistory r h kept base begun writing readers floor safe regular each all →
       KeepsHistory r h kept base begun writing ys floor safe regular each all

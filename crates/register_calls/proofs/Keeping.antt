@@ -174,7 +174,7 @@ module _ (s : Scope) (first : ℕ) where
   scope_read true i n h floor floor' low low' same here others top keeps = keeps_read i n h floor floor' low low' same here others top keeps
   scope_read false i n h floor floor' low low' same here others top keeps = keeps
 
-  -- the same floors and lows, told by other functions
+  -- the same floors and lows, by other functions
   pub scope_same :
       (held : Bool) (h : List RegisterEvent) (floor floor' : ℕ → ℕ) (low low' : ℕ → Option ℕ) → ((j : ℕ) → floor' j ≡ floor j) → ((j : ℕ) → low' j ≡ low j) →
       KeepsScope held s first h floor low → KeepsScope held s first h floor' low'

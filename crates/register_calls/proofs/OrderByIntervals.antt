@@ -162,7 +162,7 @@ number-code (WriteEnds ∷ b) n le = number-code b n le
 number-code (ReadBegins i ∷ b) n le = number-code b n le
 number-code (ReadEnds i v ∷ b) n le = number-code b n le
 
--- a write of which a read may be has a number
+-- if a read may be of a write, the write has a number
 coded_of : (first : ℕ) (h : List RegisterEvent) (start stop v k : ℕ) → MayBeOf first h start stop v k → (n : ℕ) × (n ≤ started h) × (code h n ≡ k)
 coded_of first h start stop v zero may = (0, omega arith, code-zero h)
 coded_of first h start stop v (suc w) may = let (n, num) = numbered first h v w may.0 in (n, num.few, num.coded)

@@ -24,7 +24,7 @@ open_within [] i r at = absurd (none-some r at)
 open_within (x ∷ xs) zero r at = omega arith
 open_within (x ∷ xs) (suc i) r at = let k = open_within xs i r at in omega (arith, k)
 
--- one reader more, of which nothing is known yet
+-- one more reader, about which nothing is known yet
 pub reader_at-more : (xs : List ReaderState) (i : ℕ) → reader_at (xs ++ fresh_reader ∷ []) i ≡ reader_at xs i
 reader_at-more [] zero = refl
 reader_at-more [] (suc i) = refl

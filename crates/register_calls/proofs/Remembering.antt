@@ -38,7 +38,7 @@ AllBounds first h xs cs floor chain = KeepsBounds Together first h (λ i. floor)
 
 module _ (r x : Register) (h : List RegisterEvent) (xs ys : List ReaderState) (cs ds : List ReaderChains) (registers : x ≡ r) where
   module _ (states : (j : ℕ) → reader_at ys j ≡ reader_at xs j) (chains : (j : ℕ) → chains_at ds j ≡ chains_at cs j) where
-    -- the lists are the same, of which one may be longer
+    -- the same, in a list that may be longer
     pub each_same : EachBounds r.first h xs cs → EachBounds x.first h ys ds
     each_same k =
         subst (λ (z : Register). EachBounds z.first h ys ds) (sym registers)

@@ -29,7 +29,7 @@ impl Register {
 /// An event of a history of a register: the writer begins or ends a write, or a reader begins or ends a read. The readers are
 /// numbered.
 ///
-/// For example, `RegisterEvent::ReadEnds(1, 0)` is what `R1 got 0` records.
+/// For example, `RegisterEvent::ReadEnds(0, 7)` is what `R1 got 7` records: the first reader is number 0 here.
 #[derive(Clone, Copy, PartialEq, Eq, Debug)]
 pub enum RegisterEvent {
     /// A write of this value begins.
