@@ -4,6 +4,7 @@ pub mod OrderLemmas
 pub mod Keeping
 pub mod Readers
 pub mod Hearing
+pub mod Foretelling
 pub mod ClassLemmas
 pub mod MissLemmas
 pub mod Places

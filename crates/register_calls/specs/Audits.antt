@@ -1,5 +1,5 @@
 -- What an auditor of a register keeps of a history, and what it answers.
-use Rattle.std.specs.Prelude.{◌≡◌, ◌≢◌, ◌⊎◌, ℕ, suc, ◌-◌, ◌≤◌, ◌<◌, Bool, true, false, Option, Some, None, List, ◌∷◌, drop, slice_index_or, option_map, Result, MatchResult, if◌then◌else◌}
+use Rattle.std.specs.Prelude.{◌≡◌, ◌≢◌, ◌⊎◌, ℕ, suc, ◌-◌, ◌≤◌, ◌<◌, Bool, true, false, Option, Some, None, List, ◌∷◌, length, drop, slice_index_or, option_map, Result, MatchResult, if◌then◌else◌}
 use Rattle.register_calls.specs.declared.events.Register.{Register}
 use Rattle.register_calls.specs.declared.events.RegisterEvent.{RegisterEvent}
 use Rattle.register_calls.specs.declared.events.RegisterEvent.TheVariants.{WriteBegins, ReadBegins}
@@ -127,6 +127,13 @@ RefusesRegisterEvent writes readers most NoValue r h e = ¬ WritesValue r e
 RefusesRegisterEvent writes readers most OutOfTurn r h e = WritesValue r e × ¬ ComesInTurn h e
 RefusesRegisterEvent writes readers most TooMany r h e = WritesValue r e × ComesInTurn h e × ((v : ℕ) × (e ≡ WriteBegins v)) × (started h ≡ most)
 RefusesRegisterEvent writes readers most OutOfMemory r h e = WritesValue r e × ComesInTurn h e × LacksRoomFor writes readers h e
+
+-- what holds of an event that a witness refuses after a history, if it counts this many events at most
+abbrev pub RefusesRemembered : (most : ℕ) → RegisterFault → Register → List RegisterEvent → RegisterEvent → Type 0
+RefusesRemembered most NoValue r h e = ¬ WritesValue r e
+RefusesRemembered most OutOfTurn r h e = WritesValue r e × ¬ ComesInTurn h e
+RefusesRemembered most TooMany r h e = most ≤ length h
+RefusesRemembered most OutOfMemory r h e = Unit {0}
 
 -- After each history that it has read, an auditor reads an event, and after a write's begin it keeps no write on which no read can be; or it
 -- refuses the event, and has then read what it had.

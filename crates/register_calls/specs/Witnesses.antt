@@ -15,7 +15,7 @@ use Rattle.register_calls.specs.declared.witnesses.ReaderChains.{ReaderChains}
 use Rattle.register_calls.specs.declared.witnesses.RegisterWitness.{RegisterWitness}
 use Rattle.register_calls.specs.Histories.{finished, before_read}
 use Rattle.register_calls.specs.Classes.{Scope, Together, EachAlone, IsStrongest}
-use Rattle.register_calls.specs.Audits.{AuditsRegister, lows, own_lows, own_floors}
+use Rattle.register_calls.specs.Audits.{AuditsRegister, RefusesRemembered, lows, own_lows, own_floors}
 use Rattle.register_calls.specs.Chains.{ShowsReads, fresh_chain}
 use Rattle.register_calls.specs.Reasons.{IsBound, IsMissReason}
 
@@ -85,22 +85,23 @@ low_chain Atomic chains = chains.low
 
 -- after each history that it remembers, a witness reads an event, or refuses it and remembers what it did
 abbrev pub RemembersEvent :
-    {W R P C T : Type 0} → (window : W → List ℕ) → (states : R → List ReaderState) → (places : P → List ℕ) → (chains : C → List ReaderChains) →
+    {W R P C T : Type 0} → (window : W → List ℕ) → (states : R → List ReaderState) → (places : P → List ℕ) → (chains : C → List ReaderChains) → (most : ℕ) →
     RegisterWitness W R P C → RegisterEvent → Result T RegisterFault → RegisterWitness W R P C → Type 0
-RemembersEvent window states places chains old event result new =
+RemembersEvent window states places chains most old event result new =
     (new.auditor.register ≡ old.auditor.register) ×
     ((h : List RegisterEvent) → RemembersRegister window states places chains old h →
-    MatchResult result (λ _. RemembersRegister window states places chains new (event ∷ h)) (λ fault. RemembersRegister window states places chains new h))
+    MatchResult result (λ _. RemembersRegister window states places chains new (event ∷ h))
+    (λ fault. RemembersRegister window states places chains new h × RefusesRemembered most fault old.auditor.register h event))
 
 -- after each history that it remembers, a witness reads an event and returns the strongest class, or refuses it and remembers what it did
 abbrev pub HearsAndRemembers :
-    {W R P C : Type 0} → (window : W → List ℕ) → (states : R → List ReaderState) → (places : P → List ℕ) → (chains : C → List ReaderChains) →
+    {W R P C : Type 0} → (window : W → List ℕ) → (states : R → List ReaderState) → (places : P → List ℕ) → (chains : C → List ReaderChains) → (most : ℕ) →
     RegisterWitness W R P C → RegisterEvent → Result (Option Class) RegisterFault → RegisterWitness W R P C → Type 0
-HearsAndRemembers window states places chains old event result new =
+HearsAndRemembers window states places chains most old event result new =
     (new.auditor.register ≡ old.auditor.register) ×
     ((h : List RegisterEvent) → RemembersRegister window states places chains old h →
     MatchResult result (λ class. RemembersRegister window states places chains new (event ∷ h) × IsStrongest class old.auditor.register (event ∷ h))
-    (λ fault. RemembersRegister window states places chains new h))
+    (λ fault. RemembersRegister window states places chains new h × RefusesRemembered most fault old.auditor.register h event))
 
 -- a reason with a chain is the one with the reads that the chain shows
 abbrev pub IsShownReason : Class → Register → List RegisterEvent → (reader value : ℕ) → MissReason Chain → Type 0

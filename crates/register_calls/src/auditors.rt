@@ -114,6 +114,20 @@ fn still(held: bool, number: Option<usize>) -> bool
     }
 }
 
+// Whether what held holds now, if it held.
+fn is_kept(held: bool, holds: bool) -> bool
+    ensures { result ≡ (if held then holds else true) }
+{
+    if held { holds } else { true }
+}
+
+// Whether both hold.
+fn both(one: bool, other: bool) -> bool
+    ensures { IsTrue result ↔ (IsTrue one × IsTrue other) }
+{
+    one && other
+}
+
 // A floor, raised to a number if there is one.
 fn raised(floor: usize, number: Option<usize>) -> usize
     ensures { IsRaised floor number result }
@@ -413,6 +427,39 @@ impl<W: Fifo<u64>, R: Fifo<ReaderState>> RegisterAuditor<W, R> {
             }
             None => None,
         }
+    }
+
+    // Whether the history has the class with the end of a read under way that returns this value, by what the read may be of.
+    pub(crate) fn has_with(&self, class: Class, value: u64, found: &FoundWrites) -> bool
+        ensures { (i : ℕ) (h : List RegisterEvent) → AuditsRegister W.items R.items self.now h →
+            (reader_at (R.items self.now.readers) i).reading ≡ Some found.now.read →
+            FindsWrites (W.items self.now.window) self.now.base self.now.begun value found.now →
+            IsTrue result ↔ HasClass class self.now.register (ReadEnds i value ∷ h) }
+    {
+        let is_safe = self.is_safe_still(found.read.before, value, found.of_any);
+        match class {
+            Class::Safe => is_safe,
+            Class::Regular => still(self.is_regular, found.of_any),
+            Class::AtomicByReader => still(self.is_by_reader, found.of_own),
+            Class::Atomic => still(self.is_atomic, found.of_all),
+        }
+    }
+
+    // Whether the history has, with the end of a read under way that returns this value, each class that it has so far, by what the read
+    // may be of.
+    pub(crate) fn keeps_with(&self, value: u64, found: &FoundWrites) -> bool
+        ensures { (i : ℕ) (h : List RegisterEvent) → AuditsRegister W.items R.items self.now h →
+            (reader_at (R.items self.now.readers) i).reading ≡ Some found.now.read →
+            FindsWrites (W.items self.now.window) self.now.base self.now.begun value found.now →
+            IsTrue result ↔ ((class : Class) → HasClass class self.now.register h →
+            HasClass class self.now.register (ReadEnds i value ∷ h)) }
+    {
+        let is_safe = self.is_safe_still(found.read.before, value, found.of_any);
+        let safe = is_kept(self.is_safe, is_safe);
+        let regular = is_kept(self.is_regular, still(self.is_regular, found.of_any));
+        let by_reader = is_kept(self.is_by_reader, still(self.is_by_reader, found.of_own));
+        let atomic = is_kept(self.is_atomic, still(self.is_atomic, found.of_all));
+        both(both(safe, regular), both(by_reader, atomic))
     }
 
     // The read under way of this reader ends with this value, by what it may be of.

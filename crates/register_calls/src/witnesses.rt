@@ -1,7 +1,7 @@
 //! What is kept of a register's history, beside its classes, to say why it lacks one.
 ghost use Rattle.std.specs.Prelude.{◌≡◌, ◌-◌, ◌<◌, ◌↔◌, ℕ, suc, List, [], ◌∷◌, IsTrue, IfOk, OnOk, length, drop, take, slice_index_or};
 ghost use Rattle.register_calls.specs.Histories.{IsValue, IsWellFormed};
-ghost use Rattle.register_calls.specs.Classes.{HasClass};
+ghost use Rattle.register_calls.specs.Classes.{HasClass, IsStrongest};
 ghost use Rattle.register_calls.specs.Audits.{FindsWrites, reader_at};
 ghost use Rattle.register_calls.specs.Witnesses.{HearsAndRemembers, IsRaisedChain, IsShownReason, RemembersEvent, RemembersRegister, chains_at, fresh_chains, leaning_chain, link_of, low_chain};
 ghost use Rattle.register_calls.specs.declared.events.RegisterEvent.{RegisterEvent};
@@ -149,6 +149,32 @@ impl<W: Fifo<u64>, R: Fifo<ReaderState>, P: Fifo<usize>, C: Fifo<ReaderChains>> 
         })
     }
 
+    /// Forgets what it has read, and audits a history of this register from its beginning, in the same lists. The first value of the
+    /// register is one of its values.
+    ///
+    /// It is an error if the list of writes or that of places has no room for one number; it is of no further use then.
+    pub fn restart(&mut self, register: Register) -> Result<(), AllocError>
+        requires { IsValue register register.first }
+        ensures register { OnOk result (self.new.auditor.register ≡ register) }
+        ensures remembers { OnOk result (RemembersRegister W.items R.items P.items C.items self.new []) }
+    {
+        self.places.truncate(0);
+        self.places.push_back(0)?;
+        self.chains.truncate(0);
+        self.auditor.restart(register)?;
+        self.floor = Chain::new();
+        self.count = 0;
+        self.ended = None;
+        Ok(())
+    }
+
+    /// The register whose history it audits.
+    pub fn register(&self) -> Register
+        ensures { result ≡ self.now.auditor.register }
+    {
+        self.auditor.register()
+    }
+
     // What is kept of a reader.
     fn reader_chains(&self, reader: usize) -> ReaderChains
         ensures { result ≡ chains_at (C.items self.now.chains) reader }
@@ -211,7 +237,8 @@ impl<W: Fifo<u64>, R: Fifo<ReaderState>, P: Fifo<usize>, C: Fifo<ReaderChains>> 
     // A write begins. With it, this many events have been read.
     fn write_begins(&mut self, value: u64, count: usize) -> Result<(), RegisterFault>
         requires { count ≡ suc self.old.count }
-        ensures { RemembersEvent W.items R.items P.items C.items self.old (WriteBegins value) result self.new }
+        ensures { RemembersEvent W.items R.items P.items C.items usize.MAX self.old (WriteBegins value) result
+            self.new }
     {
         let base = self.auditor.base;
         let length = self.places.len();
@@ -237,7 +264,7 @@ impl<W: Fifo<u64>, R: Fifo<ReaderState>, P: Fifo<usize>, C: Fifo<ReaderChains>> 
     // The write ends.
     fn write_ends(&mut self, count: usize) -> Result<(), RegisterFault>
         requires { count ≡ suc self.old.count }
-        ensures { RemembersEvent W.items R.items P.items C.items self.old WriteEnds result self.new }
+        ensures { RemembersEvent W.items R.items P.items C.items usize.MAX self.old WriteEnds result self.new }
     {
         match self.auditor.write_ends() {
             Ok(()) => {
@@ -253,7 +280,8 @@ impl<W: Fifo<u64>, R: Fifo<ReaderState>, P: Fifo<usize>, C: Fifo<ReaderChains>> 
     fn begin_read(&mut self, reader: usize, count: usize) -> Result<(), RegisterFault>
         requires within { reader < length (C.items self.old.chains) }
         requires count { count ≡ suc self.old.count }
-        ensures { RemembersEvent W.items R.items P.items C.items self.old (ReadBegins reader) result self.new }
+        ensures { RemembersEvent W.items R.items P.items C.items usize.MAX self.old (ReadBegins reader) result
+            self.new }
     {
         match self.auditor.read_begins(reader) {
             Ok(()) => {
@@ -274,7 +302,8 @@ impl<W: Fifo<u64>, R: Fifo<ReaderState>, P: Fifo<usize>, C: Fifo<ReaderChains>> 
     // A read begins.
     fn read_begins(&mut self, reader: usize, count: usize) -> Result<(), RegisterFault>
         requires { count ≡ suc self.old.count }
-        ensures { RemembersEvent W.items R.items P.items C.items self.old (ReadBegins reader) result self.new }
+        ensures { RemembersEvent W.items R.items P.items C.items usize.MAX self.old (ReadBegins reader) result
+            self.new }
     {
         match reach_chains(&mut self.chains, reader) {
             Ok(()) => self.begin_read(reader, count),
@@ -295,7 +324,8 @@ impl<W: Fifo<u64>, R: Fifo<ReaderState>, P: Fifo<usize>, C: Fifo<ReaderChains>> 
         requires reading { (reader_at (R.items self.old.auditor.readers) reader).reading ≡ Some found.read }
         requires found { FindsWrites (W.items self.old.auditor.window) self.old.auditor.base self.old.auditor.begun value
             found }
-        ensures { RemembersEvent W.items R.items P.items C.items self.old (ReadEnds reader value) result self.new }
+        ensures { RemembersEvent W.items R.items P.items C.items usize.MAX self.old (ReadEnds reader value) result
+            self.new }
     {
         let chains = self.reader_chains(reader);
         let state = self.auditor.reader(reader);
@@ -325,7 +355,8 @@ impl<W: Fifo<u64>, R: Fifo<ReaderState>, P: Fifo<usize>, C: Fifo<ReaderChains>> 
     // A read ends, and returned this value.
     fn read_ends(&mut self, reader: usize, value: u64, count: usize) -> Result<(), RegisterFault>
         requires { count ≡ suc self.old.count }
-        ensures { RemembersEvent W.items R.items P.items C.items self.old (ReadEnds reader value) result self.new }
+        ensures { RemembersEvent W.items R.items P.items C.items usize.MAX self.old (ReadEnds reader value) result
+            self.new }
     {
         let Some(found) = self.auditor.found(reader, value) else {
             return Err(RegisterFault::OutOfTurn);
@@ -338,7 +369,7 @@ impl<W: Fifo<u64>, R: Fifo<ReaderState>, P: Fifo<usize>, C: Fifo<ReaderChains>> 
 
     // Reads the next event.
     fn hear(&mut self, event: RegisterEvent) -> Result<(), RegisterFault>
-        ensures { RemembersEvent W.items R.items P.items C.items self.old event result self.new }
+        ensures { RemembersEvent W.items R.items P.items C.items usize.MAX self.old event result self.new }
     {
         let Some(count) = self.count.checked_add(1) else {
             return Err(RegisterFault::TooMany);
@@ -351,11 +382,13 @@ impl<W: Fifo<u64>, R: Fifo<ReaderState>, P: Fifo<usize>, C: Fifo<ReaderChains>> 
         }
     }
 
-    /// Reads the next event of the history, and returns the strongest class of the history with it, as [`RegisterAuditor::feed`] does. It
-    /// returns `TooMany` after `usize::MAX` events too, and `OutOfMemory` if any of its lists has no room. Nothing of a refused event is
-    /// kept.
+    /// Reads the next event of the history, and returns the strongest class of the history with it, as [`RegisterAuditor::feed`] does.
+    ///
+    /// It returns `NoValue` only if the event begins a write of a number that is no value of the register; `OutOfTurn` only if it is of a
+    /// value and begins an operation while one of its side is under way, or ends one that is not; `TooMany` only after `usize::MAX`
+    /// events; and `OutOfMemory` if any of its lists has no room. Nothing of a refused event is kept.
     pub fn feed(&mut self, event: RegisterEvent) -> Result<Option<Class>, RegisterFault>
-        ensures hears { HearsAndRemembers W.items R.items P.items C.items self.old event result self.new }
+        ensures hears { HearsAndRemembers W.items R.items P.items C.items usize.MAX self.old event result self.new }
     {
         match self.hear(event) {
             Ok(()) => Ok(self.auditor.class()),
@@ -369,6 +402,39 @@ impl<W: Fifo<u64>, R: Fifo<ReaderState>, P: Fifo<usize>, C: Fifo<ReaderChains>> 
             IsTrue result ↔ HasClass class self.now.auditor.register h }
     {
         self.auditor.has(class)
+    }
+
+    /// The strongest class of the history that it has read, or `None` if the history is not safe.
+    pub fn class(&self) -> Option<Class>
+        ensures { (h : List RegisterEvent) → RemembersRegister W.items R.items P.items C.items self.now h →
+            IsStrongest result self.now.auditor.register h }
+    {
+        self.auditor.class()
+    }
+
+    /// Whether the history lacks the class, if this reader ends its read now with this value.
+    pub fn lacks_with(&self, class: Class, reader: usize, value: u64) -> bool
+        ensures { (h : List RegisterEvent) → RemembersRegister W.items R.items P.items C.items self.now h →
+            IsWellFormed self.now.auditor.register (ReadEnds reader value ∷ h) →
+            IsTrue result ↔ (HasClass class self.now.auditor.register (ReadEnds reader value ∷ h) → ⊥) }
+    {
+        match self.auditor.found(reader, value) {
+            Some(found) => !self.auditor.has_with(class, value, &found),
+            None => true,
+        }
+    }
+
+    /// Whether the history has, with the end of this read, each class that it has so far.
+    pub fn keeps_classes(&self, reader: usize, value: u64) -> bool
+        ensures { (h : List RegisterEvent) → RemembersRegister W.items R.items P.items C.items self.now h →
+            IsWellFormed self.now.auditor.register (ReadEnds reader value ∷ h) →
+            IsTrue result ↔ ((class : Class) → HasClass class self.now.auditor.register h →
+            HasClass class self.now.auditor.register (ReadEnds reader value ∷ h)) }
+    {
+        match self.auditor.found(reader, value) {
+            Some(found) => self.auditor.keeps_with(value, &found),
+            None => true,
+        }
     }
 
     // The value that the register holds, if no write is under way.

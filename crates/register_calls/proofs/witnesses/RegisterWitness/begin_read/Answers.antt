@@ -3,6 +3,7 @@ use Rattle.register_calls.specs.declared.witnesses.ReaderChains.{ReaderChains}
 use Rattle.register_calls.specs.Witnesses.{begin_places, chains_at}
 use Rattle.register_calls.proofs.Hearing.{ended_is}
 use Rattle.register_calls.proofs.Remembering.{MovesChains, chains_set, each_same, all_same, each_begins, all_begins}
+use Rattle.register_calls.proofs.Foretelling.{refused_is}
 use Rattle.register_calls.proofs.witnesses.RegisterWitness.begin_read.Goals as goal
 
 pub returns-in-Ok : goal.returns-in-Ok
@@ -43,12 +44,15 @@ returns-in-Err g c =
     let ys = g.R.Fifo.items b.readers in
     let cs = g.C.Fifo.items s.chains in (
       e.hears.0,
-      λ h k. record {
-        audits = (e.hears.1 h k.audits).0;
-        count = k.count;
-        places_kept = k.places_kept ∙ ap (λ (n : ℕ). drop n (begin_places h)) (sym e.others.0);
-        last_ended = k.last_ended;
-        of_each = each_same a.register b.register h xs ys cs cs e.hears.0 e.readers (λ j. refl) k.of_each;
-        of_all = all_same a.register b.register h xs ys cs cs e.hears.0 e.readers (λ j. refl) a.floor b.floor s.floor e.others.1 k.of_all;
-      },
+      λ h k. (
+        record {
+          audits = (e.hears.1 h k.audits).0;
+          count = k.count;
+          places_kept = k.places_kept ∙ ap (λ (n : ℕ). drop n (begin_places h)) (sym e.others.0);
+          last_ended = k.last_ended;
+          of_each = each_same a.register b.register h xs ys cs cs e.hears.0 e.readers (λ j. refl) k.of_each;
+          of_all = all_same a.register b.register h xs ys cs cs e.hears.0 e.readers (λ j. refl) a.floor b.floor s.floor e.others.1 k.of_all;
+        },
+        refused_is c.in-Err.fault _ _ _ a.register h _ (e.hears.1 h k.audits).1,
+      ),
     )

@@ -28,12 +28,15 @@ returns-in-Err g c =
     let cs = g.C.Fifo.items s.chains in
     let ds = g.C.Fifo.items c.reach_chains.new.chains in (
       refl,
-      λ h k. record {
-        audits = k.audits;
-        count = k.count;
-        places_kept = k.places_kept;
-        last_ended = k.last_ended;
-        of_each = each_same a.register a.register h xs xs cs ds refl (λ j. refl) c.in-Err.ensures.same k.of_each;
-        of_all = all_same a.register a.register h xs xs cs ds refl (λ j. refl) c.in-Err.ensures.same a.floor a.floor s.floor refl k.of_all;
-      },
+      λ h k. (
+        record {
+          audits = k.audits;
+          count = k.count;
+          places_kept = k.places_kept;
+          last_ended = k.last_ended;
+          of_each = each_same a.register a.register h xs xs cs ds refl (λ j. refl) c.in-Err.ensures.same k.of_each;
+          of_all = all_same a.register a.register h xs xs cs ds refl (λ j. refl) c.in-Err.ensures.same a.floor a.floor s.floor refl k.of_all;
+        },
+        tt,
+      ),
     )

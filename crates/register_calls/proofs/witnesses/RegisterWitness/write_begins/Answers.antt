@@ -6,6 +6,7 @@ use Rattle.register_calls.specs.Audits.{reader_at}
 use Rattle.register_calls.proofs.Hearing.{turn_of}
 use Rattle.register_calls.proofs.Bounds.{places_more, places_back}
 use Rattle.register_calls.proofs.Remembering.{each_same, all_same, each_next, all_next}
+use Rattle.register_calls.proofs.Foretelling.{refused_is}
 use Rattle.register_calls.proofs.witnesses.RegisterWitness.write_begins.Goals as goal
 
 pub returns-in-Ok-write_begins : goal.returns-in-Ok-write_begins
@@ -49,12 +50,15 @@ returns-in-Err-write_begins g c =
     let gone : now ≡ drop (b.base - a.base) (take (length places) pushed) =
     c.keep_places.ensures ∙ ap (λ (n : ℕ). drop n (take c.len-length.result pushed)) c.saturating_sub-dropped.ensures ∙ ap (λ (n : ℕ). drop (b.base - a.base) (take n pushed)) c.len-length.ensures in (
       e.hears.0,
-      λ h k. record {
-        audits = (e.hears.1 h k.audits).0;
-        count = k.count;
-        places_kept = places_back h places pushed now a.base b.base s.count k.places_kept (e.up h k.audits) c.in-Ok.ensures.items gone;
-        last_ended = k.last_ended;
-        of_each = each_same a.register b.register h xs ys cs cs e.hears.0 (λ j. ap (λ (zs : List ReaderState). reader_at zs j) e.others.0) (λ j. refl) k.of_each;
-        of_all = all_same a.register b.register h xs ys cs cs e.hears.0 (λ j. ap (λ (zs : List ReaderState). reader_at zs j) e.others.0) (λ j. refl) a.floor b.floor s.floor e.others.1 k.of_all;
-      },
+      λ h k. (
+        record {
+          audits = (e.hears.1 h k.audits).0;
+          count = k.count;
+          places_kept = places_back h places pushed now a.base b.base s.count k.places_kept (e.up h k.audits) c.in-Ok.ensures.items gone;
+          last_ended = k.last_ended;
+          of_each = each_same a.register b.register h xs ys cs cs e.hears.0 (λ j. ap (λ (zs : List ReaderState). reader_at zs j) e.others.0) (λ j. refl) k.of_each;
+          of_all = all_same a.register b.register h xs ys cs cs e.hears.0 (λ j. ap (λ (zs : List ReaderState). reader_at zs j) e.others.0) (λ j. refl) a.floor b.floor s.floor e.others.1 k.of_all;
+        },
+        refused_is c.in-Err-write_begins.fault _ _ _ a.register h _ (e.hears.1 h k.audits).1,
+      ),
     )

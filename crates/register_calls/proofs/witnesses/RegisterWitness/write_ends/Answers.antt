@@ -5,6 +5,7 @@ use Rattle.register_calls.specs.Audits.{reader_at}
 use Rattle.register_calls.specs.Witnesses.{begin_places}
 use Rattle.register_calls.proofs.Remembering.{each_same, all_same, each_next, all_next}
 use Rattle.std.proofs.Common.{List}
+use Rattle.register_calls.proofs.Foretelling.{refused_is}
 use Rattle.register_calls.proofs.witnesses.RegisterWitness.write_ends.Goals as goal
 
 pub returns-in-Ok : goal.returns-in-Ok
@@ -37,12 +38,15 @@ returns-in-Err g c =
     let ys = g.R.Fifo.items b.readers in
     let cs = g.C.Fifo.items s.chains in (
       e.hears.0,
-      λ h k. record {
-        audits = (e.hears.1 h k.audits).0;
-        count = k.count;
-        places_kept = k.places_kept ∙ ap (λ (n : ℕ). drop n (begin_places h)) (sym e.others.0);
-        last_ended = k.last_ended;
-        of_each = each_same a.register b.register h xs ys cs cs e.hears.0 (λ j. ap (λ (zs : List ReaderState). reader_at zs j) e.others.1) (λ j. refl) k.of_each;
-        of_all = all_same a.register b.register h xs ys cs cs e.hears.0 (λ j. ap (λ (zs : List ReaderState). reader_at zs j) e.others.1) (λ j. refl) a.floor b.floor s.floor e.others.2 k.of_all;
-      },
+      λ h k. (
+        record {
+          audits = (e.hears.1 h k.audits).0;
+          count = k.count;
+          places_kept = k.places_kept ∙ ap (λ (n : ℕ). drop n (begin_places h)) (sym e.others.0);
+          last_ended = k.last_ended;
+          of_each = each_same a.register b.register h xs ys cs cs e.hears.0 (λ j. ap (λ (zs : List ReaderState). reader_at zs j) e.others.1) (λ j. refl) k.of_each;
+          of_all = all_same a.register b.register h xs ys cs cs e.hears.0 (λ j. ap (λ (zs : List ReaderState). reader_at zs j) e.others.1) (λ j. refl) a.floor b.floor s.floor e.others.2 k.of_all;
+        },
+        refused_is c.in-Err.fault _ _ _ a.register h _ (e.hears.1 h k.audits).1,
+      ),
     )

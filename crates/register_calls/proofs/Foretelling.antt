@@ -1,0 +1,129 @@
+-- What a history with the end of one more read has, by what the read may be of; and what a refusal says.
+use Rattle.std.proofs.Common.{◌≡◌, ◌↔◌, ◌⊎◌, inl, inr, ℕ, ◌≤◌, ◌<◌, Bool, true, false, Option, Some, None, List, [], ◌∷◌, length, set, refl, sym, subst, ◌∙◌, arith}
+use Rattle.std.specs.Prelude.{IsTrue, if◌then◌else◌, not}
+use Rattle.std.proofs.lemmas.Bool.{cases_lt}
+use Rattle.register_calls.specs.declared.events.Register.{Register}
+use Rattle.register_calls.specs.declared.events.RegisterEvent.{RegisterEvent}
+use Rattle.register_calls.specs.declared.events.RegisterEvent.TheVariants.{WriteBegins, WriteEnds, ReadBegins, ReadEnds}
+use Rattle.register_calls.specs.declared.events.Class.{Class}
+use Rattle.register_calls.specs.declared.events.Class.TheVariants.{Safe, Regular, AtomicByReader, Atomic}
+use Rattle.register_calls.specs.declared.faults.RegisterFault.{RegisterFault}
+use Rattle.register_calls.specs.declared.faults.RegisterFault.TheVariants.{NoValue, OutOfTurn, TooMany, OutOfMemory}
+use Rattle.register_calls.specs.declared.auditors.OpenRead.{OpenRead}
+use Rattle.register_calls.specs.declared.auditors.ReaderState.{ReaderState}
+use Rattle.register_calls.specs.declared.auditors.FoundWrites.{FoundWrites}
+use Rattle.register_calls.specs.Histories.{IsValue, started, has_read_open}
+use Rattle.register_calls.specs.Classes.{Scope, HasOrder, HasClass}
+use Rattle.register_calls.specs.Judging.{IsRaised, still}
+use Rattle.register_calls.specs.Audits.{FindsWrites, KeepsHistory, KeepsRead, KeepsScope, IsToldBy, RefusesRegisterEvent, RefusesRemembered, reader_at}
+use Rattle.register_calls.proofs.Readers.{moves_set, open_within}
+use Rattle.register_calls.proofs.Hearing.{read_ends_as}
+
+-- what a flag says of what it is kept for
+pub told_iff : (b : Bool) (P : Type 0) → IsToldBy b P → IsTrue b ↔ P
+told_iff true P told = ((λ e. told), (λ p. refl))
+told_iff false P told = ((λ e. absurd cc), (λ p. absurd (told p)))
+
+pub lacks_iff : (b : Bool) (P : Type 0) → IsTrue b ↔ P → IsTrue (not b) ↔ (P → ⊥)
+lacks_iff true P is = ((λ e. absurd cc), (λ lacks. absurd (lacks (is.0 refl))))
+lacks_iff false P is = ((λ e p. (let wrong : false ≡ true = is.1 p in absurd cc)), (λ lacks. refl))
+
+-- it held, and holds now
+kept_iff : (b c : Bool) (P Q : Type 0) → IsTrue b ↔ P → IsTrue c ↔ Q → IsTrue (if b then c else true) ↔ (P → Q)
+kept_iff true c P Q was is = ((λ e p. is.0 e), (λ keeps. is.1 (keeps (was.0 refl))))
+kept_iff false c P Q was is = ((λ e p. (let wrong : false ≡ true = was.1 p in absurd cc)), (λ keeps. refl))
+
+scope_told : (b : Bool) (s : Scope) (first : ℕ) (h : List RegisterEvent) (floor : ℕ → ℕ) (low : ℕ → Option ℕ) → KeepsScope b s first h floor low → IsToldBy b (HasOrder s first h)
+scope_told true s first h floor low keeps = (keeps.of, keeps.orders)
+scope_told false s first h floor low keeps = keeps
+
+-- the flag that is kept for a class
+abbrev pub flag_of : Class → (safe regular each all : Bool) → Bool
+flag_of Safe safe regular each all = safe
+flag_of Regular safe regular each all = regular
+flag_of AtomicByReader safe regular each all = each
+flag_of Atomic safe regular each all = all
+
+module _ (r : Register) (h : List RegisterEvent) (kept : List ℕ) (base begun : ℕ) (writing : Bool) (readers : List ReaderState) (floor : ℕ) (safe regular each all : Bool) where
+  pub class_told : (c : Class) → KeepsHistory r h kept base begun writing readers floor safe regular each all → IsTrue (flag_of c safe regular each all) ↔ HasClass c r h
+  class_told Safe k = told_iff safe (HasClass Safe r h) k.is_safe
+  class_told Regular k = told_iff regular (HasClass Regular r h) k.is_regular
+  class_told AtomicByReader k = told_iff each (HasClass AtomicByReader r h) (scope_told each _ r.first h _ _ k.order_of_each)
+  class_told Atomic k = told_iff all (HasClass Atomic r h) (scope_told all _ r.first h _ _ k.order_of_all)
+
+raised_to : (floor : ℕ) (o : Option ℕ) → (top : ℕ) × IsRaised floor o top
+raised_to floor None = (floor, refl)
+raised_to floor (Some n) = elim (cases_lt floor n) [
+  | inl lt ↦ (n, record { left = omega arith; right = omega arith; least = λ m p q. q })
+  | inr ge ↦ (floor, record { left = omega arith; right = omega arith; least = λ m p q. p })
+]
+
+module _ (r : Register) (h : List RegisterEvent) (kept : List ℕ) (base begun : ℕ) (writing : Bool) (readers : List ReaderState) (floor : ℕ) (safe regular each all : Bool) where
+  module _ (i v : ℕ) (found : FoundWrites) (now : Bool) (at : (reader_at readers i).reading ≡ Some found.read) (finds : FindsWrites kept base begun v found)
+      (is : (now ≡ true) ↔ ((safe ≡ true) × IsValue r v × ((found.read.before < begun) ⊎ (still true found.of_any ≡ true))))
+      (k : KeepsHistory r h kept base begun writing readers floor safe regular each all) where
+    -- the read under way of a reader ends: which classes the history has with it
+    pub has_with_read : (c : Class) → IsTrue (flag_of c now (still regular found.of_any) (still each found.of_own) (still all found.of_all)) ↔ HasClass c r (ReadEnds i v ∷ h)
+    has_with_read c =
+        let (own, own_raised) = raised_to (reader_at readers i).own found.of_own in
+        let (top, raised) = raised_to floor found.of_all in
+        let state : ReaderState = record { own = own; reading = None } in
+        let ys = set readers i state in
+        class_told r (ReadEnds i v ∷ h) kept base begun writing ys top now (still regular found.of_any) (still each found.of_own) (still all found.of_all) c
+        (read_ends_as r h kept base begun writing readers floor safe regular each all ys i v top own found now (still regular found.of_any) (still each found.of_own) (still all found.of_all) at
+        (moves_set readers readers i state (open_within readers i found.read at) (λ j. refl)) finds own_raised raised is refl refl refl k)
+
+    -- the same of a flag and a class by any names
+    pub has_with_as :
+        (c d : Class) (b : Bool) → c ≡ d → b ≡ flag_of d now (still regular found.of_any) (still each found.of_own) (still all found.of_all) → IsTrue b ↔ HasClass c r (ReadEnds i v ∷ h)
+    has_with_as c d b class flag =
+        subst (λ (z : Class). IsTrue b ↔ HasClass z r (ReadEnds i v ∷ h)) (sym class) (subst (λ (z : Bool). IsTrue z ↔ HasClass d r (ReadEnds i v ∷ h)) (sym flag) (has_with_read d))
+
+    keeps_this : (c : Class) →
+        IsTrue (if flag_of c safe regular each all then flag_of c now (still regular found.of_any) (still each found.of_own) (still all found.of_all) else true) ↔
+        (HasClass c r h → HasClass c r (ReadEnds i v ∷ h))
+    keeps_this c =
+        kept_iff (flag_of c safe regular each all) (flag_of c now (still regular found.of_any) (still each found.of_own) (still all found.of_all)) (HasClass c r h) (HasClass c r (ReadEnds i v ∷ h))
+        (class_told r h kept base begun writing readers floor safe regular each all c k) (has_with_read c)
+
+    -- it keeps each class, if it keeps the four
+    pub keeps_with_read :
+        (a b c d x y result : Bool) → a ≡ (if safe then now else true) → b ≡ (if regular then still regular found.of_any else true) →
+        c ≡ (if each then still each found.of_own else true) → d ≡ (if all then still all found.of_all else true) →
+        IsTrue x ↔ (IsTrue a × IsTrue b) → IsTrue y ↔ (IsTrue c × IsTrue d) → IsTrue result ↔ (IsTrue x × IsTrue y) →
+        IsTrue result ↔ ((c : Class) → HasClass c r h → HasClass c r (ReadEnds i v ∷ h))
+    keeps_with_read a b c d x y result a_is b_is c_is d_is x_is y_is is_both = (there, back)
+      where
+        there : IsTrue result → (c : Class) → HasClass c r h → HasClass c r (ReadEnds i v ∷ h)
+        there e Safe = (keeps_this Safe).0 (sym a_is ∙ (x_is.0 (is_both.0 e).0).0)
+        there e Regular = (keeps_this Regular).0 (sym b_is ∙ (x_is.0 (is_both.0 e).0).1)
+        there e AtomicByReader = (keeps_this AtomicByReader).0 (sym c_is ∙ (y_is.0 (is_both.0 e).1).0)
+        there e Atomic = (keeps_this Atomic).0 (sym d_is ∙ (y_is.0 (is_both.0 e).1).1)
+
+        back : ((c : Class) → HasClass c r h → HasClass c r (ReadEnds i v ∷ h)) → IsTrue result
+        back keeps = is_both.1 (
+          x_is.1 (a_is ∙ (keeps_this Safe).1 (keeps Safe), b_is ∙ (keeps_this Regular).1 (keeps Regular)),
+          y_is.1 (c_is ∙ (keeps_this AtomicByReader).1 (keeps AtomicByReader), d_is ∙ (keeps_this Atomic).1 (keeps Atomic)),
+        )
+
+-- what speaks against an event that an auditor refuses speaks against it in a witness
+few_started : (h : List RegisterEvent) → started h ≤ length h
+few_started [] = omega arith
+few_started (WriteBegins v ∷ h) = let k = few_started h in omega (arith, k)
+few_started (WriteEnds ∷ h) = let k = few_started h in omega (arith, k)
+few_started (ReadBegins i ∷ h) = let k = few_started h in omega (arith, k)
+few_started (ReadEnds i v ∷ h) = let k = few_started h in omega (arith, k)
+
+pub refused_is :
+    (fault : RegisterFault) (writes readers most : ℕ) (r : Register) (h : List RegisterEvent) (e : RegisterEvent) → RefusesRegisterEvent writes readers most fault r h e →
+    RefusesRemembered most fault r h e
+refused_is NoValue writes readers most r h e refused = refused
+refused_is OutOfTurn writes readers most r h e refused = refused
+refused_is TooMany writes readers most r h e refused = let p = refused.3 in let q = few_started h in omega (arith, p, q)
+refused_is OutOfMemory writes readers most r h e refused = tt
+
+-- a reader that has no read under way is out of turn
+pub none_open : (i : ℕ) (h : List RegisterEvent) (o : Option OpenRead) → o ≡ None → KeepsRead i h o → has_read_open i h ≡ true → ⊥
+none_open i h o none keeps turn =
+    let idle : has_read_open i h ≡ false = subst (λ (z : Option OpenRead). KeepsRead i h z) none keeps in
+    let wrong : false ≡ true = sym idle ∙ turn in absurd cc
