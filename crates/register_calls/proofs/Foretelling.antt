@@ -1,10 +1,10 @@
 -- What a history with the end of one more read has, by what the read may be of; and what a refusal says.
-use Rattle.std.proofs.Common.{◌≡◌, ◌↔◌, ◌⊎◌, inl, inr, ℕ, ◌≤◌, ◌<◌, Bool, true, false, Option, Some, None, List, [], ◌∷◌, length, set, refl, sym, subst, ◌∙◌, arith}
+use Rattle.std.proofs.Common.{◌≡◌, ◌↔◌, ◌⊎◌, inl, inr, ℕ, ◌<◌, Bool, true, false, Option, Some, None, List, ◌∷◌, set, refl, sym, subst, ◌∙◌, arith}
 use Rattle.std.specs.Prelude.{IsTrue, if◌then◌else◌, not}
 use Rattle.std.proofs.lemmas.Bool.{cases_lt}
 use Rattle.register_calls.specs.declared.events.Register.{Register}
 use Rattle.register_calls.specs.declared.events.RegisterEvent.{RegisterEvent}
-use Rattle.register_calls.specs.declared.events.RegisterEvent.TheVariants.{WriteBegins, WriteEnds, ReadBegins, ReadEnds}
+use Rattle.register_calls.specs.declared.events.RegisterEvent.TheVariants.{ReadEnds}
 use Rattle.register_calls.specs.declared.events.Class.{Class}
 use Rattle.register_calls.specs.declared.events.Class.TheVariants.{Safe, Regular, AtomicByReader, Atomic}
 use Rattle.register_calls.specs.declared.faults.RegisterFault.{RegisterFault}
@@ -12,12 +12,13 @@ use Rattle.register_calls.specs.declared.faults.RegisterFault.TheVariants.{NoVal
 use Rattle.register_calls.specs.declared.auditors.OpenRead.{OpenRead}
 use Rattle.register_calls.specs.declared.auditors.ReaderState.{ReaderState}
 use Rattle.register_calls.specs.declared.auditors.FoundWrites.{FoundWrites}
-use Rattle.register_calls.specs.Histories.{IsValue, started, has_read_open}
+use Rattle.register_calls.specs.Histories.{IsValue, has_read_open}
 use Rattle.register_calls.specs.Classes.{Scope, HasOrder, HasClass}
 use Rattle.register_calls.specs.Judging.{IsRaised, still}
 use Rattle.register_calls.specs.Audits.{FindsWrites, KeepsHistory, KeepsRead, KeepsScope, IsToldBy, RefusesRegisterEvent, RefusesRemembered, reader_at}
 use Rattle.register_calls.proofs.Readers.{moves_set, open_within}
 use Rattle.register_calls.proofs.Hearing.{read_ends_as}
+use Rattle.register_calls.proofs.ReadLemmas.{few_started}
 
 -- what a flag says of what it is kept for
 pub told_iff : (b : Bool) (P : Type 0) → IsToldBy b P → IsTrue b ↔ P
@@ -107,13 +108,6 @@ module _ (r : Register) (h : List RegisterEvent) (kept : List ℕ) (base begun :
         )
 
 -- what speaks against an event that an auditor refuses speaks against it in a witness
-few_started : (h : List RegisterEvent) → started h ≤ length h
-few_started [] = omega arith
-few_started (WriteBegins v ∷ h) = let k = few_started h in omega (arith, k)
-few_started (WriteEnds ∷ h) = let k = few_started h in omega (arith, k)
-few_started (ReadBegins i ∷ h) = let k = few_started h in omega (arith, k)
-few_started (ReadEnds i v ∷ h) = let k = few_started h in omega (arith, k)
-
 pub refused_is :
     (fault : RegisterFault) (writes readers most : ℕ) (r : Register) (h : List RegisterEvent) (e : RegisterEvent) → RefusesRegisterEvent writes readers most fault r h e →
     RefusesRemembered most fault r h e

@@ -5,6 +5,7 @@ pub mod Keeping
 pub mod Readers
 pub mod Hearing
 pub mod Foretelling
+pub mod Reporting
 pub mod ClassLemmas
 pub mod MissLemmas
 pub mod Places

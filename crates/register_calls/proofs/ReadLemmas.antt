@@ -62,3 +62,11 @@ length-written first (WriteBegins v ∷ h) = let k = length-written first h in l
 length-written first (WriteEnds ∷ h) = length-written first h
 length-written first (ReadBegins i ∷ h) = length-written first h
 length-written first (ReadEnds i v ∷ h) = length-written first h
+
+-- no more writes have begun than there are events
+pub few_started : (h : List RegisterEvent) → started h ≤ length h
+few_started [] = omega arith
+few_started (WriteBegins v ∷ h) = let k = few_started h in omega (arith, k)
+few_started (WriteEnds ∷ h) = let k = few_started h in omega (arith, k)
+few_started (ReadBegins i ∷ h) = let k = few_started h in omega (arith, k)
+few_started (ReadEnds i v ∷ h) = let k = few_started h in omega (arith, k)

@@ -7,4 +7,5 @@ pub mod Intervals
 pub mod Linearizations
 pub mod Reasons
 pub mod Chains
+pub mod Reports
 pub mod Witnesses

@@ -472,6 +472,7 @@ impl<W: Fifo<u64>, R: Fifo<ReaderState>> RegisterAuditor<W, R> {
         ensures ends { EndsRead found (R.items self.old.readers) (R.items self.new.readers) reader self.old.floor
             self.new.floor }
         ensures base { self.new.base ≡ self.old.base }
+        ensures begun { self.new.begun ≡ self.old.begun }
         ensures rooms { (W.room self.new.window ≡ W.room self.old.window) ×
             (R.room self.new.readers ≡ R.room self.old.readers) }
     {

@@ -9,6 +9,7 @@ mod faults;
 mod findings;
 pub mod laws;
 mod reasons;
+mod reports;
 mod witnesses;
 
 pub use auditors::{OpenRead, ReaderState, RegisterAuditor};
@@ -17,4 +18,5 @@ pub use events::{Class, Register, RegisterEvent};
 pub use faults::RegisterFault;
 pub use findings::first_miss;
 pub use reasons::{EarlierRead, MissReason};
+pub use reports::RegisterReport;
 pub use witnesses::{ReaderChains, RegisterWitness};

@@ -3,6 +3,7 @@ ghost use Rattle.std.specs.Prelude.{◌≡◌, ◌-◌, ◌<◌, ◌↔◌, ℕ,
 ghost use Rattle.register_calls.specs.Histories.{IsValue, IsWellFormed};
 ghost use Rattle.register_calls.specs.Classes.{HasClass, IsStrongest};
 ghost use Rattle.register_calls.specs.Audits.{FindsWrites, reader_at};
+ghost use Rattle.register_calls.specs.Reports.{report_of};
 ghost use Rattle.register_calls.specs.Witnesses.{HearsAndRemembers, IsRaisedChain, IsShownReason, RemembersEvent, RemembersRegister, chains_at, fresh_chains, leaning_chain, link_of, low_chain};
 ghost use Rattle.register_calls.specs.declared.events.RegisterEvent.{RegisterEvent};
 ghost use Rattle.register_calls.specs.declared.events.RegisterEvent.TheVariants.{WriteBegins, WriteEnds, ReadBegins, ReadEnds};
@@ -12,6 +13,7 @@ use crate::chains::Chain;
 use crate::events::{Class, Register, RegisterEvent};
 use crate::faults::RegisterFault;
 use crate::reasons::{EarlierRead, MissReason};
+use crate::reports::{RegisterReport, Tally};
 use lists::Fifo;
 use std::alloc::AllocError;
 
@@ -46,6 +48,8 @@ pub struct RegisterWitness<
     // how many events were read, and the place where the last write ended
     pub(crate) count: usize,
     pub(crate) ended: Option<usize>,
+    // how much the history could have shown
+    pub(crate) tally: Tally,
 }
 
 impl ReaderChains {
@@ -139,6 +143,7 @@ impl<W: Fifo<u64>, R: Fifo<ReaderState>, P: Fifo<usize>, C: Fifo<ReaderChains>> 
         states.truncate(0);
         let auditor = RegisterAuditor::with(window, readers, register)?;
         let floor = Chain::new();
+        let tally = Tally::new();
         Ok(RegisterWitness {
             auditor,
             places: begun,
@@ -146,6 +151,7 @@ impl<W: Fifo<u64>, R: Fifo<ReaderState>, P: Fifo<usize>, C: Fifo<ReaderChains>> 
             floor,
             count: 0,
             ended: None,
+            tally,
         })
     }
 
@@ -165,6 +171,7 @@ impl<W: Fifo<u64>, R: Fifo<ReaderState>, P: Fifo<usize>, C: Fifo<ReaderChains>> 
         self.floor = Chain::new();
         self.count = 0;
         self.ended = None;
+        self.tally = Tally::new();
         Ok(())
     }
 
@@ -250,6 +257,7 @@ impl<W: Fifo<u64>, R: Fifo<ReaderState>, P: Fifo<usize>, C: Fifo<ReaderChains>> 
             Ok(()) => {
                 let gone = self.auditor.base.saturating_sub(base);
                 drop_places(&mut self.places, gone);
+                self.tally.write_begins(value);
                 self.count = count;
                 Ok(())
             }
@@ -269,6 +277,7 @@ impl<W: Fifo<u64>, R: Fifo<ReaderState>, P: Fifo<usize>, C: Fifo<ReaderChains>> 
         match self.auditor.write_ends() {
             Ok(()) => {
                 self.ended = Some(self.count);
+                self.tally.write_ends();
                 self.count = count;
                 Ok(())
             }
@@ -292,6 +301,7 @@ impl<W: Fifo<u64>, R: Fifo<ReaderState>, P: Fifo<usize>, C: Fifo<ReaderChains>> 
                     own_low: chains.own,
                 };
                 self.chains.set(reader, begun);
+                self.tally.read_begins();
                 self.count = count;
                 Ok(())
             }
@@ -348,6 +358,8 @@ impl<W: Fifo<u64>, R: Fifo<ReaderState>, P: Fifo<usize>, C: Fifo<ReaderChains>> 
         };
         self.chains.set(reader, ended);
         self.floor = floor;
+        self.tally
+            .read_ends(found.read.before, self.auditor.begun, value);
         self.count = count;
         Ok(())
     }
@@ -410,6 +422,14 @@ impl<W: Fifo<u64>, R: Fifo<ReaderState>, P: Fifo<usize>, C: Fifo<ReaderChains>> 
             IsStrongest result self.now.auditor.register h }
     {
         self.auditor.class()
+    }
+
+    /// How much the history that it has read could have shown.
+    pub fn report(&self) -> RegisterReport
+        ensures { (h : List RegisterEvent) → RemembersRegister W.items R.items P.items C.items self.now h →
+            result ≡ report_of h }
+    {
+        self.tally.report
     }
 
     /// Whether the history lacks the class, if this reader ends its read now with this value.

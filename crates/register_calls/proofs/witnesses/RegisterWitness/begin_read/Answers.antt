@@ -1,4 +1,4 @@
-use Rattle.std.proofs.Common.{ℕ, suc, List, drop, set, refl, ap, sym, subst, ◌∙◌}
+use Rattle.std.proofs.Common.{ℕ, suc, List, drop, set, refl, ap, sym, subst, ◌∙◌, arith}
 use Rattle.register_calls.specs.declared.witnesses.ReaderChains.{ReaderChains}
 use Rattle.register_calls.specs.Witnesses.{begin_places, chains_at}
 use Rattle.register_calls.proofs.Hearing.{ended_is}
@@ -31,6 +31,7 @@ returns-in-Ok g c =
             last_ended = k.last_ended;
             of_each = each_begins a.register b.register h xs ys cs ds e.hears.0 i _ a.floor s.floor ended e.readers moved k.of_each;
             of_all = all_begins a.register b.register h xs ys cs ds e.hears.0 i _ a.floor s.floor ended e.readers moved b.floor e.others.1 k.of_all;
+            tallies = c.read_begins-in-Ok.ensures i h (let p = c.requires.count in let q = k.count in omega (arith, p, q)) k.tallies;
           },
     )
 
@@ -52,6 +53,7 @@ returns-in-Err g c =
           last_ended = k.last_ended;
           of_each = each_same a.register b.register h xs ys cs cs e.hears.0 e.readers (λ j. refl) k.of_each;
           of_all = all_same a.register b.register h xs ys cs cs e.hears.0 e.readers (λ j. refl) a.floor b.floor s.floor e.others.1 k.of_all;
+          tallies = k.tallies;
         },
         refused_is c.in-Err.fault _ _ _ a.register h _ (e.hears.1 h k.audits).1,
       ),

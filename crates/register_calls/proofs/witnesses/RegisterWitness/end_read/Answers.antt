@@ -1,4 +1,4 @@
-use Rattle.std.proofs.Common.{◌≡◌, ℕ, suc, List, drop, set, ap, sym, subst, ◌∙◌}
+use Rattle.std.proofs.Common.{◌≡◌, ℕ, suc, List, drop, set, ap, sym, subst, ◌∙◌, arith}
 use Rattle.register_calls.specs.declared.auditors.ReaderState.{ReaderState}
 use Rattle.register_calls.specs.declared.witnesses.ReaderChains.{ReaderChains}
 use Rattle.register_calls.specs.Audits.{reader_at}
@@ -46,5 +46,6 @@ returns g c =
                 c.leaning-by_own.result by_own own_raised k.of_each;
             of_all = all_ends a.register b.register h xs ys cs ds e.register i v a.floor b.floor found own places a.base s.count c.requires.reading firsts e.ends moved k.count k.places_kept
                 c.leaning-by_all.result s.floor c.raised_chain-floor.result by_all c.raised_chain-floor.ensures k.of_all;
+            tallies = c.read_ends.ensures i h (let p = c.requires.count in let q = k.count in omega (arith, p, q)) firsts.began (c.end_read.ensures.begun ∙ k.audits.count) k.tallies;
           },
     )

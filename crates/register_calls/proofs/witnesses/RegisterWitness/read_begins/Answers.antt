@@ -17,6 +17,7 @@ returns-in-Ok g c =
         last_ended = k.last_ended;
         of_each = each_same a.register a.register h xs xs cs ds refl (λ j. refl) c.in-Ok.ensures.same k.of_each;
         of_all = all_same a.register a.register h xs xs cs ds refl (λ j. refl) c.in-Ok.ensures.same a.floor a.floor s.floor refl k.of_all;
+        tallies = k.tallies;
       }),
     )
 
@@ -36,6 +37,7 @@ returns-in-Err g c =
           last_ended = k.last_ended;
           of_each = each_same a.register a.register h xs xs cs ds refl (λ j. refl) c.in-Err.ensures.same k.of_each;
           of_all = all_same a.register a.register h xs xs cs ds refl (λ j. refl) c.in-Err.ensures.same a.floor a.floor s.floor refl k.of_all;
+          tallies = k.tallies;
         },
         tt,
       ),

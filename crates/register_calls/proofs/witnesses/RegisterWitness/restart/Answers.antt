@@ -16,4 +16,5 @@ returns-clause-remembers g c =
       last_ended = refl;
       of_each = each_none a.register (g.W.Fifo.items a.window) a.base a.begun a.is_writing xs a.floor a.is_safe a.is_regular a.is_by_reader a.is_atomic k cs c.truncate-2.ensures.items;
       of_all = all_none a.register (g.W.Fifo.items a.window) a.base a.begun a.is_writing xs a.floor a.is_safe a.is_regular a.is_by_reader a.is_atomic k cs c.truncate-2.ensures.items c.new-self.result c.new-self.ensures.none;
+      tallies = c.new-self-2.ensures;
     }

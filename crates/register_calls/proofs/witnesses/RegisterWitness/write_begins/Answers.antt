@@ -32,6 +32,7 @@ returns-in-Ok-write_begins g c =
             last_ended = k.last_ended;
             of_each = each_next a.register b.register h xs ys cs cs e.hears.0 (λ j. ap (λ (zs : List ReaderState). reader_at zs j) e.others.0) (λ j. refl) (WriteBegins c.args.value) (λ j. refl) k.of_each;
             of_all = all_next a.register b.register h xs ys cs cs e.hears.0 (λ j. ap (λ (zs : List ReaderState). reader_at zs j) e.others.0) (λ j. refl) (WriteBegins c.args.value) a.floor b.floor s.floor (λ j. refl) e.others.1 k.of_all;
+            tallies = c.write_begins-in-Ok-write_begins.ensures h (let p = c.requires in let q = k.count in omega (arith, p, q)) k.tallies;
           },
     )
 
@@ -58,6 +59,7 @@ returns-in-Err-write_begins g c =
           last_ended = k.last_ended;
           of_each = each_same a.register b.register h xs ys cs cs e.hears.0 (λ j. ap (λ (zs : List ReaderState). reader_at zs j) e.others.0) (λ j. refl) k.of_each;
           of_all = all_same a.register b.register h xs ys cs cs e.hears.0 (λ j. ap (λ (zs : List ReaderState). reader_at zs j) e.others.0) (λ j. refl) a.floor b.floor s.floor e.others.1 k.of_all;
+          tallies = k.tallies;
         },
         refused_is c.in-Err-write_begins.fault _ _ _ a.register h _ (e.hears.1 h k.audits).1,
       ),

@@ -25,6 +25,7 @@ returns-in-Ok g c =
         last_ended = ap Some k.count;
         of_each = each_next a.register b.register h xs ys cs cs e.hears.0 (λ j. ap (λ (zs : List ReaderState). reader_at zs j) e.others.1) (λ j. refl) WriteEnds (λ j. refl) k.of_each;
         of_all = all_next a.register b.register h xs ys cs cs e.hears.0 (λ j. ap (λ (zs : List ReaderState). reader_at zs j) e.others.1) (λ j. refl) WriteEnds a.floor b.floor s.floor (λ j. refl) e.others.2 k.of_all;
+        tallies = c.write_ends-in-Ok.ensures h k.tallies;
       },
     )
 
@@ -46,6 +47,7 @@ returns-in-Err g c =
           last_ended = k.last_ended;
           of_each = each_same a.register b.register h xs ys cs cs e.hears.0 (λ j. ap (λ (zs : List ReaderState). reader_at zs j) e.others.1) (λ j. refl) k.of_each;
           of_all = all_same a.register b.register h xs ys cs cs e.hears.0 (λ j. ap (λ (zs : List ReaderState). reader_at zs j) e.others.1) (λ j. refl) a.floor b.floor s.floor e.others.2 k.of_all;
+          tallies = k.tallies;
         },
         refused_is c.in-Err.fault _ _ _ a.register h _ (e.hears.1 h k.audits).1,
       ),
