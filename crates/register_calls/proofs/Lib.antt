@@ -6,6 +6,7 @@ pub mod Readers
 pub mod Hearing
 pub mod Foretelling
 pub mod Reporting
+pub mod Inverting
 pub mod ClassLemmas
 pub mod MissLemmas
 pub mod Places

@@ -1,10 +1,12 @@
 -- How much a history of a register could have shown.
 use Rattle.std.specs.Prelude.{◌≡◌, ℕ, suc, nat_lt, ◌==◌, ◌||◌, Bool, false, Option, Some, None, List, [], ◌∷◌, if◌then◌else◌}
+use Rattle.register_calls.specs.declared.events.Register.{Register}
 use Rattle.register_calls.specs.declared.events.RegisterEvent.{RegisterEvent}
 use Rattle.register_calls.specs.declared.events.RegisterEvent.TheVariants.{WriteBegins, WriteEnds, ReadBegins, ReadEnds}
 use Rattle.register_calls.specs.declared.reports.RegisterReport.{RegisterReport}
 use Rattle.register_calls.specs.declared.reports.Tally.{Tally}
-use Rattle.register_calls.specs.Histories.{started, finished, before_read}
+use Rattle.register_calls.specs.Histories.{started, finished, before_read, IsWellFormed}
+use Rattle.register_calls.specs.Classes.{IsRegular, IsAtomic}
 
 -- how many reads have ended
 abbrev pub reads_ended : List RegisterEvent → ℕ
@@ -82,3 +84,7 @@ pub record Tallies (t : Tally) (h : List RegisterEvent) : Type 0 where
   pub could_invert : t.report.could_invert ≡ could_invert h
   pub under_way : t.under_way ≡ under_way h
   pub is_shown : t.is_shown ≡ is_shown h
+
+-- a well-formed regular history in which no read could invert is atomic
+abbrev pub NoneInvertsIsAtomic : Type 0
+NoneInvertsIsAtomic = (r : Register) (h : List RegisterEvent) → IsWellFormed r h → IsRegular r.first h → could_invert h ≡ 0 → IsAtomic r.first h

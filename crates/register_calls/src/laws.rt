@@ -2,6 +2,7 @@
 //! statement at hand in its proof.
 ghost use Rattle.register_calls.specs.Findings.{BeginningHasClass, OneFirstMiss, StrongerHasWeaker};
 ghost use Rattle.register_calls.specs.Reasons.{ReasonIsFact};
+ghost use Rattle.register_calls.specs.Reports.{NoneInvertsIsAtomic};
 ghost use Rattle.register_calls.specs.Linearizations.{AtomicIsLinearizable};
 ghost use Rattle.register_calls.specs.Intervals.{OrderIsByIntervals, RegularIsByIntervals, SafeIsByIntervals};
 
@@ -47,4 +48,10 @@ pub fn atomic_is_linearizable()
 /// A reason is a fact: if one speaks against the read that ends, the history with it lacks the class, whatever write each read is of.
 pub fn reason_is_fact()
     ensures { ReasonIsFact }
+{}
+
+/// A well-formed regular history is atomic if no read in it began while a write was under way whose value had been returned since it began:
+/// such a history cannot tell a regular register from an atomic one.
+pub fn none_inverts_is_atomic()
+    ensures { NoneInvertsIsAtomic }
 {}
