@@ -8,8 +8,8 @@ use Rattle.std.proofs.lemmas.List.Elements.{All-cons, All-head, All-nil, All-tai
 use Rattle.std.proofs.lemmas.Fmt.{decimal_digit}
 use Rattle.std.proofs.lemmas.Option.{none-some, same_Some}
 use Rattle.call_lines.specs.Lines.{numbers_text, word_text, word_of, Allows, AreSmall}
-use Rattle.line_parts.specs.Parts.{digits_after, number_at}
-use Rattle.call_lines.specs.LineReading.{then_or_else, spaced_number, line_word_at}
+use Rattle.line_parts.specs.Parts.{digits_after, number_at, then_or_else}
+use Rattle.call_lines.specs.LineReading.{spaced_number, line_word_at}
 use Rattle.call_lines.specs.Beginnings.{BeginsAWord, BeginsAfterWord, BeginsLine, BeginsNoLine, BeginsNumbers, IsAtMost, most_numbers, one_less, tells_queue}
 use Rattle.call_lines.specs.declared.lines.Word.{Word}
 use Rattle.call_lines.specs.declared.lines.Word.TheVariants.{Queue, Cut, Put, Stored, PutSome, Full, Short, PutNothing, PutClosed, Close, Take, Item, TakeSome, Empty, TakeShort, TakeNothing, TakeClosed}

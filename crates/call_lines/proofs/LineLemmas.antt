@@ -9,12 +9,12 @@ use Rattle.std.proofs.lemmas.Option.{none-some, same_Some}
 use Rattle.call_lines.specs.declared.lines.Word.{Word}
 use Rattle.call_lines.specs.declared.lines.Word.TheVariants.{Queue, Cut, Put, Stored, PutSome, Full, Short, PutNothing, PutClosed, Close, Take, Item, TakeSome, Empty, TakeShort, TakeNothing, TakeClosed}
 use Rattle.call_lines.specs.Lines.{word_text, numbers_text, line_text, Allows, AreSmall, BeginsWithNumbers, IsLine}
-use Rattle.line_parts.specs.Parts.{after}
+use Rattle.line_parts.specs.Parts.{after, then_or_else}
 use Rattle.line_parts.specs.LineEnds.{HasNoFeed}
 use Rattle.line_parts.proofs.LineFeeds.{IsOther, no_feed_digits, no_feed_text}
-use Rattle.line_parts.proofs.TextReading.{after-text}
-use Rattle.call_lines.specs.LineReading.{then_or_else, word_or, put_word_at, take_word_at, line_word_at, spaced_number}
-use Rattle.call_lines.proofs.LineReadings.{then_or_else-some, spaced_number-again}
+use Rattle.line_parts.proofs.TextReading.{after-text, then_or_else-some}
+use Rattle.call_lines.specs.LineReading.{word_or, put_word_at, take_word_at, line_word_at, spaced_number}
+use Rattle.call_lines.proofs.LineReadings.{spaced_number-again}
 
 -- ---- the word
 

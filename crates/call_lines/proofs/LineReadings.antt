@@ -9,15 +9,9 @@ use Rattle.std.proofs.lemmas.Slice.Eq.{bytes_eq-Decides}
 use Rattle.std.proofs.lemmas.Grind.{flat_map-append}
 use Rattle.call_lines.specs.Lines.{numbers_text, AreSmall}
 use Rattle.line_parts.specs.Parts.{after, number_at}
-use Rattle.line_parts.proofs.TextReading.{after-text}
+use Rattle.line_parts.proofs.TextReading.{after-text, then_or_else-some}
 use Rattle.line_parts.proofs.NumberReading.{EndsDigits, number_at-text, number_at-again}
-use Rattle.call_lines.specs.LineReading.{then_or_else, spaced_number}
-
--- what is read behind a text, or without it
-pub then_or_else-some : {B : Type 0} (r : Option (List ℕ)) (f : List ℕ → Option B) (other : Option B) (x : B) → then_or_else r f other ≡ Some x
-    → ((rest : List ℕ) × (r ≡ Some rest) × (f rest ≡ Some x)) ⊎ (other ≡ Some x)
-then_or_else-some (Some rest) f other x e = inl (rest, refl, e)
-then_or_else-some None f other x e = inr e
+use Rattle.call_lines.specs.LineReading.{spaced_number}
 
 -- ---- a number behind a space
 

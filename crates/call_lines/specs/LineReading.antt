@@ -1,14 +1,9 @@
 -- How a line is read: each part is what stands at the front and the bytes behind it, or there is none.
 use Rattle.std.specs.Prelude.{◌≡◌, ℕ, Bool, true, false, List, codes, Option, Some, None}
-use Rattle.line_parts.specs.Parts.{after, number_at}
+use Rattle.line_parts.specs.Parts.{after, then_or_else, number_at}
 use Rattle.call_lines.specs.declared.lines.Word.{Word}
 use Rattle.call_lines.specs.declared.lines.Word.TheVariants.{Queue, Cut, Put, Stored, PutSome, Full, Short, PutNothing, PutClosed, Close, Take, Item, TakeSome, Empty, TakeShort, TakeNothing, TakeClosed}
 use Rattle.call_lines.specs.Lines.{numbers_text, AreSmall}
-
--- what the bytes behind a text are read as, where there is the text, or else what is read without it
-abbrev pub then_or_else : {B : Type 0} → Option (List ℕ) → (List ℕ → Option B) → Option B → Option B
-then_or_else (Some rest) f other = f rest
-then_or_else None f other = other
 
 -- this word, where its text stands, or else another
 abbrev pub word_or : Word → List ℕ → List ℕ → Option (Word × List ℕ) → Option (Word × List ℕ)

@@ -7,6 +7,11 @@ use Rattle.std.specs.Str.{bytes_eq}
 abbrev pub after : List ℕ → List ℕ → Option (List ℕ)
 after text bytes = if bytes_eq (take (length text) bytes) text then Some (drop (length text) bytes) else None
 
+-- what the bytes after a text are read as, if the text is there, or else what is read without it
+abbrev pub then_or_else : {B : Type 0} → Option (List ℕ) → (List ℕ → Option B) → Option B → Option B
+then_or_else (Some rest) f other = f rest
+then_or_else None f other = other
+
 -- a number that goes on with the digits at the front, if it fits 64 bits, and the bytes after them
 unfoldable pub digits_after : ℕ → List ℕ → Option (ℕ × List ℕ)
 digits_after n [] = Some (n, [])

@@ -1,6 +1,9 @@
 //! The parts of a line, each read from the front of the bytes.
-ghost use Rattle.std.specs.Prelude.{◌≡◌, option_map};
+ghost use Rattle.std.specs.Prelude.{◌≡◌, ◌++◌, ◌∷◌, MatchOption, option_map};
+ghost use Rattle.line_parts.specs.LineEnds.{HasNoFeed};
 ghost use Rattle.line_parts.specs.Parts.{after, digits_after, number_at};
+
+use memchr::memchr;
 
 /// The bytes after a text, if the text stands at the front.
 ///
@@ -10,6 +13,18 @@ pub fn after<'a>(bytes: &'a [u8], text: &str) -> Option<&'a [u8]>
     ensures { option_map (λ rest. rest.now) result ≡ after text.now bytes.now }
 {
     bytes.strip_prefix(text.as_bytes())
+}
+
+/// The bytes before the first line feed, and those after it. `None` if there is no line feed.
+///
+/// For example, of two lines `ab` and `c` it returns `ab`, and `c` with its line feed.
+#[inline(always)]
+pub fn split_line(bytes: &[u8]) -> Option<(&[u8], &[u8])>
+    ensures { MatchOption result (HasNoFeed bytes.now) (λ x. HasNoFeed x.0.now ×
+        (bytes.now ≡ x.0.now ++ 10 ∷ x.1.now)) }
+{
+    let end = memchr(b'\n', bytes)?;
+    Some((&bytes[..end], &bytes[end + 1..]))
 }
 
 /// The number in decimal at the front, and the bytes after its digits. `None` if no digit stands at the front, or if the number

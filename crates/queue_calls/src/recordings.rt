@@ -16,8 +16,8 @@ use crate::reports::CallsReport;
 use crate::storage::{Lists, Owned, Storage};
 use call_causes::{Cause, TAKEN_LIMIT};
 use call_lines::{Word, may_begin, read_line};
+use line_parts::split_line;
 use lists::Store;
-use memchr::memchr;
 use std::alloc::Allocator;
 use std::collections::VecDeque;
 
@@ -122,15 +122,6 @@ pub struct RecordingIn<S: Storage> {
 ///
 /// In use: `uses::findings::found_in`.
 pub type Recording<A> = RecordingIn<Owned<A>>;
-
-// The bytes before the first line feed, and those behind it.
-fn split_line(bytes: &[u8]) -> Option<(&[u8], &[u8])>
-    ensures { MatchOption result (HasNoFeed bytes.now) (λ x. HasNoFeed x.0.now ×
-        (bytes.now ≡ x.0.now ++ 10 ∷ x.1.now)) }
-{
-    let end = memchr(b'\n', bytes)?;
-    Some((&bytes[..end], &bytes[end + 1..]))
-}
 
 impl<A: Allocator + Copy> RecordingIn<Owned<A>> {
     /// A recording of which nothing was read.

@@ -432,14 +432,14 @@ impl<W: Fifo<u64>, R: Fifo<ReaderState>, P: Fifo<usize>, C: Fifo<ReaderChains>> 
         self.tally.report
     }
 
-    /// Whether the history lacks the class, if this reader ends its read now with this value.
-    pub fn lacks_with(&self, class: Class, reader: usize, value: u64) -> bool
+    /// Whether the history has the class, if this reader ends its read now with this value.
+    pub fn has_with(&self, class: Class, reader: usize, value: u64) -> bool
         ensures { (h : List RegisterEvent) → RemembersRegister W.items R.items P.items C.items self.now h →
             IsWellFormed self.now.auditor.register (ReadEnds reader value ∷ h) →
-            IsTrue result ↔ (HasClass class self.now.auditor.register (ReadEnds reader value ∷ h) → ⊥) }
+            IsTrue result ↔ HasClass class self.now.auditor.register (ReadEnds reader value ∷ h) }
     {
         match self.auditor.found(reader, value) {
-            Some(found) => !self.auditor.has_with(class, value, &found),
+            Some(found) => self.auditor.has_with(class, value, &found),
             None => true,
         }
     }

@@ -7,15 +7,15 @@ use Rattle.std.proofs.lemmas.List.{append-nil}
 use Rattle.std.proofs.lemmas.List.Elements.{All-append}
 use Rattle.std.proofs.lemmas.Option.{none-some, option_and_then_some, same_Some}
 use Rattle.line_parts.specs.LineEnds.{HasNoFeed}
-use Rattle.line_parts.specs.Parts.{after, number_at}
+use Rattle.line_parts.specs.Parts.{after, then_or_else, number_at}
 use Rattle.line_parts.proofs.LineFeeds.{IsOther, no_feed_digits, no_feed_text}
-use Rattle.line_parts.proofs.TextReading.{after-text}
+use Rattle.line_parts.proofs.TextReading.{after-text, then_or_else-some}
 use Rattle.line_parts.proofs.NumberReading.{number_at-text, number_at-again}
 use Rattle.register_lines.specs.declared.lines.RegisterLine.{RegisterLine}
 use Rattle.register_lines.specs.declared.lines.RegisterLine.TheVariants.{Register, Valued, Cut, CutValued, Write, Wrote, Read, Got}
 use Rattle.register_lines.specs.Lines.{register_line_text, AllowsNumbers, IsRegisterLine}
-use Rattle.register_lines.specs.LineReading.{after_or_else, at_end, last_number, register_numbers, register_line_of, cut_line_of, register_line, cut_register_line, writer_line, reader_line_after, reader_line, line_at}
-use Rattle.register_lines.proofs.LineReadings.{after_or_else-some, option_map-some, at_end-some, last_number-text, last_number-again, numbers_text, register_numbers-text, register_numbers-again}
+use Rattle.register_lines.specs.LineReading.{at_end, last_number, register_numbers, register_line_of, cut_line_of, register_line, cut_register_line, writer_line, reader_line_after, reader_line, line_at}
+use Rattle.register_lines.proofs.LineReadings.{option_map-some, at_end-some, last_number-text, last_number-again, numbers_text, register_numbers-text, register_numbers-again}
 
 -- ---- what is read is the line of the bytes
 
@@ -40,9 +40,9 @@ ended-text this front text bytes line is e = option_and_then_some (at_end this) 
 -- after a text, or without it
 after_or-text : (front text bytes : List ℕ) (f : List ℕ → Option RegisterLine) (other : Option RegisterLine) (line : RegisterLine)
     → ((rest : List ℕ) → f rest ≡ Some line → IsText (front ++ text) rest line) → (other ≡ Some line → IsText front bytes line)
-    → after_or_else (after text bytes) f other ≡ Some line → IsText front bytes line
+    → then_or_else (after text bytes) f other ≡ Some line → IsText front bytes line
 after_or-text front text bytes f other line is later e =
-    elim (after_or_else-some (after text bytes) f other line e) [
+    elim (then_or_else-some (after text bytes) f other line e) [
       | inl k ↦ ap (λ (t : List ℕ). front ++ t) (after-text text bytes k.0 k.1) ∙ sym (append_assoc front text k.0) ∙ is k.0 k.2
       | inr k ↦ later k
     ]

@@ -5,17 +5,10 @@ use Rattle.std.specs.Bool.{then_some}
 use Rattle.std.proofs.lemmas.Bool.{eqb-true}
 use Rattle.std.proofs.lemmas.List.{append-nil, nil_from_length}
 use Rattle.std.proofs.lemmas.Option.{none-some, option_and_then_some, same_Some}
-use Rattle.line_parts.specs.Parts.{after, number_at}
-use Rattle.line_parts.proofs.TextReading.{after-text}
+use Rattle.line_parts.specs.Parts.{after, then_or_else, number_at}
+use Rattle.line_parts.proofs.TextReading.{after-text, then_or_else-some}
 use Rattle.line_parts.proofs.NumberReading.{number_at-text, number_at-again}
-use Rattle.register_lines.specs.LineReading.{after_or_else, at_end, last_number, register_numbers_after, register_numbers}
-
--- what is read after a text, or without it
--- again, `then_or_else-some` of call_lines, until line_parts has it for both
-pub after_or_else-some : {B : Type 0} (r : Option (List ℕ)) (f : List ℕ → Option B) (other : Option B) (x : B) → after_or_else r f other ≡ Some x
-    → ((rest : List ℕ) × (r ≡ Some rest) × (f rest ≡ Some x)) ⊎ (other ≡ Some x)
-after_or_else-some (Some rest) f other x e = inl (rest, refl, e)
-after_or_else-some None f other x e = inr e
+use Rattle.register_lines.specs.LineReading.{at_end, last_number, register_numbers_after, register_numbers}
 
 -- the value that was mapped
 pub option_map-some : {A B : Type 0} (f : A → B) (o : Option A) (y : B) → option_map f o ≡ Some y → (x : A) × (o ≡ Some x) × (f x ≡ y)
@@ -61,7 +54,7 @@ AreSmall (first, Some values) = (first < 2 ^ 64) × (values < 2 ^ 64)
 
 register_numbers_after-text : (first : ℕ) (rest : List ℕ) (x : ℕ × Option ℕ) → register_numbers_after first rest ≡ Some x → decimal first ++ rest ≡ numbers_text x
 register_numbers_after-text first rest x e =
-    elim (after_or_else-some (after (codes " ") rest) (λ digits. option_map (λ values. (first, Some values)) (last_number digits)) (at_end (first, None) rest) x e) [
+    elim (then_or_else-some (after (codes " ") rest) (λ digits. option_map (λ values. (first, Some values)) (last_number digits)) (at_end (first, None) rest) x e) [
       | inl k ↦
           let made = option_map-some (λ (values : ℕ). (first, Some values)) (last_number k.0) x k.2 in
           ap (λ (t : List ℕ). decimal first ++ t) (after-text (codes " ") rest k.0 k.1 ∙ ap (λ (t : List ℕ). codes " " ++ t) (last_number-text k.0 made.0 made.1))

@@ -1,15 +1,9 @@
 -- How a line is read, part by part: what the bytes are read as, or none.
 use Rattle.std.specs.Prelude.{◌==◌, ℕ, List, length, codes, Option, Some, None, option_map, option_and_then}
 use Rattle.std.specs.Bool.{then_some}
-use Rattle.line_parts.specs.Parts.{after, number_at}
+use Rattle.line_parts.specs.Parts.{after, then_or_else, number_at}
 use Rattle.register_lines.specs.declared.lines.RegisterLine.{RegisterLine}
 use Rattle.register_lines.specs.declared.lines.RegisterLine.TheVariants.{Register, Valued, Cut, CutValued, Write, Wrote, Read, Got}
-
--- what the bytes after a text are read as, if the text is there, or else what is read without it
--- again, `then_or_else` of call_lines, until line_parts has it for both
-abbrev pub after_or_else : {B : Type 0} → Option (List ℕ) → (List ℕ → Option B) → Option B → Option B
-after_or_else (Some rest) f other = f rest
-after_or_else None f other = other
 
 -- this, if nothing is left
 abbrev pub at_end : {B : Type 0} → B → List ℕ → Option B
@@ -21,7 +15,7 @@ last_number bytes = option_and_then (λ x. at_end x.0 x.1) (number_at bytes)
 
 -- after the first value either a space and the number of values, or nothing
 abbrev pub register_numbers_after : ℕ → List ℕ → Option (ℕ × Option ℕ)
-register_numbers_after first rest = after_or_else (after (codes " ") rest) (λ digits. option_map (λ values. (first, Some values)) (last_number digits)) (at_end (first, None) rest)
+register_numbers_after first rest = then_or_else (after (codes " ") rest) (λ digits. option_map (λ values. (first, Some values)) (last_number digits)) (at_end (first, None) rest)
 
 unfoldable pub register_numbers : List ℕ → Option (ℕ × Option ℕ)
 register_numbers bytes = option_and_then (λ x. register_numbers_after x.0 x.1) (number_at bytes)
@@ -43,11 +37,11 @@ cut_register_line bytes = option_map cut_line_of (register_numbers bytes)
 
 -- the bytes after `W `
 unfoldable pub writer_line : List ℕ → Option RegisterLine
-writer_line bytes = after_or_else (after (codes "write ") bytes) (λ digits. option_map Write (last_number digits)) (option_and_then (at_end Wrote) (after (codes "wrote") bytes))
+writer_line bytes = then_or_else (after (codes "write ") bytes) (λ digits. option_map Write (last_number digits)) (option_and_then (at_end Wrote) (after (codes "wrote") bytes))
 
 -- the bytes after `R`: the number of the reader, and what follows it
 abbrev pub reader_line_after : ℕ → List ℕ → Option RegisterLine
-reader_line_after reader rest = after_or_else (after (codes " got ") rest) (λ digits. option_map (Got reader) (last_number digits)) (option_and_then (at_end (Read reader)) (after (codes " read") rest))
+reader_line_after reader rest = then_or_else (after (codes " got ") rest) (λ digits. option_map (Got reader) (last_number digits)) (option_and_then (at_end (Read reader)) (after (codes " read") rest))
 
 unfoldable pub reader_line : List ℕ → Option RegisterLine
 reader_line bytes = option_and_then (λ x. reader_line_after x.0 x.1) (number_at bytes)
@@ -55,6 +49,6 @@ reader_line bytes = option_and_then (λ x. reader_line_after x.0 x.1) (number_at
 -- a line, whatever its numbers are
 abbrev pub line_at : List ℕ → Option RegisterLine
 line_at bytes =
-    after_or_else (after (codes "R") bytes) reader_line
-    (after_or_else (after (codes "W ") bytes) writer_line
-    (after_or_else (after (codes "register ") bytes) register_line (option_and_then cut_register_line (after (codes "cut register ") bytes))))
+    then_or_else (after (codes "R") bytes) reader_line
+    (then_or_else (after (codes "W ") bytes) writer_line
+    (then_or_else (after (codes "register ") bytes) register_line (option_and_then cut_register_line (after (codes "cut register ") bytes))))
