@@ -7,7 +7,8 @@ use Rattle.std.proofs.lemmas.Option.{none-some, same_Some}
 use Rattle.register_calls.specs.declared.auditors.ReaderState.{ReaderState}
 use Rattle.register_calls.specs.declared.events.Register.{Register}
 use Rattle.register_calls.specs.declared.events.RegisterEvent.{RegisterEvent}
-use Rattle.register_calls.specs.Audits.{AuditsRegister}
+use Rattle.register_calls.specs.declared.witnesses.ReaderChains.{ReaderChains}
+use Rattle.register_calls.specs.Witnesses.{RemembersRegister}
 use Rattle.register_calls.specs.Histories.{IsValue, WritesValue}
 use Rattle.register_lines.specs.Lines.{AllowsNumbers, IsRegisterLine}
 use Rattle.register_lines.specs.declared.lines.RegisterLine.{RegisterLine}
@@ -17,9 +18,10 @@ use Rattle.register_recordings.specs.declared.faults.RegisterTextFault.{Register
 use Rattle.register_recordings.specs.declared.faults.RegisterTextFault.TheVariants.{BadLine, TooLong, OutOfMemory}
 use Rattle.register_recordings.specs.declared.findings.Misses.{Misses}
 use Rattle.register_recordings.specs.declared.recordings.JudgedLines.{JudgedLines}
-use Rattle.register_recordings.specs.Recordings.{recorded_event, recorded_register, lacks_operations, AreMisses, AreRegisterLines, MayComeAfter}
+use Rattle.register_recordings.specs.Misses.{AreMisses}
+use Rattle.register_recordings.specs.Recordings.{recorded_event, recorded_register, lacks_operations, AreRegisterLines, MayComeAfter}
 use Rattle.register_recordings.specs.Reading.{ContinuesRegister, HasJudged, HasReadEvents, HasReadLineEvent, ReadsLineEvent, RefusesFirstLine, RefusesLineEvent, RefusesRegisterLine}
-use Rattle.register_recordings.proofs.EventLemmas.{no_misses, none_missed}
+use Rattle.register_recordings.proofs.MissLemmas.{no_misses, none_missed}
 
 -- ---- lines
 
@@ -105,103 +107,103 @@ no_value head further bytes l r event gives is records never other on =
     let events : may.1.0 ≡ event = same_Some may.1.0 event (sym may.1.1 ∙ ap recorded_event (sym same) ∙ records) in
     never (subst (λ (e : RegisterEvent). WritesValue r e) events (subst (λ (z : Register). WritesValue z may.1.0) registers may.1.2))
 
-module _ {W R : Type 0} (window : W → List ℕ) (states : R → List ReaderState) where
+module _ {W R P C : Type 0} (window : W → List ℕ) (states : R → List ReaderState) (places : P → List ℕ) (chains : C → List ReaderChains) where
   -- ---- the first line
 
   -- lines are judged, of which one has ended
   pub first_judged :
-      (new : JudgedLines W R) (l : RegisterLine) (r : Register) → AllowsNumbers l → recorded_register l ≡ Some r → new.count ≡ 1 → lacks_operations l ≡ new.is_cut → new.auditor.register ≡ r → AuditsRegister window states new.auditor [] →
-      new.misses ≡ no_misses → new.out_of_turn ≡ None → HasJudged window states new (l ∷ [])
+      (new : JudgedLines W R P C) (l : RegisterLine) (r : Register) → AllowsNumbers l → recorded_register l ≡ Some r → new.count ≡ 1 → lacks_operations l ≡ new.is_cut → new.witness.auditor.register ≡ r → RemembersRegister window states places chains new.witness [] →
+      new.misses ≡ no_misses → new.out_of_turn ≡ None → HasJudged window states places chains new (l ∷ [])
   first_judged new l r allowed gives count cut same audits misses none =
-      let nothing : HasReadEvents window states new None [] = (audits, subst (λ (m : Misses). AreMisses new.auditor.register [] m) (sym misses) (none_missed new.auditor.register)) in
-      let read : HasReadEvents window states new new.out_of_turn [] = subst (λ (o : Option ℕ). HasReadEvents window states new o []) (sym none) nothing in
+      let nothing : HasReadEvents window states places chains new None [] = (audits, subst (λ (m : Misses). AreMisses new.witness.auditor.register [] m) (sym misses) (none_missed new.witness.auditor.register)) in
+      let read : HasReadEvents window states places chains new new.out_of_turn [] = subst (λ (o : Option ℕ). HasReadEvents window states places chains new o []) (sym none) nothing in
       record {
         are = (allowed, (r, gives, All-nil (MayComeAfter r)));
         count = count;
         events = λ head further parts.
             let top : l ≡ head = ap (λ (ls : List RegisterLine). get_or ls 0 l) parts in
             let rest : [] ≡ further = ap (λ (ls : List RegisterLine). drop 1 ls) parts in (
-              subst (λ (x : RegisterLine). recorded_register x ≡ Some new.auditor.register) top (gives ∙ ap (λ (z : Register). Some z) (sym same)),
+              subst (λ (x : RegisterLine). recorded_register x ≡ Some new.witness.auditor.register) top (gives ∙ ap (λ (z : Register). Some z) (sym same)),
               subst (λ (x : RegisterLine). lacks_operations x ≡ new.is_cut) top cut,
-              subst (λ (ls : List RegisterLine). HasReadEvents window states new new.out_of_turn (filter_map recorded_event ls)) rest read,
+              subst (λ (ls : List RegisterLine). HasReadEvents window states places chains new new.out_of_turn (filter_map recorded_event ls)) rest read,
             );
       }
 
   pub first_read :
-      (new : JudgedLines W R) (before : List RegisterLine) (bytes : List ℕ) (l : RegisterLine) → before ≡ [] → IsRegisterLine bytes l → HasJudged window states new (l ∷ []) →
-      (x : RegisterLine) × ContinuesRegister before bytes x × HasJudged window states new (before ++ x ∷ [])
+      (new : JudgedLines W R P C) (before : List RegisterLine) (bytes : List ℕ) (l : RegisterLine) → before ≡ [] → IsRegisterLine bytes l → HasJudged window states places chains new (l ∷ []) →
+      (x : RegisterLine) × ContinuesRegister before bytes x × HasJudged window states places chains new (before ++ x ∷ [])
   first_read new before bytes l none is judged =
-      subst (λ (ls : List RegisterLine). (x : RegisterLine) × ContinuesRegister ls bytes x × HasJudged window states new (ls ++ x ∷ [])) (sym none) (l, (judged.are, is.text), judged)
+      subst (λ (ls : List RegisterLine). (x : RegisterLine) × ContinuesRegister ls bytes x × HasJudged window states places chains new (ls ++ x ∷ [])) (sym none) (l, (judged.are, is.text), judged)
 
   -- ---- a further line
 
   further_line :
-      (old new : JudgedLines W R) (before : List RegisterLine) (bytes : List ℕ) (l : RegisterLine) (number : ℕ) (event : RegisterEvent) → before ≢ [] → length before + 1 ≡ number → IsRegisterLine bytes l → recorded_event l ≡ Some event →
-      HasJudged window states old before → ((events : List RegisterEvent) → length events + 2 ≡ number → HasReadEvents window states old old.out_of_turn events → HasReadLineEvent window states old number event events new) →
-      (x : RegisterLine) × ContinuesRegister before bytes x × HasJudged window states new (before ++ x ∷ [])
+      (old new : JudgedLines W R P C) (before : List RegisterLine) (bytes : List ℕ) (l : RegisterLine) (number : ℕ) (event : RegisterEvent) → before ≢ [] → length before + 1 ≡ number → IsRegisterLine bytes l → recorded_event l ≡ Some event →
+      HasJudged window states places chains old before → ((events : List RegisterEvent) → length events + 2 ≡ number → HasReadEvents window states places chains old old.out_of_turn events → HasReadLineEvent window states places chains old number event events new) →
+      (x : RegisterLine) × ContinuesRegister before bytes x × HasJudged window states places chains new (before ++ x ∷ [])
   further_line old new [] bytes l number event some next is records has reads = absurd (some refl)
   further_line old new (head ∷ further) bytes l number event some next is records has reads =
       let r : Register = has.are.1.0 in
       let were = has.events head further refl in
       let many : length (filter_map recorded_event further) ≡ length further = as_many r further has.are.1.2 in
-      let now : HasReadLineEvent window states old number event (filter_map recorded_event further) new = reads (filter_map recorded_event further) (omega (arith, many, next)) were.2 in
-      let same : r ≡ old.auditor.register = same_Some r old.auditor.register (sym has.are.1.1 ∙ were.0) in
+      let now : HasReadLineEvent window states places chains old number event (filter_map recorded_event further) new = reads (filter_map recorded_event further) (omega (arith, many, next)) were.2 in
+      let same : r ≡ old.witness.auditor.register = same_Some r old.witness.auditor.register (sym has.are.1.1 ∙ were.0) in
       let may : MayComeAfter r l = (is.allowed, (event, records, subst (λ (z : Register). WritesValue z event) (sym same) now.value)) in
       let are : AreRegisterLines (head ∷ (further ++ l ∷ [])) = (has.are.0, (r, has.are.1.1, All-push (MayComeAfter r) further l has.are.1.2 may)) in
-      let read : HasReadEvents window states new new.out_of_turn (filter_map recorded_event (further ++ l ∷ [])) =
-      subst (λ (es : List RegisterEvent). HasReadEvents window states new new.out_of_turn es) (sym (events_more further l event records)) now.events in
+      let read : HasReadEvents window states places chains new new.out_of_turn (filter_map recorded_event (further ++ l ∷ [])) =
+      subst (λ (es : List RegisterEvent). HasReadEvents window states places chains new new.out_of_turn es) (sym (events_more further l event records)) now.events in
       let all : length (further ++ l ∷ []) ≡ length further + 1 = length-append further (l ∷ []) in
       let count : new.count ≡ number = now.count in
-      let judged : HasJudged window states new (head ∷ (further ++ l ∷ [])) = record {
+      let judged : HasJudged window states places chains new (head ∷ (further ++ l ∷ [])) = record {
         are = are;
         count = omega (arith, count, next, all);
         events = λ first others parts.
             let top : head ≡ first = ap (λ (ls : List RegisterLine). get_or ls 0 head) parts in
             let rest : further ++ l ∷ [] ≡ others = ap (λ (ls : List RegisterLine). drop 1 ls) parts in (
-              subst (λ (x : RegisterLine). recorded_register x ≡ Some new.auditor.register) top (were.0 ∙ ap (λ (z : Register). Some z) (sym now.register)),
+              subst (λ (x : RegisterLine). recorded_register x ≡ Some new.witness.auditor.register) top (were.0 ∙ ap (λ (z : Register). Some z) (sym now.register)),
               subst (λ (x : RegisterLine). lacks_operations x ≡ new.is_cut) top (were.1 ∙ sym now.is_cut),
-              subst (λ (ls : List RegisterLine). HasReadEvents window states new new.out_of_turn (filter_map recorded_event ls)) rest read,
+              subst (λ (ls : List RegisterLine). HasReadEvents window states places chains new new.out_of_turn (filter_map recorded_event ls)) rest read,
             );
       } in
       (l, (are, is.text), judged)
 
   further_refusal :
-      (old : JudgedLines W R) (fault : RegisterTextFault) (before : List RegisterLine) (bytes : List ℕ) (l : RegisterLine) (number : ℕ) (event : RegisterEvent) → before ≢ [] → length before + 1 ≡ number → IsRegisterLine bytes l → recorded_event l ≡ Some event →
-      HasJudged window states old before → ((events : List RegisterEvent) → length events + 2 ≡ number → HasReadEvents window states old old.out_of_turn events → RefusesLineEvent number fault old.auditor.register events event) →
+      (old : JudgedLines W R P C) (fault : RegisterTextFault) (before : List RegisterLine) (bytes : List ℕ) (l : RegisterLine) (number : ℕ) (event : RegisterEvent) → before ≢ [] → length before + 1 ≡ number → IsRegisterLine bytes l → recorded_event l ≡ Some event →
+      HasJudged window states places chains old before → ((events : List RegisterEvent) → length events + 2 ≡ number → HasReadEvents window states places chains old old.out_of_turn events → RefusesLineEvent number fault old.witness.auditor.register events event) →
       RefusesRegisterLine fault before bytes
   further_refusal old fault [] bytes l number event some next is records has refuses = absurd (some refl)
   further_refusal old fault (head ∷ further) bytes l number event some next is records has refuses =
       let were = has.events head further refl in
       let many : length (filter_map recorded_event further) ≡ length further = as_many has.are.1.0 further has.are.1.2 in
-      let now : RefusesLineEvent number fault old.auditor.register (filter_map recorded_event further) event = refuses (filter_map recorded_event further) (omega (arith, many, next)) were.2 in
+      let now : RefusesLineEvent number fault old.witness.auditor.register (filter_map recorded_event further) event = refuses (filter_map recorded_event further) (omega (arith, many, next)) were.2 in
       by_fault fault now
     where
-      by_fault : (f : RegisterTextFault) → RefusesLineEvent number f old.auditor.register (filter_map recorded_event further) event → RefusesRegisterLine f (head ∷ further) bytes
-      by_fault (BadLine n) now = (omega (arith, now.0, next), no_value head further bytes l old.auditor.register event (has.events head further refl).0 is records now.1)
+      by_fault : (f : RegisterTextFault) → RefusesLineEvent number f old.witness.auditor.register (filter_map recorded_event further) event → RefusesRegisterLine f (head ∷ further) bytes
+      by_fault (BadLine n) now = (omega (arith, now.0, next), no_value head further bytes l old.witness.auditor.register event (has.events head further refl).0 is records now.1)
       by_fault TooLong now =
           let many : length (filter_map recorded_event further) ≡ length further = as_many has.are.1.0 further has.are.1.2 in
           omega (arith, many, now)
       by_fault OutOfMemory now = tt
 
-  module _ (old new : JudgedLines W R) (bytes : List ℕ) (l : RegisterLine) (number : ℕ) (event : RegisterEvent) (next : number ≡ old.count + 1) (later : ¬ (number ≡ 1)) (is : IsRegisterLine bytes l) (records : recorded_event l ≡ Some event) where
+  module _ (old new : JudgedLines W R P C) (bytes : List ℕ) (l : RegisterLine) (number : ℕ) (event : RegisterEvent) (next : number ≡ old.count + 1) (later : ¬ (number ≡ 1)) (is : IsRegisterLine bytes l) (records : recorded_event l ≡ Some event) where
     -- it comes after others
-    some_before : (before : List RegisterLine) → HasJudged window states old before → before ≢ []
+    some_before : (before : List RegisterLine) → HasJudged window states places chains old before → before ≢ []
     some_before before has none =
         let count : old.count ≡ length before = has.count in
         let nothing : length before ≡ 0 = ap (λ (ls : List RegisterLine). length ls) none in
         later (omega (arith, next, count, nothing))
 
-    number_before : (before : List RegisterLine) → HasJudged window states old before → length before + 1 ≡ number
+    number_before : (before : List RegisterLine) → HasJudged window states places chains old before → length before + 1 ≡ number
     number_before before has = let count : old.count ≡ length before = has.count in omega (arith, next, count)
 
     pub further_read :
-        {T : Type 0} (result : Result T RegisterTextFault) → ReadsLineEvent window states old number event result new →
-        OnOk result ((before : List RegisterLine) → HasJudged window states old before → (x : RegisterLine) × ContinuesRegister before bytes x × HasJudged window states new (before ++ x ∷ []))
+        {T : Type 0} (result : Result T RegisterTextFault) → ReadsLineEvent window states places chains old number event result new →
+        OnOk result ((before : List RegisterLine) → HasJudged window states places chains old before → (x : RegisterLine) × ContinuesRegister before bytes x × HasJudged window states places chains new (before ++ x ∷ []))
     further_read (Ok value) reads = λ before has. further_line old new before bytes l number event (some_before before has) (number_before before has) is records has reads
     further_read (Err fault) reads = tt
 
     pub further_refused :
-        {T : Type 0} (result : Result T RegisterTextFault) → ReadsLineEvent window states old number event result new →
-        IfErr result (λ fault. (before : List RegisterLine) → HasJudged window states old before → RefusesRegisterLine fault before bytes)
+        {T : Type 0} (result : Result T RegisterTextFault) → ReadsLineEvent window states places chains old number event result new →
+        IfErr result (λ fault. (before : List RegisterLine) → HasJudged window states places chains old before → RefusesRegisterLine fault before bytes)
     further_refused (Ok value) reads = tt
     further_refused (Err fault) reads = λ before has. further_refusal old fault before bytes l number event (some_before before has) (number_before before has) is records has reads

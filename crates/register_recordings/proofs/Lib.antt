@@ -1,3 +1,5 @@
+mod MissLemmas
 mod EventLemmas
 mod FurtherLines
 mod RecordingLemmas
+mod Shortfalls

@@ -8,6 +8,7 @@ use Rattle.std.proofs.lemmas.List.Elements.{All-append, All-head, All-nil, All-t
 use Rattle.line_parts.specs.LineEnds.{HasNoFeed}
 use Rattle.line_parts.proofs.LineFeeds.{IsOther, feed_nowhere, feed_once}
 use Rattle.register_calls.specs.declared.auditors.ReaderState.{ReaderState}
+use Rattle.register_calls.specs.declared.witnesses.ReaderChains.{ReaderChains}
 use Rattle.register_calls.specs.declared.events.Register.{Register}
 use Rattle.register_calls.specs.declared.events.RegisterEvent.{RegisterEvent}
 use Rattle.register_lines.specs.Lines.{register_line_text, AllowsNumbers}
@@ -68,9 +69,9 @@ nothing_kept cut none = let long : length cut ≡ 0 = ap (λ (t : List ℕ). len
 no_feed_kept : (cut : List ℕ) → cut ≡ [] → HasNoFeed cut
 no_feed_kept cut none = subst HasNoFeed (sym none) (All-nil IsOther)
 
-module _ {W R B : Type 0} (window : W → List ℕ) (states : R → List ReaderState) (bytes_of : B → List ℕ) where
+module _ {W R P C B : Type 0} (window : W → List ℕ) (states : R → List ReaderState) (places : P → List ℕ) (chains : C → List ReaderChains) (bytes_of : B → List ℕ) where
   -- nothing was read
-  pub nothing_read : (new : RegisterRecording W R B) → bytes_of new.cut ≡ [] → HasJudged window states new.lines [] → HasReadRegister window states bytes_of new []
+  pub nothing_read : (new : RegisterRecording W R P C B) → bytes_of new.cut ≡ [] → HasJudged window states places chains new.lines [] → HasReadRegister window states places chains bytes_of new []
   nothing_read new none lines = record {
     ended = [];
     text = sym none;
@@ -81,8 +82,8 @@ module _ {W R B : Type 0} (window : W → List ℕ) (states : R → List ReaderS
 
   -- a line was read, and no byte of another one
   pub line_ended :
-      (old new : RegisterRecording W R B) (bytes end whole : List ℕ) (has : HasReadRegister window states bytes_of old bytes) → whole ≡ bytes_of old.cut ++ end → bytes_of new.cut ≡ [] →
-      (l : RegisterLine) × ContinuesRegister has.ended whole l × HasJudged window states new.lines (has.ended ++ l ∷ []) → HasReadRegister window states bytes_of new (bytes ++ end ++ 10 ∷ [])
+      (old new : RegisterRecording W R P C B) (bytes end whole : List ℕ) (has : HasReadRegister window states places chains bytes_of old bytes) → whole ≡ bytes_of old.cut ++ end → bytes_of new.cut ≡ [] →
+      (l : RegisterLine) × ContinuesRegister has.ended whole l × HasJudged window states places chains new.lines (has.ended ++ l ∷ []) → HasReadRegister window states places chains bytes_of new (bytes ++ end ++ 10 ∷ [])
   line_ended old new bytes end whole has all none (l, on, lines) =
       let is : bytes_of old.cut ++ end ≡ register_line_text l = sym all ∙ on.1 in
       record {
@@ -96,8 +97,8 @@ module _ {W R B : Type 0} (window : W → List ℕ) (states : R → List ReaderS
 
   -- more bytes of a line were kept
   pub bytes_kept :
-      (old new : RegisterRecording W R B) (text bytes : List ℕ) (has : HasReadRegister window states bytes_of old text) → HasNoFeed bytes → bytes_of new.cut ≡ bytes_of old.cut ++ bytes → length (bytes_of old.cut) + length bytes ≤ 54 →
-      HasJudged window states new.lines has.ended → HasReadRegister window states bytes_of new (text ++ bytes)
+      (old new : RegisterRecording W R P C B) (text bytes : List ℕ) (has : HasReadRegister window states places chains bytes_of old text) → HasNoFeed bytes → bytes_of new.cut ≡ bytes_of old.cut ++ bytes → length (bytes_of old.cut) + length bytes ≤ 54 →
+      HasJudged window states places chains new.lines has.ended → HasReadRegister window states places chains bytes_of new (text ++ bytes)
   bytes_kept old new text bytes has free cut short lines =
       let all : length (bytes_of new.cut) ≡ length (bytes_of old.cut) + length bytes = ap (λ (t : List ℕ). length t) cut ∙ length-append (bytes_of old.cut) bytes in
       let few : length (bytes_of new.cut) ≤ 54 = omega (arith, all, short) in
@@ -173,14 +174,14 @@ cut_bad before bytes cut number text are none is there = record {
 
 -- ---- findings
 
-module _ {W R : Type 0} (window : W → List ℕ) (states : R → List ReaderState) where
+module _ {W R P C : Type 0} (window : W → List ℕ) (states : R → List ReaderState) (places : P → List ℕ) (chains : C → List ReaderChains) where
   pub found :
-      (lines : JudgedLines W R) (finding : RegisterFinding) (ended : List RegisterLine) (bytes cut : List ℕ) → bytes ≡ register_text ended ++ cut → cut ≡ [] → ended ≢ [] → HasJudged window states lines ended →
-      ((events : List RegisterEvent) → HasReadEvents window states lines lines.out_of_turn events → IsRegisterFound lines.auditor.register events finding) → IsRegisterFinding bytes finding
+      (lines : JudgedLines W R P C) (finding : RegisterFinding) (ended : List RegisterLine) (bytes cut : List ℕ) → bytes ≡ register_text ended ++ cut → cut ≡ [] → ended ≢ [] → HasJudged window states places chains lines ended →
+      ((events : List RegisterEvent) → HasReadEvents window states places chains lines lines.out_of_turn events → IsRegisterFound lines.witness.auditor.register events finding) → IsRegisterFinding bytes finding
   found lines finding [] bytes cut text none some has finds = absurd (some refl)
   found lines finding (head ∷ further) bytes cut text none some has finds =
       let read = has.events head further refl in
-      let is : IsRegisterRecording bytes lines.auditor.register (filter_map recorded_event further) = record {
+      let is : IsRegisterRecording bytes lines.witness.auditor.register (filter_map recorded_event further) = record {
         is_cut = lines.is_cut;
         head = head;
         further = further;
@@ -190,7 +191,7 @@ module _ {W R : Type 0} (window : W → List ℕ) (states : R → List ReaderSta
         gives_register = read.0;
         gives_events = refl;
       } in
-      (lines.auditor.register, filter_map recorded_event further, is, finds (filter_map recorded_event further) read.2)
+      (lines.witness.auditor.register, filter_map recorded_event further, is, finds (filter_map recorded_event further) read.2)
 
 -- ---- one list of lines
 
@@ -202,38 +203,23 @@ front_same l m a b one other e =
     let same = feed_once L M a b (no_feed_within l one) (no_feed_within m other) (sym (line_and l a) ∙ e ∙ line_and m b) in
     (line_same L l m (record { text = refl; allowed = one }) (record { text = same.0; allowed = other }), same.1)
 
--- lines at the front of the text of lines are its first ones
-first_ones :
-    (before all : List RegisterLine) (rest : List ℕ) → All AllowsNumbers before → All AllowsNumbers all → register_text before ++ rest ≡ register_text all →
-    (more : List RegisterLine) × (all ≡ before ++ more) × (rest ≡ register_text more)
-first_ones [] all rest is are e = (all, refl, e)
-first_ones (l ∷ before) [] rest is are e =
-    let some : length ((register_line_bytes l ++ register_text before) ++ rest) ≡ 0 = ap (λ (t : List ℕ). length t) e in
-    let one : length ((register_line_bytes l ++ register_text before) ++ rest) ≡ length (register_line_bytes l ++ register_text before) + length rest = length-append (register_line_bytes l ++ register_text before) rest in
-    let two : length (register_line_bytes l ++ register_text before) ≡ length (register_line_bytes l) + length (register_text before) = length-append (register_line_bytes l) (register_text before) in
-    let three : length (register_line_bytes l) ≡ length (register_line_text l) + 1 = length-append (register_line_text l) (10 ∷ []) in
-    absurd (omega (arith, some, one, two, three))
-first_ones (l ∷ before) (m ∷ all) rest is are e =
-    let same =
-    front_same l m (register_text before ++ rest) (register_text all) (All-head AllowsNumbers l before is) (All-head AllowsNumbers m all are) (sym (append_assoc (register_line_bytes l) (register_text before) rest) ∙ e) in
-    let later = first_ones before all rest (All-tail AllowsNumbers l before is) (All-tail AllowsNumbers m all are) same.1 in
-    (later.0, ap₂ (λ (x : RegisterLine) (xs : List RegisterLine). x ∷ xs) (sym same.0) later.1, later.2)
-
-module _ {W R : Type 0} (window : W → List ℕ) (states : R → List ReaderState) where
+module _ {W R P C : Type 0} (window : W → List ℕ) (states : R → List ReaderState) (places : P → List ℕ) (chains : C → List ReaderChains) where
   one_cut :
-      (lines : JudgedLines W R) (is_cut : Bool) (ended more further : List RegisterLine) (head : RegisterLine) (cut : List ℕ) → HasJudged window states lines ended → lacks_operations head ≡ is_cut →
-      head ∷ further ≡ ended ++ more → cut ≡ register_text more → HasNoFeed cut → lines.is_cut ≡ is_cut
-  one_cut lines is_cut [] more further head cut has gives parts rest none =
-      absurd (feed_nowhere cut (register_line_text head) (register_text further) none (rest ∙ ap (λ (ls : List RegisterLine). register_text ls) (sym parts) ∙ line_and head (register_text further)))
-  one_cut lines is_cut (l ∷ ended) more further head cut has gives parts rest none =
-      let same : head ≡ l = ap (λ (ls : List RegisterLine). get_or ls 0 head) parts in
+      (lines : JudgedLines W R P C) (is_cut : Bool) (ended further : List RegisterLine) (head : RegisterLine) (cut rest : List ℕ) → HasJudged window states places chains lines ended → lacks_operations head ≡ is_cut →
+      AllowsNumbers head → register_text ended ++ cut ≡ register_text (head ∷ further) ++ rest → HasNoFeed cut → lines.is_cut ≡ is_cut
+  one_cut lines is_cut [] further head cut rest has gives allowed e none =
+      absurd (feed_nowhere cut (register_line_text head) (register_text further ++ rest) none (e ∙ append_assoc (register_line_bytes head) (register_text further) rest ∙ line_and head (register_text further ++ rest)))
+  one_cut lines is_cut (l ∷ ended) further head cut rest has gives allowed e none =
+      let same =
+      front_same l head (register_text ended ++ cut) (register_text further ++ rest) has.are.0 allowed
+      (sym (append_assoc (register_line_bytes l) (register_text ended) cut) ∙ e ∙ append_assoc (register_line_bytes head) (register_text further) rest) in
       let read = has.events l ended refl in
-      sym read.1 ∙ ap (λ (x : RegisterLine). lacks_operations x) (sym same) ∙ gives
+      sym read.1 ∙ ap (λ (x : RegisterLine). lacks_operations x) same.0 ∙ gives
 
-  -- its first line says what that of every recording says that the bytes are
+  -- its first line says what that of every recording says with which the bytes begin
   pub cut_is :
-      {B : Type 0} (bytes_of : B → List ℕ) (recording : RegisterRecording W R B) (bytes : List ℕ) → HasReadRegister window states bytes_of recording bytes →
-      (r : Register) (events : List RegisterEvent) (is : IsRegisterRecording bytes r events) → recording.lines.is_cut ≡ is.is_cut
-  cut_is bytes_of recording bytes has r events is =
-      let parts = first_ones has.ended (is.head ∷ is.further) (bytes_of recording.cut) (all_allowed has.ended has.lines.are) (all_allowed (is.head ∷ is.further) is.are) (sym has.text ∙ is.text) in
-      one_cut recording.lines is.is_cut has.ended parts.0 is.further is.head (bytes_of recording.cut) has.lines is.gives_cut parts.1 parts.2 has.no_feed
+      {B : Type 0} (bytes_of : B → List ℕ) (recording : RegisterRecording W R P C B) (bytes : List ℕ) → HasReadRegister window states places chains bytes_of recording bytes →
+      (front rest : List ℕ) → bytes ≡ front ++ rest → (r : Register) (events : List RegisterEvent) (is : IsRegisterRecording front r events) → recording.lines.is_cut ≡ is.is_cut
+  cut_is bytes_of recording bytes has front rest parts r events is =
+      one_cut recording.lines is.is_cut has.ended is.further is.head (bytes_of recording.cut) rest has.lines is.gives_cut is.are.0
+      (sym has.text ∙ parts ∙ ap (λ (t : List ℕ). t ++ rest) is.text) has.no_feed

@@ -1,2 +1,4 @@
+pub mod Faults
+pub mod Misses
 pub mod Recordings
 pub mod Reading

@@ -1,20 +1,20 @@
 -- The text of a recorded register, and what is found of it: a first line gives the register, and further lines record its events.
-use Rattle.std.specs.Prelude.{◌≡◌, ◌≢◌, ℕ, ◌+◌, ◌-◌, ◌^◌, ◌≤◌, List, [], ◌∷◌, ◌++◌, Bool, true, false, Option, Some, None, length, codes, reverse, All, flat_map, option_map}
+use Rattle.std.specs.Prelude.{◌≡◌, ◌≢◌, ◌⊎◌, ℕ, ◌+◌, ◌-◌, ◌^◌, ◌≤◌, List, [], ◌∷◌, ◌++◌, Bool, true, false, not, Option, Some, None, length, codes, reverse, All, flat_map}
 use Rattle.std.specs.List.{filter_map}
 use Rattle.register_calls.specs.declared.events.Register.{Register}
 use Rattle.register_calls.specs.declared.events.RegisterEvent.{RegisterEvent}
 use Rattle.register_calls.specs.declared.events.RegisterEvent.TheVariants.{WriteBegins, WriteEnds, ReadBegins, ReadEnds}
-use Rattle.register_calls.specs.declared.events.Class.{Class}
-use Rattle.register_calls.specs.declared.events.Class.TheVariants.{Safe, Regular, AtomicByReader, Atomic}
 use Rattle.register_calls.specs.Histories.{IsWellFormed, ComesInTurn, WritesValue}
-use Rattle.register_calls.specs.Classes.{IsStrongest}
-use Rattle.register_calls.specs.Findings.{IsMiss}
+use Rattle.register_calls.specs.declared.events.Class.{Class}
+use Rattle.register_calls.specs.Classes.{HasClass, IsStrongest}
+use Rattle.register_calls.specs.Findings.{is_at_least}
+use Rattle.register_calls.specs.Reports.{report_of}
 use Rattle.register_lines.specs.Lines.{register_line_text, AllowsNumbers}
 use Rattle.register_lines.specs.declared.lines.RegisterLine.{RegisterLine}
 use Rattle.register_lines.specs.declared.lines.RegisterLine.TheVariants as line
 use Rattle.register_recordings.specs.declared.faults.RegisterTextFault.{RegisterTextFault}
 use Rattle.register_recordings.specs.declared.faults.RegisterTextFault.TheVariants.{BadLine, TooLong, OutOfMemory}
-use Rattle.register_recordings.specs.declared.findings.Misses.{Misses}
+use Rattle.register_recordings.specs.Misses.{AreMisses}
 use Rattle.register_recordings.specs.declared.findings.RegisterFinding.{RegisterFinding}
 use Rattle.register_recordings.specs.declared.findings.RegisterFinding.TheVariants.{Judged, OutOfTurn}
 
@@ -89,16 +89,6 @@ RefusesRegisterText (BadLine number) bytes = IsBadRegisterLine bytes number
 RefusesRegisterText TooLong bytes = 2 ^ 64 - 1 ≤ length bytes
 RefusesRegisterText OutOfMemory bytes = Unit {0}
 
--- the line of the first event with which the history lacks a class, if it lacks it
-abbrev pub IsMissLine : Class → Register → List RegisterEvent → Option ℕ → Type 0
-IsMissLine c r events found = (place : Option ℕ) × IsMiss c r events place × (found ≡ option_map (λ p. p + 2) place)
-
-pub record AreMisses (r : Register) (events : List RegisterEvent) (misses : Misses) : Type 0 where
-  pub safe : IsMissLine Safe r events misses.safe
-  pub regular : IsMissLine Regular r events misses.regular
-  pub by_reader : IsMissLine AtomicByReader r events misses.by_reader
-  pub atomic : IsMissLine Atomic r events misses.atomic
-
 -- the event of the line of this number is the first that is out of turn
 pub record LeavesTurn (r : Register) (events : List RegisterEvent) (number : ℕ) : Type 0 where
   pub before : List RegisterEvent
@@ -111,9 +101,36 @@ pub record LeavesTurn (r : Register) (events : List RegisterEvent) (number : ℕ
 
 -- what is found of a history
 abbrev pub IsRegisterFound : Register → List RegisterEvent → RegisterFinding → Type 0
-IsRegisterFound r events (Judged class misses) = IsWellFormed r (reverse events) × IsStrongest class r (reverse events) × AreMisses r events misses
+IsRegisterFound r events (Judged class misses report) =
+    IsWellFormed r (reverse events) × IsStrongest class r (reverse events) × AreMisses r events misses × (report ≡ report_of (reverse events))
 IsRegisterFound r events (OutOfTurn number) = LeavesTurn r events number
 
 -- what is found of a text
 abbrev pub IsRegisterFinding : List ℕ → RegisterFinding → Type 0
 IsRegisterFinding bytes finding = (r : Register) × (events : List RegisterEvent) × IsRegisterRecording bytes r events × IsRegisterFound r events finding
+
+-- ---- a class that is asked for
+
+-- a history has the class, and each of its events comes in its turn
+abbrev pub HasInTurn : Class → Register → List RegisterEvent → Type 0
+HasInTurn c r events = IsWellFormed r (reverse events) × HasClass c r (reverse events)
+
+-- bytes are nothing, or a recording of a history that has the class
+abbrev pub KeepsClass : Class → List ℕ → Type 0
+KeepsClass c bytes = (bytes ≡ []) ⊎ ((r : Register) × (events : List RegisterEvent) × IsRegisterRecording bytes r events × HasInTurn c r events)
+
+-- whether what is found falls short of the class
+abbrev pub falls_short : Class → RegisterFinding → Bool
+falls_short c (Judged None misses report) = true
+falls_short c (Judged (Some d) misses report) = not (is_at_least d c)
+falls_short c (OutOfTurn number) = true
+
+-- a history falls short of the class, by what is found of it, or it does not
+abbrev pub FallsShort : Class → Register → List RegisterEvent → Option RegisterFinding → Type 0
+FallsShort c r events None = HasInTurn c r events
+FallsShort c r events (Some finding) = IsRegisterFound r events finding × (falls_short c finding ≡ true)
+
+-- the same of bytes
+abbrev pub IsShortfall : Class → List ℕ → Option RegisterFinding → Type 0
+IsShortfall c bytes None = KeepsClass c bytes
+IsShortfall c bytes (Some finding) = IsRegisterFinding bytes finding × (falls_short c finding ≡ true)

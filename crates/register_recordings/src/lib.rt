@@ -4,7 +4,8 @@
 mod faults;
 mod findings;
 mod recordings;
+mod words;
 
 pub use faults::RegisterTextFault;
-pub use findings::{Misses, RegisterFinding};
+pub use findings::{Misses, RegisterFinding, RegisterMiss, is_same_line};
 pub use recordings::RegisterRecording;

@@ -10,5 +10,5 @@ restart-requires g c = first_is_value c.args.line c.in-Some.register c.requires 
 
 pub returns-clause-read : goal.returns-clause-read
 returns-clause-read g c =
-    first_judged g.W.Fifo.items g.R.Fifo.items _ c.args.line c.in-Some.register c.requires (sym c.in-Some.ensures) refl (sym c.lacks_operations-self.ensures)
-    c.in_ok-restart.ensures.register c.in_ok-restart.ensures.audits refl refl
+    first_judged g.W.Fifo.items g.R.Fifo.items g.P.Fifo.items g.C.Fifo.items _ c.args.line c.in-Some.register c.requires (sym c.in-Some.ensures) refl (sym c.lacks_operations-self.ensures)
+    c.in_ok-restart.ensures.register c.in_ok-restart.ensures.remembers c.none-self.ensures refl

@@ -13,5 +13,5 @@ returns-then-not-writes_value g c before at so_far = (
 
 pub returns : goal.returns
 returns g c before at so_far =
-    event_passed g.W.Fifo.items g.R.Fifo.items c.args.self.now _ c.args.count c.args.event before c.in-Some.field-0 refl refl refl c.in-Some.is c.in-Some.is
+    event_passed g.W.Fifo.items g.R.Fifo.items g.P.Fifo.items g.C.Fifo.items c.args.self.now _ c.args.count c.args.event before c.in-Some.field-0 refl refl refl c.in-Some.is c.in-Some.is
     (subst (λ (r : Register). WritesValue r c.args.event) c.register.ensures (c.writes_value.ensures.0 c.if-not-writes_value.false)) so_far

@@ -17,7 +17,7 @@ begin-requires g c = let is = c.in-Some-read_register_line.ensures.line in is.al
 pub returns-then-count-eq1-clause-read : goal.returns-then-count-eq1-clause-read
 returns-then-count-eq1-clause-read g c = then_ok c.begin.result c.begin.ensures.read (λ judged before has.
     let none : before ≡ [] = nil_from_length before (omega (arith, has.count, c.in-Some.ensures.1, c.if-count-eq1.true)) in
-    first_read g.W.Fifo.items g.R.Fifo.items c.begin.new.self before c.args.bytes.now c.in-Some-read_register_line.line none c.in-Some-read_register_line.ensures.line judged)
+    first_read g.W.Fifo.items g.R.Fifo.items g.P.Fifo.items g.C.Fifo.items c.begin.new.self before c.args.bytes.now c.in-Some-read_register_line.line none c.in-Some-read_register_line.ensures.line judged)
 
 pub returns-then-count-eq1-clause-refused : goal.returns-then-count-eq1-clause-refused
 returns-then-count-eq1-clause-refused g c = then_err c.begin.result c.begin.ensures.refused (λ e refuses before has.
@@ -32,11 +32,11 @@ returns-in_default-recorded_event-clause-refused g c before has =
 pub returns-clause-read : goal.returns-clause-read
 returns-clause-read g c =
     let next : c.in-Some.count ≡ c.args.self.now.count + 1 = omega (arith, c.in-Some.ensures.1) in
-    further_read g.W.Fifo.items g.R.Fifo.items c.args.self.now c.hear.new.self c.args.bytes.now c.in-Some-read_register_line.line c.in-Some.count c.in-Some-recorded_event.event next c.if-count-eq1.false
+    further_read g.W.Fifo.items g.R.Fifo.items g.P.Fifo.items g.C.Fifo.items c.args.self.now c.hear.new.self c.args.bytes.now c.in-Some-read_register_line.line c.in-Some.count c.in-Some-recorded_event.event next c.if-count-eq1.false
     c.in-Some-read_register_line.ensures.line (sym c.in-Some-recorded_event.ensures) c.hear.result c.hear.ensures
 
 pub returns-clause-refused : goal.returns-clause-refused
 returns-clause-refused g c =
     let next : c.in-Some.count ≡ c.args.self.now.count + 1 = omega (arith, c.in-Some.ensures.1) in
-    further_refused g.W.Fifo.items g.R.Fifo.items c.args.self.now c.hear.new.self c.args.bytes.now c.in-Some-read_register_line.line c.in-Some.count c.in-Some-recorded_event.event next c.if-count-eq1.false
+    further_refused g.W.Fifo.items g.R.Fifo.items g.P.Fifo.items g.C.Fifo.items c.args.self.now c.hear.new.self c.args.bytes.now c.in-Some-read_register_line.line c.in-Some.count c.in-Some-recorded_event.event next c.if-count-eq1.false
     c.in-Some-read_register_line.ensures.line (sym c.in-Some-recorded_event.ensures) c.hear.result c.hear.ensures

@@ -10,7 +10,7 @@ returns-clause-found g c bytes has =
     let cut : List ℕ = g.B.Store.items c.args.self.now.cut in
     let some : has.ended ≢ [] = λ none. absurd (omega (arith, c.if-self-eq0.false, has.lines.count, ap length none)) in
     let none : cut ≡ [] = nil_from_length cut (eqb-true _ 0 (sym c.is_empty.ensures ∙ c.if-not-is_empty.false)) in
-    found g.W.Fifo.items g.R.Fifo.items c.args.self.now.lines c.finding.result has.ended bytes cut has.text none some has.lines c.finding.ensures
+    found g.W.Fifo.items g.R.Fifo.items g.P.Fifo.items g.C.Fifo.items c.args.self.now.lines c.finding.result has.ended bytes cut has.text none some has.lines c.finding.ensures
 
 pub returns-in-Some-clause-refused : goal.returns-in-Some-clause-refused
 returns-in-Some-clause-refused g c bytes has =

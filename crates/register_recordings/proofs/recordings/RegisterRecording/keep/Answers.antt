@@ -3,4 +3,4 @@ use Rattle.register_recordings.proofs.recordings.RegisterRecording.keep.Goals as
 
 pub returns-clause-read : goal.returns-clause-read
 returns-clause-read g c text has =
-    bytes_kept g.W.Fifo.items g.R.Fifo.items g.B.Store.items c.args.self.now _ text c.args.bytes.now has c.requires c.in_ok-extend_from_slice.ensures.items c.in-Ok.ensures.short has.lines
+    bytes_kept g.W.Fifo.items g.R.Fifo.items g.P.Fifo.items g.C.Fifo.items g.B.Store.items c.args.self.now _ text c.args.bytes.now has c.requires c.in_ok-extend_from_slice.ensures.items c.in-Ok.ensures.short has.lines

@@ -22,14 +22,14 @@ line_refused bytes piece read rest end left more one two =
 pub returns-in_err-read_end-clause-refused : goal.returns-in_err-read_end-clause-refused
 returns-in_err-read_end-clause-refused g c =
     let read = c.loop-end.invariant in
-    let refused : (bytes more : List ℕ) → HasReadRegister g.W.Fifo.items g.R.Fifo.items g.B.Store.items c.args.self.now bytes → RefusesRegisterText c.in_err-read_end.field-0.0 (bytes ++ (c.args.piece.now ++ more)) =
+    let refused : (bytes more : List ℕ) → HasReadRegister g.W.Fifo.items g.R.Fifo.items g.P.Fifo.items g.C.Fifo.items g.B.Store.items c.args.self.now bytes → RefusesRegisterText c.in_err-read_end.field-0.0 (bytes ++ (c.args.piece.now ++ more)) =
     λ bytes more has.
     subst (RefusesRegisterText c.in_err-read_end.field-0.0) (line_refused bytes c.args.piece.now read.0 c.loop-end.rest.now c.in-Some.end.now c.in-Some.more.now more read.1 c.in-Some.ensures.1)
     (c.in_err-read_end.ensures.refused (bytes ++ read.0) (c.in-Some.more.now ++ more) (read.2 bytes has)) in
     search (rules, refused)
 
 pub loop-end-init : goal.loop-end-init
-loop-end-init g c = ([], refl, λ bytes has. subst (λ t. HasReadRegister g.W.Fifo.items g.R.Fifo.items g.B.Store.items c.args.self.now t) (sym (append-nil bytes)) has)
+loop-end-init g c = ([], refl, λ bytes has. subst (λ t. HasReadRegister g.W.Fifo.items g.R.Fifo.items g.P.Fifo.items g.C.Fifo.items g.B.Store.items c.args.self.now t) (sym (append-nil bytes)) has)
 
 pub loop-end-preserved : goal.loop-end-preserved
 loop-end-preserved g c =
@@ -38,14 +38,14 @@ loop-end-preserved g c =
       read.0 ++ line,
       line_read c.args.piece.now read.0 c.loop-end.rest.now c.in-Some.end.now c.in-Some.more.now read.1 c.in-Some.ensures.1,
       λ bytes has.
-          subst (λ t. HasReadRegister g.W.Fifo.items g.R.Fifo.items g.B.Store.items c.read_end.new.self t) (append_assoc (bytes ++ read.0) c.in-Some.end.now (10 ∷ []) ∙ append_assoc bytes read.0 line)
+          subst (λ t. HasReadRegister g.W.Fifo.items g.R.Fifo.items g.P.Fifo.items g.C.Fifo.items g.B.Store.items c.read_end.new.self t) (append_assoc (bytes ++ read.0) c.in-Some.end.now (10 ∷ []) ∙ append_assoc bytes read.0 line)
           (c.in_ok-read_end.ensures.read (bytes ++ read.0) (read.2 bytes has)),
     )
 
 pub returns-clause-read : goal.returns-clause-read
 returns-clause-read g c = then_ok c.keep.result c.keep.ensures.read (λ kept bytes has.
     let read = c.loop-end.invariant in
-    subst (HasReadRegister g.W.Fifo.items g.R.Fifo.items g.B.Store.items c.keep.new.self) (append_assoc bytes read.0 c.loop-end.rest.now ∙ ap (λ (t : List ℕ). bytes ++ t) (sym read.1)) (kept (bytes ++ read.0) (read.2 bytes has)))
+    subst (HasReadRegister g.W.Fifo.items g.R.Fifo.items g.P.Fifo.items g.C.Fifo.items g.B.Store.items c.keep.new.self) (append_assoc bytes read.0 c.loop-end.rest.now ∙ ap (λ (t : List ℕ). bytes ++ t) (sym read.1)) (kept (bytes ++ read.0) (read.2 bytes has)))
 
 pub returns-clause-refused : goal.returns-clause-refused
 returns-clause-refused g c = then_err c.keep.result c.keep.ensures.refused (λ e refused bytes more has.

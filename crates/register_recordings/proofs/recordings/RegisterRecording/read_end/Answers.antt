@@ -1,33 +1,35 @@
 use Rattle.std.proofs.Common.{◌≡◌, ◌∙◌, ◌++◌, ◌∷◌, [], List, ℕ, ap, sym}
 use Rattle.std.proofs.lemmas.Bool.{eqb-true}
 use Rattle.std.proofs.lemmas.List.{nil_from_length}
-use Rattle.lists.proofs.Results.{then_err, then_ok}
 use Rattle.register_recordings.proofs.RecordingLemmas.{end_refused, line_ended}
 use Rattle.register_recordings.proofs.recordings.RegisterRecording.read_end.Goals as goal
 
 pub returns-in-Err-clause-refused : goal.returns-in-Err-clause-refused
 returns-in-Err-clause-refused g c bytes more has = c.in-Err.ensures.refused bytes (10 ∷ more) has
 
-pub returns-then-is_empty-clause-read : goal.returns-then-is_empty-clause-read
-returns-then-is_empty-clause-read g c = then_ok c.read.result c.read.ensures.read (λ reads bytes has.
+pub returns-in-Ok-read-clause-read : goal.returns-in-Ok-read-clause-read
+returns-in-Ok-read-clause-read g c bytes has =
     let cut : List ℕ = g.B.Store.items c.args.self.now.cut in
     let none : cut ≡ [] = nil_from_length cut (eqb-true _ 0 (sym c.is_empty.ensures ∙ c.if-is_empty.true)) in
-    line_ended g.W.Fifo.items g.R.Fifo.items g.B.Store.items c.args.self.now _ bytes c.args.end.now c.args.end.now has (sym (ap (λ (t : List ℕ). t ++ c.args.end.now) none)) none (reads has.ended has.lines))
+    line_ended g.W.Fifo.items g.R.Fifo.items g.P.Fifo.items g.C.Fifo.items g.B.Store.items c.args.self.now _ bytes c.args.end.now c.args.end.now has (sym (ap (λ (t : List ℕ). t ++ c.args.end.now) none)) none
+    (c.in-Ok-read.ensures.read has.ended has.lines)
 
-pub returns-then-is_empty-clause-refused : goal.returns-then-is_empty-clause-refused
-returns-then-is_empty-clause-refused g c = then_err c.read.result c.read.ensures.refused (λ e refuses bytes more has.
+pub returns-in-Err-read-clause-refused : goal.returns-in-Err-read-clause-refused
+returns-in-Err-read-clause-refused g c bytes more has =
     let cut : List ℕ = g.B.Store.items c.args.self.now.cut in
     let none : cut ≡ [] = nil_from_length cut (eqb-true _ 0 (sym c.is_empty.ensures ∙ c.if-is_empty.true)) in
-    end_refused e has.ended bytes cut c.args.end.now c.args.end.now more has.text has.lines.are has.no_feed c.requires (sym (ap (λ (t : List ℕ). t ++ c.args.end.now) none)) (refuses has.ended has.lines))
+    end_refused c.in-Err-read.fault has.ended bytes cut c.args.end.now c.args.end.now more has.text has.lines.are has.no_feed c.requires (sym (ap (λ (t : List ℕ). t ++ c.args.end.now) none))
+    (c.in-Err-read.ensures.refused has.ended has.lines)
 
 pub returns-clause-read : goal.returns-clause-read
 returns-clause-read g c bytes has =
     let cut : List ℕ = g.B.Store.items c.args.self.now.cut in
     let whole : c.as_slice.result.now ≡ cut ++ c.args.end.now = c.as_slice.ensures ∙ c.in_ok-extend_from_slice.ensures.items in
-    line_ended g.W.Fifo.items g.R.Fifo.items g.B.Store.items c.args.self.now _ bytes c.args.end.now c.as_slice.result.now has whole c.clear.ensures.items (c.in-Ok-read.ensures.read has.ended has.lines)
+    line_ended g.W.Fifo.items g.R.Fifo.items g.P.Fifo.items g.C.Fifo.items g.B.Store.items c.args.self.now _ bytes c.args.end.now c.as_slice.result.now has whole c.clear.ensures.items
+    (c.in-Ok-read-2.ensures.read has.ended has.lines)
 
-pub returns-in-Err-read-clause-refused : goal.returns-in-Err-read-clause-refused
-returns-in-Err-read-clause-refused g c bytes more has =
+pub returns-in-Err-read-2-clause-refused : goal.returns-in-Err-read-2-clause-refused
+returns-in-Err-read-2-clause-refused g c bytes more has =
     let cut : List ℕ = g.B.Store.items c.args.self.now.cut in
     let whole : c.as_slice.result.now ≡ cut ++ c.args.end.now = c.as_slice.ensures ∙ c.in_ok-extend_from_slice.ensures.items in
-    end_refused c.in-Err-read.fault has.ended bytes cut c.args.end.now c.as_slice.result.now more has.text has.lines.are has.no_feed c.requires whole (c.in-Err-read.ensures.refused has.ended has.lines)
+    end_refused c.in-Err-read-2.fault has.ended bytes cut c.args.end.now c.as_slice.result.now more has.text has.lines.are has.no_feed c.requires whole (c.in-Err-read-2.ensures.refused has.ended has.lines)

@@ -4,5 +4,5 @@ use Rattle.register_recordings.proofs.recordings.RegisterRecording.within.Goals 
 
 pub returns : goal.returns
 returns g c =
-    nothing_read g.W.Fifo.items g.R.Fifo.items g.B.Store.items _ c.clear.ensures.items
+    nothing_read g.W.Fifo.items g.R.Fifo.items g.P.Fifo.items g.C.Fifo.items g.B.Store.items _ c.clear.ensures.items
     (record { are = tt; count = refl; events = λ head further parts. absurd (omega (arith, ap length parts)) })

@@ -1,0 +1,64 @@
+-- Whether a history falls short of a class, and whether the bytes that record it do.
+use Rattle.std.proofs.Common.{◌≡◌, ◌≢◌, Bool, true, false, ℕ, Option, Some, None, List, [], ◌∷◌, ◌++◌, not, reverse, refl, sym, subst, inr}
+use Rattle.std.specs.List.{filter_map}
+use Rattle.register_calls.specs.declared.auditors.ReaderState.{ReaderState}
+use Rattle.register_calls.specs.declared.events.Class.{Class}
+use Rattle.register_calls.specs.declared.events.Class.TheVariants.{Safe, Regular, AtomicByReader, Atomic}
+use Rattle.register_calls.specs.declared.events.Register.{Register}
+use Rattle.register_calls.specs.declared.events.RegisterEvent.{RegisterEvent}
+use Rattle.register_calls.specs.declared.reports.RegisterReport.{RegisterReport}
+use Rattle.register_calls.specs.declared.witnesses.ReaderChains.{ReaderChains}
+use Rattle.register_calls.specs.Classes.{HasClass, IsStrongest}
+use Rattle.register_calls.specs.Findings.{is_at_least}
+use Rattle.register_calls.specs.Histories.{IsWellFormed}
+use Rattle.register_calls.proofs.ClassLemmas.{stronger}
+use Rattle.register_lines.specs.declared.lines.RegisterLine.{RegisterLine}
+use Rattle.register_recordings.specs.declared.findings.Misses.{Misses}
+use Rattle.register_recordings.specs.declared.findings.RegisterFinding.{RegisterFinding}
+use Rattle.register_recordings.specs.declared.findings.RegisterFinding.TheVariants.{Judged}
+use Rattle.register_recordings.specs.declared.recordings.JudgedLines.{JudgedLines}
+use Rattle.register_recordings.specs.Recordings.{FallsShort, IsRegisterRecording, IsShortfall, falls_short, recorded_event, register_text}
+use Rattle.register_recordings.specs.Reading.{HasJudged, HasReadEvents}
+
+-- the strongest class is one that the history has
+strongest_has : (d : Class) (r : Register) (h : List RegisterEvent) → IsStrongest (Some d) r h → HasClass d r h
+strongest_has Safe r h is = is.0
+strongest_has Regular r h is = is.0
+strongest_has AtomicByReader r h is = is.0
+strongest_has Atomic r h is = is
+
+-- if the history lacks a class, its strongest one falls short of it
+pub lacking_falls_short :
+    (class : Class) (found : Option Class) (misses : Misses) (report : RegisterReport) (r : Register) (h : List RegisterEvent) → IsWellFormed r h → IsStrongest found r h → ¬ HasClass class r h →
+    falls_short class (Judged found misses report) ≡ true
+lacking_falls_short class None misses report r h formed is lacks = refl
+lacking_falls_short class (Some d) misses report r h formed is lacks =
+    elim (is_at_least d class) as (λ t. is_at_least d class ≡ t → not t ≡ true) [
+      | true ↦ λ least. absurd (lacks (stronger d class r h formed least (strongest_has d r h is)))
+      | false ↦ λ less. refl
+    ] refl
+
+module _ {W R P C : Type 0} (window : W → List ℕ) (states : R → List ReaderState) (places : P → List ℕ) (chains : C → List ReaderChains) where
+  by_finding :
+      (class : Class) (bytes : List ℕ) (r : Register) (events : List RegisterEvent) (found : Option RegisterFinding) → IsRegisterRecording bytes r events → FallsShort class r events found → IsShortfall class bytes found
+  by_finding class bytes r events None is short = inr (r, events, is, short)
+  by_finding class bytes r events (Some finding) is short = ((r, events, is, short.0), short.1)
+
+  -- what holds of the history of lines that have ended holds of their bytes
+  pub bytes_fall_short :
+      (lines : JudgedLines W R P C) (class : Class) (ended : List RegisterLine) (found : Option RegisterFinding) → ended ≢ [] → HasJudged window states places chains lines ended →
+      ((events : List RegisterEvent) → HasReadEvents window states places chains lines lines.out_of_turn events → FallsShort class lines.witness.auditor.register events found) → IsShortfall class (register_text ended) found
+  bytes_fall_short lines class [] found some has short = absurd (some refl)
+  bytes_fall_short lines class (head ∷ further) found some has short =
+      let read = has.events head further refl in
+      let is : IsRegisterRecording (register_text (head ∷ further)) lines.witness.auditor.register (filter_map recorded_event further) = record {
+        is_cut = lines.is_cut;
+        head = head;
+        further = further;
+        text = refl;
+        are = has.are;
+        gives_cut = read.1;
+        gives_register = read.0;
+        gives_events = refl;
+      } in
+      by_finding class (register_text (head ∷ further)) lines.witness.auditor.register (filter_map recorded_event further) found is (short (filter_map recorded_event further) read.2)

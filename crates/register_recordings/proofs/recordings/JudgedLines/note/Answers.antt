@@ -1,0 +1,21 @@
+use Rattle.std.proofs.Common.{refl, sym, subst, reverse, ◌++◌, ◌∷◌, []}
+use Rattle.register_calls.specs.declared.events.RegisterEvent.{RegisterEvent}
+use Rattle.register_calls.specs.Histories.{IsWellFormed}
+use Rattle.register_recordings.specs.Misses.{AreMisses}
+use Rattle.register_recordings.proofs.MissLemmas.{all_kept, no_end_keeps}
+use Rattle.register_recordings.proofs.recordings.JudgedLines.note.Goals as goal
+
+pub returns-in_default : goal.returns-in_default
+returns-in_default g c = record {
+  misses = λ before at remembers formed misses.
+      let r = c.args.self.now.witness.auditor.register in
+      all_kept r before c.args.event c.args.self.now.misses (no_end_keeps r (reverse before) c.args.event c.in_default.not-ReadEnds) misses;
+  kept = refl;
+}
+
+pub returns-then-keeps_classes-clause-misses : goal.returns-then-keeps_classes-clause-misses
+returns-then-keeps_classes-clause-misses g c before at remembers formed misses =
+    let r = c.args.self.now.witness.auditor.register in
+    subst (λ (e : RegisterEvent). AreMisses r (before ++ e ∷ []) c.args.self.now.misses) (sym c.in-ReadEnds.is)
+    (all_kept r before _ c.args.self.now.misses
+    ((c.keeps_classes.ensures (reverse before) remembers (subst (λ (e : RegisterEvent). IsWellFormed r (e ∷ reverse before)) c.in-ReadEnds.is formed)).0 c.if-keeps_classes.true) misses)
