@@ -41,6 +41,18 @@ KINDS = [
     Program("kinds in java", "command -v javac", "apt-get install default-jdk-headless", "javac -Werror -d $ROOM/kinds include/java/RingCalls.java tests/kinds/Kinds.java", "java -cp $ROOM/kinds Kinds"),
 ]
 
+# Each records every kind of event of a register.
+REGISTERS = [
+    *(Program(f"registers in {name}", "command -v gcc && command -v g++", "apt-get install build-essential",
+              f"{compiler} -O2 -Wall -Wextra -Wpedantic -Werror -Iinclude tests/registers/registers.{kind} -o $ROOM/registers_{name}", f"$ROOM/registers_{name}")
+      for name, compiler, kind in (("c11", "gcc -std=c11", "c"), ("cpp11", "g++ -x c++ -std=c++11", "c"), ("cpp17", "g++ -std=c++17", "cpp"))),
+    Program("registers in python", "true", "", "true", "python3 tests/registers/registers.py"),
+]
+# Registers that threads write and read, of three kinds; and one in Python, as a student would write it.
+REGISTER_THREADS = Program("registers of threads", "command -v gcc", "apt-get install build-essential",
+                           f"{C} tests/registers/threads.c -o $ROOM/register_threads", "$ROOM/register_threads")
+REGISTER_STUDENT = Program("registers of a student", "true", "", "true", "python3 tests/registers/student.py")
+
 # Each lists its queues, or records one.
 REAL = [
     in_c("posix", "mqueue.h", "libc6-dev", "-lrt"),

@@ -1,0 +1,167 @@
+/* ring_register.h: records the reads and writes of a register with one writer and up to 64 readers, for `lamport_ring audit --register`.
+ * C11, and C++ from C++11; nothing but this file is needed.
+ *
+ *     ring_register rec;
+ *     if (!ring_register_init(&rec, 2, 1 << 20)) ..     2 readers; room for so many words of 8 bytes for each thread: an operation takes 5
+ *     writer:    ring_register_write(&rec, v);   my_write(v);           ring_register_wrote(&rec);
+ *     reader 1:  ring_register_read(&rec, 1);    v = my_read();         ring_register_got(&rec, 1, v);        (readers are counted from 1)
+ *     when all threads were joined:  ring_register_print(&rec, "register 0 4", file);  ring_register_free(&rec);
+ *                or ring_register_restart(&rec), and the next round begins.
+ *
+ * Each number is that of one thread; a writer that reads too takes a number of its own. A write of the value that the register holds is
+ * a write: record it. A read that finds no value is recorded with a number that is no value: 4 where the first line is "register 0 4".
+ *
+ * Why there is no false alarm. Each begin takes the next ticket of one counter before the operation, each end after it, so an
+ * interval is only ever widened. The threads write the counter by fetch_add alone. Where the ticket of an end is below that of a begin, the
+ * begin's fetch_add (acquire) reads from the release sequence that the end's fetch_add (release) heads: the one operation happens before
+ * the other in the sense of C11. All other operations overlap in the recording. With wider intervals each read may be of the same writes
+ * and perhaps of more, no read is overlapped by fewer of them, and fewer reads have to keep to one another. So the recording has each
+ * class that the register has there, and a class that the recording lacks the register lacks. The price: a ticket orders
+ * operations that the register itself perhaps does not, so a fence that is missing between operations that do not overlap can go unseen.
+ *
+ * While recording nothing is allocated and nothing locked. Where a thread has no more room the history is cut, for all threads, at the
+ * ticket of the first event that was not kept: a first part of what happened, and a first part has each class that the whole has. The
+ * first line then begins with `cut`, and ring_register_print says on stderr whose log was full. It says so, too, where nothing was
+ * recorded. */
+#ifndef RING_REGISTER_H
+#define RING_REGISTER_H
+#include <stdint.h>
+#include <stdio.h>
+#include <stdlib.h>
+#include <string.h>
+#ifdef __cplusplus
+#include <atomic>
+#define RING_REGISTER_STD(name) std::name
+typedef std::atomic<uint64_t> ring_register_counter;
+#else
+#include <stdatomic.h>
+#define RING_REGISTER_STD(name) name
+typedef _Atomic uint64_t ring_register_counter;
+#endif
+#ifdef _WIN32
+#include <fcntl.h>
+#include <io.h>
+#endif
+
+enum { RING_REGISTER_READERS = 64 };
+enum { RING_WRITE, RING_READ, RING_REGISTER_ENDS, RING_WROTE = RING_REGISTER_ENDS, RING_GOT };
+
+/* The log of a thread: of each event its kind and how many numbers it has, its ticket, the number. */
+typedef struct { uint64_t *words; size_t used, room; uint64_t cut; char apart[96]; } ring_register_log;
+/* The log of the writer, then those of the readers. */
+typedef struct { ring_register_log logs[RING_REGISTER_READERS + 1]; int readers; char between[124]; ring_register_counter next; char apart[120]; } ring_register;
+
+/* Forgets what was recorded, between two rounds of a test: while no thread records. */
+static inline void ring_register_restart(ring_register *r) {
+    for (int i = 0; i <= r->readers; i++) {
+        r->logs[i].used = 0;
+        r->logs[i].cut = UINT64_MAX;
+    }
+    RING_REGISTER_STD(atomic_store_explicit)(&r->next, (uint64_t)0, RING_REGISTER_STD(memory_order_relaxed));
+}
+
+static inline void ring_register_free(ring_register *r) {
+    for (int i = 0; i <= r->readers; i++) free(r->logs[i].words);
+}
+
+/* Answers 0 where there is no memory, or where the readers are not from 1 to 64. */
+static inline int ring_register_init(ring_register *r, int readers, size_t words) {
+    int there = readers >= 1 && readers <= RING_REGISTER_READERS;
+    r->readers = there ? readers : 0;
+    for (int i = 0; i <= r->readers; i++) {
+        ring_register_log *log = &r->logs[i];
+        log->words = (uint64_t *)malloc(words * sizeof(uint64_t));
+        log->room = words;
+        if (log->words) memset(log->words, 1, words * sizeof(uint64_t));    /* the pages are there before the recording begins */
+        else there = 0;
+    }
+    RING_REGISTER_STD(atomic_init)(&r->next, (uint64_t)0);
+    ring_register_restart(r);
+    return there;
+}
+
+static inline void ring_register_event(ring_register *r, int thread, int kind, const uint64_t *value) {
+    ring_register_log *log = &r->logs[thread];
+    uint64_t t, *w = log->words + log->used;
+    size_t n = value != NULL;
+    if (log->cut != UINT64_MAX) return;
+    if (kind < RING_REGISTER_ENDS) t = RING_REGISTER_STD(atomic_fetch_add_explicit)(&r->next, (uint64_t)1, RING_REGISTER_STD(memory_order_acquire));
+    else t = RING_REGISTER_STD(atomic_fetch_add_explicit)(&r->next, (uint64_t)1, RING_REGISTER_STD(memory_order_release));
+    if (log->room - log->used < n + 2) { log->cut = t; return; }
+    w[0] = (uint64_t)kind | (uint64_t)n << 8;
+    w[1] = t;
+    if (value) w[2] = *value;
+    log->used += n + 2;
+}
+
+/* The writer's, before a write and after it. */
+static inline void ring_register_write(ring_register *r, uint64_t value) { ring_register_event(r, 0, RING_WRITE, &value); }
+static inline void ring_register_wrote(ring_register *r) { ring_register_event(r, 0, RING_WROTE, NULL); }
+
+/* Those of a reader, from 1 to as many as there are, before a read and after it. */
+static inline void ring_register_read(ring_register *r, int reader) { ring_register_event(r, reader, RING_READ, NULL); }
+static inline void ring_register_got(ring_register *r, int reader, uint64_t value) { ring_register_event(r, reader, RING_GOT, &value); }
+
+/* Whose log was full first; -1 where none was. */
+static inline int ring_register_full(const ring_register *r) {
+    int full = -1;
+    for (int i = 0; i <= r->readers; i++) {
+        if (r->logs[i].cut != UINT64_MAX && (full < 0 || r->logs[i].cut < r->logs[full].cut)) full = i;
+    }
+    return full;
+}
+
+/* Tells stderr where the history is cut, and where nothing was recorded. */
+static inline void ring_register_tell(const ring_register *r) {
+    const int full = ring_register_full(r);
+    size_t used = 0;
+    for (int i = 0; i <= r->readers; i++) used += r->logs[i].used;
+    if (!r->logs[0].words || (full < 0 && used == 0)) {
+        fputs("ring_register: nothing was recorded: was ring_register_init called, and were all threads joined?\n", stderr);
+    } else if (full >= 0) {
+        char name[16] = "W";
+        if (full > 0) snprintf(name, sizeof name, "R%d", full);
+        fprintf(stderr, "ring_register: the log of %s was full after %lu words: the recording is a first part of what happened\n", name, (unsigned long)r->logs[full].room);
+    }
+}
+
+/* Prints the recording; head is its first line: "register 0 4" (the first value, and that the values are below 4) or "register 0". Answers
+ * 0 where not all was written. Where the history is cut, and where nothing was recorded, stderr is told. */
+static inline int ring_register_print(const ring_register *r, const char *head, FILE *out) {
+    static const char *const words[] = { " write", " read", " wrote", " got" };
+    const int full = ring_register_full(r);
+    const uint64_t cut = full < 0 ? UINT64_MAX : r->logs[full].cut;
+    size_t at[RING_REGISTER_READERS + 1] = { 0 };
+    int written;
+#ifdef _WIN32
+    /* a stream of text would end each line in CR LF, which the audit refuses */
+    int mode = fflush(out) == 0 ? _setmode(_fileno(out), _O_BINARY) : -1;
+#endif
+    ring_register_tell(r);
+    fprintf(out, "%s%s\n", full < 0 ? "" : "cut ", head);
+    for (;;) {
+        /* the next event of all logs, by its ticket */
+        const uint64_t *event = NULL;
+        int thread = 0;
+        for (int i = 0; i <= r->readers; i++) {
+            const uint64_t *w = r->logs[i].words + at[i];
+            if (at[i] < r->logs[i].used && w[1] < cut && (!event || w[1] < event[1])) {
+                event = w;
+                thread = i;
+            }
+        }
+        if (!event) break;
+        at[thread] += (size_t)(event[0] >> 8) + 2;
+        if (thread == 0) fputc('W', out);
+        else fprintf(out, "R%d", thread);
+        fputs(words[event[0] & 255], out);
+        if (event[0] >> 8) fprintf(out, " %llu", (unsigned long long)event[2]);
+        fputc('\n', out);
+    }
+    written = fflush(out) == 0 && !ferror(out);
+#ifdef _WIN32
+    if (mode != -1) _setmode(_fileno(out), mode);
+#endif
+    return written;
+}
+#endif
