@@ -1,5 +1,5 @@
 #!/bin/sh
-# The tests: the program on each example, what it prints and how it ends, and what it says of faults in random histories; calls of the
+# The tests: the program on each example, what it prints and how it ends, and what it says of random histories of queues and registers; calls of the
 # system that fail; the launcher, tools/install, the documents, the steps of docs/USING.md, some of record/; and each #[test], with no proof
 # of its own. The program is the one that ./lamport_ring runs: the shipped one if it is of these sources. With --prove it is first built
 # here by its proof. What cannot be tried here, for lack of the kit, of Python or of a C compiler, is left out, and the end says so. ./gate
@@ -107,7 +107,7 @@ compiler() { for each in "${CC-}" cc gcc clang; do [ -z "$each" ] || command -v 
 
 # These need no program.
 # shellcheck disable=SC2086
-lacks python3 "tests of the launcher, the words of faults, the documents, record/ and docs/TRUST.md" || try launcher trust $using
+lacks python3 "tests of the launcher, the words of faults, the classes of registers, the documents, record/ and docs/TRUST.md" || try launcher trust $using
 if wait "$building"; then
     PROGRAM=$(./lamport_ring --which) || exit 1
     export PROGRAM
@@ -118,6 +118,7 @@ if wait "$building"; then
     if command -v python3 >/dev/null; then
         try docs record
         try_after_examples causes
+        try_after_examples registers
         if [ "$(compiler)" ]; then
             try_after_examples faults
         else
