@@ -1,9 +1,9 @@
-// What `audit --register` prints, against the definitions by intervals, for many histories: a part of bench/registers, which says how. It knows no
-// count of writes and no floor: an operation is an interval, and each choice of a write for each read is tried. It begins the program once for
+// What `audit --register` prints, against the definitions by intervals, for many histories: a part of bench/registers, which says how. It has no
+// floor and no single pass: an operation is an interval, and each choice of a write for each read is tried. It begins the program once for
 // each history.
 //
-//     registers all EVENTS PART PARTS -- COMMAND..       this part of all histories of so many events, of two readers and the values 0 and 1
-//     registers random COUNT SEED -- COMMAND..           so many random ones
+//     registers all EVENTS PART PARTS -- COMMAND..       this part of all histories of EVENTS events, of two readers and the values 0 and 1
+//     registers random COUNT SEED -- COMMAND..           random ones
 //
 // It prints counts, a line each: a name and a number.
 #include <algorithm>
@@ -437,7 +437,7 @@ void compare(const Register& of, const std::vector<Event>& events, const Options
 
 // --- which histories
 
-// Each history of so many events: every shorter one is the beginning of one, and its class stands in the lines that are told.
+// Each history of `count` events: every shorter one is the beginning of one, and its class follows from the lines that are printed.
 void all(std::vector<Event>& events, std::vector<bool>& open, size_t count, uint64_t part, uint64_t parts, uint64_t& at) {
     if (events.size() == count) {
         if (at++ % parts == part) compare({0, 2, false}, events, {ATOMIC, true, false});

@@ -4,7 +4,7 @@
 It prints a table: for recordings of some lengths the shortest time of `audit --register` and of a twin in plain Rust of the same rules
 (registers_twin.rs, built with rustc -O), the ratio, the lines a second, and the peak memory of both. The register is atomic, has the values 0 to
 999, a writer and four readers; all are under way most of the time, and reads are short. One recording more has a read that lasts through it all, so
-that each write is kept. It builds the program first where it is not built.
+that each write is kept. It builds the program first if it is not built.
 """
 import os
 import random
@@ -21,11 +21,11 @@ VALUES, READERS = 1000, 4
 
 
 def write_recording(path, lines, stalls):
-    """Writes a recording of so many lines. An operation takes effect at once, at its begin or at its end."""
+    """Writes a recording of this many lines. An operation takes effect at once, at its begin or at its end."""
     pick = random.Random(1)
     draw = pick.random
     held = 0
-    # of each side what it has under way: a write's value, where it takes effect at its end; a read's, where it has one
+    # of each side what it has under way: a write's value, if it takes effect at its end; a read's, if it took effect at its begin
     under_way = [None] * (READERS + 1)
     begun = [False] * (READERS + 1)
     with open(path, "w", encoding="ascii") as file:

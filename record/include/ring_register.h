@@ -2,26 +2,26 @@
  * C11, and C++ from C++11; nothing but this file is needed.
  *
  *     ring_register rec;
- *     if (!ring_register_init(&rec, 2, 1 << 20)) ..     2 readers; room for so many words of 8 bytes for each thread: an operation takes 5
+ *     if (!ring_register_init(&rec, 2, 1 << 20)) ..     2 readers; words of 8 bytes for each thread: an operation takes 5
  *     writer:    ring_register_write(&rec, v);   my_write(v);           ring_register_wrote(&rec);
  *     reader 1:  ring_register_read(&rec, 1);    v = my_read();         ring_register_got(&rec, 1, v);        (readers are counted from 1)
  *     when all threads were joined:  ring_register_print(&rec, "register 0 4", file);  ring_register_free(&rec);
  *                or ring_register_restart(&rec), and the next round begins.
  *
  * Each number is that of one thread; a writer that reads too takes a number of its own. A write of the value that the register holds is
- * a write: record it. A read that finds no value is recorded with a number that is no value: 4 where the first line is "register 0 4".
+ * a write: record it. A read that finds no value is recorded with a number that is no value: 4 if the first line is "register 0 4".
  *
  * Why there is no false alarm. Each begin takes the next ticket of one counter before the operation, each end after it, so an
- * interval is only ever widened. The threads write the counter by fetch_add alone. Where the ticket of an end is below that of a begin, the
+ * interval is only ever widened. The threads write the counter by fetch_add alone. If the ticket of an end is below that of a begin, the
  * begin's fetch_add (acquire) reads from the release sequence that the end's fetch_add (release) heads: the one operation happens before
  * the other in the sense of C11. All other operations overlap in the recording. With wider intervals each read may be of the same writes
  * and perhaps of more, no read is overlapped by fewer of them, and fewer reads have to keep to one another. So the recording has each
  * class that the register has there, and a class that the recording lacks the register lacks. The price: a ticket orders
  * operations that the register itself perhaps does not, so a fence that is missing between operations that do not overlap can go unseen.
  *
- * While recording nothing is allocated and nothing locked. Where a thread has no more room the history is cut, for all threads, at the
+ * While recording nothing is allocated and nothing locked. If a thread has no more room the history is cut, for all threads, at the
  * ticket of the first event that was not kept: a first part of what happened, and a first part has each class that the whole has. The
- * first line then begins with `cut`, and ring_register_print says on stderr whose log was full. It says so, too, where nothing was
+ * first line then begins with `cut`, and ring_register_print reports on stderr whose log was full. It reports, too, if nothing was
  * recorded. */
 #ifndef RING_REGISTER_H
 #define RING_REGISTER_H
@@ -64,7 +64,7 @@ static inline void ring_register_free(ring_register *r) {
     for (int i = 0; i <= r->readers; i++) free(r->logs[i].words);
 }
 
-/* Answers 0 where there is no memory, or where the readers are not from 1 to 64. */
+/* Returns 0 if there is no memory, or if the readers are not from 1 to 64. */
 static inline int ring_register_init(ring_register *r, int readers, size_t words) {
     int there = readers >= 1 && readers <= RING_REGISTER_READERS;
     r->readers = there ? readers : 0;
@@ -102,7 +102,7 @@ static inline void ring_register_wrote(ring_register *r) { ring_register_event(r
 static inline void ring_register_read(ring_register *r, int reader) { ring_register_event(r, reader, RING_READ, NULL); }
 static inline void ring_register_got(ring_register *r, int reader, uint64_t value) { ring_register_event(r, reader, RING_GOT, &value); }
 
-/* Whose log was full first; -1 where none was. */
+/* Whose log was full first; -1 if none was. */
 static inline int ring_register_full(const ring_register *r) {
     int full = -1;
     for (int i = 0; i <= r->readers; i++) {
@@ -111,7 +111,7 @@ static inline int ring_register_full(const ring_register *r) {
     return full;
 }
 
-/* Tells stderr where the history is cut, and where nothing was recorded. */
+/* Reports on stderr that the history is cut, or that nothing was recorded. */
 static inline void ring_register_tell(const ring_register *r) {
     const int full = ring_register_full(r);
     size_t used = 0;
@@ -125,8 +125,8 @@ static inline void ring_register_tell(const ring_register *r) {
     }
 }
 
-/* Prints the recording; head is its first line: "register 0 4" (the first value, and that the values are below 4) or "register 0". Answers
- * 0 where not all was written. Where the history is cut, and where nothing was recorded, stderr is told. */
+/* Prints the recording; head is its first line: "register 0 4" (the first value, and that the values are below 4) or "register 0". Returns
+ * 0 if not all was written. That the history is cut, or that nothing was recorded, is reported on stderr. */
 static inline int ring_register_print(const ring_register *r, const char *head, FILE *out) {
     static const char *const words[] = { " write", " read", " wrote", " got" };
     const int full = ring_register_full(r);

@@ -13,7 +13,7 @@ class ring_register_recorder {
     ring_register rec;
 
 public:
-    // Throws bad_alloc where there is no memory, or where the readers are not from 1 to 64.
+    // Throws bad_alloc if there is no memory, or if the readers are not from 1 to 64.
     ring_register_recorder(int readers, std::size_t words) {
         if (!ring_register_init(&rec, readers, words)) {
             ring_register_free(&rec);

@@ -9,14 +9,14 @@ or by hand:
     reader 1:  rec.read(1);    v = my_read();   rec.got(1, v)      or  with rec.reading(1) as got: got(my_read())
 
 A write of the value that the register holds is a write: record it. A read that finds no value is recorded with a number that is no value:
-4 where the first line is "register 0 4".
+4 if the first line is "register 0 4".
 
 Why there is no false alarm: each begin takes the next ticket of one counter before the operation, each end after it, so an interval is only
 ever widened, and with wider intervals each class permits what it did and more. next() of a count is one step of C under the interpreter's lock, and that
-lock orders the threads: where the ticket of an end is below that of a begin, the one operation happens before the other. (A build without
-that lock needs a lock round next.) The logs are there before the recording begins, but CPython allocates its numbers as it goes. Where a
+lock orders the threads: if the ticket of an end is below that of a begin, the one operation happens before the other. (A build without
+that lock needs a lock round next.) The logs are there before the recording begins, but CPython allocates its numbers as it goes. If a
 thread has no more room the history is cut there, for all threads: a first part of what happened, whose first line begins with `cut`; print
-says on stderr whose log was full, and where nothing was recorded.
+reports on stderr whose log was full, or that nothing was recorded.
 
 The interpreter lets threads take turns each 5 ms, so that few operations overlap: sys.setswitchinterval(1e-6) makes it more."""
 import array
@@ -83,7 +83,7 @@ class Watched:
 
 class Recorder:
     def __init__(self, readers=1, room=1 << 20):
-        """With room for so many numbers of each thread: an operation takes 5."""
+        """The room is that for the numbers of each thread: an operation takes 5."""
         if not 1 <= readers <= READERS:
             raise ValueError(f"{readers} readers: there may be 1 to {READERS}")
         # (the log of the writer, then those of the readers)
@@ -149,7 +149,7 @@ class Recorder:
             yield " ".join([name, WORDS[kind], *map(str, numbers)])
 
     def tell(self):
-        """Tells stderr where the history is cut, and where nothing was recorded."""
+        """Reports on stderr that the history is cut, or that nothing was recorded."""
         cut = self.cut()
         if cut != NEVER:
             full = next(i for i, log in enumerate(self.logs) if log.cut == cut)
@@ -159,8 +159,8 @@ class Recorder:
             print("ring_register: nothing was recorded: is it this Recorder that was called, and were all threads joined?", file=sys.stderr)
 
     def print(self, head, out):
-        """Prints the recording; head is its first line: "register 0 4" or "register 0". Where the history is cut, and where nothing was
-        recorded, stderr is told."""
+        """Prints the recording; head is its first line: "register 0 4" or "register 0". That the history is cut, or that nothing was
+        recorded, is reported on stderr."""
         self.tell()
         if hasattr(out, "reconfigure"):
             out.reconfigure(newline="\n")  # (on Windows a line would end in CR LF, which the audit refuses)

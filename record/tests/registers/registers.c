@@ -1,4 +1,4 @@
-/* registers.c: registers WORDS: each kind of event, logs of so many words; with no WORDS no event, and a ring_register that was never begun.
+/* registers.c: registers WORDS: each kind of event, logs of this many words; with no WORDS no event, and a ring_register that was never begun.
  * As C11 and as C++11. */
 #include "ring_register.h"
 
