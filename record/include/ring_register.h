@@ -82,12 +82,13 @@ static inline int ring_register_init(ring_register *r, int readers, size_t words
 
 static inline void ring_register_event(ring_register *r, int thread, int kind, const uint64_t *value) {
     ring_register_log *log = &r->logs[thread];
-    uint64_t t, *w = log->words + log->used;
-    size_t n = value != NULL;
+    const size_t n = value != NULL;
+    uint64_t t, *w;
     if (log->cut != UINT64_MAX) return;
     if (kind < RING_REGISTER_ENDS) t = RING_REGISTER_STD(atomic_fetch_add_explicit)(&r->next, (uint64_t)1, RING_REGISTER_STD(memory_order_acquire));
     else t = RING_REGISTER_STD(atomic_fetch_add_explicit)(&r->next, (uint64_t)1, RING_REGISTER_STD(memory_order_release));
     if (log->room - log->used < n + 2) { log->cut = t; return; }
+    w = log->words + log->used;
     w[0] = (uint64_t)kind | (uint64_t)n << 8;
     w[1] = t;
     if (value) w[2] = *value;
@@ -144,8 +145,9 @@ static inline int ring_register_print(const ring_register *r, const char *head, 
         const uint64_t *event = NULL;
         int thread = 0;
         for (int i = 0; i <= r->readers; i++) {
-            const uint64_t *w = r->logs[i].words + at[i];
-            if (at[i] < r->logs[i].used && w[1] < cut && (!event || w[1] < event[1])) {
+            const ring_register_log *log = &r->logs[i];
+            const uint64_t *w = at[i] < log->used ? log->words + at[i] : NULL;
+            if (w && w[1] < cut && (!event || w[1] < event[1])) {
                 event = w;
                 thread = i;
             }
