@@ -70,10 +70,10 @@ static inline int ring_register_init(ring_register *r, int readers, size_t words
     r->readers = there ? readers : 0;
     for (int i = 0; i <= r->readers; i++) {
         ring_register_log *log = &r->logs[i];
-        log->words = (uint64_t *)malloc(words * sizeof(uint64_t));
+        log->words = there ? (uint64_t *)malloc(words * sizeof(uint64_t)) : NULL;
         log->room = words;
         if (log->words) memset(log->words, 1, words * sizeof(uint64_t));    /* the pages are there before the recording begins */
-        else there = 0;
+        there = log->words != NULL;
     }
     RING_REGISTER_STD(atomic_init)(&r->next, (uint64_t)0);
     ring_register_restart(r);
