@@ -460,9 +460,9 @@ void random_ones(uint64_t count, uint64_t seed) {
     const auto below = [&](uint64_t n) { return bits() % n; };
     const auto in = [&](uint64_t a, uint64_t n) { return below(n) < a; };
     while (count--) {
-        const bool is_stray = in(1, 25), is_seam = in(1, 4);
+        const bool is_long = in(1, 100), is_stray = !is_long && in(1, 25), is_seam = is_long || in(1, 4);
         const uint64_t readers = 1 + below(4), kinds = is_seam ? 2 : 1 + below(5), lies = in(3, 5) ? 0 : 1 + below(20);
-        const uint64_t size = in(1, 2) ? 24 : is_seam ? 8 + below(16) : 1 + below(24);
+        const uint64_t size = is_long ? 29 + 4 * below(5) : in(1, 2) ? 24 : is_seam ? 9 + 4 * below(4) : 1 + below(24);
         Register of = {below(kinds), std::nullopt, in(1, 10)};
         if (in(1, 2)) of.values = kinds;
         std::vector<Event> events;
@@ -471,15 +471,15 @@ void random_ones(uint64_t count, uint64_t seed) {
         for (uint64_t i = 0; i < size; i++) {
             // (over seams: R1 reads at each end of a write, of values that come again)
             int side = in(1, 4) ? int(below(2)) : int(below(readers + 1));
-            if (is_seam && in(15, 16)) side = i + 2 >= size || (i > 0 && (events.back().side == 0) == events.back().begins);
+            if (is_long || (is_seam && in(15, 16))) side = i == 2 || i + 2 >= size || (i > 0 && (events.back().side == 0) == events.back().begins);
             bool begins = !open[size_t(side)];
             if (is_stray && in(1, 12)) begins = !begins;
             Number value = 0;
             if (side == 0 && begins) {
-                value = is_seam && in(7, 8) ? 1 - near.back() % 2 : below(kinds + (is_stray && in(1, 12)));
+                value = is_long || (is_seam && in(7, 8)) ? 1 - near.back() % 2 : below(kinds + (is_stray && in(1, 12)));
                 near.push_back(value);
             } else if (side && !begins) {
-                value = in(lies, 100) ? below(kinds + 1) : is_seam && i + 1 == size ? 1 - near.back() % 2 : near[near.size() - 1 - below(std::min<uint64_t>(near.size(), in(1, 6) ? 3 : is_seam && in(4, 5) ? 1 : 2))];
+                value = !is_long && in(lies, 100) ? below(kinds + 1) : is_seam && i + 1 == size ? 1 - near.back() % 2 : near[near.size() - 1 - below(std::min<uint64_t>(near.size(), is_long ? 1 : in(1, 6) ? 3 : is_seam && in(4, 5) ? 1 : 2))];
             }
             events.push_back({side, begins, value});
             open[size_t(side)] = begins;
