@@ -12,9 +12,9 @@ use Rattle.register_calls.specs.declared.reasons.EarlierRead.{EarlierRead}
 use Rattle.register_calls.specs.Histories.{started, finished, written_values, before_read}
 use Rattle.register_calls.specs.Classes.{Scope, sees}
 use Rattle.register_calls.specs.Judging.{IsLeast, IsFirstPlace, IsGreater, IsRaised}
-use Rattle.register_calls.specs.Chains.{ShowsReads, fresh_chain}
+use Rattle.register_calls.specs.Chains.{ShowsReads, fresh_chain, leaning_chain}
 use Rattle.register_calls.specs.Reasons.{BeginsAt, IsBound}
-use Rattle.register_calls.specs.Witnesses.{begin_places, link_of, leaning_chain, IsRaisedChain, KeepsBounds}
+use Rattle.register_calls.specs.Witnesses.{begin_places, link_of, IsRaisedChain, KeepsBounds}
 use Rattle.register_calls.proofs.ReadLemmas.{chosen, left, before_read-begin, before_read-other, length-written}
 use Rattle.register_calls.proofs.Keeping.{KeepsOthers}
 use Rattle.register_calls.proofs.Sets.{get_left, get_end, drop_twice}
@@ -83,7 +83,7 @@ abbrev pub ShownBound : Scope → (first j n : ℕ) → List RegisterEvent → C
 ShownBound s first j n h chain = (reads : List EarlierRead) × ShowsReads chain reads × IsBound s first reads j h n
 
 abbrev pub ShownLow : Scope → (first j n : ℕ) → List RegisterEvent → Chain → Type 0
-ShownLow s first j n b chain = (reads : List EarlierRead) × ShowsReads chain reads × ((n ≤ finished b) ⊎ IsBound s first reads j b n)
+ShownLow s first j n b chain = (n ≤ finished b) ⊎ ((reads : List EarlierRead) × ShowsReads chain reads × IsBound s first reads j b n)
 
 fresh_shows : ShowsReads fresh_chain []
 fresh_shows = record { shown = refl; cut = refl }
@@ -114,11 +114,14 @@ module _ (s : Scope) (first i v l : ℕ) (h : List RegisterEvent) (chain leaning
   raised_bound (Some m) n j next is any_at least low counted begins seen after = elim (cases_lt m l) [
     | inl lt ↦
         let same : leaning ≡ chain = is ∙ chosen (nat_lt m l) chain fresh_chain (lt-ltb m l lt) in
-        let (reads, shows, why) = low in (
-          link_of places base count i v n ∷ reads,
-          after reads (subst (λ (c : Chain). ShowsReads c reads) (sym same) shows),
-          (h, l, inl refl, seen, counted, begins, why, λ k ge less. least.2 k ge less),
-        )
+        elim low [
+          | inl ends ↦ absurd (let from = any_at.0 in omega (arith, from, ends, lt))
+          | inr shown ↦ (
+            link_of places base count i v n ∷ shown.0,
+            after shown.0 (subst (λ (c : Chain). ShowsReads c shown.0) (sym same) shown.1),
+            (h, l, inl refl, seen, counted, begins, inr shown.2, λ k ge less. least.2 k ge less),
+          )
+        ]
     | inr ge ↦
         let same : leaning ≡ fresh_chain = is ∙ left (nat_lt m l) chain fresh_chain (le-ltb m l ge) in (
           link_of places base count i v n ∷ [],
@@ -178,27 +181,23 @@ module _ (s : Scope) (first : ℕ) where
   -- a read begins: its low is the greater of the writes that have ended and of its reader's floor
   pub bounds_begin :
       (i n : ℕ) (h : List RegisterEvent) (floor floor' : ℕ → ℕ) (by by' : ℕ → Chain) (low low' : ℕ → Option ℕ) (low_by low_by' : ℕ → Chain) → ((j : ℕ) → floor' j ≡ floor j) → ((j : ℕ) → by' j ≡ by j) →
-      low' i ≡ Some n → KeepsOthers i low low' → low_by' i ≡ by i → ((j : ℕ) → j ≢ i → low_by' j ≡ low_by j) → IsGreater (finished h) (floor i) n →
+      low' i ≡ Some n → KeepsOthers i low low' → (finished h < floor i → low_by' i ≡ by i) → ((j : ℕ) → j ≢ i → low_by' j ≡ low_by j) → IsGreater (finished h) (floor i) n →
       KeepsBounds s first h floor by low low_by → KeepsBounds s first (ReadBegins i ∷ h) floor' by' low' low_by'
   bounds_begin i n h floor floor' by by' low low' low_by low_by' floors chains here others mine same top k = record {
     floors = (λ j. shown_more s first j (floor j) (floor' j) (ReadBegins i) h (by j) (by' j) (floors j) (chains j) (k.floors j));
     lows = lows;
   }
     where
-      bound_of : (reads : List EarlierRead) → IsBound s first reads i h (floor i) → (n ≤ finished h) ⊎ IsBound s first reads i h n
-      bound_of reads bound = elim (cases_lt (finished h) (floor i)) [
+      began : ShownLow s first i n h (low_by' i)
+      began = elim (cases_lt (finished h) (floor i)) [
         | inl lt ↦
             let least = top.least (floor i) (omega (arith, lt)) (omega arith) in
             let over = top.right in
             let number : floor i ≡ n = omega (arith, least, over) in
-            inr (subst (λ (m : ℕ). IsBound s first reads i h m) number bound)
+            let (reads, shows, bound) = k.floors i in
+            inr (reads, subst (λ (c : Chain). ShowsReads c reads) (sym (mine lt)) shows, subst (λ (m : ℕ). IsBound s first reads i h m) number bound)
         | inr ge ↦ inl (top.least (finished h) (omega arith) ge)
       ]
-
-      began : ShownLow s first i n h (low_by' i)
-      began =
-          let (reads, shows, bound) = k.floors i in
-          (reads, subst (λ (c : Chain). ShowsReads c reads) (sym mine) shows, bound_of reads bound)
 
       lows : (j m : ℕ) → low' j ≡ Some m → ShownLow s first j m (before_read j (ReadBegins i ∷ h)) (low_by' j)
       lows j m at = elim (eqb_tells j i) [

@@ -13,14 +13,13 @@ use Rattle.register_calls.specs.declared.auditors.FoundWrites.{FoundWrites}
 use Rattle.register_calls.specs.declared.chains.Chain.{Chain}
 use Rattle.register_calls.specs.declared.reasons.EarlierRead.{EarlierRead}
 use Rattle.register_calls.specs.declared.reasons.MissReason.TheVariants.{Held, NotWritten, Inverted}
-use Rattle.register_calls.specs.declared.witnesses.ReaderChains.{ReaderChains}
 use Rattle.register_calls.specs.Histories.{IsValue, IsWellFormed, started, finished, written_values, before_read}
 use Rattle.register_calls.specs.Classes.{Scope, Together, EachAlone, IsOf, HasOrder, HasClass}
 use Rattle.register_calls.specs.Judging.{HasNone, IsLeast, IsFirstPlace}
 use Rattle.register_calls.specs.Audits.{KeepsOrder, KeepsScope, lows, own_floors, own_lows, reader_at}
-use Rattle.register_calls.specs.Chains.{ShowsReads}
+use Rattle.register_calls.specs.Chains.{ShowsReads, chain_at}
 use Rattle.register_calls.specs.Reasons.{IsHeldFrom, IsInverted, IsMissReason}
-use Rattle.register_calls.specs.Witnesses.{chains_at, last_end, low_chain}
+use Rattle.register_calls.specs.Witnesses.{last_end, low_chain}
 use Rattle.register_calls.proofs.ReadLemmas.{finished-before_read, length-written}
 use Rattle.register_calls.proofs.OrderLemmas.{NoneIsLater-more, changed, Orders-more}
 use Rattle.register_calls.proofs.Endings.{finished-started}
@@ -51,8 +50,8 @@ module _ (s : Scope) (first i v l m : ℕ) (h : List RegisterEvent) (floor : ℕ
       (reads : List EarlierRead) × ShowsReads chain reads × IsInverted s first reads h i v
   inverted_by false found chain at any keeps has lacks shown = absurd (keeps has)
   inverted_by true (Some n) chain at any keeps has lacks shown = absurd (lacks (order_more n at keeps))
-  inverted_by true None chain at any keeps has lacks (reads, shows, inl ends) = absurd (at m (let p = any.0 in omega (arith, p, ends)) any.1)
-  inverted_by true None chain at any keeps has lacks (reads, shows, inr bound) = (reads, shows, (l, bound, at))
+  inverted_by true None chain at any keeps has lacks (inl ends) = absurd (at m (let p = any.0 in omega (arith, p, ends)) any.1)
+  inverted_by true None chain at any keeps has lacks (inr (reads, shows, bound)) = (reads, shows, (l, bound, at))
 
 module _ (r : Register) (h : List RegisterEvent) (i v base : ℕ) (found : FoundWrites) (firsts : FirstWrites r.first h i v base found) where
   none_since : found.of_any ≡ None → HasNone (written_values r.first h) (finished (before_read i h)) v
@@ -85,18 +84,18 @@ module _ (r : Register) (h : List RegisterEvent) (i v base : ℕ) (found : Found
 
     -- the writes of the value that the read may be of come before that of an earlier read
     pub inverted_there :
-        (c : Class) (xs : List ReaderState) (cs : List ReaderChains) (floor : ℕ) (by chain : Chain) (each all : Bool) → (reader_at xs i).reading ≡ Some found.read → IsValue r v →
-        chain ≡ low_chain c (chains_at cs i) → KeepsScope each EachAlone r.first h (own_floors xs) (own_lows xs) → KeepsScope all Together r.first h (λ j. floor) (lows xs) →
-        EachBounds r.first h xs cs → AllBounds r.first h xs cs floor by → HasClass c r h → (HasClass c r (ReadEnds i v ∷ h) → ⊥) →
+        (c : Class) (xs : List ReaderState) (ts os ls : List Chain) (floor : ℕ) (by chain : Chain) (each all : Bool) → (reader_at xs i).reading ≡ Some found.read → IsValue r v →
+        chain ≡ low_chain c (chain_at ts i) (chain_at ls i) → KeepsScope each EachAlone r.first h (own_floors xs) (own_lows xs) → KeepsScope all Together r.first h (λ j. floor) (lows xs) →
+        EachBounds r.first h xs os ls → AllBounds r.first h xs ts floor by → HasClass c r h → (HasClass c r (ReadEnds i v ∷ h) → ⊥) →
         (reads : List EarlierRead) × ShowsReads chain reads × IsMissReason c r h i v (Inverted reads)
-    inverted_there Safe xs cs floor by chain each all reading value is keeps_each keeps_all of_each of_all has lacks = absurd (lacks (has, value, is_of_last))
-    inverted_there Regular xs cs floor by chain each all reading value is keeps_each keeps_all of_each of_all has lacks = absurd (lacks (has, (m, is_of)))
-    inverted_there AtomicByReader xs cs floor by chain each all reading value is keeps_each keeps_all of_each of_all has lacks =
+    inverted_there Safe xs ts os ls floor by chain each all reading value is keeps_each keeps_all of_each of_all has lacks = absurd (lacks (has, value, is_of_last))
+    inverted_there Regular xs ts os ls floor by chain each all reading value is keeps_each keeps_all of_each of_all has lacks = absurd (lacks (has, (m, is_of)))
+    inverted_there AtomicByReader xs ts os ls floor by chain each all reading value is keeps_each keeps_all of_each of_all has lacks =
         let l = found.read.own_low in
         let mine : own_lows xs i ≡ Some l = ap (λ (o : Option OpenRead). option_map (λ (z : OpenRead). z.own_low) o) reading in
         inverted_by EachAlone r.first i v l m h (own_floors xs) (own_lows xs) mine (let p = firsts.began in let q = firsts.own_low in omega (arith, p, q)) each found.of_own chain
         firsts.own first_any keeps_each has lacks (subst (λ (z : Chain). ShownLow EachAlone r.first i l (before_read i h) z) (sym is) (of_each.lows i l mine))
-    inverted_there Atomic xs cs floor by chain each all reading value is keeps_each keeps_all of_each of_all has lacks =
+    inverted_there Atomic xs ts os ls floor by chain each all reading value is keeps_each keeps_all of_each of_all has lacks =
         let l = found.read.low in
         let mine : lows xs i ≡ Some l = ap (λ (o : Option OpenRead). option_map (λ (z : OpenRead). z.low) o) reading in
         inverted_by Together r.first i v l m h (λ j. floor) (lows xs) mine (let p = firsts.began in let q = firsts.low in omega (arith, p, q)) all found.of_all chain

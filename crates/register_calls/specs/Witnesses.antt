@@ -1,5 +1,5 @@
 -- What a witness of a register's history keeps, and what it answers.
-use Rattle.std.specs.Prelude.{◌≡◌, ◌⊎◌, ℕ, ◌-◌, ◌≤◌, ◌<◌, nat_lt, if◌then◌else◌, Option, Some, None, List, [], ◌∷◌, ◌++◌, length, drop, slice_index_or, Result, MatchResult}
+use Rattle.std.specs.Prelude.{◌≡◌, ◌⊎◌, ℕ, ◌-◌, ◌≤◌, ◌<◌, Option, Some, None, List, [], ◌∷◌, ◌++◌, length, drop, slice_index_or, Result, MatchResult}
 use Rattle.register_calls.specs.declared.events.Register.{Register}
 use Rattle.register_calls.specs.declared.events.RegisterEvent.{RegisterEvent}
 use Rattle.register_calls.specs.declared.events.RegisterEvent.TheVariants.{WriteBegins, WriteEnds, ReadBegins, ReadEnds}
@@ -11,12 +11,11 @@ use Rattle.register_calls.specs.declared.chains.Chain.{Chain}
 use Rattle.register_calls.specs.declared.reasons.EarlierRead.{EarlierRead}
 use Rattle.register_calls.specs.declared.reasons.MissReason.{MissReason}
 use Rattle.register_calls.specs.declared.reasons.MissReason.TheVariants.{NoValue, Held, NotWritten, Inverted}
-use Rattle.register_calls.specs.declared.witnesses.ReaderChains.{ReaderChains}
 use Rattle.register_calls.specs.declared.witnesses.RegisterWitness.{RegisterWitness}
 use Rattle.register_calls.specs.Histories.{finished, before_read}
 use Rattle.register_calls.specs.Classes.{Scope, Together, EachAlone, IsStrongest}
 use Rattle.register_calls.specs.Audits.{AuditsRegister, RefusesRemembered, lows, own_lows, own_floors}
-use Rattle.register_calls.specs.Chains.{ShowsReads, fresh_chain}
+use Rattle.register_calls.specs.Chains.{ShowsReads, chain_at}
 use Rattle.register_calls.specs.Reasons.{IsBound, IsMissReason}
 use Rattle.register_calls.specs.Reports.{Tallies}
 
@@ -36,40 +35,27 @@ last_end (WriteEnds ∷ before) = Some (length before)
 last_end (ReadBegins i ∷ before) = last_end before
 last_end (ReadEnds i v ∷ before) = last_end before
 
--- what is kept of a reader that has not read yet, and of a reader of a list
-abbrev pub fresh_chains : ReaderChains
-fresh_chains = record { own = fresh_chain; low = fresh_chain; own_low = fresh_chain }
-
-abbrev pub chains_at : List ReaderChains → (reader : ℕ) → ReaderChains
-chains_at chains i = slice_index_or chains i fresh_chains
-
--- The chain of a reader shows reads that bound its next read by its floor; and that of its read under way shows reads that bound it by its
--- low, or the writes that had ended where it began do.
+-- The chain of a reader shows reads that bound its next read by its floor; and the writes that had ended where its read under way began bound
+-- that by its low, or its chain shows reads that do.
 pub record KeepsBounds (s : Scope) (first : ℕ) (h : List RegisterEvent) (floor : ℕ → ℕ) (by : ℕ → Chain) (low : ℕ → Option ℕ) (low_by : ℕ → Chain) : Type 0 where
   pub floors : (i : ℕ) → (reads : List EarlierRead) × ShowsReads (by i) reads × IsBound s first reads i h (floor i)
-  pub lows : (i n : ℕ) → low i ≡ Some n → (reads : List EarlierRead) × ShowsReads (low_by i) reads × ((n ≤ finished (before_read i h)) ⊎ IsBound s first reads i (before_read i h) n)
+  pub lows : (i n : ℕ) → low i ≡ Some n → (n ≤ finished (before_read i h)) ⊎ ((reads : List EarlierRead) × ShowsReads (low_by i) reads × IsBound s first reads i (before_read i h) n)
 
 -- a witness, whose lists have these items, has read this history
-pub record RemembersRegister {W R P C : Type 0} (window : W → List ℕ) (states : R → List ReaderState) (places : P → List ℕ) (chains : C → List ReaderChains) (w : RegisterWitness W R P C) (h : List RegisterEvent) : Type 0 where
+pub record RemembersRegister {W R P C : Type 0} (window : W → List ℕ) (states : R → List ReaderState) (places : P → List ℕ) (chains : C → List Chain) (w : RegisterWitness W R P C) (h : List RegisterEvent) : Type 0 where
   pub audits : AuditsRegister window states w.auditor h
   pub count : w.count ≡ length h
   pub places_kept : places w.places ≡ drop w.auditor.base (begin_places h)
   pub last_ended : w.ended ≡ last_end h
-  pub of_each : KeepsBounds EachAlone w.auditor.register.first h (own_floors (states w.auditor.readers)) (λ i. (chains_at (chains w.chains) i).own)
-      (own_lows (states w.auditor.readers)) (λ i. (chains_at (chains w.chains) i).own_low)
+  pub of_each : KeepsBounds EachAlone w.auditor.register.first h (own_floors (states w.auditor.readers)) (λ i. chain_at (chains w.own) i)
+      (own_lows (states w.auditor.readers)) (λ i. chain_at (chains w.own_low) i)
   pub of_all : KeepsBounds Together w.auditor.register.first h (λ i. w.auditor.floor) (λ i. w.floor)
-      (lows (states w.auditor.readers)) (λ i. (chains_at (chains w.chains) i).low)
+      (lows (states w.auditor.readers)) (λ i. chain_at (chains w.low) i)
   pub tallies : Tallies w.tally h
 
 -- the read that ends now, as a chain names it, with the place where the write of this number began
 abbrev pub link_of : (places : List ℕ) (base count reader value number : ℕ) → EarlierRead
 link_of places base count i v n = record { reader = i; ended = count; value = v; written = slice_index_or places (n - base) 0 }
-
--- The chain that says why a read which ends is of no write before its low. It is empty if the writes that had ended where the read began
--- are reason enough: the first write of its value that it may be of by these, the optional number, does not come before the low.
-abbrev pub leaning_chain : Option ℕ → (low : ℕ) → Chain → Chain
-leaning_chain None low chain = fresh_chain
-leaning_chain (Some n) low chain = if nat_lt n low then chain else fresh_chain
 
 -- The chain of a floor after a read that ends, which is of the write of this number or of a later one: if that write comes after the floor,
 -- the read, and after it the chain that says why it is of none before; else the chain stays.
@@ -78,16 +64,21 @@ IsRaisedChain chain leaning floor None link next = next ≡ chain
 IsRaisedChain chain leaning floor (Some n) link next =
     (n ≤ floor → next ≡ chain) × (floor < n → (reads : List EarlierRead) → ShowsReads leaning reads → ShowsReads next (link n ∷ reads))
 
+-- the read that ends, if it raises the floor
+abbrev pub IsRaisingLink : (floor : ℕ) → Option ℕ → (link : ℕ → EarlierRead) → Option EarlierRead → Type 0
+IsRaisingLink floor None link raising = raising ≡ None
+IsRaisingLink floor (Some n) link raising = (n ≤ floor → raising ≡ None) × (floor < n → raising ≡ Some (link n))
+
 -- the chain of the read under way: by the reads of all readers for the class atomic, and else by those of its own
-abbrev pub low_chain : Class → ReaderChains → Chain
-low_chain Safe chains = chains.own_low
-low_chain Regular chains = chains.own_low
-low_chain AtomicByReader chains = chains.own_low
-low_chain Atomic chains = chains.low
+abbrev pub low_chain : Class → (low own_low : Chain) → Chain
+low_chain Safe low own_low = own_low
+low_chain Regular low own_low = own_low
+low_chain AtomicByReader low own_low = own_low
+low_chain Atomic low own_low = low
 
 -- after each history that it remembers, a witness reads an event, or refuses it and remembers what it did
 abbrev pub RemembersEvent :
-    {W R P C T : Type 0} → (window : W → List ℕ) → (states : R → List ReaderState) → (places : P → List ℕ) → (chains : C → List ReaderChains) → (most : ℕ) →
+    {W R P C T : Type 0} → (window : W → List ℕ) → (states : R → List ReaderState) → (places : P → List ℕ) → (chains : C → List Chain) → (most : ℕ) →
     RegisterWitness W R P C → RegisterEvent → Result T RegisterFault → RegisterWitness W R P C → Type 0
 RemembersEvent window states places chains most old event result new =
     (new.auditor.register ≡ old.auditor.register) ×
@@ -97,7 +88,7 @@ RemembersEvent window states places chains most old event result new =
 
 -- after each history that it remembers, a witness reads an event and returns the strongest class, or refuses it and remembers what it did
 abbrev pub HearsAndRemembers :
-    {W R P C : Type 0} → (window : W → List ℕ) → (states : R → List ReaderState) → (places : P → List ℕ) → (chains : C → List ReaderChains) → (most : ℕ) →
+    {W R P C : Type 0} → (window : W → List ℕ) → (states : R → List ReaderState) → (places : P → List ℕ) → (chains : C → List Chain) → (most : ℕ) →
     RegisterWitness W R P C → RegisterEvent → Result (Option Class) RegisterFault → RegisterWitness W R P C → Type 0
 HearsAndRemembers window states places chains most old event result new =
     (new.auditor.register ≡ old.auditor.register) ×

@@ -245,7 +245,7 @@ impl<W: Fifo<u64>, R: Fifo<ReaderState>> RegisterAuditor<W, R> {
     }
 
     // How many writes have ended.
-    fn ended(&self) -> usize
+    pub(crate) fn ended(&self) -> usize
         ensures { result ≡ (if self.now.is_writing then self.now.begun - 1 else self.now.begun) }
     {
         if self.is_writing {

@@ -19,4 +19,4 @@ pub use faults::RegisterFault;
 pub use findings::first_miss;
 pub use reasons::{EarlierRead, MissReason};
 pub use reports::RegisterReport;
-pub use witnesses::{ReaderChains, RegisterWitness};
+pub use witnesses::RegisterWitness;

@@ -4,12 +4,13 @@ ghost use Rattle.register_calls.specs.Histories.{IsValue, IsWellFormed};
 ghost use Rattle.register_calls.specs.Classes.{HasClass, IsStrongest};
 ghost use Rattle.register_calls.specs.Audits.{FindsWrites, reader_at};
 ghost use Rattle.register_calls.specs.Reports.{report_of};
-ghost use Rattle.register_calls.specs.Witnesses.{HearsAndRemembers, IsRaisedChain, IsShownReason, RemembersEvent, RemembersRegister, chains_at, fresh_chains, leaning_chain, link_of, low_chain};
+ghost use Rattle.register_calls.specs.Chains.{chain_at};
+ghost use Rattle.register_calls.specs.Witnesses.{HearsAndRemembers, IsRaisingLink, IsShownReason, RemembersEvent, RemembersRegister, link_of, low_chain};
 ghost use Rattle.register_calls.specs.declared.events.RegisterEvent.{RegisterEvent};
 ghost use Rattle.register_calls.specs.declared.events.RegisterEvent.TheVariants.{WriteBegins, WriteEnds, ReadBegins, ReadEnds};
 
 use crate::auditors::{FoundWrites, ReaderState, RegisterAuditor};
-use crate::chains::Chain;
+use crate::chains::{Chain, chain_of, keep_chain, keep_own, leans, raise_floor, raise_own};
 use crate::events::{Class, Register, RegisterEvent};
 use crate::faults::RegisterFault;
 use crate::reasons::{EarlierRead, MissReason};
@@ -17,32 +18,21 @@ use crate::reports::{RegisterReport, Tally};
 use lists::Fifo;
 use std::alloc::AllocError;
 
-/// What is kept of a reader to say why a read of it speaks against a class: the earlier reads that bound its next read, and the one that
-/// is under way.
-#[derive(Clone, Copy, PartialEq, Eq, Debug)]
-pub struct ReaderChains {
-    // its next read, by its own reads
-    pub(crate) own: Chain,
-    // the read under way, by the reads of all readers, and by its own
-    pub(crate) low: Chain,
-    pub(crate) own_low: Chain,
-}
-
 /// An auditor of a register's history that can say why the history lacks a class.
 ///
 /// It keeps, beside what a [`RegisterAuditor`] keeps, the places where the writes that are kept began, and of each reader the first 8 of the
 /// reads that bound its next one.
 #[derive(Drop)]
-pub struct RegisterWitness<
-    W: Fifo<u64>,
-    R: Fifo<ReaderState>,
-    P: Fifo<usize>,
-    C: Fifo<ReaderChains>,
-> {
+pub struct RegisterWitness<W: Fifo<u64>, R: Fifo<ReaderState>, P: Fifo<usize>, C: Fifo<Chain>> {
     pub(crate) auditor: RegisterAuditor<W, R>,
     // where the writes that are kept began
     pub(crate) places: P,
-    pub(crate) chains: C,
+    // of each reader, the reads that bound its next read, by its own reads
+    pub(crate) own: C,
+    // of its read under way, those that bound it, by the reads of all readers and by its own, if these do not let it be of the last write
+    // that had ended where it began
+    pub(crate) low: C,
+    pub(crate) own_low: C,
     // the reads that bound each read that begins now
     pub(crate) floor: Chain,
     // how many events were read, and the place where the last write ended
@@ -50,42 +40,6 @@ pub struct RegisterWitness<
     pub(crate) ended: Option<usize>,
     // how much the history could have shown
     pub(crate) tally: Tally,
-}
-
-impl ReaderChains {
-    /// What is kept of a reader that has not read yet: for slots that a witness is to use.
-    pub fn new() -> ReaderChains
-        ensures { result ≡ fresh_chains }
-    {
-        ReaderChains {
-            own: Chain::new(),
-            low: Chain::new(),
-            own_low: Chain::new(),
-        }
-    }
-
-    // The chain of the read under way: by the reads of all readers for the class atomic, and else by those of its own.
-    fn low_of(&self, class: Class) -> Chain
-        ensures { result ≡ low_chain class self.now }
-    {
-        match class {
-            Class::Safe => self.own_low,
-            Class::Regular => self.own_low,
-            Class::AtomicByReader => self.own_low,
-            Class::Atomic => self.low,
-        }
-    }
-}
-
-// The chain that says why a read which ends is of no write before its low: an empty one if the first write that it may be of, by the writes
-// that had ended where it began, does not come before the low.
-fn leaning(of_any: Option<usize>, low: usize, chain: Chain) -> Chain
-    ensures { result ≡ leaning_chain of_any low chain }
-{
-    match of_any {
-        Some(number) => { if number < low { chain } else { Chain::new() } }
-        None => Chain::new(),
-    }
 }
 
 // Removes places from the front of a list: as many as the count.
@@ -106,17 +60,17 @@ fn keep_places<P: Fifo<usize>>(places: &mut P, count: usize, dropped: usize)
 }
 
 // Makes a list of chains long enough for this reader.
-fn reach_chains<C: Fifo<ReaderChains>>(chains: &mut C, reader: usize) -> Result<(), AllocError>
+fn reach_chains<C: Fifo<Chain>>(chains: &mut C, reader: usize) -> Result<(), AllocError>
     ensures within { OnOk result (reader < length (C.items chains.new)) }
-    ensures same { (i : ℕ) → chains_at (C.items chains.new) i ≡ chains_at (C.items chains.old) i }
+    ensures same { (i : ℕ) → chain_at (C.items chains.new) i ≡ chain_at (C.items chains.old) i }
 {
     while chains.len() <= reader {
-        chains.push_back(ReaderChains::new())?;
+        chains.push_back(Chain::new())?;
     }
     Ok(())
 }
 
-impl<W: Fifo<u64>, R: Fifo<ReaderState>, P: Fifo<usize>, C: Fifo<ReaderChains>> RegisterWitness<
+impl<W: Fifo<u64>, R: Fifo<ReaderState>, P: Fifo<usize>, C: Fifo<Chain>> RegisterWitness<
     W,
     R,
     P,
@@ -129,7 +83,9 @@ impl<W: Fifo<u64>, R: Fifo<ReaderState>, P: Fifo<usize>, C: Fifo<ReaderChains>> 
         window: W,
         readers: R,
         places: P,
-        chains: C,
+        own: C,
+        low: C,
+        own_low: C,
         register: Register,
     ) -> Result<RegisterWitness<W, R, P, C>, AllocError>
         requires { IsValue register register.first }
@@ -139,15 +95,21 @@ impl<W: Fifo<u64>, R: Fifo<ReaderState>, P: Fifo<usize>, C: Fifo<ReaderChains>> 
         let mut begun = places;
         begun.truncate(0);
         begun.push_back(0)?;
-        let mut states = chains;
-        states.truncate(0);
+        let mut owns = own;
+        owns.truncate(0);
+        let mut lows = low;
+        lows.truncate(0);
+        let mut own_lows = own_low;
+        own_lows.truncate(0);
         let auditor = RegisterAuditor::with(window, readers, register)?;
         let floor = Chain::new();
         let tally = Tally::new();
         Ok(RegisterWitness {
             auditor,
             places: begun,
-            chains: states,
+            own: owns,
+            low: lows,
+            own_low: own_lows,
             floor,
             count: 0,
             ended: None,
@@ -166,7 +128,9 @@ impl<W: Fifo<u64>, R: Fifo<ReaderState>, P: Fifo<usize>, C: Fifo<ReaderChains>> 
     {
         self.places.truncate(0);
         self.places.push_back(0)?;
-        self.chains.truncate(0);
+        self.own.truncate(0);
+        self.low.truncate(0);
+        self.own_low.truncate(0);
         self.auditor.restart(register)?;
         self.floor = Chain::new();
         self.count = 0;
@@ -180,16 +144,6 @@ impl<W: Fifo<u64>, R: Fifo<ReaderState>, P: Fifo<usize>, C: Fifo<ReaderChains>> 
         ensures { result ≡ self.now.auditor.register }
     {
         self.auditor.register()
-    }
-
-    // What is kept of a reader.
-    fn reader_chains(&self, reader: usize) -> ReaderChains
-        ensures { result ≡ chains_at (C.items self.now.chains) reader }
-    {
-        match self.chains.get(reader) {
-            Some(chains) => *chains,
-            None => ReaderChains::new(),
-        }
     }
 
     // Where the write of this number began, of those that are kept.
@@ -215,29 +169,26 @@ impl<W: Fifo<u64>, R: Fifo<ReaderState>, P: Fifo<usize>, C: Fifo<ReaderChains>> 
         }
     }
 
-    // The chain of a floor after the read that ends now, which is of the write of this number or of a later one, if there is one.
-    fn raised_chain(
+    // The read that ends now, as a read of the write of this number, if there is one and it raises the floor.
+    fn raising_link(
         &self,
-        chain: Chain,
-        leaning: Chain,
         floor: usize,
         number: Option<usize>,
         reader: usize,
         value: u64,
-    ) -> Chain
-        ensures { IsRaisedChain chain leaning floor number (link_of (P.items self.now.places) self.now.auditor.base
-            self.now.count reader value) result }
+    ) -> Option<EarlierRead>
+        ensures { IsRaisingLink floor number (link_of (P.items self.now.places) self.now.auditor.base self.now.count
+            reader value) result }
     {
         match number {
             Some(first) => {
                 if floor < first {
-                    let link = self.link(reader, value, first);
-                    leaning.after(link)
+                    Some(self.link(reader, value, first))
                 } else {
-                    chain
+                    None
                 }
             }
-            None => chain,
+            None => None,
         }
     }
 
@@ -285,22 +236,26 @@ impl<W: Fifo<u64>, R: Fifo<ReaderState>, P: Fifo<usize>, C: Fifo<ReaderChains>> 
         }
     }
 
-    // A read begins of a reader for which the list of chains is long enough.
+    // A read begins of a reader for which the lists of chains are long enough.
     fn begin_read(&mut self, reader: usize, count: usize) -> Result<(), RegisterFault>
-        requires within { reader < length (C.items self.old.chains) }
+        requires low { reader < length (C.items self.old.low) }
+        requires own_low { reader < length (C.items self.old.own_low) }
         requires count { count ≡ suc self.old.count }
         ensures { RemembersEvent W.items R.items P.items C.items usize.MAX self.old (ReadBegins reader) result
             self.new }
     {
         match self.auditor.read_begins(reader) {
             Ok(()) => {
-                let chains = self.reader_chains(reader);
-                let begun = ReaderChains {
-                    own: chains.own,
-                    low: self.floor,
-                    own_low: chains.own,
-                };
-                self.chains.set(reader, begun);
+                let ended = self.auditor.ended();
+                let state = self.auditor.reader(reader);
+                keep_chain(
+                    &mut self.low,
+                    reader,
+                    ended,
+                    self.auditor.floor,
+                    &self.floor,
+                );
+                keep_own(&mut self.own_low, &self.own, reader, ended, state.own);
                 self.tally.read_begins();
                 self.count = count;
                 Ok(())
@@ -315,7 +270,11 @@ impl<W: Fifo<u64>, R: Fifo<ReaderState>, P: Fifo<usize>, C: Fifo<ReaderChains>> 
         ensures { RemembersEvent W.items R.items P.items C.items usize.MAX self.old (ReadBegins reader) result
             self.new }
     {
-        match reach_chains(&mut self.chains, reader) {
+        match reach_chains(&mut self.low, reader) {
+            Ok(()) => {}
+            Err(_) => return Err(RegisterFault::OutOfMemory),
+        }
+        match reach_chains(&mut self.own_low, reader) {
             Ok(()) => self.begin_read(reader, count),
             Err(_) => Err(RegisterFault::OutOfMemory),
         }
@@ -329,7 +288,7 @@ impl<W: Fifo<u64>, R: Fifo<ReaderState>, P: Fifo<usize>, C: Fifo<ReaderChains>> 
         found: FoundWrites,
         count: usize,
     ) -> Result<(), RegisterFault>
-        requires within { reader < length (C.items self.old.chains) }
+        requires within { reader < length (C.items self.old.own) }
         requires count { count ≡ suc self.old.count }
         requires reading { (reader_at (R.items self.old.auditor.readers) reader).reading ≡ Some found.read }
         requires found { FindsWrites (W.items self.old.auditor.window) self.old.auditor.base self.old.auditor.begun value
@@ -337,27 +296,14 @@ impl<W: Fifo<u64>, R: Fifo<ReaderState>, P: Fifo<usize>, C: Fifo<ReaderChains>> 
         ensures { RemembersEvent W.items R.items P.items C.items usize.MAX self.old (ReadEnds reader value) result
             self.new }
     {
-        let chains = self.reader_chains(reader);
         let state = self.auditor.reader(reader);
-        let by_own = leaning(found.of_any, found.read.own_low, chains.own_low);
-        let own = self.raised_chain(chains.own, by_own, state.own, found.of_own, reader, value);
-        let by_all = leaning(found.of_any, found.read.low, chains.low);
-        let floor = self.raised_chain(
-            self.floor,
-            by_all,
-            self.auditor.floor,
-            found.of_all,
-            reader,
-            value,
-        );
+        let by_own = leans(found.of_any, found.read.own_low);
+        let own = self.raising_link(state.own, found.of_own, reader, value);
+        let by_all = leans(found.of_any, found.read.low);
+        let all = self.raising_link(self.auditor.floor, found.of_all, reader, value);
+        raise_own(&mut self.own, &self.own_low, reader, by_own, own);
+        raise_floor(&mut self.floor, &self.low, reader, by_all, all);
         self.auditor.end_read(reader, value, found);
-        let ended = ReaderChains {
-            own,
-            low: chains.low,
-            own_low: chains.own_low,
-        };
-        self.chains.set(reader, ended);
-        self.floor = floor;
         self.tally
             .read_ends(found.read.before, self.auditor.begun, value);
         self.count = count;
@@ -373,7 +319,7 @@ impl<W: Fifo<u64>, R: Fifo<ReaderState>, P: Fifo<usize>, C: Fifo<ReaderChains>> 
         let Some(found) = self.auditor.found(reader, value) else {
             return Err(RegisterFault::OutOfTurn);
         };
-        match reach_chains(&mut self.chains, reader) {
+        match reach_chains(&mut self.own, reader) {
             Ok(()) => self.end_read(reader, value, found, count),
             Err(_) => Err(RegisterFault::OutOfMemory),
         }
@@ -471,6 +417,19 @@ impl<W: Fifo<u64>, R: Fifo<ReaderState>, P: Fifo<usize>, C: Fifo<ReaderChains>> 
         }
     }
 
+    // The reads that bound the read under way: by the reads of all readers for the class atomic, and else by those of its own.
+    fn low_of(&self, class: Class, reader: usize) -> Chain
+        ensures { result ≡ low_chain class (chain_at (C.items self.now.low) reader)
+            (chain_at (C.items self.now.own_low) reader) }
+    {
+        match class {
+            Class::Safe => chain_of(&self.own_low, reader),
+            Class::Regular => chain_of(&self.own_low, reader),
+            Class::AtomicByReader => chain_of(&self.own_low, reader),
+            Class::Atomic => chain_of(&self.low, reader),
+        }
+    }
+
     // What speaks against the class, if the read under way of this reader ends now with this value of the register, by what it may be of.
     fn found_reason(
         &self,
@@ -489,10 +448,7 @@ impl<W: Fifo<u64>, R: Fifo<ReaderState>, P: Fifo<usize>, C: Fifo<ReaderChains>> 
             IsShownReason class self.now.auditor.register h reader value result }
     {
         match found.of_any {
-            Some(_) => {
-                let chains = self.reader_chains(reader);
-                MissReason::Inverted(chains.low_of(class))
-            }
+            Some(_) => { MissReason::Inverted(self.low_of(class, reader)) }
             None => {
                 if found.read.before == self.auditor.begun {
                     MissReason::Held {

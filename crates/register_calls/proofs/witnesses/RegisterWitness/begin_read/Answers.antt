@@ -1,9 +1,9 @@
-use Rattle.std.proofs.Common.{ℕ, suc, List, drop, set, refl, ap, sym, subst, ◌∙◌, arith}
-use Rattle.register_calls.specs.declared.witnesses.ReaderChains.{ReaderChains}
-use Rattle.register_calls.specs.Witnesses.{begin_places, chains_at}
-use Rattle.register_calls.proofs.Hearing.{ended_is}
-use Rattle.register_calls.proofs.Remembering.{MovesChains, chains_set, each_same, all_same, each_begins, all_begins}
+use Rattle.std.proofs.Common.{ℕ, suc, drop, refl, ap, sym, ◌∙◌, arith}
+use Rattle.register_calls.specs.declared.auditors.ReaderState.{ReaderState}
+use Rattle.register_calls.specs.Witnesses.{begin_places}
 use Rattle.register_calls.proofs.Foretelling.{refused_is}
+use Rattle.register_calls.proofs.Hearing.{ended_is}
+use Rattle.register_calls.proofs.Remembering.{each_same, all_same, each_begins, all_begins}
 use Rattle.register_calls.proofs.witnesses.RegisterWitness.begin_read.Goals as goal
 
 pub returns-in-Ok : goal.returns-in-Ok
@@ -15,22 +15,22 @@ returns-in-Ok g c =
     let i = c.args.reader in
     let xs = g.R.Fifo.items a.readers in
     let ys = g.R.Fifo.items b.readers in
-    let cs = g.C.Fifo.items s.chains in
-    let ds = g.C.Fifo.items c.set.new.self in
-    let begun : ReaderChains = record { own = (chains_at cs i).own; low = s.floor; own_low = (chains_at cs i).own } in
-    let moved : MovesChains cs ds i begun =
-    subst (λ (zs : List ReaderChains). MovesChains cs zs i begun) (sym c.set.ensures.items)
-    (subst (λ (z : ReaderChains). MovesChains cs (set cs i (record { own = z.own; low = s.floor; own_low = z.own })) i begun) (sym c.reader_chains-chains.ensures) (chains_set cs i begun c.requires.within)) in (
+    let os = g.C.Fifo.items s.own in (
       e.hears.0,
       λ h k.
           let ended = ended_is a.register h (g.W.Fifo.items a.window) a.base a.begun a.is_writing xs a.floor a.is_safe a.is_regular a.is_by_reader a.is_atomic k.audits in
+          let heard = (e.hears.1 h k.audits).0 in
+          let counted = c.ended-ended.ensures ∙ ended_is b.register _ (g.W.Fifo.items b.window) b.base b.begun b.is_writing ys b.floor b.is_safe b.is_regular b.is_by_reader b.is_atomic heard ∙ sym ended in
+          let own = ap (λ (z : ReaderState). z.own) c.reader-state.ensures ∙ ap (λ (z : ReaderState). z.own) e.readers.moves.here in
           record {
-            audits = (e.hears.1 h k.audits).0;
+            audits = heard;
             count = c.requires.count ∙ ap suc k.count;
             places_kept = k.places_kept ∙ ap (λ (n : ℕ). drop n (begin_places h)) (sym e.others.0);
             last_ended = k.last_ended;
-            of_each = each_begins a.register b.register h xs ys cs ds e.hears.0 i _ a.floor s.floor ended e.readers moved k.of_each;
-            of_all = all_begins a.register b.register h xs ys cs ds e.hears.0 i _ a.floor s.floor ended e.readers moved b.floor e.others.1 k.of_all;
+            of_each = each_begins a.register b.register h xs ys e.hears.0 i _ a.floor s.floor ended e.readers os (g.C.Fifo.items s.own_low) (g.C.Fifo.items c.keep_own.new.chains) c.ended-ended.result
+                c.reader-state.result.own counted own c.keep_own.ensures k.of_each;
+            of_all = all_begins a.register b.register h xs ys e.hears.0 i _ a.floor s.floor ended e.readers (g.C.Fifo.items s.low) (g.C.Fifo.items c.keep_chain.new.chains) c.ended-ended.result b.floor
+                counted e.others.1 c.keep_chain.ensures k.of_all;
             tallies = c.read_begins-in-Ok.ensures i h (let p = c.requires.count in let q = k.count in omega (arith, p, q)) k.tallies;
           },
     )
@@ -43,7 +43,9 @@ returns-in-Err g c =
     let e = c.in-Err.ensures in
     let xs = g.R.Fifo.items a.readers in
     let ys = g.R.Fifo.items b.readers in
-    let cs = g.C.Fifo.items s.chains in (
+    let os = g.C.Fifo.items s.own in
+    let ts = g.C.Fifo.items s.low in
+    let ls = g.C.Fifo.items s.own_low in (
       e.hears.0,
       λ h k. (
         record {
@@ -51,8 +53,8 @@ returns-in-Err g c =
           count = k.count;
           places_kept = k.places_kept ∙ ap (λ (n : ℕ). drop n (begin_places h)) (sym e.others.0);
           last_ended = k.last_ended;
-          of_each = each_same a.register b.register h xs ys cs cs e.hears.0 e.readers (λ j. refl) k.of_each;
-          of_all = all_same a.register b.register h xs ys cs cs e.hears.0 e.readers (λ j. refl) a.floor b.floor s.floor e.others.1 k.of_all;
+          of_each = each_same a.register b.register h xs ys e.hears.0 e.readers os os ls ls (λ j. refl) (λ j. refl) k.of_each;
+          of_all = all_same a.register b.register h xs ys e.hears.0 e.readers ts ts a.floor b.floor s.floor (λ j. refl) e.others.1 k.of_all;
           tallies = k.tallies;
         },
         refused_is c.in-Err.fault _ _ _ a.register h _ (e.hears.1 h k.audits).1,

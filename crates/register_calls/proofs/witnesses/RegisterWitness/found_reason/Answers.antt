@@ -1,6 +1,3 @@
-use Rattle.std.proofs.Common.{◌≡◌, ap, ◌∙◌}
-use Rattle.register_calls.specs.declared.witnesses.ReaderChains.{ReaderChains}
-use Rattle.register_calls.specs.Witnesses.{chains_at, low_chain}
 use Rattle.register_calls.proofs.Hearing.{first_writes}
 use Rattle.register_calls.proofs.FoundReasons.{held_there, inverted_there, not_written_there}
 use Rattle.register_calls.proofs.witnesses.RegisterWitness.found_reason.Goals as goal
@@ -13,11 +10,12 @@ returns-in-Some g c = λ h k has lacks.
     let v = c.args.value in
     let found = c.args.found in
     let xs = g.R.Fifo.items a.readers in
-    let cs = g.C.Fifo.items s.chains in
+    let os = g.C.Fifo.items s.own in
+    let ts = g.C.Fifo.items s.low in
+    let ls = g.C.Fifo.items s.own_low in
     let firsts = first_writes a.register h (g.W.Fifo.items a.window) a.base a.begun a.is_writing xs a.floor a.is_safe a.is_regular a.is_by_reader a.is_atomic i v found c.requires.reading c.requires.found k.audits in
-    let chain : c.low_of.result ≡ low_chain c.args.class (chains_at cs i) = c.low_of.ensures ∙ ap (λ (z : ReaderChains). low_chain c.args.class z) c.reader_chains-chains.ensures in
-    inverted_there a.register h i v a.base found firsts c.in-Some.field-0 c.in-Some.is c.args.class xs cs a.floor s.floor c.low_of.result a.is_by_reader a.is_atomic c.requires.reading c.requires.value
-    chain k.audits.order_of_each k.audits.order_of_all k.of_each k.of_all has lacks
+    inverted_there a.register h i v a.base found firsts c.in-Some.field-0 c.in-Some.is c.args.class xs ts os ls a.floor s.floor c.low_of.result a.is_by_reader a.is_atomic c.requires.reading c.requires.value
+    c.low_of.ensures k.audits.order_of_each k.audits.order_of_all k.of_each k.of_all has lacks
 
 pub returns-then-found-self : goal.returns-then-found-self
 returns-then-found-self g c = λ h k has lacks.

@@ -7,16 +7,18 @@ returns-in-Ok g c =
     let s = c.args.self.now in
     let a = s.auditor in
     let xs = g.R.Fifo.items a.readers in
-    let cs = g.C.Fifo.items s.chains in
-    let ds = g.C.Fifo.items c.reach_chains.new.chains in (
+    let os = g.C.Fifo.items s.own in
+    let ts = g.C.Fifo.items s.low in
+    let ls = g.C.Fifo.items s.own_low in
+    let ps = g.C.Fifo.items c.reach_chains.new.chains in (
       c.end_read.ensures.0,
       λ h k. c.end_read.ensures.1 h (record {
         audits = k.audits;
         count = k.count;
         places_kept = k.places_kept;
         last_ended = k.last_ended;
-        of_each = each_same a.register a.register h xs xs cs ds refl (λ j. refl) c.in-Ok.ensures.same k.of_each;
-        of_all = all_same a.register a.register h xs xs cs ds refl (λ j. refl) c.in-Ok.ensures.same a.floor a.floor s.floor refl k.of_all;
+        of_each = each_same a.register a.register h xs xs refl (λ j. refl) os ps ls ls c.in-Ok.ensures.same (λ j. refl) k.of_each;
+        of_all = all_same a.register a.register h xs xs refl (λ j. refl) ts ts a.floor a.floor s.floor (λ j. refl) refl k.of_all;
         tallies = k.tallies;
       }),
     )
@@ -26,8 +28,10 @@ returns-in-Err g c =
     let s = c.args.self.now in
     let a = s.auditor in
     let xs = g.R.Fifo.items a.readers in
-    let cs = g.C.Fifo.items s.chains in
-    let ds = g.C.Fifo.items c.reach_chains.new.chains in (
+    let os = g.C.Fifo.items s.own in
+    let ts = g.C.Fifo.items s.low in
+    let ls = g.C.Fifo.items s.own_low in
+    let ps = g.C.Fifo.items c.reach_chains.new.chains in (
       refl,
       λ h k. (
         record {
@@ -35,8 +39,8 @@ returns-in-Err g c =
           count = k.count;
           places_kept = k.places_kept;
           last_ended = k.last_ended;
-          of_each = each_same a.register a.register h xs xs cs ds refl (λ j. refl) c.in-Err.ensures.same k.of_each;
-          of_all = all_same a.register a.register h xs xs cs ds refl (λ j. refl) c.in-Err.ensures.same a.floor a.floor s.floor refl k.of_all;
+          of_each = each_same a.register a.register h xs xs refl (λ j. refl) os ps ls ls c.in-Err.ensures.same (λ j. refl) k.of_each;
+          of_all = all_same a.register a.register h xs xs refl (λ j. refl) ts ts a.floor a.floor s.floor (λ j. refl) refl k.of_all;
           tallies = k.tallies;
         },
         tt,

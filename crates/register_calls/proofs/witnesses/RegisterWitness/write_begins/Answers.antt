@@ -17,7 +17,9 @@ returns-in-Ok-write_begins g c =
     let e = c.in-Ok-write_begins.ensures in
     let xs = g.R.Fifo.items a.readers in
     let ys = g.R.Fifo.items b.readers in
-    let cs = g.C.Fifo.items s.chains in
+    let os = g.C.Fifo.items s.own in
+    let ts = g.C.Fifo.items s.low in
+    let ls = g.C.Fifo.items s.own_low in
     let places = g.P.Fifo.items s.places in
     let pushed = g.P.Fifo.items c.push_back.new.self in
     let now = g.P.Fifo.items c.drop_places.new.places in
@@ -30,8 +32,8 @@ returns-in-Ok-write_begins g c =
             count = c.requires ∙ ap suc k.count;
             places_kept = places_more h places pushed now a.base b.base s.count k.places_kept k.count few (e.up h k.audits) c.in-Ok.ensures.items gone;
             last_ended = k.last_ended;
-            of_each = each_next a.register b.register h xs ys cs cs e.hears.0 (λ j. ap (λ (zs : List ReaderState). reader_at zs j) e.others.0) (λ j. refl) (WriteBegins c.args.value) (λ j. refl) k.of_each;
-            of_all = all_next a.register b.register h xs ys cs cs e.hears.0 (λ j. ap (λ (zs : List ReaderState). reader_at zs j) e.others.0) (λ j. refl) (WriteBegins c.args.value) a.floor b.floor s.floor (λ j. refl) e.others.1 k.of_all;
+            of_each = each_next a.register b.register h xs ys e.hears.0 (λ j. ap (λ (zs : List ReaderState). reader_at zs j) e.others.0) os ls (WriteBegins c.args.value) (λ j. refl) k.of_each;
+            of_all = all_next a.register b.register h xs ys e.hears.0 (λ j. ap (λ (zs : List ReaderState). reader_at zs j) e.others.0) ts (WriteBegins c.args.value) a.floor b.floor s.floor (λ j. refl) e.others.1 k.of_all;
             tallies = c.write_begins-in-Ok-write_begins.ensures h (let p = c.requires in let q = k.count in omega (arith, p, q)) k.tallies;
           },
     )
@@ -44,7 +46,9 @@ returns-in-Err-write_begins g c =
     let e = c.in-Err-write_begins.ensures in
     let xs = g.R.Fifo.items a.readers in
     let ys = g.R.Fifo.items b.readers in
-    let cs = g.C.Fifo.items s.chains in
+    let os = g.C.Fifo.items s.own in
+    let ts = g.C.Fifo.items s.low in
+    let ls = g.C.Fifo.items s.own_low in
     let places = g.P.Fifo.items s.places in
     let pushed = g.P.Fifo.items c.push_back.new.self in
     let now = g.P.Fifo.items c.keep_places.new.places in
@@ -57,8 +61,8 @@ returns-in-Err-write_begins g c =
           count = k.count;
           places_kept = places_back h places pushed now a.base b.base s.count k.places_kept (e.up h k.audits) c.in-Ok.ensures.items gone;
           last_ended = k.last_ended;
-          of_each = each_same a.register b.register h xs ys cs cs e.hears.0 (λ j. ap (λ (zs : List ReaderState). reader_at zs j) e.others.0) (λ j. refl) k.of_each;
-          of_all = all_same a.register b.register h xs ys cs cs e.hears.0 (λ j. ap (λ (zs : List ReaderState). reader_at zs j) e.others.0) (λ j. refl) a.floor b.floor s.floor e.others.1 k.of_all;
+          of_each = each_same a.register b.register h xs ys e.hears.0 (λ j. ap (λ (zs : List ReaderState). reader_at zs j) e.others.0) os os ls ls (λ j. refl) (λ j. refl) k.of_each;
+          of_all = all_same a.register b.register h xs ys e.hears.0 (λ j. ap (λ (zs : List ReaderState). reader_at zs j) e.others.0) ts ts a.floor b.floor s.floor (λ j. refl) e.others.1 k.of_all;
           tallies = k.tallies;
         },
         refused_is c.in-Err-write_begins.fault _ _ _ a.register h _ (e.hears.1 h k.audits).1,

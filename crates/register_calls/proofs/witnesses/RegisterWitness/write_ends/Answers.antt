@@ -16,15 +16,17 @@ returns-in-Ok g c =
     let e = c.in-Ok.ensures in
     let xs = g.R.Fifo.items a.readers in
     let ys = g.R.Fifo.items b.readers in
-    let cs = g.C.Fifo.items s.chains in (
+    let os = g.C.Fifo.items s.own in
+    let ts = g.C.Fifo.items s.low in
+    let ls = g.C.Fifo.items s.own_low in (
       e.hears.0,
       λ h k. record {
         audits = (e.hears.1 h k.audits).0;
         count = c.requires ∙ ap suc k.count;
         places_kept = k.places_kept ∙ ap (λ (n : ℕ). drop n (begin_places h)) (sym e.others.0);
         last_ended = ap Some k.count;
-        of_each = each_next a.register b.register h xs ys cs cs e.hears.0 (λ j. ap (λ (zs : List ReaderState). reader_at zs j) e.others.1) (λ j. refl) WriteEnds (λ j. refl) k.of_each;
-        of_all = all_next a.register b.register h xs ys cs cs e.hears.0 (λ j. ap (λ (zs : List ReaderState). reader_at zs j) e.others.1) (λ j. refl) WriteEnds a.floor b.floor s.floor (λ j. refl) e.others.2 k.of_all;
+        of_each = each_next a.register b.register h xs ys e.hears.0 (λ j. ap (λ (zs : List ReaderState). reader_at zs j) e.others.1) os ls WriteEnds (λ j. refl) k.of_each;
+        of_all = all_next a.register b.register h xs ys e.hears.0 (λ j. ap (λ (zs : List ReaderState). reader_at zs j) e.others.1) ts WriteEnds a.floor b.floor s.floor (λ j. refl) e.others.2 k.of_all;
         tallies = c.write_ends-in-Ok.ensures h k.tallies;
       },
     )
@@ -37,7 +39,9 @@ returns-in-Err g c =
     let e = c.in-Err.ensures in
     let xs = g.R.Fifo.items a.readers in
     let ys = g.R.Fifo.items b.readers in
-    let cs = g.C.Fifo.items s.chains in (
+    let os = g.C.Fifo.items s.own in
+    let ts = g.C.Fifo.items s.low in
+    let ls = g.C.Fifo.items s.own_low in (
       e.hears.0,
       λ h k. (
         record {
@@ -45,8 +49,8 @@ returns-in-Err g c =
           count = k.count;
           places_kept = k.places_kept ∙ ap (λ (n : ℕ). drop n (begin_places h)) (sym e.others.0);
           last_ended = k.last_ended;
-          of_each = each_same a.register b.register h xs ys cs cs e.hears.0 (λ j. ap (λ (zs : List ReaderState). reader_at zs j) e.others.1) (λ j. refl) k.of_each;
-          of_all = all_same a.register b.register h xs ys cs cs e.hears.0 (λ j. ap (λ (zs : List ReaderState). reader_at zs j) e.others.1) (λ j. refl) a.floor b.floor s.floor e.others.2 k.of_all;
+          of_each = each_same a.register b.register h xs ys e.hears.0 (λ j. ap (λ (zs : List ReaderState). reader_at zs j) e.others.1) os os ls ls (λ j. refl) (λ j. refl) k.of_each;
+          of_all = all_same a.register b.register h xs ys e.hears.0 (λ j. ap (λ (zs : List ReaderState). reader_at zs j) e.others.1) ts ts a.floor b.floor s.floor (λ j. refl) e.others.2 k.of_all;
           tallies = k.tallies;
         },
         refused_is c.in-Err.fault _ _ _ a.register h _ (e.hears.1 h k.audits).1,
