@@ -4,7 +4,7 @@ use Rattle.register_calls.specs.declared.events.Register.{Register}
 use Rattle.register_calls.specs.declared.events.RegisterEvent.{RegisterEvent}
 use Rattle.register_calls.specs.declared.events.RegisterEvent.TheVariants.{WriteBegins, WriteEnds, ReadBegins, ReadEnds}
 use Rattle.register_calls.specs.declared.reports.RegisterReport.{RegisterReport}
-use Rattle.register_calls.specs.declared.reports.Tally.{Tally}
+use Rattle.register_calls.specs.declared.reports.RegisterTally.{RegisterTally}
 use Rattle.register_calls.specs.Histories.{started, finished, before_read, IsWellFormed}
 use Rattle.register_calls.specs.Classes.{IsRegular, IsAtomic}
 
@@ -76,7 +76,7 @@ report_of h = record {
 }
 
 -- what is kept of a history for its report
-pub record Tallies (t : Tally) (h : List RegisterEvent) : Type 0 where
+pub record Tallies (t : RegisterTally) (h : List RegisterEvent) : Type 0 where
   pub writes : t.report.writes ≡ started h
   pub reads : t.report.reads ≡ reads_ended h
   pub overlapped : t.report.overlapped ≡ overlapped_reads h

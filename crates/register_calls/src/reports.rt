@@ -23,7 +23,7 @@ pub struct RegisterReport {
 
 // What is kept of a history for its report.
 #[derive(Clone, Copy)]
-pub(crate) struct Tally {
+pub(crate) struct RegisterTally {
     pub(crate) report: RegisterReport,
     // the value of the write under way, if there is one, and whether a read that has ended has returned it since that write began
     pub(crate) under_way: Option<u64>,
@@ -58,9 +58,9 @@ fn either(one: bool, other: bool) -> bool
     one || other
 }
 
-impl Tally {
+impl RegisterTally {
     // Of no event.
-    pub(crate) fn new() -> Tally
+    pub(crate) fn new() -> RegisterTally
         ensures { Tallies result [] }
     {
         let report = RegisterReport {
@@ -70,7 +70,7 @@ impl Tally {
             by_several: 0,
             could_invert: 0,
         };
-        Tally {
+        RegisterTally {
             report,
             under_way: None,
             is_shown: false,

@@ -14,7 +14,7 @@ use crate::chains::{Chain, chain_of, keep_chain, keep_own, leans, raise_floor, r
 use crate::events::{Class, Register, RegisterEvent};
 use crate::faults::RegisterFault;
 use crate::reasons::{EarlierRead, MissReason};
-use crate::reports::{RegisterReport, Tally};
+use crate::reports::{RegisterReport, RegisterTally};
 use lists::Fifo;
 use std::alloc::AllocError;
 
@@ -39,7 +39,7 @@ pub struct RegisterWitness<W: Fifo<u64>, R: Fifo<ReaderState>, P: Fifo<usize>, C
     pub(crate) count: usize,
     pub(crate) ended: Option<usize>,
     // how much the history could have shown
-    pub(crate) tally: Tally,
+    pub(crate) tally: RegisterTally,
 }
 
 // Removes places from the front of a list: as many as the count.
@@ -103,7 +103,7 @@ impl<W: Fifo<u64>, R: Fifo<ReaderState>, P: Fifo<usize>, C: Fifo<Chain>> Registe
         own_lows.truncate(0);
         let auditor = RegisterAuditor::with(window, readers, register)?;
         let floor = Chain::new();
-        let tally = Tally::new();
+        let tally = RegisterTally::new();
         Ok(RegisterWitness {
             auditor,
             places: begun,
@@ -135,7 +135,7 @@ impl<W: Fifo<u64>, R: Fifo<ReaderState>, P: Fifo<usize>, C: Fifo<Chain>> Registe
         self.floor = Chain::new();
         self.count = 0;
         self.ended = None;
-        self.tally = Tally::new();
+        self.tally = RegisterTally::new();
         Ok(())
     }
 

@@ -5,7 +5,7 @@ use Rattle.register_calls.specs.declared.auditors.ReaderState.{ReaderState}
 use Rattle.register_calls.specs.declared.events.Register.{Register}
 use Rattle.register_calls.specs.declared.events.RegisterEvent.{RegisterEvent}
 use Rattle.register_calls.specs.declared.events.RegisterEvent.TheVariants.{WriteBegins, WriteEnds, ReadBegins, ReadEnds}
-use Rattle.register_calls.specs.declared.witnesses.ReaderChains.{ReaderChains}
+use Rattle.register_calls.specs.declared.chains.Chain.{Chain}
 use Rattle.register_calls.specs.Histories.{started, IsWellFormed, ComesInTurn, WritesValue}
 use Rattle.register_calls.specs.Witnesses.{RemembersRegister}
 use Rattle.register_recordings.specs.declared.recordings.JudgedLines.{JudgedLines}
@@ -40,7 +40,7 @@ many_events events many =
     let same : length (reverse events) ≡ length events = length-reverse events in
     omega (arith, many, few, same)
 
-module _ {W R P C : Type 0} (window : W → List ℕ) (states : R → List ReaderState) (places : P → List ℕ) (chains : C → List ReaderChains) where
+module _ {W R P C : Type 0} (window : W → List ℕ) (states : R → List ReaderState) (places : P → List ℕ) (chains : C → List Chain) where
   -- what was read, if no event is out of turn
   pub in_turn :
       (lines : JudgedLines W R P C) (events : List RegisterEvent) → lines.out_of_turn ≡ None → HasReadEvents window states places chains lines lines.out_of_turn events →

@@ -7,7 +7,7 @@ use Rattle.std.proofs.lemmas.Option.{none-some, same_Some}
 use Rattle.register_calls.specs.declared.auditors.ReaderState.{ReaderState}
 use Rattle.register_calls.specs.declared.events.Register.{Register}
 use Rattle.register_calls.specs.declared.events.RegisterEvent.{RegisterEvent}
-use Rattle.register_calls.specs.declared.witnesses.ReaderChains.{ReaderChains}
+use Rattle.register_calls.specs.declared.chains.Chain.{Chain}
 use Rattle.register_calls.specs.Witnesses.{RemembersRegister}
 use Rattle.register_calls.specs.Histories.{IsValue, WritesValue}
 use Rattle.register_lines.specs.Lines.{AllowsNumbers, IsRegisterLine}
@@ -107,7 +107,7 @@ no_value head further bytes l r event gives is records never other on =
     let events : may.1.0 ≡ event = same_Some may.1.0 event (sym may.1.1 ∙ ap recorded_event (sym same) ∙ records) in
     never (subst (λ (e : RegisterEvent). WritesValue r e) events (subst (λ (z : Register). WritesValue z may.1.0) registers may.1.2))
 
-module _ {W R P C : Type 0} (window : W → List ℕ) (states : R → List ReaderState) (places : P → List ℕ) (chains : C → List ReaderChains) where
+module _ {W R P C : Type 0} (window : W → List ℕ) (states : R → List ReaderState) (places : P → List ℕ) (chains : C → List Chain) where
   -- ---- the first line
 
   -- lines are judged, of which one has ended

@@ -8,7 +8,7 @@ use Rattle.std.proofs.lemmas.List.Elements.{All-append, All-head, All-nil, All-t
 use Rattle.line_parts.specs.LineEnds.{HasNoFeed}
 use Rattle.line_parts.proofs.LineFeeds.{IsOther, feed_nowhere, feed_once}
 use Rattle.register_calls.specs.declared.auditors.ReaderState.{ReaderState}
-use Rattle.register_calls.specs.declared.witnesses.ReaderChains.{ReaderChains}
+use Rattle.register_calls.specs.declared.chains.Chain.{Chain}
 use Rattle.register_calls.specs.declared.events.Register.{Register}
 use Rattle.register_calls.specs.declared.events.RegisterEvent.{RegisterEvent}
 use Rattle.register_lines.specs.Lines.{register_line_text, AllowsNumbers}
@@ -69,7 +69,7 @@ nothing_kept cut none = let long : length cut ≡ 0 = ap (λ (t : List ℕ). len
 no_feed_kept : (cut : List ℕ) → cut ≡ [] → HasNoFeed cut
 no_feed_kept cut none = subst HasNoFeed (sym none) (All-nil IsOther)
 
-module _ {W R P C B : Type 0} (window : W → List ℕ) (states : R → List ReaderState) (places : P → List ℕ) (chains : C → List ReaderChains) (bytes_of : B → List ℕ) where
+module _ {W R P C B : Type 0} (window : W → List ℕ) (states : R → List ReaderState) (places : P → List ℕ) (chains : C → List Chain) (bytes_of : B → List ℕ) where
   -- nothing was read
   pub nothing_read : (new : RegisterRecording W R P C B) → bytes_of new.cut ≡ [] → HasJudged window states places chains new.lines [] → HasReadRegister window states places chains bytes_of new []
   nothing_read new none lines = record {
@@ -174,7 +174,7 @@ cut_bad before bytes cut number text are none is there = record {
 
 -- ---- findings
 
-module _ {W R P C : Type 0} (window : W → List ℕ) (states : R → List ReaderState) (places : P → List ℕ) (chains : C → List ReaderChains) where
+module _ {W R P C : Type 0} (window : W → List ℕ) (states : R → List ReaderState) (places : P → List ℕ) (chains : C → List Chain) where
   pub found :
       (lines : JudgedLines W R P C) (finding : RegisterFinding) (ended : List RegisterLine) (bytes cut : List ℕ) → bytes ≡ register_text ended ++ cut → cut ≡ [] → ended ≢ [] → HasJudged window states places chains lines ended →
       ((events : List RegisterEvent) → HasReadEvents window states places chains lines lines.out_of_turn events → IsRegisterFound lines.witness.auditor.register events finding) → IsRegisterFinding bytes finding
@@ -203,7 +203,7 @@ front_same l m a b one other e =
     let same = feed_once L M a b (no_feed_within l one) (no_feed_within m other) (sym (line_and l a) ∙ e ∙ line_and m b) in
     (line_same L l m (record { text = refl; allowed = one }) (record { text = same.0; allowed = other }), same.1)
 
-module _ {W R P C : Type 0} (window : W → List ℕ) (states : R → List ReaderState) (places : P → List ℕ) (chains : C → List ReaderChains) where
+module _ {W R P C : Type 0} (window : W → List ℕ) (states : R → List ReaderState) (places : P → List ℕ) (chains : C → List Chain) where
   one_cut :
       (lines : JudgedLines W R P C) (is_cut : Bool) (ended further : List RegisterLine) (head : RegisterLine) (cut rest : List ℕ) → HasJudged window states places chains lines ended → lacks_operations head ≡ is_cut →
       AllowsNumbers head → register_text ended ++ cut ≡ register_text (head ∷ further) ++ rest → HasNoFeed cut → lines.is_cut ≡ is_cut

@@ -7,7 +7,7 @@ use Rattle.register_calls.specs.declared.events.Class.TheVariants.{Safe, Regular
 use Rattle.register_calls.specs.declared.events.Register.{Register}
 use Rattle.register_calls.specs.declared.events.RegisterEvent.{RegisterEvent}
 use Rattle.register_calls.specs.declared.reports.RegisterReport.{RegisterReport}
-use Rattle.register_calls.specs.declared.witnesses.ReaderChains.{ReaderChains}
+use Rattle.register_calls.specs.declared.chains.Chain.{Chain}
 use Rattle.register_calls.specs.Classes.{HasClass, IsStrongest}
 use Rattle.register_calls.specs.Findings.{is_at_least}
 use Rattle.register_calls.specs.Histories.{IsWellFormed}
@@ -38,7 +38,7 @@ lacking_falls_short class (Some d) misses report r h formed is lacks =
       | false ↦ λ less. refl
     ] refl
 
-module _ {W R P C : Type 0} (window : W → List ℕ) (states : R → List ReaderState) (places : P → List ℕ) (chains : C → List ReaderChains) where
+module _ {W R P C : Type 0} (window : W → List ℕ) (states : R → List ReaderState) (places : P → List ℕ) (chains : C → List Chain) where
   by_finding :
       (class : Class) (bytes : List ℕ) (r : Register) (events : List RegisterEvent) (found : Option RegisterFinding) → IsRegisterRecording bytes r events → FallsShort class r events found → IsShortfall class bytes found
   by_finding class bytes r events None is short = inr (r, events, is, short)

@@ -5,7 +5,7 @@ use Rattle.line_parts.specs.LineEnds.{HasNoFeed}
 use Rattle.register_calls.specs.declared.auditors.ReaderState.{ReaderState}
 use Rattle.register_calls.specs.declared.events.Register.{Register}
 use Rattle.register_calls.specs.declared.events.RegisterEvent.{RegisterEvent}
-use Rattle.register_calls.specs.declared.witnesses.ReaderChains.{ReaderChains}
+use Rattle.register_calls.specs.declared.chains.Chain.{Chain}
 use Rattle.register_calls.specs.Witnesses.{RemembersRegister}
 use Rattle.register_calls.specs.Histories.{WritesValue}
 use Rattle.register_lines.specs.Lines.{register_line_text}
@@ -19,12 +19,12 @@ use Rattle.register_recordings.specs.Misses.{AreMisses}
 use Rattle.register_recordings.specs.Recordings.{recorded_event, recorded_register, lacks_operations, register_text, AreRegisterLines, LeavesTurn}
 
 -- the events of the lines after the first one were read: all of them, or those before the first that is out of turn
-abbrev pub HasReadEvents : {W R P C : Type 0} → (window : W → List ℕ) → (states : R → List ReaderState) → (places : P → List ℕ) → (chains : C → List ReaderChains) → JudgedLines W R P C → Option ℕ → List RegisterEvent → Type 0
+abbrev pub HasReadEvents : {W R P C : Type 0} → (window : W → List ℕ) → (states : R → List ReaderState) → (places : P → List ℕ) → (chains : C → List Chain) → JudgedLines W R P C → Option ℕ → List RegisterEvent → Type 0
 HasReadEvents window states places chains lines None events = RemembersRegister window states places chains lines.witness (reverse events) × AreMisses lines.witness.auditor.register events lines.misses
 HasReadEvents window states places chains lines (Some number) events = LeavesTurn lines.witness.auditor.register events number
 
 -- these lines have ended, of which there may be none
-pub record HasJudged {W R P C : Type 0} (window : W → List ℕ) (states : R → List ReaderState) (places : P → List ℕ) (chains : C → List ReaderChains) (lines : JudgedLines W R P C) (ended : List RegisterLine) : Type 0 where
+pub record HasJudged {W R P C : Type 0} (window : W → List ℕ) (states : R → List ReaderState) (places : P → List ℕ) (chains : C → List Chain) (lines : JudgedLines W R P C) (ended : List RegisterLine) : Type 0 where
   pub are : AreRegisterLines ended
   pub count : lines.count ≡ length ended
   pub events :
@@ -48,7 +48,7 @@ RefusesFirstLine TooLong l = ⊥
 RefusesFirstLine OutOfMemory l = Unit {0}
 
 -- an event was read after these, of the line of this number
-pub record HasReadLineEvent {W R P C : Type 0} (window : W → List ℕ) (states : R → List ReaderState) (places : P → List ℕ) (chains : C → List ReaderChains) (old : JudgedLines W R P C) (number : ℕ) (event : RegisterEvent) (before : List RegisterEvent) (new : JudgedLines W R P C) : Type 0 where
+pub record HasReadLineEvent {W R P C : Type 0} (window : W → List ℕ) (states : R → List ReaderState) (places : P → List ℕ) (chains : C → List Chain) (old : JudgedLines W R P C) (number : ℕ) (event : RegisterEvent) (before : List RegisterEvent) (new : JudgedLines W R P C) : Type 0 where
   pub count : new.count ≡ number
   pub is_cut : new.is_cut ≡ old.is_cut
   pub register : new.witness.auditor.register ≡ old.witness.auditor.register
@@ -63,7 +63,7 @@ RefusesLineEvent number OutOfMemory r before event = Unit {0}
 
 -- after any events that were read, the event of the next line, of this number, is read or refused
 abbrev pub ReadsLineEvent :
-    {W R P C T : Type 0} → (window : W → List ℕ) → (states : R → List ReaderState) → (places : P → List ℕ) → (chains : C → List ReaderChains) →
+    {W R P C T : Type 0} → (window : W → List ℕ) → (states : R → List ReaderState) → (places : P → List ℕ) → (chains : C → List Chain) →
     JudgedLines W R P C → (number : ℕ) → RegisterEvent → Result T RegisterTextFault → JudgedLines W R P C → Type 0
 ReadsLineEvent window states places chains old number event result new =
     (before : List RegisterEvent) → length before + 2 ≡ number → HasReadEvents window states places chains old old.out_of_turn before →
@@ -71,7 +71,7 @@ ReadsLineEvent window states places chains old number event result new =
     (λ fault. RefusesLineEvent number fault old.witness.auditor.register before event)
 
 -- these bytes were read: lines that have ended, and the bytes of one that has not, which are no more than a line has
-pub record HasReadRegister {W R P C B : Type 0} (window : W → List ℕ) (states : R → List ReaderState) (places : P → List ℕ) (chains : C → List ReaderChains) (bytes_of : B → List ℕ) (recording : RegisterRecording W R P C B) (bytes : List ℕ) : Type 0 where
+pub record HasReadRegister {W R P C B : Type 0} (window : W → List ℕ) (states : R → List ReaderState) (places : P → List ℕ) (chains : C → List Chain) (bytes_of : B → List ℕ) (recording : RegisterRecording W R P C B) (bytes : List ℕ) : Type 0 where
   pub ended : List RegisterLine
   pub text : bytes ≡ register_text ended ++ bytes_of recording.cut
   pub no_feed : HasNoFeed (bytes_of recording.cut)

@@ -17,7 +17,7 @@ use crate::findings::{Misses, RegisterFinding, RegisterMiss};
 use line_parts::split_line;
 use lists::{Fifo, Store};
 use register_calls::{
-    Class, ReaderChains, ReaderState, Register, RegisterEvent, RegisterFault, RegisterWitness,
+    Chain, Class, ReaderState, Register, RegisterEvent, RegisterFault, RegisterWitness,
 };
 use register_lines::{LINE_LIMIT, RegisterLine, read_register_line};
 use std::alloc::AllocError;
@@ -27,7 +27,7 @@ const SHOWN: usize = 128;
 
 // The lines that have ended.
 #[derive(Drop)]
-struct JudgedLines<W: Fifo<u64>, R: Fifo<ReaderState>, P: Fifo<usize>, C: Fifo<ReaderChains>> {
+struct JudgedLines<W: Fifo<u64>, R: Fifo<ReaderState>, P: Fifo<usize>, C: Fifo<Chain>> {
     // how many there are
     count: u64,
     // whether the first one says that later operations are missing
@@ -95,7 +95,7 @@ fn writes_value(register: Register, event: RegisterEvent) -> bool
     }
 }
 
-impl<W: Fifo<u64>, R: Fifo<ReaderState>, P: Fifo<usize>, C: Fifo<ReaderChains>> JudgedLines<
+impl<W: Fifo<u64>, R: Fifo<ReaderState>, P: Fifo<usize>, C: Fifo<Chain>> JudgedLines<
     W,
     R,
     P,
@@ -302,7 +302,7 @@ pub struct RegisterRecording<
     W: Fifo<u64>,
     R: Fifo<ReaderState>,
     P: Fifo<usize>,
-    C: Fifo<ReaderChains>,
+    C: Fifo<Chain>,
     B: Store<u8>,
 > {
     lines: JudgedLines<W, R, P, C>,
@@ -316,7 +316,7 @@ impl<
     W: Fifo<u64>,
     R: Fifo<ReaderState>,
     P: Fifo<usize>,
-    C: Fifo<ReaderChains>,
+    C: Fifo<Chain>,
     B: Store<u8>,
 > RegisterRecording<W, R, P, C, B> {
     /// A recording of which nothing was read, with these lists to read it in. What they hold is taken away.
@@ -326,7 +326,9 @@ impl<
         window: W,
         readers: R,
         places: P,
-        chains: C,
+        own: C,
+        low: C,
+        own_low: C,
         bytes: B,
     ) -> Result<RegisterRecording<W, R, P, C, B>, AllocError>
         ensures { IfOk result (λ recording. HasReadRegister W.items R.items P.items C.items B.items recording []) }
@@ -335,7 +337,7 @@ impl<
             first: 0,
             values: None,
         };
-        let witness = RegisterWitness::with(window, readers, places, chains, register)?;
+        let witness = RegisterWitness::with(window, readers, places, own, low, own_low, register)?;
         let mut cut = bytes;
         cut.clear();
         Ok(RegisterRecording {

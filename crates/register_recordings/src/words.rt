@@ -141,9 +141,9 @@ impl fmt::Display for Since {
 
 // What speaks against a read that returned this value.
 #[derive(Clone, Copy)]
-struct Reason(u64, MissReason<Chain>);
+struct Against(u64, MissReason<Chain>);
 
-impl fmt::Display for Reason {
+impl fmt::Display for Against {
     ghost use Rattle.register_recordings.specs.Misses.{reason_words};
 
     ghost output = { λ x. Some (reason_words x.0 x.1) };
@@ -179,7 +179,7 @@ impl fmt::Display for RegisterMiss {
             self.line,
             Reader(self.reader),
             self.value,
-            Reason(self.value, self.reason)
+            Against(self.value, self.reason)
         )
     }
 }

@@ -1,5 +1,5 @@
 use register_calls::{
-    Chain, Class, EarlierRead, MissReason, ReaderChains, ReaderState, Register, RegisterEvent,
+    Chain, Class, EarlierRead, MissReason, ReaderState, Register, RegisterEvent,
     RegisterWitness,
 };
 use std::alloc::{AllocGlobal, Allocator};
@@ -11,7 +11,7 @@ type InMemory<A> = RegisterWitness<
     VecDeque<u64, A>,
     VecDeque<ReaderState, A>,
     VecDeque<usize, A>,
-    VecDeque<ReaderChains, A>,
+    VecDeque<Chain, A>,
 >;
 
 const ANY: Register = Register {
@@ -76,6 +76,8 @@ fn fed<A: Allocator + Copy>(alloc: A, case: &Case) -> Option<InMemory<A>> {
         return None;
     }
     let made = RegisterWitness::with(
+        VecDeque::new(alloc),
+        VecDeque::new(alloc),
         VecDeque::new(alloc),
         VecDeque::new(alloc),
         VecDeque::new(alloc),

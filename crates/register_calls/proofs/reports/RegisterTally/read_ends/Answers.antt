@@ -3,7 +3,7 @@ use Rattle.std.specs.Prelude.{nat_lt, ◌||◌}
 use Rattle.register_calls.specs.Histories.{started, finished, before_read}
 use Rattle.register_calls.specs.Reports.{reads_ended, overlapped_reads, overlapped_by_several, is_shown, is_value}
 use Rattle.register_calls.proofs.Reporting.{count_more, few_reads, few_overlapped, few_by_several, several_since}
-use Rattle.register_calls.proofs.reports.Tally.read_ends.Goals as goal
+use Rattle.register_calls.proofs.reports.RegisterTally.read_ends.Goals as goal
 
 pub returns : goal.returns
 returns c = λ i h within start all k.

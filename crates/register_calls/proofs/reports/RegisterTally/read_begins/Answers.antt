@@ -1,7 +1,7 @@
 use Rattle.std.proofs.Common.{length}
 use Rattle.register_calls.specs.Reports.{could_invert, is_shown}
 use Rattle.register_calls.proofs.Reporting.{count_more, few_inverted}
-use Rattle.register_calls.proofs.reports.Tally.read_begins.Goals as goal
+use Rattle.register_calls.proofs.reports.RegisterTally.read_begins.Goals as goal
 
 pub returns : goal.returns
 returns c = λ i h within k.

@@ -2,7 +2,7 @@ use Rattle.std.proofs.Common.{true, length, refl}
 use Rattle.register_calls.specs.Histories.{started}
 use Rattle.register_calls.proofs.ReadLemmas.{few_started}
 use Rattle.register_calls.proofs.Reporting.{count_more}
-use Rattle.register_calls.proofs.reports.Tally.write_begins.Goals as goal
+use Rattle.register_calls.proofs.reports.RegisterTally.write_begins.Goals as goal
 
 pub returns : goal.returns
 returns c = λ h within k. record {

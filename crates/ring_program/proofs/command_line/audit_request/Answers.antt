@@ -1,0 +1,19 @@
+use Rattle.std.proofs.Common.{◌≡◌, ◌∙◌, Bool, true, false, List, Option, Some, None, sym}
+use Rattle.clap.proofs.WalkLemmas.{first_value-rows}
+use Rattle.clap.specs.Words.{Row, Text, first_of, found_of, rows_of}
+use Rattle.std.specs.Prelude.{codes}
+use Rattle.ring_program.specs.CommandLine.{audit_asked, audit_request_of, is_flag_given}
+use Rattle.ring_program.proofs.command_line.audit_request.Goals as goal
+
+-- what is asked is told by the options that were given
+by_rows :
+    (rows : List Row) (register : Bool) (name : Option Text) (report bits long calls stop why : Bool) → register ≡ is_flag_given (codes "register") rows → name ≡ first_of (codes "at-least") rows →
+    report ≡ is_flag_given (codes "report") rows → bits ≡ is_flag_given (codes "bits") rows → long ≡ is_flag_given (codes "long") rows → calls ≡ is_flag_given (codes "calls") rows →
+    stop ≡ is_flag_given (codes "stop") rows → why ≡ is_flag_given (codes "why") rows → audit_asked register name report bits long calls stop why ≡ audit_request_of rows
+by_rows rows register name report bits long calls stop why a b d e f g h k = λ i. audit_asked (a i) (b i) (d i) (e i) (f i) (g i) (h i) (k i)
+
+pub returns-then-is_given : goal.returns-then-is_given
+returns-then-is_given c =
+    let found = found_of c.args.matches.now in
+    c.register_request.ensures ∙ by_rows (rows_of found) true _ _ _ _ _ _ _ (sym c.if-is_given.true ∙ c.is_given.ensures) (c.get_str-name.ensures ∙ first_value-rows found (codes "at-least"))
+    c.is_given-report.ensures c.is_given-bits.ensures c.is_given-long.ensures c.is_given-calls.ensures c.is_given-stop.ensures c.is_given-why.ensures
