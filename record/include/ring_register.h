@@ -126,40 +126,55 @@ static inline void ring_register_tell(const ring_register *r) {
     }
 }
 
+/* What was recorded, in the order of the tickets, up to the cut. ring_register_next returns the next event, its kind and how many numbers it has,
+ * its ticket, the number, and leaves in `thread` whose it is, 0 for the writer; NULL if there is none. No thread records meanwhile. */
+typedef struct { const ring_register *rec; uint64_t cut; size_t at[RING_REGISTER_READERS + 1]; int thread; } ring_register_walk;
+
+static inline ring_register_walk ring_register_begin(const ring_register *r) {
+    const int full = ring_register_full(r);
+    ring_register_walk walk;
+    memset(&walk, 0, sizeof walk);
+    walk.rec = r;
+    walk.cut = full < 0 ? UINT64_MAX : r->logs[full].cut;
+    return walk;
+}
+
+static inline const uint64_t *ring_register_next(ring_register_walk *walk) {
+    const uint64_t *event = NULL;
+    for (int i = 0; i <= walk->rec->readers; i++) {
+        const ring_register_log *log = &walk->rec->logs[i];
+        const uint64_t *w = walk->at[i] < log->used ? log->words + walk->at[i] : NULL;
+        if (w && w[1] < walk->cut && (!event || w[1] < event[1])) {
+            event = w;
+            walk->thread = i;
+        }
+    }
+    if (event) walk->at[walk->thread] += (size_t)(event[0] >> 8) + 2;
+    return event;
+}
+
+/* Writes an event of a thread as a line. */
+static inline void ring_register_line(const uint64_t *event, int thread, FILE *out) {
+    static const char *const words[] = { " write", " read", " wrote", " got" };
+    if (thread == 0) fputc('W', out);
+    else fprintf(out, "R%d", thread);
+    fputs(words[event[0] & 255], out);
+    if (event[0] >> 8) fprintf(out, " %llu", (unsigned long long)event[2]);
+    fputc('\n', out);
+}
+
 /* Prints the recording; head is its first line: "register 0 4" (the first value, and that the values are below 4) or "register 0". Returns
  * 0 if not all was written. That the history is cut, or that nothing was recorded, is reported on stderr. */
 static inline int ring_register_print(const ring_register *r, const char *head, FILE *out) {
-    static const char *const words[] = { " write", " read", " wrote", " got" };
-    const int full = ring_register_full(r);
-    const uint64_t cut = full < 0 ? UINT64_MAX : r->logs[full].cut;
-    size_t at[RING_REGISTER_READERS + 1] = { 0 };
+    ring_register_walk walk = ring_register_begin(r);
     int written;
 #ifdef _WIN32
     /* a stream of text would end each line in CR LF, which the audit refuses */
     int mode = fflush(out) == 0 ? _setmode(_fileno(out), _O_BINARY) : -1;
 #endif
     ring_register_tell(r);
-    fprintf(out, "%s%s\n", full < 0 ? "" : "cut ", head);
-    for (;;) {
-        /* the next event of all logs, by its ticket */
-        const uint64_t *event = NULL;
-        int thread = 0;
-        for (int i = 0; i <= r->readers; i++) {
-            const ring_register_log *log = &r->logs[i];
-            const uint64_t *w = at[i] < log->used ? log->words + at[i] : NULL;
-            if (w && w[1] < cut && (!event || w[1] < event[1])) {
-                event = w;
-                thread = i;
-            }
-        }
-        if (!event) break;
-        at[thread] += (size_t)(event[0] >> 8) + 2;
-        if (thread == 0) fputc('W', out);
-        else fprintf(out, "R%d", thread);
-        fputs(words[event[0] & 255], out);
-        if (event[0] >> 8) fprintf(out, " %llu", (unsigned long long)event[2]);
-        fputc('\n', out);
-    }
+    fprintf(out, "%s%s\n", walk.cut == UINT64_MAX ? "" : "cut ", head);
+    for (const uint64_t *event; (event = ring_register_next(&walk)) != NULL;) ring_register_line(event, walk.thread, out);
     written = fflush(out) == 0 && !ferror(out);
 #ifdef _WIN32
     if (mode != -1) _setmode(_fileno(out), mode);
