@@ -119,6 +119,10 @@ def judge(name, compiler):
     return f"{compiler} -O2 -Wall -Wextra -Wpedantic -Werror -Iinclude tests/unit/judge.c -x none $LIBRARY/libring_audit.a -o $ROOM/judge_{name}"
 
 
+def register_unit(name, compiler):
+    return f"{compiler} -O2 -Wall -Wextra -Wpedantic -Werror -pthread -Iinclude tests/unit/register_unit.c -x none $LIBRARY/libring_audit.a -o $ROOM/judge_registers_{name}"
+
+
 # Each links the audit, or loads it, and judges in process: a small ring, the right one and one with a bug; and recordings.
 UNIT = [
     in_process("in c", "command -v gcc", "build-essential", f"{C} tests/unit/unit.c $LIBRARY/libring_audit.a -o $ROOM/unit_c", "$ROOM/unit_c"),
@@ -133,6 +137,10 @@ UNIT = [
     in_process("judged as by the audit", "command -v gcc && command -v g++", "build-essential",
                " && ".join([judge("c11", "gcc -std=c11"), judge("cpp11", "g++ -x c++ -std=c++11"), judge("sanitized", f"gcc -std=c11 {SANITIZED}")]),
                "ASAN_OPTIONS=allocator_may_return_null=1 python3 tests/unit/compare.py 600 1 $ROOM/judge_c11 $ROOM/judge_cpp11 $ROOM/judge_sanitized"),
+    in_process("of registers", "command -v gcc && command -v g++", "build-essential",
+               " && ".join(register_unit(*each) for each in (("c11", "gcc -std=gnu11"), ("cpp11", "g++ -x c++ -std=c++11"), ("sanitized", f"gcc -std=gnu11 {SANITIZED}"))),
+               " && ".join([*(f"$ROOM/judge_registers_{each} 2> /dev/null" for each in ("c11", "cpp11", "sanitized")),
+                            "python3 tests/unit/compare_registers.py 1000 1 $ROOM/judge_registers_c11 $ROOM/judge_registers_cpp11 $ROOM/judge_registers_sanitized"])),
 ]
 
 
