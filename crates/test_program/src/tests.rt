@@ -6,6 +6,7 @@ mod fakes;
 mod plays;
 mod recorded;
 mod refusals;
+mod registers;
 mod run_words;
 mod runs;
 mod whys;
