@@ -1,2 +1,3 @@
+pub mod EventLines
 pub mod SameLists
 pub mod ToldLines

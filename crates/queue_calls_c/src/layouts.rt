@@ -4,22 +4,26 @@ ghost use Rattle.queue_calls_c.specs.declared.layouts.TheConstants.{SIZES};
 
 use crate::found::HeardFound;
 use crate::hearings::WordLine;
+use crate::registers::{EventLine, RegisterFound};
 use crate::states::Audit;
 use queue_calls::{CallsReport, Offered, Taken};
 use std::mem::size_of;
 
 // How many bytes each of them has.
-const SIZES: [u64; 6] = [
+const SIZES: [u64; 8] = [
     size_of::<Audit<'static>>() as u64,
     size_of::<Offered>() as u64,
     size_of::<Taken>() as u64,
     size_of::<WordLine>() as u64,
     size_of::<CallsReport>() as u64,
     size_of::<HeardFound>() as u64,
+    size_of::<EventLine>() as u64,
+    size_of::<RegisterFound>() as u64,
 ];
 
-/// Writes how many bytes the structs of this library have to the front, where there is room for them: an audit, the entry of an item
-/// inside and of one taken, a line, a report, and what is found. A header compares them with its own.
+/// Writes how many bytes the structs of this library have to the front, if there is room for them: an audit, the entry of an item
+/// inside and of one taken, a line, a report, and what is found; an event of a register, and what is found of its history. A header
+/// compares them with its own.
 #[unsafe(no_mangle)]
 pub extern "C" fn ring_audit_layout(sizes: &mut [u64])
     ensures { sizes.new ≡ take (length sizes.old) SIZES ++ drop (length SIZES) sizes.old }

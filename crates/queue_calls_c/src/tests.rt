@@ -1,6 +1,7 @@
 use crate::states::{Audit, Calls};
 use crate::{
-    HeardFound, WordLine, ring_audit_begin, ring_audit_hear, ring_audit_layout, ring_audit_report,
+    EventLine, HeardFound, RegisterFound, WordLine, ring_audit_begin, ring_audit_hear,
+    ring_audit_layout, ring_audit_report, ring_register_judge,
 };
 use queue_calls::{CAUSE_WORDS, CallsReport, Offered, Taken};
 use std::process::Abort;
@@ -239,11 +240,97 @@ fn a_state_of_another_is_refused_and_kept(rt: HostRuntime) {
     );
 }
 
+const fn event(kind: u32, reader: u32, value: u64) -> EventLine {
+    EventLine {
+        kind,
+        reader,
+        value,
+    }
+}
+
+const WRITE: EventLine = numbers!(EventLine: kind 0, reader 0, value 1);
+
+const WROTE: EventLine = numbers!(EventLine: kind 1, reader 0, value 0);
+
+const READ: EventLine = numbers!(EventLine: kind 2, reader 1, value 0);
+
+const GOT: EventLine = numbers!(EventLine: kind 3, reader 1, value 1);
+
+// What is found of the history of a register, with so many slots for its writes.
+fn judged(numbers: &[u64], lines: &[EventLine], slots: usize) -> RegisterFound {
+    let mut window = [7; 4];
+    let room = slots.min(window.len());
+    let mut found = numbers!(RegisterFound:
+        line 9, not_safe 9, not_regular 9, not_by_reader 9, not_atomic 9, class 9, verdict 9);
+    ring_register_judge(numbers, lines, &mut window[..room], &mut found);
+    found
+}
+
+const fn refused(verdict: u32, line: u64) -> RegisterFound {
+    numbers!(RegisterFound:
+        line line, not_safe 0, not_regular 0, not_by_reader 0, not_atomic 0, class 0, verdict verdict)
+}
+
+const ATOMIC: RegisterFound = numbers!(RegisterFound:
+    line 0, not_safe 0, not_regular 0, not_by_reader 0, not_atomic 0, class 4, verdict 0);
+
+#[test]
+fn each_class_is_lost_with_its_line(rt: HostRuntime) {
+    let second = event(2, 64, 0);
+    let lines = [
+        WRITE,
+        READ,
+        GOT,
+        second,
+        event(3, 64, 0),
+        READ,
+        event(3, 1, 0),
+        second,
+        event(3, 64, 2),
+        WROTE,
+        READ,
+        event(3, 1, 0),
+    ];
+    let found = judged(&[0, 4], &lines, 2);
+    let wanted = numbers!(RegisterFound:
+        line 0, not_safe 13, not_regular 10, not_by_reader 8, not_atomic 6, class 0, verdict 0);
+    assert_eq!(rt; found, wanted);
+    assert_eq!(rt; judged(&[0, 4], &lines[..3], 2), ATOMIC);
+    assert_eq!(rt; judged(&[0], &[], 1), ATOMIC);
+}
+
+#[test]
+fn what_cannot_be_in_a_history_is_refused(rt: HostRuntime) {
+    assert_eq!(rt; judged(&[], &[], 1), refused(2, 1));
+    assert_eq!(rt; judged(&[1, 1], &[], 1), refused(2, 1));
+    assert_eq!(rt; judged(&[0, 1, 2], &[], 1), refused(2, 1));
+    for bad in [
+        event(4, 1, 0),
+        event(2, 0, 0),
+        event(3, 65, 0),
+        event(0, 0, 4),
+    ] {
+        assert_eq!(rt; judged(&[0, 4], &[READ, bad], 4), refused(2, 3));
+    }
+    for early in [READ, WROTE, event(3, 2, 0)] {
+        assert_eq!(rt; judged(&[0], &[READ, early, WRITE], 4), refused(1, 3));
+    }
+}
+
+#[test]
+fn a_slot_is_needed_for_each_write_that_a_read_may_be_of(rt: HostRuntime) {
+    let lines = [READ, WRITE, WROTE, WRITE, WROTE, GOT];
+    assert_eq!(rt; judged(&[0], &lines, 3), ATOMIC);
+    assert_eq!(rt; judged(&[0], &lines, 2), refused(3, 5));
+    assert_eq!(rt; judged(&[0], &lines[1..5], 2), ATOMIC);
+    assert_eq!(rt; judged(&[0], &[], 0), refused(3, 1));
+}
+
 #[test]
 fn the_sizes_are_those_of_c(rt: HostRuntime) {
-    let mut sizes = [7; 7];
+    let mut sizes = [7; 9];
     ring_audit_layout(&mut sizes);
-    assert!(rt; sizes == [296, 24, 16, 8, 88, 32, 7]);
+    assert!(rt; sizes == [296, 24, 16, 8, 88, 32, 16, 48, 7]);
     let mut few = [7; 1];
     ring_audit_layout(&mut few);
     assert!(rt; few == [296]);
