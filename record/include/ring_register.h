@@ -1,5 +1,5 @@
 /* ring_register.h: records the reads and writes of a register with one writer and up to 64 readers, for `lamport_ring audit --register`.
- * C11, and C++ from C++11; nothing but this file is needed.
+ * C11, and C++ from C++11; nothing but this file is needed. To judge in the same process: ring_register_audit.h.
  *
  *     ring_register rec;
  *     if (!ring_register_init(&rec, 2, 1 << 20)) ..     2 readers; words of 8 bytes for each thread: an operation takes 5
