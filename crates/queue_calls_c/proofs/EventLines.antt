@@ -13,8 +13,9 @@ use Rattle.register_calls.specs.declared.faults.RegisterFault.TheVariants as fau
 use Rattle.register_calls.specs.Audits.{RefusesRegisterEvent}
 use Rattle.register_calls.specs.Classes.{HasClass}
 use Rattle.register_calls.specs.Findings.{IsFirstMiss}
-use Rattle.register_calls.specs.Histories.{started, WritesValue}
+use Rattle.register_calls.specs.Histories.{WritesValue}
 use Rattle.register_calls.proofs.MissLemmas.{first_has}
+use Rattle.register_calls.proofs.ReadLemmas.{few_started}
 use Rattle.queue_calls_c.specs.Registers.{AreLost, IsJudgedHistory, IsJudgement, IsLostAt, IsWithinReaders, IsRefusedAt, RefusesEventLine, StandFor, line_event, refusal_of, refused_line, register_of}
 use Rattle.queue_calls_c.specs.declared.judges.JudgedHistory.{JudgedHistory}
 use Rattle.queue_calls_c.specs.declared.judges.JudgeFault.{JudgeFault}
@@ -34,22 +35,11 @@ stand_more lines place d before e within stand is =
 pub as_many : (lines : List EventLine) (events : List RegisterEvent) → StandFor lines events → length events ≡ length lines
 as_many lines events stand = sym (length-map events (λ (x : RegisterEvent). Some x)) ∙ ap length (sym stand) ∙ length-map lines line_event
 
--- a history has no more writes than events
-pub started_within : (h : List RegisterEvent) → started h ≤ length h
-started_within [] = omega arith
-started_within (WriteBegins v ∷ h) = omega (arith, started_within h)
-started_within (WriteEnds ∷ h) = omega (arith, started_within h)
-started_within (ReadBegins i ∷ h) = omega (arith, started_within h)
-started_within (ReadEnds i v ∷ h) = omega (arith, started_within h)
-
 -- ---- the line with which a class is lost
-
--- the last event of a longer list comes first in its history
-pub one_more : (events : List RegisterEvent) (e : RegisterEvent) → reverse (events ++ e ∷ []) ≡ e ∷ reverse events
-one_more events e = reverse-append events (e ∷ [])
 
 module _ (c : Class) (r : Register) (events : List RegisterEvent) (e : RegisterEvent) where
   -- the first miss of events is that of more
+  -- again, since this crate stands on no text of registers
   first_stays : (p : ℕ) → IsFirstMiss c r events p → IsFirstMiss c r (events ++ e ∷ []) p
   first_stays p miss =
       let within : p < length events = miss.within in
@@ -60,12 +50,13 @@ module _ (c : Class) (r : Register) (events : List RegisterEvent) (e : RegisterE
       }
 
   -- the event that is added is the first miss
+  -- again, since this crate stands on no text of registers
   first_comes : HasClass c r (reverse events) → ¬ HasClass c r (e ∷ reverse events) → IsFirstMiss c r (events ++ e ∷ []) (length events)
   first_comes had lacks = record {
     within = omega (arith, length-append events (e ∷ []));
     before = subst (λ (es : List RegisterEvent). HasClass c r (reverse es)) (sym (take_at events (e ∷ []) (length events) refl)) had;
     with_it = subst (λ (es : List RegisterEvent). ¬ HasClass c r (reverse es)) (sym (take_all (length events + 1) (events ++ e ∷ []) (omega (arith, length-append events (e ∷ [])))))
-        (subst (λ (h : List RegisterEvent). ¬ HasClass c r h) (sym (one_more events e)) lacks);
+        (subst (λ (h : List RegisterEvent). ¬ HasClass c r h) (sym (reverse-append events (e ∷ []))) lacks);
   }
 
   -- a class that was lost is lost with the same line
@@ -75,7 +66,7 @@ module _ (c : Class) (r : Register) (events : List RegisterEvent) (e : RegisterE
 
   -- nor is one that the history has
   pub lost_has : (line : ℕ) → HasClass c r (e ∷ reverse events) → IsLostAt c r events line → IsLostAt c r (events ++ e ∷ []) line
-  lost_has line has (None, had, is) = (None, subst (λ (h : List RegisterEvent). HasClass c r h) (sym (one_more events e)) has, is)
+  lost_has line has (None, had, is) = (None, subst (λ (h : List RegisterEvent). HasClass c r h) (sym (reverse-append events (e ∷ []))) has, is)
   lost_has line has (Some p, miss, is) = (Some p, first_stays p miss, is)
 
   -- one that was not lost, and that the history lacks with the event, is lost with it
@@ -120,7 +111,7 @@ pub refuses_line :
     number < 18446744073709551616 → RefusesRegisterEvent slots readers 18446744073709551615 fault r h e → RefusesEventLine slots (refusal_of fault number) r h l
 refuses_line fault.NoValue slots readers number r h l e rooms within is count small refused = writes_none slots number r h l e is refused
 refuses_line fault.OutOfTurn slots readers number r h l e rooms within is count small refused = (e, sym is, refused.0, refused.1)
-refuses_line fault.TooMany slots readers number r h l e rooms within is count small refused = absurd (omega (arith, refused.3, started_within h, count, small))
+refuses_line fault.TooMany slots readers number r h l e rooms within is count small refused = absurd (omega (arith, refused.3, few_started h, count, small))
 refuses_line fault.OutOfMemory slots readers number r h l e rooms within is count small refused = no_room slots readers 18446744073709551615 number r h l e rooms within is refused
 
 -- ---- what is found

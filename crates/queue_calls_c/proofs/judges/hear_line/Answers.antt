@@ -1,11 +1,11 @@
-use Rattle.std.proofs.Common.{◌≡◌, ◌∙◌, ◌+◌, List, ◌∷◌, Some, None, length, reverse, refl, sym, subst, arith}
-use Rattle.std.proofs.lemmas.List.{length-reverse}
+use Rattle.std.proofs.Common.{◌≡◌, ◌∙◌, ◌+◌, List, [], ◌∷◌, Some, None, length, reverse, refl, sym, subst, arith}
+use Rattle.std.proofs.lemmas.List.{length-reverse, reverse-append}
 use Rattle.register_calls.specs.declared.events.Register.{Register}
 use Rattle.register_calls.specs.declared.events.RegisterEvent.{RegisterEvent}
 use Rattle.register_calls.specs.Audits.{AuditsRegister}
 use Rattle.queue_calls_c.specs.Registers.{AreLost, RefusesEventLine, refused_line}
 use Rattle.queue_calls_c.specs.declared.judges.JudgeFault.{JudgeFault}
-use Rattle.queue_calls_c.proofs.EventLines.{one_more, refusal_line, refuses_line}
+use Rattle.queue_calls_c.proofs.EventLines.{refusal_line, refuses_line}
 use Rattle.queue_calls_c.proofs.judges.hear_line.Goals as goal
 
 pub returns-in_default-clause-refused : goal.returns-in_default-clause-refused
@@ -19,7 +19,7 @@ returns-in-Ok-clause-heard g c before heard at =
       e,
       sym c.in-Some.ensures.event,
       (
-        subst (λ (h : List RegisterEvent). AuditsRegister g.W.Fifo.items g.R.Fifo.items c.feed.new.self h) (sym (one_more before e)) new,
+        subst (λ (h : List RegisterEvent). AuditsRegister g.W.Fifo.items g.R.Fifo.items c.feed.new.self h) (sym (reverse-append before (e ∷ []))) new,
         c.after-now.ensures before e at new (subst (λ (r : Register). AreLost r before c.args.lost) (sym same) heard.1),
       ),
     )
