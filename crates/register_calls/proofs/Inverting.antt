@@ -7,7 +7,7 @@ use Rattle.register_calls.specs.declared.events.RegisterEvent.{RegisterEvent}
 use Rattle.register_calls.specs.declared.events.RegisterEvent.TheVariants.{WriteBegins, WriteEnds, ReadBegins, ReadEnds}
 use Rattle.register_calls.specs.Histories.{IsWellFormed, started, finished, written_values, before_read}
 use Rattle.register_calls.specs.Classes.{Together, Choice, NoneIsLater, Orders}
-use Rattle.register_calls.specs.Reports.{NoneInvertsIsAtomic, could_invert, counted, is_shown, is_value, under_way}
+use Rattle.register_calls.specs.Reports.{NoneInvertsIsAtomic, could_invert, counted, is_shown, is_value, being_written}
 use Rattle.register_calls.proofs.Sets.{get_end}
 use Rattle.register_calls.proofs.ReadLemmas.{length-written}
 use Rattle.register_calls.proofs.OrderLemmas.{NoneIsLater-more, changed, Orders-more}
@@ -21,7 +21,7 @@ one_under_way r (ReadBegins i ∷ b) formed = one_under_way r b formed.0
 one_under_way r (ReadEnds i v ∷ b) formed = one_under_way r b formed.0
 
 -- its value is the last one that was written
-value_under_way : (r : Register) (h : List RegisterEvent) → IsWellFormed r h → started h ≡ suc (finished h) → under_way h ≡ slice_get (written_values r.first h) (started h)
+value_under_way : (r : Register) (h : List RegisterEvent) → IsWellFormed r h → started h ≡ suc (finished h) → being_written h ≡ slice_get (written_values r.first h) (started h)
 value_under_way r [] formed more = absurd (omega (arith, more))
 value_under_way r (WriteBegins v ∷ b) formed more = sym (get_end (written_values r.first b) v (suc (started b)) (sym (length-written r.first b)))
 value_under_way r (WriteEnds ∷ b) formed more = let p = formed.2 in absurd (omega (arith, p, more))
@@ -55,7 +55,7 @@ module _ (of : Choice) (i : ℕ) where
   none_or_shown r (WriteEnds ∷ b) formed orders = inl (subst (λ (n : ℕ). NoneIsLater Together of i n b) formed.2 (none_to_come r.first b orders))
   none_or_shown r (ReadBegins j ∷ b) formed orders = none_or_shown r b formed.0 orders
   none_or_shown r (ReadEnds j v ∷ b) formed orders = elim (none_or_shown r b formed.0 orders.0) [
-    | inr shown ↦ inr (either_one (is_shown b) (is_value (under_way b) v) shown)
+    | inr shown ↦ inr (either_one (is_shown b) (is_value (being_written b) v) shown)
     | inl none ↦ elim (cases_lt (finished b) (of (length b))) [
       | inr early ↦ inl (none, λ seen. early)
       | inl late ↦
@@ -64,7 +64,7 @@ module _ (of : Choice) (i : ℕ) where
           let last : of (length b) ≡ started b = omega (arith, late, few, one) in
           let more : started b ≡ suc (finished b) = omega (arith, late, few, one) in
           let there : slice_get (written_values r.first b) (started b) ≡ Some v = subst (λ (n : ℕ). slice_get (written_values r.first b) n ≡ Some v) last orders.1.2 in
-          inr (either_other (is_shown b) (is_value (under_way b) v) (value_is (under_way b) v (value_under_way r b formed.0 more ∙ there)))
+          inr (either_other (is_shown b) (is_value (being_written b) v) (value_is (being_written b) v (value_under_way r b formed.0 more ∙ there)))
     ]
   ]
 

@@ -37,12 +37,12 @@ overlapped_by_several (ReadBegins i ∷ before) = overlapped_by_several before
 overlapped_by_several (ReadEnds i v ∷ before) = counted (nat_lt (suc (finished (before_read i before))) (started before)) (overlapped_by_several before)
 
 -- the value of the write under way
-abbrev pub under_way : List RegisterEvent → Option ℕ
-under_way [] = None
-under_way (WriteBegins v ∷ before) = Some v
-under_way (WriteEnds ∷ before) = None
-under_way (ReadBegins i ∷ before) = under_way before
-under_way (ReadEnds i v ∷ before) = under_way before
+abbrev pub being_written : List RegisterEvent → Option ℕ
+being_written [] = None
+being_written (WriteBegins v ∷ before) = Some v
+being_written (WriteEnds ∷ before) = None
+being_written (ReadBegins i ∷ before) = being_written before
+being_written (ReadEnds i v ∷ before) = being_written before
 
 -- whether there is a value, and it is this one
 abbrev pub is_value : Option ℕ → ℕ → Bool
@@ -55,7 +55,7 @@ is_shown [] = false
 is_shown (WriteBegins v ∷ before) = false
 is_shown (WriteEnds ∷ before) = false
 is_shown (ReadBegins i ∷ before) = is_shown before
-is_shown (ReadEnds i v ∷ before) = is_shown before || is_value (under_way before) v
+is_shown (ReadEnds i v ∷ before) = is_shown before || is_value (being_written before) v
 
 -- how many reads have begun while a write was under way whose value was shown so
 abbrev pub could_invert : List RegisterEvent → ℕ
@@ -82,7 +82,7 @@ pub record Tallies (t : RegisterTally) (h : List RegisterEvent) : Type 0 where
   pub overlapped : t.report.overlapped ≡ overlapped_reads h
   pub by_several : t.report.by_several ≡ overlapped_by_several h
   pub could_invert : t.report.could_invert ≡ could_invert h
-  pub under_way : t.under_way ≡ under_way h
+  pub under_way : t.under_way ≡ being_written h
   pub is_shown : t.is_shown ≡ is_shown h
 
 -- a well-formed regular history in which no read could invert is atomic

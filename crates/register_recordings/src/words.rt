@@ -7,9 +7,9 @@ use std::fmt;
 
 // The line of the event at a place, after a space.
 #[derive(Clone, Copy)]
-struct Line(usize);
+struct AtLine(usize);
 
-impl fmt::Display for Line {
+impl fmt::Display for AtLine {
     ghost use Rattle.register_recordings.specs.Misses.{line_words};
 
     ghost output = { λ l. Some (line_words l.0) };
@@ -51,9 +51,9 @@ impl fmt::Display for First {
                 f,
                 ", but a read of {} that ended at{} gave the later value {}, of{}",
                 Reader(read.reader),
-                Line(read.ended),
+                AtLine(read.ended),
                 read.value,
-                Line(read.written)
+                AtLine(read.written)
             ),
         }
     }
@@ -75,8 +75,8 @@ impl fmt::Display for Further {
                 f,
                 "; for the read of {} that ended at{} can be of no write before that of{}",
                 Reader(read.reader),
-                Line(read.ended),
-                Line(read.written)
+                AtLine(read.ended),
+                AtLine(read.written)
             ),
         }
     }
@@ -134,7 +134,7 @@ impl fmt::Display for Since {
     fn fmt<W: fmt::Write>(&self, f: &mut fmt::Formatter<W>) -> fmt::Result {
         match self.0 {
             None => f.write_str(" the start"),
-            Some(place) => write!(f, "{}", Line(place)),
+            Some(place) => write!(f, "{}", AtLine(place)),
         }
     }
 }

@@ -1,4 +1,4 @@
--- Where the first fault of recorded calls is, line by line.
+-- Where the first fault of recorded calls is, and the first line with which a recorded register lacks a class.
 use Rattle.std.proofs.Common.{◌≡◌, ◌≢◌, ◌∙◌, ◌⊎◌, ℕ, ◌+◌, take, length-append, List, [], ◌∷◌, ◌++◌, None, inl, inr, append_assoc, ap, ap₂, length, refl, sym, subst, arith}
 use Rattle.std.proofs.Math.ListN.{get_or}
 use Rattle.std.proofs.Math.Seq.{take-append_seam}
@@ -11,7 +11,11 @@ use Rattle.queue_calls.specs.Queue.{Capacity}
 use Rattle.queue_calls.specs.Recordings.{IsFaultOf, IsRecording, Line, first_word, line, lines_text, text_of}
 use Rattle.line_parts.specs.LineEnds.{HasNoFeed}
 use Rattle.line_parts.proofs.LineFeeds.{feed_nowhere}
-use Rattle.ring_program.specs.Readings.{EndsAtFirstFault, IsFaultless, IsOneLine}
+use Rattle.register_calls.specs.declared.events.Class.{Class}
+use Rattle.register_lines.specs.Lines.{register_line_text}
+use Rattle.register_lines.specs.declared.lines.RegisterLine.{RegisterLine}
+use Rattle.register_recordings.specs.Recordings.{KeepsClass, register_line_bytes, register_text}
+use Rattle.ring_program.specs.Readings.{EndsAtFirst, HasNoFault, HoldsOfLines, IsFaultless, IsOneLine}
 
 head_is : (x y : ℕ) (xs ys : List ℕ) → x ∷ xs ≡ y ∷ ys → x ≡ y
 head_is x y xs ys e = ap (λ (t : List ℕ). get_or t 0 0) e
@@ -91,42 +95,67 @@ nothing_behind front d t none e = by (overlap t (10 ∷ []) front d e)
         short (y ∷ ys) e = absurd (no_cons y (ys ++ d) e)
     by (inr (more, longer, rest)) = absurd (feed_nowhere d more [] none rest)
 
--- ---- the first fault
+-- ---- the first line with which something stops holding
 
--- lines that have no fault, and then some of a line
-ends_at_shorter : (ended d front : List ℕ) → ended ≡ front ++ d → HasNoFeed d → IsFaultOf ended None → EndsAtFirstFault front
-ends_at_shorter [] d front is none faultless =
-    let nothing : front ≡ [] = none_behind front d (sym is) in
-    ([], [], nothing, faultless, one_line [] (All-nil (λ c. c ≢ 10)))
-ends_at_shorter (x ∷ ended) d front is none faultless =
-    let found = faultless (λ e. no_cons x ended (sym e)) in
-    let feed = recording_ends (x ∷ ended) found.1.0 found.1.1 found.1.2 in
-    let nothing : d ≡ [] = nothing_behind front d feed.0 none (sym feed.1 ∙ is) in
-    let same : front ≡ x ∷ ended = sym (is ∙ ap (λ (t : List ℕ). front ++ t) nothing ∙ append-nil front) in
-    (x ∷ ended, [], same ∙ sym (append-nil (x ∷ ended)), faultless, one_line [] (All-nil (λ c. c ≢ 10)))
+module _ (Holds : List ℕ → Type 0) (feeds : (x : ℕ) (xs : List ℕ) → Holds (x ∷ xs) → (t : List ℕ) × (x ∷ xs ≡ t ++ 10 ∷ [])) where
+  -- lines of which it holds, and then some of a line
+  ends_at_shorter : (ended d front : List ℕ) → ended ≡ front ++ d → HasNoFeed d → Holds ended → EndsAtFirst Holds front
+  ends_at_shorter [] d front is none holds =
+      let nothing : front ≡ [] = none_behind front d (sym is) in
+      ([], [], nothing, holds, one_line [] (All-nil (λ c. c ≢ 10)))
+  ends_at_shorter (x ∷ ended) d front is none holds =
+      let feed = feeds x ended holds in
+      let nothing : d ≡ [] = nothing_behind front d feed.0 none (sym feed.1 ∙ is) in
+      let same : front ≡ x ∷ ended = sym (is ∙ ap (λ (t : List ℕ). front ++ t) nothing ∙ append-nil front) in
+      (x ∷ ended, [], same ∙ sym (append-nil (x ∷ ended)), holds, one_line [] (All-nil (λ c. c ≢ 10)))
 
--- a line was read behind bytes whose lines have no fault; lines of these all go no further than the first fault
-pub ends_at : (bytes line front rest : List ℕ) → IsFaultless bytes → IsOneLine line → bytes ++ line ≡ front ++ rest → HasNoFeed rest → EndsAtFirstFault front
-ends_at bytes line front rest (ended, left, parts, none, faultless) one is free =
-    by (overlap ended (left ++ line) front rest (sym (append_assoc ended left line) ∙ ap (λ (t : List ℕ). t ++ line) (sym parts) ∙ is))
-  where
-    by : Overlap ended (left ++ line) front rest → EndsAtFirstFault front
-    by (inl (d, longer, more)) = (
-      ended,
-      d,
-      longer,
-      faultless,
-      λ a b e. none_behind b rest (line_behind left line none one a (b ++ rest) (more ∙ ap (λ (t : List ℕ). t ++ rest) e ∙ append_assoc a (10 ∷ b) rest)),
-    )
-    by (inr (d, longer, more)) = ends_at_shorter ended d front longer (front_free d (left ++ line) (subst HasNoFeed more free)) faultless
-      where
-        front_free : (xs ys : List ℕ) → HasNoFeed (xs ++ ys) → HasNoFeed xs
-        front_free [] ys none = All-nil (λ c. c ≢ 10)
-        front_free (x ∷ xs) ys none = All-cons (λ c. c ≢ 10) x xs (All-head (λ c. c ≢ 10) x (xs ++ ys) none) (front_free xs ys (All-tail (λ c. c ≢ 10) x (xs ++ ys) none))
+  -- a line was read after bytes of whose lines it holds; lines of these all go no further than the first with which it stops
+  pub ends_at : (bytes line front rest : List ℕ) → HoldsOfLines Holds bytes → IsOneLine line → bytes ++ line ≡ front ++ rest → HasNoFeed rest → EndsAtFirst Holds front
+  ends_at bytes line front rest (ended, left, parts, none, holds) one is free =
+      by (overlap ended (left ++ line) front rest (sym (append_assoc ended left line) ∙ ap (λ (t : List ℕ). t ++ line) (sym parts) ∙ is))
+    where
+      by : Overlap ended (left ++ line) front rest → EndsAtFirst Holds front
+      by (inl (d, longer, more)) = (
+        ended,
+        d,
+        longer,
+        holds,
+        λ a b e. none_behind b rest (line_behind left line none one a (b ++ rest) (more ∙ ap (λ (t : List ℕ). t ++ rest) e ∙ append_assoc a (10 ∷ b) rest)),
+      )
+      by (inr (d, longer, more)) = ends_at_shorter ended d front longer (front_free d (left ++ line) (subst HasNoFeed more free)) holds
+        where
+          front_free : (xs ys : List ℕ) → HasNoFeed (xs ++ ys) → HasNoFeed xs
+          front_free [] ys none = All-nil (λ c. c ≢ 10)
+          front_free (x ∷ xs) ys none = All-cons (λ c. c ≢ 10) x xs (All-head (λ c. c ≢ 10) x (xs ++ ys) none) (front_free xs ys (All-tail (λ c. c ≢ 10) x (xs ++ ys) none))
 
--- bytes whose lines have no fault go no further than one
-pub faultless_ends : (bytes : List ℕ) → IsFaultless bytes → EndsAtFirstFault bytes
-faultless_ends bytes (ended, rest, parts, none, faultless) = (ended, rest, parts, faultless, one_line rest none)
+-- bytes of whose lines it holds go no further than the first with which it stops
+pub holding_ends : (Holds : List ℕ → Type 0) (bytes : List ℕ) → HoldsOfLines Holds bytes → EndsAtFirst Holds bytes
+holding_ends Holds bytes (ended, rest, parts, none, holds) = (ended, rest, parts, holds, one_line rest none)
+
+pub holds_of_none : (Holds : List ℕ → Type 0) → Holds [] → HoldsOfLines Holds []
+holds_of_none Holds holds = ([], [], refl, All-nil (λ c. c ≢ 10), holds)
+
+-- recorded calls that have no fault end in a line feed, if there are any
+pub calls_feed : (x : ℕ) (xs : List ℕ) → HasNoFault (x ∷ xs) → (t : List ℕ) × (x ∷ xs ≡ t ++ 10 ∷ [])
+calls_feed x xs faultless =
+    let found = faultless (λ e. no_cons x xs (sym e)) in
+    recording_ends (x ∷ xs) found.1.0 found.1.1 found.1.2
 
 pub nothing_is_faultless : IsFaultless []
-nothing_is_faultless = ([], [], refl, All-nil (λ c. c ≢ 10), λ some. absurd (some refl))
+nothing_is_faultless = holds_of_none HasNoFault (λ some. absurd (some refl))
+
+-- recorded registers of a class end in one too
+register_ends : (l : RegisterLine) (ls : List RegisterLine) → (t : List ℕ) × (register_text (l ∷ ls) ≡ t ++ 10 ∷ [])
+register_ends l [] = (register_line_text l, append-nil (register_line_bytes l))
+register_ends l (m ∷ ls) =
+    let later = register_ends m ls in
+    (register_line_bytes l ++ later.0, ap (λ (t : List ℕ). register_line_bytes l ++ t) later.1 ∙ sym (append_assoc (register_line_bytes l) later.0 (10 ∷ [])))
+
+pub register_feed : (class : Class) (x : ℕ) (xs : List ℕ) → KeepsClass class (x ∷ xs) → (t : List ℕ) × (x ∷ xs ≡ t ++ 10 ∷ [])
+register_feed class x xs (inl none) = absurd (no_cons x xs (sym none))
+register_feed class x xs (inr (r, events, is, has)) =
+    let ends = register_ends is.head is.further in
+    (ends.0, is.text ∙ ends.1)
+
+pub nothing_keeps : (class : Class) → HoldsOfLines (KeepsClass class) []
+nothing_keeps class = holds_of_none (KeepsClass class) (inl refl)

@@ -5,6 +5,7 @@ mod FirstFaults
 mod Gains
 mod InlineLines
 mod ReadingLemmas
+mod RegisterLemmas
 mod RecordingText
 mod RunItems
 mod RunTelling

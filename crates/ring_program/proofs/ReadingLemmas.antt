@@ -1,13 +1,15 @@
 -- What is found where recorded calls are read.
-use Rattle.std.proofs.Common.{arith, ◌≡◌, ◌≢◌, ◌≤◌, ◌+◌, ◌-◌, ◌^◌, ◌∙◌, Bool, true, false, ℕ, zero, suc, List, [], ◌++◌, Option, None, Some, IfSome, append_assoc, ap, length, length-append, refl, subst, sym, take}
+use Rattle.std.proofs.Common.{arith, ◌≡◌, ◌≢◌, ◌≤◌, ◌+◌, ◌-◌, ◌^◌, ◌∙◌, Bool, true, false, ℕ, zero, suc, List, [], ◌++◌, Option, None, Some, Result, Ok, Err, IfSome, append_assoc, ap, length, length-append, refl, subst, sym, take}
+use Rattle.std.specs.Prelude.{IfOk, MatchOption}
 use Rattle.std.proofs.lemmas.List.{append-nil, length-take-le}
+use Rattle.std.proofs.lemmas.Option.{none-some, same_Some}
 use Rattle.std.proofs.KnownBytes.{Consumes-trans, Consumes-whole}
 use Rattle.std.specs.Io.KnownBytes.{Consumes, IsAtEnd}
 use Rattle.queue_calls.specs.Recordings.{IsFaultOf, IsFindingOf}
 use Rattle.queue_calls.specs.declared.recordings.CallsFinding.{CallsFinding}
 use Rattle.queue_calls.specs.declared.recordings.CallsFinding.TheVariants.{Lawful, OutOfTurn, NotLinearizable}
-use Rattle.ring_program.proofs.FirstFaults.{faultless_ends}
-use Rattle.ring_program.specs.Readings.{EndsAtFirstFault, IsFaultAhead, IsFaultless, IsFoundBy, IsFoundIn, calls_ending_of}
+use Rattle.ring_program.proofs.FirstFaults.{holding_ends}
+use Rattle.ring_program.specs.Readings.{EndsAtFirstFault, HasNoFault, IsFaultAhead, IsFaultless, IsFoundBy, IsFoundIn, calls_ending_of}
 use Rattle.ring_program.specs.Texts.{calls_text_of}
 use Rattle.ring_program.specs.declared.answers.Ending.{Ending}
 use Rattle.ring_program.specs.declared.answers.Ending.TheVariants.{Done, FaultFound}
@@ -17,6 +19,26 @@ pub around : (bytes piece read line rest more : List ℕ) → piece ≡ (read ++
 around bytes piece read line rest more is =
     append_assoc bytes read (line ++ (rest ++ more))
     ∙ ap (λ (t : List ℕ). bytes ++ t) (sym (append_assoc read line (rest ++ more)) ∙ sym (append_assoc (read ++ line) rest more) ∙ ap (λ (t : List ℕ). t ++ more) (sym is))
+
+-- a piece of which some was read, and then a line
+pub line_read : (piece read rest line more : List ℕ) → piece ≡ read ++ rest → rest ≡ line ++ more → piece ≡ (read ++ line) ++ more
+line_read piece read rest line more one two = one ∙ ap (λ (t : List ℕ). read ++ t) two ∙ sym (append_assoc read line more)
+
+-- what holds if something was found, and if nothing was
+pub one_found : {X : Type 0} (o : Option X) (A : Type 0) (B : X → Type 0) (x : X) → o ≡ Some x → MatchOption o A B → B x
+one_found None A B x is holds = absurd (none-some x is)
+one_found (Some y) A B x is holds = subst B (same_Some y x is) holds
+
+pub none_found : {X : Type 0} (o : Option X) (A : Type 0) (B : X → Type 0) → ((x : X) → o ≢ Some x) → MatchOption o A B → A
+none_found None A B none holds = holds
+none_found (Some x) A B none holds = absurd (none x refl)
+
+-- what was read up to the first fault was to be read so
+pub with_stop : {X E : Type 0} (r : Result (Option X) E) (A B S : Type 0) (C : X → Type 0) → S → IfOk r (λ f. MatchOption f (A × B) C)
+    → IfOk r (λ f. MatchOption f (A × (S → B)) (λ x. S × C x))
+with_stop (Ok None) A B S C stop is = (is.0, λ s. is.1)
+with_stop (Ok (Some x)) A B S C stop is = (stop, is)
+with_stop (Err e) A B S C stop is = tt
 
 -- a fault is no lawful finding
 is_fault : (ended : List ℕ) (found : CallsFinding) → IsFaultOf ended (Some found) → IsFindingOf ended found × (calls_ending_of found ≡ FaultFound)
@@ -36,12 +58,12 @@ same_text a b (Lawful report) is = cc
 same_text a b (OutOfTurn line) is = refl
 same_text a b (NotLinearizable line cause) is = refl
 
-never_done : (ending : Ending) → ending ≡ FaultFound → ending ≡ Done → ⊥
+pub never_done : (ending : Ending) → ending ≡ FaultFound → ending ≡ Done → ⊥
 never_done ending fault done = let clash : FaultFound ≡ Done = sym fault ∙ done in cc
 
 pub at_end : (stop : Bool) (bytes : List ℕ) (is_cut : Bool) (found : CallsFinding) → (stop ≡ true → IsFaultless bytes) → IsFoundIn bytes is_cut found → IsFoundBy stop bytes is_cut found
 at_end false bytes is_cut found faultless is = is
-at_end true bytes is_cut found faultless is = (bytes, [], sym (append-nil bytes), is, (λ over. refl), (λ fault. faultless_ends bytes (faultless refl)))
+at_end true bytes is_cut found faultless is = (bytes, [], sym (append-nil bytes), is, (λ over. refl), (λ fault. holding_ends HasNoFault bytes (faultless refl)))
 
 pub at_fault : (stop : Bool) (bytes : List ℕ) (found : CallsFinding) → stop ≡ true → IsFaultAhead bytes found → IsFoundBy stop bytes false found
 at_fault false bytes found is ahead = cc

@@ -31,7 +31,10 @@ use Rattle.ring_script.specs.Script.{IsScript}
 use Rattle.ring_script.specs.declared.faults.ScriptFault.{ScriptFault}
 use Rattle.ring_script.specs.declared.faults.ScriptFault.TheVariants as script
 use Rattle.ring_program.specs.Faults.{SaysRefusal, refusal_line}
+use Rattle.register_recordings.specs.Recordings.{RefusesRegisterText}
+use Rattle.register_recordings.specs.declared.faults.RegisterTextFault.{RegisterTextFault}
 use Rattle.ring_program.specs.Readings.{AnswersCalls}
+use Rattle.ring_program.specs.Registers.{AnswersRegister}
 use Rattle.ring_program.specs.Reports.{Reports}
 use Rattle.ring_run.specs.Relays.{IsRelayed}
 use Rattle.ring_program.specs.RunRecordings.{RecordsRun, run_counts}
@@ -176,6 +179,7 @@ Answers (OnInput (Audit what why)) input text ending =
     (length input ≤ INPUT_LIMIT) × AuditsTrace IsTrace what why input text ending
 Answers (OnInput (Play shows)) input text ending = (length input ≤ INPUT_LIMIT) × PlaysScript shows input text ending
 Answers (request.Calls stop) input text ending = AnswersCalls stop input text ending
+Answers (request.Register question) input text ending = AnswersRegister question input text ending
 Answers request.LongBits input text ending = AuditsTrace IsTraceText Bits false input text ending
 Answers (request.Run run) input text ending = AnswersRun run text ending
 
@@ -184,6 +188,7 @@ abbrev pub MayEnd : Request → Ending → Type 0
 MayEnd (OnInput (Audit what why)) ending = (ending ≡ Done) ⊎ (ending ≡ FaultFound)
 MayEnd (OnInput (Play shows)) ending = ending ≡ Done
 MayEnd (request.Calls stop) ending = (ending ≡ Done) ⊎ (ending ≡ FaultFound)
+MayEnd (request.Register question) ending = (ending ≡ Done) ⊎ (ending ≡ FaultFound)
 MayEnd request.LongBits ending = (ending ≡ Done) ⊎ (ending ≡ FaultFound)
 MayEnd (request.Run run) ending = (ending ≡ Done) ⊎ (ending ≡ LimitReached)
 
@@ -212,6 +217,11 @@ unfoldable pub IsCallsCause : List ℕ → Refusal → Type 0
 IsCallsCause input e = (e ≡ refusal.App app.OutOfMemory) ⊎ ((e ≡ refusal.App app.ReadFailed)
     ⊎ ((fault : RecordingFault) × (e ≡ refusal.Calls fault) × RefusesText fault input))
 
+-- a true cause of a refusal of a recorded register: memory ran out, or a read failed, or the input is no recording
+unfoldable pub IsRegisterCause : List ℕ → Refusal → Type 0
+IsRegisterCause input e = (e ≡ refusal.App app.OutOfMemory) ⊎ ((e ≡ refusal.App app.ReadFailed)
+    ⊎ ((fault : RegisterTextFault) × (e ≡ refusal.Register fault) × RefusesRegisterText fault input))
+
 -- a true cause of a refusal of a trace of any length: memory ran out, or a read failed, or the input is no such trace
 unfoldable pub IsLongBitsCause : List ℕ → Refusal → Type 0
 IsLongBitsCause input e = (e ≡ refusal.App app.OutOfMemory) ⊎ ((e ≡ refusal.App app.ReadFailed)
@@ -222,6 +232,7 @@ abbrev pub IsTrueCause : Request → List ℕ → Refusal → Type 0
 IsTrueCause (OnInput (Audit what why)) input e = IsKeptCause RefusesTrace input e
 IsTrueCause (OnInput (Play shows)) input e = IsKeptCause RefusesScript input e
 IsTrueCause (request.Calls stop) input e = IsCallsCause input e
+IsTrueCause (request.Register question) input e = IsRegisterCause input e
 IsTrueCause request.LongBits input e = IsLongBitsCause input e
 IsTrueCause (request.Run run) input e = IsRunCause run e
 

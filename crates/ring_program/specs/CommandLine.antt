@@ -11,6 +11,8 @@ use Rattle.clap.specs.declared.builder.value_parser.ValueParser.TheVariants.{Uns
 use Rattle.std.specs.Str.Parse.{digits_value, without_leading_plus}
 use Rattle.near_misses.specs.Misses.{miss_named}
 use Rattle.near_misses.specs.declared.misses.NearMiss.{NearMiss}
+use Rattle.register_calls.specs.declared.events.Class.{Class}
+use Rattle.register_calls.specs.declared.events.Class.TheVariants.{Safe, Regular, AtomicByReader, Atomic}
 use Rattle.ring_program.specs.declared.command_line.Audited.TheVariants.{Programs, Bits}
 use Rattle.ring_program.specs.declared.command_line.PlayText.TheVariants.{Trace, Calls}
 use Rattle.ring_program.specs.declared.command_line.PlayText.TheVariants as play
@@ -37,15 +39,20 @@ HasOption rule old new = (app : App) → IsCommand old app → IsCommand new (wi
 abbrev pub flag_rule : Text → Rule
 flag_rule id = record (new_rule id) { long = Some id; action = Some SetTrue }
 
--- `audit [--bits] [--why]`, `audit --bits --long` and `audit --calls [--stop]`
-abbrev pub audit_command : App
-audit_command =
-    with_rule (with_rule (with_rule (with_rule (with_rule (new_app (codes "audit"))
-    (flag_rule (codes "bits"))) (flag_rule (codes "long"))) (flag_rule (codes "calls"))) (flag_rule (codes "stop"))) (flag_rule (codes "why"))
-
 -- an option with a value
 abbrev pub value_rule : Text → Rule
 value_rule id = record (new_rule id) { long = Some id; action = Some Set; value_names = 1 }
+
+-- `--at-least`
+abbrev pub at_least_rule : Rule
+at_least_rule = value_rule (codes "at-least")
+
+-- `audit [--bits] [--why]`, `audit --bits --long`, `audit --calls [--stop]` and `audit --register [--at-least CLASS] [--report] [--stop]`
+abbrev pub audit_command : App
+audit_command =
+    with_rule (with_rule (with_rule (with_rule (with_rule (with_rule (with_rule (with_rule (new_app (codes "audit"))
+    (flag_rule (codes "bits"))) (flag_rule (codes "long"))) (flag_rule (codes "calls"))) (flag_rule (codes "register"))) at_least_rule)
+    (flag_rule (codes "report"))) (flag_rule (codes "stop"))) (flag_rule (codes "why"))
 
 -- `--wrong`
 abbrev pub wrong_rule : Rule
@@ -106,8 +113,8 @@ application = with_subcommand (with_subcommand (with_subcommand program_alone au
 abbrev pub is_flag_given : Text → List Row → Bool
 is_flag_given id rows = option_map_or (λ t. bytes_eq t (codes "true")) (first_of id rows) false
 
--- an audit is of bits or of calls, and not of both; of bits alone it may be long, and of calls it may stop at the first fault; where it
--- keeps the trace it may say why
+-- an audit of a trace or of calls is of bits or of calls, and not of both; of bits alone it may be long, and of calls it may stop at the
+-- first fault; if it keeps the trace it may say why
 abbrev pub audit_request : (bits long calls stop why : Bool) → Option Request
 audit_request true true false false false = Some request.LongBits
 audit_request false false true stop false = Some (request.Calls stop)
@@ -115,9 +122,38 @@ audit_request true false false false why = Some (OnInput (Audit Bits why))
 audit_request false false false false why = Some (OnInput (Audit Programs why))
 audit_request _ _ _ _ _ = None
 
+-- the class of this name
+abbrev pub class_in : Text → Option Class
+class_in name =
+    if bytes_eq name (codes "safe") then Some Safe
+    else (if bytes_eq name (codes "regular") then Some Regular
+    else (if bytes_eq name (codes "atomic-by-reader") then Some AtomicByReader else (if bytes_eq name (codes "atomic") then Some Atomic else None)))
+
+-- the class that a register is asked to have: atomic, if none is named
+abbrev pub class_asked : Option Text → Option Class
+class_asked None = Some Atomic
+class_asked (Some name) = class_in name
+
+abbrev pub register_asked : Class → (report stop : Bool) → Request
+register_asked class report stop = request.Register (record { at_least = class; report = report; stop = stop })
+
+-- an audit of a register is of nothing else
+abbrev pub register_request : (bits long calls why : Bool) → Option Text → (report stop : Bool) → Option Request
+register_request false false false false name report stop =
+    option_map (λ class. register_asked class report stop) (class_asked name)
+register_request _ _ _ _ name report stop = None
+
+-- a class and a report are asked of a register alone
+abbrev pub audit_asked : (register : Bool) → Option Text → (report bits long calls stop why : Bool) → Option Request
+audit_asked true name report bits long calls stop why = register_request bits long calls why name report stop
+audit_asked false (Some name) report bits long calls stop why = None
+audit_asked false None true bits long calls stop why = None
+audit_asked false None false bits long calls stop why = audit_request bits long calls stop why
+
 abbrev pub audit_request_of : List Row → Option Request
 audit_request_of rows =
-    audit_request (is_flag_given (codes "bits") rows) (is_flag_given (codes "long") rows) (is_flag_given (codes "calls") rows)
+    audit_asked (is_flag_given (codes "register") rows) (first_of (codes "at-least") rows) (is_flag_given (codes "report") rows)
+    (is_flag_given (codes "bits") rows) (is_flag_given (codes "long") rows) (is_flag_given (codes "calls") rows)
     (is_flag_given (codes "stop") rows) (is_flag_given (codes "why") rows)
 
 -- a play prints a trace or its calls, and not both; a play by a near miss prints one of the two

@@ -6,6 +6,8 @@ use Rattle.trace_text.specs.Faults.{trace_fault_words}
 use Rattle.trace_text.specs.declared.faults.TraceFault.TheVariants as trace
 use Rattle.queue_calls.specs.Faults.{recording_fault_words}
 use Rattle.queue_calls.specs.declared.faults.RecordingFault.TheVariants as calls
+use Rattle.register_recordings.specs.Faults.{register_fault_words}
+use Rattle.register_recordings.specs.declared.faults.RegisterTextFault.TheVariants as register
 use Rattle.ring_script.specs.Faults.{script_fault_words}
 use Rattle.ring_script.specs.declared.faults.ScriptFault.{ScriptFault}
 use Rattle.ring_program.specs.declared.faults.AppFault.{AppFault}
@@ -32,6 +34,7 @@ abbrev pub refusal_words : Refusal → List ℕ
 refusal_words (refusal.App fault) = app_fault_words fault
 refusal_words (refusal.Trace fault) = trace_fault_words fault
 refusal_words (refusal.Calls fault) = recording_fault_words fault
+refusal_words (refusal.Register fault) = register_fault_words fault
 refusal_words (refusal.Script fault) = script_fault_words fault
 refusal_words (refusal.Shape fault) = shape_fault_words fault
 refusal_words refusal.NoSecondThread = codes "no second thread"
@@ -40,10 +43,11 @@ refusal_words refusal.NoSecondThread = codes "no second thread"
 abbrev pub refusal_line : Refusal → List ℕ
 refusal_line e = codes "refused: " ++ (refusal_words e ++ codes "\n")
 
--- it refuses a script, or a line of a trace or of recorded calls, of which a second line may say what is wrong there
+-- it refuses a script, or a line of a trace, of recorded calls or of a recorded register, of which a second line may say what is wrong there
 abbrev pub IsInText : Refusal → Type 0
 IsInText e = ((line : ℕ) × (e ≡ refusal.Trace (trace.BadLine line)))
-    ⊎ (((line : ℕ) × (e ≡ refusal.Calls (calls.BadLine line))) ⊎ ((fault : ScriptFault) × (e ≡ refusal.Script fault)))
+    ⊎ (((line : ℕ) × (e ≡ refusal.Calls (calls.BadLine line))) ⊎ (((line : ℕ) × (e ≡ refusal.Register (register.BadLine line)))
+    ⊎ ((fault : ScriptFault) × (e ≡ refusal.Script fault))))
 
 -- a writer gained the text, where it was told whole, and else a front of it
 abbrev pub Gains : Option (List ℕ) → Option (List ℕ) → Bool → List ℕ → Type 0

@@ -2,6 +2,7 @@ pub mod Answers
 pub mod CommandLine
 pub mod Faults
 pub mod Readings
+pub mod Registers
 pub mod Reports
 pub mod RunRecordings
 pub mod Runs

@@ -20,9 +20,20 @@ calls_ending_of (NotLinearizable line cause) = FaultFound
 abbrev pub IsOneLine : List ℕ → Type 0
 IsOneLine bytes = (a b : List ℕ) → bytes ≡ a ++ 10 ∷ b → b ≡ []
 
--- a recording goes no further than its first fault: the lines before its last one have none
+-- bytes go no further than the first line with which something stops holding: it holds of the lines before their last one
+abbrev pub EndsAtFirst : (List ℕ → Type 0) → List ℕ → Type 0
+EndsAtFirst Holds bytes = (before : List ℕ) × (last : List ℕ) × (bytes ≡ before ++ last) × Holds before × IsOneLine last
+
+-- something holds of the lines that have ended
+abbrev pub HoldsOfLines : (List ℕ → Type 0) → List ℕ → Type 0
+HoldsOfLines Holds bytes = (ended : List ℕ) × (rest : List ℕ) × (bytes ≡ ended ++ rest) × HasNoFeed rest × Holds ended
+
+-- a recording of calls has no fault, and goes no further than its first one
+abbrev pub HasNoFault : List ℕ → Type 0
+HasNoFault bytes = IsFaultOf bytes None
+
 abbrev pub EndsAtFirstFault : List ℕ → Type 0
-EndsAtFirstFault bytes = (before : List ℕ) × (last : List ℕ) × (bytes ≡ before ++ last) × IsFaultOf before None × IsOneLine last
+EndsAtFirstFault bytes = EndsAtFirst HasNoFault bytes
 
 -- what is found of a recording; its text, where it is told as cut or not, is the one that tells whether it is
 abbrev pub IsFoundIn : List ℕ → (is_cut : Bool) → CallsFinding → Type 0
@@ -57,4 +68,4 @@ IsFaultAhead input found =
 
 -- the lines that have ended have no fault
 abbrev pub IsFaultless : List ℕ → Type 0
-IsFaultless bytes = (ended : List ℕ) × (rest : List ℕ) × (bytes ≡ ended ++ rest) × HasNoFeed rest × IsFaultOf ended None
+IsFaultless bytes = HoldsOfLines HasNoFault bytes

@@ -4,29 +4,34 @@ ghost use Rattle.ring_program.specs.Faults.{IsInText};
 
 use crate::faults::Refusal;
 use crate::trace_lines::{
-    LineFault, Shown, TextLine, fault_of_call, fault_of_line, line_at, looks_like_calls,
-    looks_like_script, looks_like_trace,
+    LineFault, Shown, TextLine, fault_of_call, fault_of_line, fault_of_register, line_at,
+    looks_like_calls, looks_like_register, looks_like_script, looks_like_trace,
 };
 use queue_calls::RecordingFault;
+use register_recordings::RegisterTextFault;
 use ring_script::{Field, JsonFault, ScriptFault, byte_of_text, json_fault};
 use std::alloc::Global;
 use std::fmt;
 use trace_text::TraceFault;
 
-/// What is wrong in the text of a trace, of recorded calls or of a script. It is printed in one line, with no line feed.
+/// What is wrong in the text of a trace, of recorded calls, of a recorded register or of a script. It is printed in one line, with no line feed.
 #[derive(Drop)]
 pub(crate) enum TextCause<'a> {
     /// The text of the trace is empty.
     NoTrace,
     /// The text of the recorded calls is empty.
     NoCalls,
+    /// The text of the recorded register is empty.
+    NoRegister,
     /// The text is to be another one, and looks like a script.
     LooksLikeScript,
     /// The text is to be another one, and looks like a trace.
     LooksLikeTrace,
     /// The text is to be another one, and looks like recorded calls.
     LooksLikeCalls,
-    /// This line of the trace or of the recorded calls has this fault.
+    /// The text is to be another one, and looks like a recorded register.
+    LooksLikeRegister,
+    /// This line of the text has this fault.
     Line(u64, LineFault, Shown<'a>),
     /// The text of the script is empty.
     NoScript,
@@ -47,6 +52,9 @@ impl fmt::Display for TextCause<'_> {
                 f.write_str("there is no text: line 1 is to be: shape CAPACITY MODULUS WIDTH")
             }
             TextCause::NoCalls => f.write_str("there is no text: line 1 is to be: queue CAPACITY"),
+            TextCause::NoRegister => {
+                f.write_str("there is no text: line 1 is to be: register FIRST")
+            }
             TextCause::LooksLikeScript => {
                 f.write_str("it looks like a script: lamport_ring play reads it")
             }
@@ -56,6 +64,9 @@ impl fmt::Display for TextCause<'_> {
             TextCause::LooksLikeCalls => {
                 f.write_str("it looks like recorded calls: lamport_ring audit --calls reads them")
             }
+            TextCause::LooksLikeRegister => f.write_str(
+                "it looks like a recorded register: lamport_ring audit --register reads it",
+            ),
             TextCause::Line(number, fault, shown) => write!(f, "line {number} {fault}: {shown}"),
             TextCause::NoScript => f.write_str(
                 "there is no text: a script is a JSON object, lamport_ring play --help shows one",
@@ -101,6 +112,9 @@ fn cause_in_trace(bytes: &[u8], number: u64) -> TextCause<'_> {
     if number == 1 && looks_like_calls(bytes) {
         return TextCause::LooksLikeCalls;
     }
+    if number == 1 && looks_like_register(bytes) {
+        return TextCause::LooksLikeRegister;
+    }
     let line = line_at(bytes, number);
     let fault = fault_of_line(&line, number == 1);
     TextCause::Line(number, fault, Shown { line: line.text })
@@ -118,8 +132,31 @@ fn cause_in_calls(line: TextLine<'_>, number: u64) -> TextCause<'_> {
         if looks_like_trace(line.text) {
             return TextCause::LooksLikeTrace;
         }
+        if looks_like_register(line.text) {
+            return TextCause::LooksLikeRegister;
+        }
     }
     let fault = fault_of_call(&line, number == 1);
+    TextCause::Line(number, fault, Shown { line: line.text })
+}
+
+// What is wrong in a recorded register whose line of this number is bad.
+fn cause_in_register(line: TextLine<'_>, number: u64) -> TextCause<'_> {
+    if number == 1 {
+        if line.text.is_empty() && !line.has_feed {
+            return TextCause::NoRegister;
+        }
+        if looks_like_script(line.text) {
+            return TextCause::LooksLikeScript;
+        }
+        if looks_like_trace(line.text) {
+            return TextCause::LooksLikeTrace;
+        }
+        if looks_like_calls(line.text) {
+            return TextCause::LooksLikeCalls;
+        }
+    }
+    let fault = fault_of_register(&line, number == 1);
     TextCause::Line(number, fault, Shown { line: line.text })
 }
 
@@ -133,6 +170,9 @@ fn cause_in_json<'a>(json: Global, bytes: &'a [u8]) -> Option<TextCause<'a>> {
     }
     if looks_like_calls(bytes) {
         return Some(TextCause::LooksLikeCalls);
+    }
+    if looks_like_register(bytes) {
+        return Some(TextCause::LooksLikeRegister);
     }
     Some(TextCause::NotJson(json_fault(json, bytes)?))
 }
@@ -165,14 +205,14 @@ fn cause_in_script<'a>(json: Global, bytes: &'a [u8], fault: ScriptFault) -> Opt
 pub(crate) enum Source<'a> {
     /// All of it.
     Input(&'a [u8]),
-    /// The bad line of recorded calls, which are not kept.
+    /// The bad line of a recording, which is not kept.
     Line(TextLine<'a>),
     /// Nothing: it is not kept, or there was none.
     Unkept,
 }
 
 impl<'a> Source<'a> {
-    /// The bad line of recorded calls, if it was kept.
+    /// The bad line of a recording, if it was kept.
     pub fn of_line(text: Option<&'a [u8]>, has_feed: bool) -> Source<'a> {
         match text {
             Some(text) => Source::Line(TextLine { text, has_feed }),
@@ -194,6 +234,9 @@ pub fn cause_of<'a>(json: Global, source: Source<'a>, refusal: Refusal) -> Optio
         (Source::Input(bytes), Refusal::Script(fault)) => cause_in_script(json, bytes, fault),
         (Source::Line(line), Refusal::Calls(RecordingFault::BadLine(number))) => {
             Some(cause_in_calls(line, number))
+        }
+        (Source::Line(line), Refusal::Register(RegisterTextFault::BadLine(number))) => {
+            Some(cause_in_register(line, number))
         }
         _ => None,
     }

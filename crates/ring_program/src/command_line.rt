@@ -3,13 +3,15 @@ ghost use Rattle.std.specs.Prelude.{◌≡◌, ◌⊎◌, ◌∷◌, ◌++◌, �
 ghost use Rattle.clap.specs.Words.{HasKind, app_of, fault_of, found_of, kind_of, rows_of, subcommand_of, subcommand_rows_of};
 ghost use Rattle.ring_program.specs.declared.run_line.RingKind.TheVariants as kind;
 ghost use Rattle.near_misses.specs.declared.misses.NearMiss.TheVariants as miss;
-ghost use Rattle.ring_program.specs.CommandLine.{Asks, HasOption, IsCommand, application, audit_command, audit_request_of, play_asked, play_command, play_request_of, program_alone, request_in, request_of, run_of_numbers, wrong_rule};
+ghost use Rattle.register_calls.specs.declared.events.Class.TheVariants as class;
+ghost use Rattle.ring_program.specs.CommandLine.{Asks, HasOption, IsCommand, application, at_least_rule, audit_command, audit_request, audit_request_of, class_asked, class_in, play_asked, play_command, play_request_of, program_alone, register_asked, register_request, request_in, request_of, run_of_numbers, wrong_rule};
 
 use crate::options::{is_given, new_command, value_option, with_flag};
 use crate::run_line::{Run, RunText, run_command, run_found};
 use clap::error::ErrorKind;
 use clap::{ArgMatches, Command, Error};
 use near_misses::NearMiss;
+use register_calls::Class;
 use std::alloc::{AllocError, Global};
 
 /// The program's version, which `--version` prints behind its name.
@@ -18,7 +20,8 @@ const VERSION: &str = "0.1.0";
 // The usage, which is also told where a word of `audit` is wrong, such as the name of a file.
 const AUDIT_USAGE: &str = "lamport_ring audit [--bits] [--why] < TRACE
        lamport_ring audit --bits --long < TRACE
-       lamport_ring audit --calls [--stop] < CALLS";
+       lamport_ring audit --calls [--stop] < CALLS
+       lamport_ring audit --register [--at-least CLASS] [--report] [--stop] < REGISTER";
 
 const AUDIT_HELP: &str = "\
 A trace has a line `shape CAPACITY MODULUS WIDTH`, with the batch behind these
@@ -55,17 +58,31 @@ begins and one where it ends, in the order in which they happened:
 else the first line with which it is not, and what speaks against it. The input
 may have any length. With --stop a fault is told as soon as its line is read,
 and nothing is read behind it. docs/FORMATS.md has the whole format.
+\nWith --register the input is a recording of the reads and writes of any
+register with one writer W and readers R1 to R64: a line `register FIRST`, what
+it holds at first, or `register FIRST VALUES` if its values are 0 to VALUES - 1,
+and then a line where each operation begins and one where it ends:
+\n  W write 5       the writer begins to write 5; W wrote ends it
+  R1 read         reader R1 begins to read
+  R1 got 5        its read ends, and returned 5
+\nThe answer is the strongest class that the history has: `atomic`, `atomic by
+reader`, `regular`, `safe` or `not safe`; and for each class that it lacks the
+first line with which it lacks it, and what speaks against it. --at-least says
+which class it is to have: safe, regular, atomic-by-reader, or atomic, if it is
+left out. With --report more lines say how much the recording could have shown.
+With --stop nothing is read after the first line with which it lacks the class.
 \nExamples:
   lamport_ring audit < examples/plain_path.trace
   lamport_ring audit --bits < examples/new_old_inversion.trace
   lamport_ring audit --why < examples/count_before_cell.trace
   lamport_ring audit --calls < examples/calls/plain.calls
+  lamport_ring audit --register --at-least regular < examples/registers/unary.reg
 \nExit status:
-  0  the history is lawful
+  0  the history is lawful, or has the class
   1  refused: the input is not of the format, or could not be read, or the
      output failed
   2  the command line is wrong
-  3  the audit found a fault";
+  3  the audit found a fault, or the history lacks the class";
 
 const PLAY_USAGE: &str = "lamport_ring play [--trace|--calls] < SCRIPT
        lamport_ring play --wrong NAME --trace|--calls < SCRIPT";
@@ -147,6 +164,17 @@ pub(crate) enum Question {
     Play(PlayText),
 }
 
+/// What the words ask of a recorded register.
+#[derive(Clone, Copy)]
+pub(crate) struct RegisterQuestion {
+    /// `--at-least`: the class that it is to have.
+    pub at_least: Class,
+    /// `--report`: whether to say how much the recording could have shown.
+    pub report: bool,
+    /// `--stop`: whether to read no further than the first line with which it lacks the class.
+    pub stop: bool,
+}
+
 /// What the words ask for.
 #[derive(Clone, Copy)]
 pub(crate) enum Request {
@@ -154,10 +182,20 @@ pub(crate) enum Request {
     OnInput(Question),
     /// `audit --calls`, which reads its input in pieces; with `--stop` up to the first fault.
     Calls { stop: bool },
+    /// `audit --register`, which reads its input in pieces.
+    Register(RegisterQuestion),
     /// `audit --bits --long`, which reads its input in pieces.
     LongBits,
     /// `run`, which reads no input.
     Run(Run),
+}
+
+// The command with the class that a register is to have.
+fn with_at_least<'a>(alloc: Global, command: Command<'a>) -> Result<Command<'a>, AllocError>
+    ensures { IfOk result (HasOption at_least_rule command.entry) }
+{
+    let help = "With --register: the class that the history is to have";
+    command.arg(value_option(alloc, "at-least", "CLASS", help))
 }
 
 fn audit<'a>(alloc: Global) -> Result<Command<'a>, AllocError>
@@ -172,7 +210,12 @@ fn audit<'a>(alloc: Global) -> Result<Command<'a>, AllocError>
     let command = with_flag(alloc, command, "long", help)?;
     let help = "Audit a recording of the calls of any queue";
     let command = with_flag(alloc, command, "calls", help)?;
-    let help = "With --calls: stop at the first fault, and read no further";
+    let help = "Audit a recording of the reads and writes of any register";
+    let command = with_flag(alloc, command, "register", help)?;
+    let command = with_at_least(alloc, command)?;
+    let help = "With --register: say how much the recording could have shown";
+    let command = with_flag(alloc, command, "report", help)?;
+    let help = "With --calls or --register: stop at the first fault, and read no further";
     let command = with_flag(alloc, command, "stop", help)?;
     let help = "Tell of a fault what was due, in further lines";
     with_flag(alloc, command, "why", help)
@@ -240,7 +283,59 @@ fn named<'m, 'a>(matches: &'m ArgMatches<'a>) -> Option<(&'a str, &'m ArgMatches
     matches.subcommand()
 }
 
-// What `audit` is asked for; nothing where the flags do not go together.
+// The class of this name.
+fn class_in(name: &str) -> Option<Class>
+    ensures { result ≡ class_in name.now }
+{
+    if name == "safe" {
+        Some(Class::Safe)
+    } else if name == "regular" {
+        Some(Class::Regular)
+    } else if name == "atomic-by-reader" {
+        Some(Class::AtomicByReader)
+    } else if name == "atomic" {
+        Some(Class::Atomic)
+    } else {
+        None
+    }
+}
+
+// The class that a register is asked to have; nothing if no class has this name.
+fn class_asked(name: Option<&str>) -> Option<Class>
+    ensures { result ≡ class_asked (option_map (λ n. n.now) name.entry) }
+{
+    match name {
+        None => Some(Class::Atomic),
+        Some(name) => class_in(name),
+    }
+}
+
+// What an audit of a register is asked for; nothing if the flags do not go together, or no class has this name.
+fn register_request(
+    bits: bool,
+    long: bool,
+    calls: bool,
+    why: bool,
+    name: Option<&str>,
+    report: bool,
+    stop: bool,
+) -> Option<Request>
+    ensures { result ≡ register_request bits long calls why (option_map (λ n. n.now) name.entry) report stop }
+{
+    match (bits, long, calls, why) {
+        (false, false, false, false) => {
+            let at_least = class_asked(name)?;
+            Some(Request::Register(RegisterQuestion {
+                at_least,
+                report,
+                stop,
+            }))
+        }
+        _ => None,
+    }
+}
+
+// What `audit` is asked for; nothing if its options do not go together, or no class has this name.
 fn audit_request(matches: &ArgMatches<'_>) -> Option<Request>
     ensures { result ≡ audit_request_of (rows_of (found_of matches.now)) }
 {
@@ -249,6 +344,26 @@ fn audit_request(matches: &ArgMatches<'_>) -> Option<Request>
     let calls = is_given(matches, "calls");
     let stop = is_given(matches, "stop");
     let why = is_given(matches, "why");
+    let report = is_given(matches, "report");
+    let name = matches.get_str("at-least");
+    if is_given(matches, "register") {
+        return register_request(bits, long, calls, why, name, report, stop);
+    }
+    match name {
+        Some(_) => None,
+        None => {
+            if report {
+                return None;
+            }
+            trace_request(bits, long, calls, stop, why)
+        }
+    }
+}
+
+// What an audit of a trace or of calls is asked for; nothing if the flags do not go together.
+fn trace_request(bits: bool, long: bool, calls: bool, stop: bool, why: bool) -> Option<Request>
+    ensures { result ≡ audit_request bits long calls stop why }
+{
     match (bits, long, calls, stop, why) {
         (true, true, false, false, false) => Some(Request::LongBits),
         (false, false, true, stop, false) => Some(Request::Calls { stop }),
@@ -338,6 +453,18 @@ pub fn command_lines()
     ensures long_why { Asks (codes "audit --bits --long --why") None }
     ensures calls_why { Asks (codes "audit --calls --why") None }
     ensures twice { Asks (codes "audit --bits --bits") None }
+    ensures register { Asks (codes "audit --register") (Some (register_asked class.Atomic false false)) }
+    ensures register_with_all { Asks (codes "audit --register --at-least regular --report --stop")
+        (Some (register_asked class.Regular true true)) }
+    ensures register_safe { Asks (codes "audit --at-least=safe --register") (Some (register_asked class.Safe false false)) }
+    ensures register_by_reader { Asks (codes "audit --register --at-least atomic-by-reader")
+        (Some (register_asked class.AtomicByReader false false)) }
+    ensures register_class { Asks (codes "audit --register --at-least best") None }
+    ensures register_calls { Asks (codes "audit --register --calls") None }
+    ensures register_bits { Asks (codes "audit --register --bits") None }
+    ensures register_why { Asks (codes "audit --register --why") None }
+    ensures class_alone { Asks (codes "audit --at-least safe") None }
+    ensures report_alone { Asks (codes "audit --calls --report") None }
     ensures play { Asks (codes "play") (Some (Request.OnInput (Question.Play PlayText.Report))) }
     ensures play_trace { Asks (codes "play --trace") (Some (Request.OnInput (Question.Play (PlayText.Trace None)))) }
     ensures play_calls { Asks (codes "play --calls") (Some (Request.OnInput (Question.Play (PlayText.Calls None)))) }

@@ -3,6 +3,7 @@ ghost use Rattle.std.specs.Prelude.{◌≡◌, Some};
 
 use bits_core::{MemoryFault, ShapeFault};
 use queue_calls::RecordingFault;
+use register_recordings::RegisterTextFault;
 use ring_script::ScriptFault;
 use std::alloc::AllocError;
 use std::error::Error;
@@ -78,6 +79,8 @@ pub enum Refusal {
     Trace(TraceFault),
     /// The input is no recording of calls.
     Calls(RecordingFault),
+    /// The input is no recording of a register.
+    Register(RegisterTextFault),
     /// The input is no script.
     Script(ScriptFault),
     /// The numbers of a run are no shape's.
@@ -97,6 +100,7 @@ impl fmt::Display for Refusal {
             Refusal::App(fault) => write!(f, "{fault}"),
             Refusal::Trace(fault) => write!(f, "{fault}"),
             Refusal::Calls(fault) => write!(f, "{fault}"),
+            Refusal::Register(fault) => write!(f, "{fault}"),
             Refusal::Script(fault) => write!(f, "{fault}"),
             Refusal::Shape(fault) => write!(f, "{fault}"),
             Refusal::NoSecondThread => f.write_str("no second thread"),
@@ -145,6 +149,16 @@ impl From<RecordingFault> for Refusal {
 
     fn from(fault: RecordingFault) -> Refusal {
         Refusal::Calls(fault)
+    }
+}
+
+impl From<RegisterTextFault> for Refusal {
+    ghost use Rattle.ring_program.specs.declared.faults.Refusal.TheVariants.{Register};
+
+    ghost from_gives = { λ fault e. e ≡ Register fault };
+
+    fn from(fault: RegisterTextFault) -> Refusal {
+        Refusal::Register(fault)
     }
 }
 

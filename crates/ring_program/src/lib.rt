@@ -16,6 +16,7 @@ mod options;
 mod plays;
 mod program;
 mod recordings;
+mod registers;
 mod reports;
 mod run_line;
 mod run_recordings;

@@ -4,18 +4,20 @@ ghost use Rattle.clap.specs.Words.{fault_of, kind_of};
 ghost use Rattle.ring_program.specs.Answers.{Answers, AsksNoInput, Declines, Delivers, Ends, EndsUnasked, Explains, IsStatus, IsTrueCause};
 ghost use Rattle.ring_program.specs.Faults.{Gains, IsInText, SaysRefusal};
 ghost use Rattle.ring_program.specs.declared.inputs.TheConstants.{INPUT_LIMIT};
+ghost use Rattle.register_recordings.specs.Reading.{HasReadRegister};
 ghost use Rattle.ring_program.specs.CommandLine.{application, request_of};
 
 use crate::answers::{Answer, Ending, Exit, give, refuse, tell};
 use crate::audits::audit_answer;
 use crate::causes::{Source, cause_of};
-use crate::command_line::{Question, Request, read_words};
+use crate::command_line::{Question, RegisterQuestion, Request, read_words};
 use crate::faults::{AppFault, Refusal};
 use crate::inputs::load;
 use crate::long_bits::long_bits_answer;
 use crate::mistakes::{tell_mistake, unnamed};
 use crate::plays::play_answer;
 use crate::recordings::calls_answer;
+use crate::registers::{Recorded, new_recording, register_answer};
 use crate::runs::run_answer;
 use clap::Error;
 use clap::error::ErrorKind;
@@ -141,6 +143,50 @@ fn answer_calls<A: Allocator + Copy, I: Read, O: Write, E: Write>(
     deliver(json, source, answered, out, err)
 }
 
+// Reads a recorded register in pieces, by a recording of which nothing was read, and answers of it.
+fn answer_recorded<A: Allocator + Copy, I: Read, O: Write, E: Write>(
+    alloc: A,
+    json: Global,
+    question: RegisterQuestion,
+    unread: Recorded<A>,
+    input: &mut I,
+    out: &mut O,
+    err: &mut E,
+) -> Exit
+    requires begins { HasReadRegister (λ q. q.items) (λ q. q.items) (λ q. q.items) (λ q. q.items) (λ v. v.items)
+        unread [] }
+    ensures asked { Ends (Request.Register question) (I.remaining input.old) (O.contents out.old) (O.contents out.new)
+        (Gains (E.contents err.old) (E.contents err.new) result.is_told) result.status }
+    ensures quiet { (result.status ≡ 1) ⊎ ((err.new ≡ err.old) × (result.is_told ≡ true)) }
+    ensures statuses { IsStatus (Some (Request.Register question)) result.status }
+{
+    let mut recording = unread;
+    let mut at_end = false;
+    let answered = register_answer(alloc, &mut recording, &mut at_end, question, input);
+    let source = Source::of_line(recording.line(), !at_end);
+    deliver(json, source, answered, out, err)
+}
+
+// Reads a recorded register in pieces, and answers of it.
+fn answer_register<A: Allocator + Copy, I: Read, O: Write, E: Write>(
+    alloc: A,
+    json: Global,
+    question: RegisterQuestion,
+    input: &mut I,
+    out: &mut O,
+    err: &mut E,
+) -> Exit
+    ensures asked { Ends (Request.Register question) (I.remaining input.old) (O.contents out.old) (O.contents out.new)
+        (Gains (E.contents err.old) (E.contents err.new) result.is_told) result.status }
+    ensures quiet { (result.status ≡ 1) ⊎ ((err.new ≡ err.old) × (result.is_told ≡ true)) }
+    ensures statuses { IsStatus (Some (Request.Register question)) result.status }
+{
+    match new_recording(alloc) {
+        Ok(unread) => answer_recorded(alloc, json, question, unread, input, out, err),
+        Err(_) => refuse(Refusal::App(AppFault::OutOfMemory), err),
+    }
+}
+
 /// The program on a request: answers it, and writes the answer after it is complete.
 pub fn respond<R: AllocGlobal + Threads + Clock, A: Allocator + Copy, I: Read, O: Write, E: Write>(
     rt: &R,
@@ -161,6 +207,9 @@ pub fn respond<R: AllocGlobal + Threads + Clock, A: Allocator + Copy, I: Read, O
     match request {
         Request::OnInput(question) => answer_input(alloc, json, question, input, out, err),
         Request::Calls { stop } => answer_calls(alloc, json, stop, input, out, err),
+        Request::Register(question) => {
+            answer_register(alloc, json, question, input, out, err)
+        }
         Request::LongBits => {
             let answered = long_bits_answer(alloc, input);
             deliver(json, Source::Unkept, answered, out, err)
@@ -203,7 +252,7 @@ fn explain<A: Allocator, O: Write, E: Write>(
 /// that it was to be told.
 ///
 /// It reads the command line, then the whole input, then works, and writes the answer on `out` once
-/// it is complete; recorded calls and a trace of any length are read in pieces, and not kept; a run has no
+/// it is complete; recorded calls, a recorded register and a trace of any length are read in pieces, and not kept; a run has no
 /// input, and none is read for it. Status 0 says that it is done, and 3 that the audit found a fault. With
 /// status 1 it refuses and says why on `err`; then nothing was written on `out`, unless a write failed, or a
 /// run reached a limit, whose text is written all the same. With status 2 the command line is wrong. Where

@@ -1,7 +1,6 @@
 //! The audit of recorded calls.
 ghost use Rattle.std.specs.Prelude.{◌≡◌, ◌≢◌, ◌⊎◌, ◌<◌, ◌++◌, List, [], ◌∷◌, ℕ, IfOk, IfErr, IfSome, MatchOption, length, string_bytes, true};
 ghost use Rattle.call_causes.specs.Causes.{cause_words};
-ghost use Rattle.line_parts.specs.LineEnds.{HasNoFeed};
 ghost use Rattle.queue_calls.specs.RecordingStates.{HasRead};
 ghost use Rattle.queue_calls.specs.Recordings.{RefusesText};
 ghost use Rattle.ring_program.specs.Answers.{Answers, IsCallsCause, IsTrueCause, MayEnd};
@@ -12,7 +11,7 @@ ghost use Rattle.ring_program.specs.Texts.{calls_report_text_of, calls_text_of, 
 use crate::answers::{Answer, Ending};
 use crate::faults::{AppFault, Refusal};
 use crate::lines::{push_count, push_list, told_words};
-use memchr::memchr;
+use line_parts::split_line;
 use queue_calls::{CallsFinding, CallsReport, Recording, RecordingFault};
 use std::alloc::Allocator;
 use std::io::Read;
@@ -27,22 +26,13 @@ struct CallsFound {
     is_cut: bool,
 }
 
-// The bytes before the first line feed, and those behind it.
-fn at_feed(bytes: &[u8]) -> Option<(&[u8], &[u8])>
-    ensures { MatchOption result (HasNoFeed bytes.now) (λ x. HasNoFeed x.0.now ×
-        (bytes.now ≡ x.0.now ++ 10 ∷ x.1.now)) }
-{
-    let end = memchr(b'\n', bytes)?;
-    Some((&bytes[..end], &bytes[end + 1..]))
-}
-
-// The bytes to the first line feed, with it, and those behind it.
-fn split_line(bytes: &[u8]) -> (&[u8], &[u8])
+/// The bytes to the first line feed, with it, and those after it.
+pub fn first_line(bytes: &[u8]) -> (&[u8], &[u8])
     ensures parts { bytes.now ≡ result.0.now ++ result.1.now }
     ensures line { IsOneLine result.0.now }
     ensures less { bytes.now ≢ [] → length result.1.now < length bytes.now }
 {
-    match at_feed(bytes) {
+    match split_line(bytes) {
         Some((front, _)) => bytes.split_at(front.len() + 1),
         None => (bytes, &[]),
     }
@@ -66,7 +56,7 @@ fn read_lines<A: Allocator + Copy>(
 {
     let mut rest = piece;
     while !rest.is_empty() {
-        let (line, more) = split_line(rest);
+        let (line, more) = first_line(rest);
         recording.read(line)?;
         if let Some(fault) = recording.fault() {
             return Ok(Some(fault));
@@ -170,8 +160,8 @@ fn report_text<A: Allocator>(alloc: A, report: &CallsReport) -> Result<String<A>
     Ok(text)
 }
 
-// The line that says that the later calls are missing, where they are.
-fn cut_words(is_cut: bool) -> &'static str
+/// The line that says that what comes later is missing, if it is.
+pub fn cut_words(is_cut: bool) -> &'static str
     ensures { result.now ≡ cut_line is_cut }
 {
     if is_cut { "cut yes\n" } else { "" }

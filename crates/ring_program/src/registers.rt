@@ -13,7 +13,7 @@ use crate::command_line::RegisterQuestion;
 use crate::faults::{AppFault, Refusal};
 use crate::lines::push_count;
 use crate::recordings::{cut_words, first_line};
-use register_calls::{Class, ReaderChains, ReaderState, RegisterReport};
+use register_calls::{Chain, Class, ReaderState, RegisterReport};
 use register_recordings::{
     Misses, RegisterFinding, RegisterMiss, RegisterRecording, RegisterTextFault, is_same_line,
 };
@@ -29,13 +29,13 @@ pub(crate) type Recorded<A> = RegisterRecording<
     VecDeque<u64, A>,
     VecDeque<ReaderState, A>,
     VecDeque<usize, A>,
-    VecDeque<ReaderChains, A>,
+    VecDeque<Chain, A>,
     Vec<u8, A>,
 >;
 
 // What is found of a recording, and whether it says that later operations are missing.
 #[derive(Clone, Copy)]
-struct RegisterFound {
+struct FoundRegister {
     finding: RegisterFinding,
     is_cut: bool,
 }
@@ -50,23 +50,27 @@ pub(crate) fn new_recording<A: Allocator + Copy>(alloc: A) -> Result<Recorded<A>
         VecDeque::new(alloc),
         VecDeque::new(alloc),
         VecDeque::new(alloc),
+        VecDeque::new(alloc),
+        VecDeque::new(alloc),
         Vec::new(alloc),
     )
 }
 
 // What is found of the lines that have ended, if they fall short of the class.
-fn shortfall<A: Allocator + Copy>(recording: &Recorded<A>, class: Class) -> Option<RegisterFound>
+fn shortfall<A: Allocator + Copy>(recording: &Recorded<A>, class: Class) -> Option<FoundRegister>
     ensures { (bytes : List ℕ) → HasReadRegister (λ q. q.items) (λ q. q.items) (λ q. q.items) (λ q. q.items)
         (λ v. v.items) recording.now bytes →
         MatchOption result (HoldsOfLines (KeepsClass class) bytes)
         (λ found. (ended : List ℕ) × (rest : List ℕ) × (bytes ≡ ended ++ rest) × HasNoFeed rest ×
         IsRegisterFoundIn ended found.is_cut found.finding × (falls_short class found.finding ≡ true)) }
 {
-    let finding = recording.shortfall(class)?;
-    Some(RegisterFound {
-        finding,
-        is_cut: recording.is_cut(),
-    })
+    match recording.shortfall(class) {
+        Some(finding) => Some(FoundRegister {
+            finding,
+            is_cut: recording.is_cut(),
+        }),
+        None => None,
+    }
 }
 
 // Reads a piece line by line, to the first line with which the class is missed.
@@ -74,7 +78,7 @@ fn read_register_lines<A: Allocator + Copy>(
     recording: &mut Recorded<A>,
     class: Class,
     piece: &[u8],
-) -> Result<Option<RegisterFound>, RegisterTextFault>
+) -> Result<Option<FoundRegister>, RegisterTextFault>
     ensures read { IfOk result (λ found. MatchOption found
         (((bytes : List ℕ) → HasReadRegister (λ q. q.items) (λ q. q.items) (λ q. q.items) (λ q. q.items)
         (λ v. v.items) recording.old bytes →
@@ -108,7 +112,7 @@ fn read_register_piece<A: Allocator + Copy>(
     class: Class,
     stop: bool,
     piece: &[u8],
-) -> Result<Option<RegisterFound>, RegisterTextFault>
+) -> Result<Option<FoundRegister>, RegisterTextFault>
     ensures read { IfOk result (λ found. MatchOption found
         (((bytes : List ℕ) → HasReadRegister (λ q. q.items) (λ q. q.items) (λ q. q.items) (λ q. q.items)
         (λ v. v.items) recording.old bytes →
@@ -135,7 +139,7 @@ fn read_register_piece<A: Allocator + Copy>(
 // What is found of a recording whose text ends here.
 fn found_at_end<A: Allocator + Copy>(
     recording: &Recorded<A>,
-) -> Result<RegisterFound, RegisterTextFault>
+) -> Result<FoundRegister, RegisterTextFault>
     ensures found { IfOk result (λ found. (bytes : List ℕ) → HasReadRegister (λ q. q.items) (λ q. q.items)
         (λ q. q.items) (λ q. q.items) (λ v. v.items) recording.now bytes →
         IsRegisterFoundIn bytes found.is_cut found.finding) }
@@ -143,7 +147,7 @@ fn found_at_end<A: Allocator + Copy>(
         (λ q. q.items) (λ q. q.items) (λ v. v.items) recording.now bytes → RefusesRegisterText e bytes) }
 {
     let finding = recording.finding()?;
-    Ok(RegisterFound {
+    Ok(FoundRegister {
         finding,
         is_cut: recording.is_cut(),
     })
@@ -158,7 +162,7 @@ fn read_register<A: Allocator + Copy, I: Read>(
     class: Class,
     stop: bool,
     input: &mut I,
-) -> Result<RegisterFound, Refusal>
+) -> Result<FoundRegister, Refusal>
     requires begins { HasReadRegister (λ q. q.items) (λ q. q.items) (λ q. q.items) (λ q. q.items) (λ v. v.items)
         recording.old [] }
     ensures found { IfSome (I.remaining input.old) (λ bytes.

@@ -1,4 +1,4 @@
-//! The lines of a text that is no trace or no recorded calls, and what is wrong with one of them.
+//! The lines of a text that is no trace, no recorded calls or no recorded register, and what is wrong with one of them.
 
 use std::fmt;
 use thiserror::Error;
@@ -13,7 +13,7 @@ pub(crate) struct TextLine<'a> {
     pub has_feed: bool,
 }
 
-/// What is wrong with a line of a trace or of recorded calls.
+/// What is wrong with a line of a trace, of recorded calls or of a recorded register.
 #[derive(Clone, Copy, Debug, Error)]
 pub(crate) enum LineFault {
     #[error("begins with a byte order mark")]
@@ -58,6 +58,18 @@ pub(crate) enum LineFault {
     NoTake,
     #[error("begins with neither P nor C")]
     NoSide,
+    #[error("is none of: [cut] register FIRST, [cut] register FIRST VALUES")]
+    NoRegister,
+    #[error("has a first value that is not below the number of values")]
+    FirstIsNoValue,
+    #[error("is none of: W write V, W wrote")]
+    NoWrite,
+    #[error("writes a number that is no value of the register")]
+    WritesNoValue,
+    #[error("is none of: Ri read, Ri got V, with i from 1 to 64")]
+    NoRead,
+    #[error("begins with neither W nor R")]
+    NoRegisterSide,
 }
 
 /// A line as it is shown: between quotes, each byte that is no printable ASCII escaped, and cut behind
@@ -134,6 +146,11 @@ pub fn looks_like_calls(bytes: &[u8]) -> bool {
     bytes.starts_with(b"queue") || bytes.starts_with(b"cut queue")
 }
 
+/// Whether the text begins as a recorded register does.
+pub fn looks_like_register(bytes: &[u8]) -> bool {
+    bytes.starts_with(b"register ") || bytes.starts_with(b"cut register ")
+}
+
 // What is wrong with the ends of a line, the first line or a further one.
 fn fault_of_ends(line: &TextLine<'_>, is_first: bool) -> Option<LineFault> {
     let text = line.text;
@@ -191,6 +208,43 @@ pub fn fault_of_call(line: &TextLine<'_>, is_first: bool) -> LineFault {
         fault_of_take(line.text)
     } else {
         LineFault::NoSide
+    }
+}
+
+/// What is wrong with a line that may not stand in a recorded register, the first line or a further one.
+pub fn fault_of_register(line: &TextLine<'_>, is_first: bool) -> LineFault {
+    if let Some(fault) = fault_of_ends(line, is_first) {
+        return fault;
+    }
+    if has_bad_number(line.text) {
+        LineFault::BadNumber
+    } else if is_first {
+        fault_of_first_value(line.text)
+    } else if is_of_side(line.text, b'W') {
+        fault_of_writer(line.text)
+    } else if line.text.starts_with(b"R") {
+        LineFault::NoRead
+    } else {
+        LineFault::NoRegisterSide
+    }
+}
+
+// What is wrong with a first line of a recorded register whose numbers are numbers.
+fn fault_of_first_value(text: &[u8]) -> LineFault {
+    let line = text.strip_prefix(b"cut ").unwrap_or(text);
+    let mut words = line.split(|byte| *byte == b' ');
+    match (words.next(), words.next(), words.next(), words.next()) {
+        (Some(b"register"), Some(first), Some(values), None) if is_index(first)
+            && is_index(values) => LineFault::FirstIsNoValue,
+        _ => LineFault::NoRegister,
+    }
+}
+
+// What is wrong with a line of the writer whose numbers are numbers.
+fn fault_of_writer(text: &[u8]) -> LineFault {
+    match text.strip_prefix(b"W write ") {
+        Some(value) if is_index(value) => LineFault::WritesNoValue,
+        _ => LineFault::NoWrite,
     }
 }
 

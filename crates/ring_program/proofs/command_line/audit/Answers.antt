@@ -9,5 +9,8 @@ returns c =
     let bits = c.in_ok-command.ensures _ c.new_command-command.ensures in
     let long = c.in_ok-command-2.ensures _ bits in
     let calls = c.in_ok-command-3.ensures _ long in
-    let stop = c.in_ok-command-4.ensures _ calls in
-    one_more c.with_flag-5.result (flag_rule (codes "why")) c.in_ok-command-4.command _ stop c.with_flag-5.ensures
+    let register = c.in_ok-command-4.ensures _ calls in
+    let at_least = c.in_ok-command-5.ensures _ register in
+    let report = c.in_ok-command-6.ensures _ at_least in
+    let stop = c.in_ok-command-7.ensures _ report in
+    one_more c.with_flag-7.result (flag_rule (codes "why")) c.in_ok-command-7.command _ stop c.with_flag-7.ensures

@@ -3,11 +3,11 @@ use Rattle.clap.specs.Words.{HasKind, Kinds, kind_of}
 use Rattle.clap.specs.declared.error.Error.{Error}
 use Rattle.clap.specs.declared.error.kind.ErrorKind.{ErrorKind}
 use Rattle.clap.specs.declared.error.kind.ErrorKind.TheVariants as kind
-use Rattle.ring_program.specs.Answers.{AsksNoInput, Ends, EndsOn, EndsUnasked, Explains, IsCallsCause, IsHelp, IsLongBitsCause, IsOutOfMemory, IsShortage, IsStatus, IsTrueCause, NoMemory, WasWritten}
+use Rattle.ring_program.specs.Answers.{AsksNoInput, Ends, EndsOn, EndsUnasked, Explains, IsCallsCause, IsHelp, IsLongBitsCause, IsOutOfMemory, IsRegisterCause, IsShortage, IsStatus, IsTrueCause, NoMemory, WasWritten}
 use Rattle.ring_program.specs.Faults.{Gains}
 use Rattle.ring_program.specs.declared.command_line.Question.TheVariants.{Audit, Play}
 use Rattle.ring_program.specs.declared.command_line.Request.{Request}
-use Rattle.ring_program.specs.declared.command_line.Request.TheVariants.{OnInput, Calls, LongBits, Run}
+use Rattle.ring_program.specs.declared.command_line.Request.TheVariants.{OnInput, Calls, Register, LongBits, Run}
 use Rattle.ring_program.specs.declared.faults.AppFault.TheVariants as app
 use Rattle.ring_program.specs.declared.faults.Refusal.TheVariants as refusal
 use Rattle.ring_program.proofs.program.execute.Goals as goal
@@ -25,10 +25,11 @@ only_memory k before after Tells status (inr (inr mistake)) is = absurd (mistake
 
 -- want of memory is a true cause, of each request
 memory_cause : (r : Request) (input : List ℕ) → IsTrueCause r input (refusal.App app.OutOfMemory)
-unfolding IsCallsCause IsLongBitsCause IsOutOfMemory IsShortage
+unfolding IsCallsCause IsLongBitsCause IsOutOfMemory IsRegisterCause IsShortage
 memory_cause (OnInput (Audit what why)) input = inl (inl (inl refl))
 memory_cause (OnInput (Play shows)) input = inl (inl (inl refl))
 memory_cause (Calls stop) input = inl refl
+memory_cause (Register question) input = inl refl
 memory_cause LongBits input = inl refl
 memory_cause (Run run) input = inl (inl refl)
 
@@ -40,6 +41,7 @@ short_of : (r : Request) (input before after : Option (List ℕ)) (Tells : List 
 short_of (Run run) input before after Tells status short = short_on (Run run) [] before after Tells status short
 short_of (OnInput question) input before after Tells status short = if_some input _ (λ bytes. short_on (OnInput question) bytes before after Tells status short)
 short_of (Calls stop) input before after Tells status short = if_some input _ (λ bytes. short_on (Calls stop) bytes before after Tells status short)
+short_of (Register question) input before after Tells status short = if_some input _ (λ bytes. short_on (Register question) bytes before after Tells status short)
 short_of LongBits input before after Tells status short = if_some input _ (λ bytes. short_on LongBits bytes before after Tells status short)
 
 -- words that ask for something are refused for want of memory alone

@@ -1,7 +1,5 @@
-use Rattle.std.proofs.Common.{rules, false, ◌≡◌, ◌≢◌, ℕ, List, [], Option, Some, None, Result, Ok, Err, IfErr, inl, inr, subst, sym, refl, append_assoc}
+use Rattle.std.proofs.Common.{rules, false, ◌≡◌, ℕ, List, [], Result, Ok, Err, IfErr, inl, inr, subst, sym, refl, append_assoc}
 use Rattle.std.specs.Result.{IsErrAnd}
-use Rattle.std.specs.Prelude.{MatchOption}
-use Rattle.std.proofs.lemmas.Option.{none-some, same_Some}
 use Rattle.std.proofs.KnownBytes.{Consumes-nil, Consumes-trans}
 use Rattle.queue_calls.specs.Recordings.{RefusesText}
 use Rattle.queue_calls.specs.declared.faults.RecordingFault.{RecordingFault}
@@ -11,7 +9,7 @@ use Rattle.ring_program.specs.declared.faults.Refusal.{Refusal}
 use Rattle.ring_program.specs.declared.faults.Refusal.TheVariants as refusal
 use Rattle.ring_program.specs.declared.recordings.CallsFound.{CallsFound}
 use Rattle.ring_program.proofs.FirstFaults.{nothing_is_faultless}
-use Rattle.ring_program.proofs.ReadingLemmas.{all_turns, at_end, at_fault, of_front, of_whole, one_more}
+use Rattle.ring_program.proofs.ReadingLemmas.{all_turns, at_end, at_fault, none_found, of_front, of_whole, one_found, one_more}
 use Rattle.ring_program.proofs.recordings.read_calls.Goals as goal
 use Rattle.ring_program.proofs.Endings.{if_some}
 
@@ -20,15 +18,6 @@ told : (result : Result CallsFound Refusal) (fault : RecordingFault) (bytes : Li
 unfolding IsCallsCause
 told (Ok finding) fault bytes is refuses = tt
 told (Err e) fault bytes is refuses = inr (inr (fault, is, refuses))
-
--- what holds where something was found, and where nothing was
-one_found : {X : Type 0} (o : Option X) (A : Type 0) (B : X → Type 0) (x : X) → o ≡ Some x → MatchOption o A B → B x
-one_found None A B x is holds = absurd (none-some x is)
-one_found (Some y) A B x is holds = subst B (same_Some y x is) holds
-
-none_found : {X : Type 0} (o : Option X) (A : Type 0) (B : X → Type 0) → ((x : X) → o ≢ Some x) → MatchOption o A B → A
-none_found None A B none holds = holds
-none_found (Some x) A B none holds = absurd (none x refl)
 
 pub loop-init : goal.loop-init
 loop-init g c = ([], Consumes-nil _, c.requires.begins, search rules, λ stop. nothing_is_faultless)

@@ -3,14 +3,10 @@ use Rattle.std.proofs.lemmas.Bool.{eqb-true}
 use Rattle.std.proofs.lemmas.List.{append-nil, nil_from_length}
 use Rattle.queue_calls.specs.RecordingStates.{HasRead}
 use Rattle.queue_calls.specs.Recordings.{RefusesText}
-use Rattle.ring_program.specs.Readings.{IsFaultless}
-use Rattle.ring_program.proofs.FirstFaults.{ends_at}
-use Rattle.ring_program.proofs.ReadingLemmas.{around, fault_ahead}
+use Rattle.ring_program.specs.Readings.{HasNoFault, IsFaultless}
+use Rattle.ring_program.proofs.FirstFaults.{calls_feed, ends_at}
+use Rattle.ring_program.proofs.ReadingLemmas.{around, fault_ahead, line_read}
 use Rattle.ring_program.proofs.recordings.read_lines.Goals as goal
-
--- a piece of which so much was read, and then a line
-line_read : (piece read rest line more : List ℕ) → piece ≡ read ++ rest → rest ≡ line ++ more → piece ≡ (read ++ line) ++ more
-line_read piece read rest line more one two = one ∙ ap (λ (t : List ℕ). read ++ t) two ∙ sym (append_assoc read line more)
 
 pub loop-rest-init : goal.loop-rest-init
 loop-rest-init g c = ([], refl, λ bytes has. subst (λ t. HasRead (λ q. q.items) (λ q. q.items) (λ v. v.items) c.args.recording.now t) (sym (append-nil bytes)) has, λ bytes has faultless. subst IsFaultless (sym (append-nil bytes)) faultless)
@@ -18,9 +14,9 @@ loop-rest-init g c = ([], refl, λ bytes has. subst (λ t. HasRead (λ q. q.item
 pub loop-rest-preserved : goal.loop-rest-preserved
 loop-rest-preserved g c =
     let read = c.loop-rest.invariant in
-    let line = c.split_line.result.0.now in (
+    let line = c.first_line.result.0.now in (
       read.0 ++ line,
-      line_read c.args.piece.now read.0 c.loop-rest.rest.now line c.split_line.result.1.now read.1 c.split_line.ensures.parts,
+      line_read c.args.piece.now read.0 c.loop-rest.rest.now line c.first_line.result.1.now read.1 c.first_line.ensures.parts,
       λ bytes has. subst (λ t. HasRead (λ q. q.items) (λ q. q.items) (λ v. v.items) c.read.new.self t) (append_assoc bytes read.0 line) (c.in_ok-read.ensures.read (bytes ++ read.0) (read.2 bytes has)),
       λ bytes has faultless. subst IsFaultless (append_assoc bytes read.0 line) (c.in_default.ensures ((bytes ++ read.0) ++ line) (c.in_ok-read.ensures.read (bytes ++ read.0) (read.2 bytes has))),
     )
@@ -28,25 +24,25 @@ loop-rest-preserved g c =
 pub returns-in_err-read-clause-refused : goal.returns-in_err-read-clause-refused
 returns-in_err-read-clause-refused g c =
     let read = c.loop-rest.invariant in
-    let line = c.split_line.result.0.now in
-    let rest = c.split_line.result.1.now in
+    let line = c.first_line.result.0.now in
+    let rest = c.first_line.result.1.now in
     let refused : (bytes more : List ℕ) → HasRead (λ q. q.items) (λ q. q.items) (λ v. v.items) c.args.recording.now bytes → RefusesText c.in_err-read.field-0.0 (bytes ++ (c.args.piece.now ++ more)) =
     λ bytes more has.
     subst (RefusesText c.in_err-read.field-0.0)
-    (around bytes c.args.piece.now read.0 line rest more (line_read c.args.piece.now read.0 c.loop-rest.rest.now line rest read.1 c.split_line.ensures.parts))
+    (around bytes c.args.piece.now read.0 line rest more (line_read c.args.piece.now read.0 c.loop-rest.rest.now line rest read.1 c.first_line.ensures.parts))
     (c.in_err-read.ensures.refused (bytes ++ read.0) (rest ++ more) (read.2 bytes has)) in
     search (rules, refused)
 
 pub returns-in-Some-clause-read : goal.returns-in-Some-clause-read
 returns-in-Some-clause-read g c bytes more has faultless =
     let read = c.loop-rest.invariant in
-    let line = c.split_line.result.0.now in
-    let rest = c.split_line.result.1.now in
+    let line = c.first_line.result.0.now in
+    let rest = c.first_line.result.1.now in
     let fault = c.in-Some.ensures ((bytes ++ read.0) ++ line) (c.in_ok-read.ensures.read (bytes ++ read.0) (read.2 bytes has)) in
     fault_ahead ((bytes ++ read.0) ++ line) fault.0 fault.1 (bytes ++ (c.args.piece.now ++ more)) (rest ++ more) c.in-Some.fault fault.2
     (append_assoc (bytes ++ read.0) line (rest ++ more)
-    ∙ around bytes c.args.piece.now read.0 line rest more (line_read c.args.piece.now read.0 c.loop-rest.rest.now line rest read.1 c.split_line.ensures.parts))
-    fault.4 (ends_at (bytes ++ read.0) line fault.0 fault.1 (read.3 bytes has faultless) c.split_line.ensures.line fault.2 fault.3)
+    ∙ around bytes c.args.piece.now read.0 line rest more (line_read c.args.piece.now read.0 c.loop-rest.rest.now line rest read.1 c.first_line.ensures.parts))
+    fault.4 (ends_at HasNoFault calls_feed (bytes ++ read.0) line fault.0 fault.1 (read.3 bytes has faultless) c.first_line.ensures.line fault.2 fault.3)
 
 pub returns-clause-read : goal.returns-clause-read
 returns-clause-read g c =

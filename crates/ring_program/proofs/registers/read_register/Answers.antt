@@ -7,7 +7,7 @@ use Rattle.ring_program.specs.Answers.{IsRegisterCause}
 use Rattle.ring_program.specs.Registers.{IsRegisterFoundBy}
 use Rattle.ring_program.specs.declared.faults.Refusal.{Refusal}
 use Rattle.ring_program.specs.declared.faults.Refusal.TheVariants as refusal
-use Rattle.ring_program.specs.declared.registers.RegisterFound.{RegisterFound}
+use Rattle.ring_program.specs.declared.registers.FoundRegister.{FoundRegister}
 use Rattle.ring_program.proofs.FirstFaults.{nothing_keeps}
 use Rattle.ring_program.proofs.ReadingLemmas.{all_turns, none_found, of_front, of_whole, one_found, one_more}
 use Rattle.ring_program.proofs.RegisterLemmas.{register_at_end, register_at_fault}
@@ -15,7 +15,7 @@ use Rattle.ring_program.proofs.registers.read_register.Goals as goal
 use Rattle.ring_program.proofs.Endings.{if_some}
 
 -- a fault of the text, of these bytes
-told : (result : Result RegisterFound Refusal) (fault : RegisterTextFault) (bytes : List ℕ) → IsErrAnd result (λ e. e ≡ refusal.Register fault) → RefusesRegisterText fault bytes → IfErr result (IsRegisterCause bytes)
+told : (result : Result FoundRegister Refusal) (fault : RegisterTextFault) (bytes : List ℕ) → IsErrAnd result (λ e. e ≡ refusal.Register fault) → RefusesRegisterText fault bytes → IfErr result (IsRegisterCause bytes)
 unfolding IsRegisterCause
 told (Ok finding) fault bytes is refuses = tt
 told (Err e) fault bytes is refuses = inr (inr (fault, is, refuses))
