@@ -13,7 +13,7 @@ use Rattle.register_calls.specs.declared.auditors.ReaderState.{ReaderState}
 use Rattle.register_calls.specs.declared.auditors.FoundWrites.{FoundWrites}
 use Rattle.register_calls.specs.Histories.{IsValue, started, finished, written_values, has_read_open, before_read}
 use Rattle.register_calls.specs.Classes.{IsOf, IsSafe, IsRegular, sees, Together, EachAlone}
-use Rattle.register_calls.specs.Judging.{IsFirstPlace, IsGreater, IsRaised, still}
+use Rattle.register_calls.specs.Judging.{IsFirstPlace, IsFrom, IsGreater, IsRaised, still}
 use Rattle.register_calls.specs.Audits.{MovesReader, FindsWrites, reader_at, KeepsRead, KeepsHistory, IsToldBy, IsOldest, IsOldestKept, lows, own_lows, own_floors}
 use Rattle.register_calls.proofs.ReadLemmas.{before_read-begin, before_read-other, read_open-begin, read_open-begin_other, read_open-end, read_open-end_other, length-written, finished-before_read}
 use Rattle.register_calls.proofs.Keeping.{keeps_nothing, scope_write, scope_wrote, scope_read, scope_got, scope_same}
@@ -364,6 +364,12 @@ first_of written kept base from v (Some k) is low least = (
       least.2 (n - base) (omega (arith, ge, low)) (omega (arith, lt, ge, low))
       (ap (λ (xs : List ℕ). slice_get xs (n - base)) is ∙ get-drop base (n - base) written ∙ subst (λ (m : ℕ). slice_get written m ≡ Some v) e at),
 )
+
+-- the first place from a number on is the first from a later one on, if it does not come before that
+pub first_later :
+    (written : List ℕ) (before from v : ℕ) (found : Option ℕ) → before ≤ from → IsFrom from found → IsFirstPlace written before v found → IsFirstPlace written from v found
+first_later written before from v None le not_before at = λ n ge. at n (omega (arith, le, ge))
+first_later written before from v (Some k) le not_before at = (not_before, at.1, λ n ge lt. at.2 n (omega (arith, le, ge)) lt)
 
 module _ (r : Register) (h : List RegisterEvent) (kept : List ℕ) (base begun : ℕ) (writing : Bool) (readers : List ReaderState) (floor : ℕ) (safe regular each all : Bool) where
   -- none that is kept is forgotten too early

@@ -18,6 +18,11 @@ abbrev pub FindsFirst : (kept : List ℕ) (base begun from value : ℕ) → Opti
 FindsFirst kept base begun from value found =
     (written : List ℕ) → kept ≡ drop base written → base ≤ from → length written ≡ suc begun → IsFirstPlace written from value found
 
+-- a number, if there is one, is not below another
+abbrev pub IsFrom : (from : ℕ) → Option ℕ → Type 0
+IsFrom from None = Unit {0}
+IsFrom from (Some number) = from ≤ number
+
 -- the greater of two numbers
 pub record IsGreater (a b top : ℕ) : Type 0 where
   pub left : a ≤ top

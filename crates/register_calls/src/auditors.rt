@@ -2,7 +2,7 @@
 ghost use Rattle.std.specs.Prelude.{◌≡◌, true, ◌<◌, ◌≤◌, ◌+◌, suc, ◌-◌, ◌↔◌, ◌⊎◌, ℕ, List, [], ◌∷◌, ◌++◌, if◌then◌else◌, length, drop, IsTrue, IfOk, IfErr, OnOk, OnErr, MatchOption, MatchResult, Some, None, slice_get, unwrap_or};
 ghost use Rattle.register_calls.specs.Histories.{IsValue};
 ghost use Rattle.register_calls.specs.Classes.{IsStrongest, HasClass};
-ghost use Rattle.register_calls.specs.Judging.{IsFirstPlace, IsGreater, IsOlder, IsRaised, still};
+ghost use Rattle.register_calls.specs.Judging.{FindsFirst, IsFirstPlace, IsFrom, IsGreater, IsOlder, IsRaised, still};
 ghost use Rattle.register_calls.specs.Audits.{AuditsRegister, StartsRead, EndsRead, FindsWrites, HearsEvent, IsOldest, IsOldestKept, fresh_reader, reader_at};
 ghost use Rattle.register_calls.specs.declared.events.RegisterEvent.{RegisterEvent};
 ghost use Rattle.register_calls.specs.declared.events.RegisterEvent.TheVariants.{WriteBegins, WriteEnds, ReadBegins, ReadEnds};
@@ -49,7 +49,7 @@ pub(crate) struct FoundWrites {
 ///
 /// It keeps the writes that a read under way may be of, or one that begins now, and a few numbers of each reader: in lists of an
 /// allocator, or in slots that the caller gives. A read is compared with
-/// each write that it may be of, at most three times.
+/// each write that it may be of, once in most cases and at most three times.
 #[derive(Drop)]
 pub struct RegisterAuditor<W: Fifo<u64>, R: Fifo<ReaderState>> {
     pub(crate) register: Register,
@@ -111,6 +111,16 @@ fn still(held: bool, number: Option<usize>) -> bool
     match number {
         Some(_) => held,
         None => false,
+    }
+}
+
+// Whether what was found from a number on, which is kept, is also what there is from a later one on.
+fn serves(base: usize, before: usize, from: usize, earlier: Option<usize>) -> bool
+    ensures { IsTrue result → ((base ≤ before) × (before ≤ from) × IsFrom from earlier) }
+{
+    match earlier {
+        Some(number) => base <= before && before <= from && from <= number,
+        None => base <= before && before <= from,
     }
 }
 
@@ -292,6 +302,24 @@ impl<W: Fifo<u64>, R: Fifo<ReaderState>> RegisterAuditor<W, R> {
         }
     }
 
+    // The same, if this is the first one from a number before it: it is looked for again only if that one does not serve.
+    fn least_later(
+        &self,
+        from: usize,
+        value: u64,
+        before: usize,
+        earlier: Option<usize>,
+    ) -> Option<usize>
+        ensures { FindsFirst (W.items self.now.window) self.now.base self.now.begun before value earlier →
+            FindsFirst (W.items self.now.window) self.now.base self.now.begun from value result }
+    {
+        if serves(self.base, before, from, earlier) {
+            earlier
+        } else {
+            self.least(from, value)
+        }
+    }
+
     // The least number of a write that a read under way may be of, or one that begins now.
     fn oldest(&self) -> usize
         ensures { IsOldestKept (if self.now.is_writing then self.now.begun - 1 else self.now.begun)
@@ -416,8 +444,8 @@ impl<W: Fifo<u64>, R: Fifo<ReaderState>> RegisterAuditor<W, R> {
         match state.reading {
             Some(read) => {
                 let of_any = self.least(read.before, value);
-                let of_own = self.least(read.own_low, value);
-                let of_all = self.least(read.low, value);
+                let of_own = self.least_later(read.own_low, value, read.before, of_any);
+                let of_all = self.least_later(read.low, value, read.before, of_any);
                 Some(FoundWrites {
                     read,
                     of_any,
