@@ -56,7 +56,10 @@ impl RegisterFinding {
         ensures { result ≡ falls_short class self.now }
     {
         match self {
-            RegisterFinding::Judged { class: Some(found), .. } => !found.is_at_least(class),
+            RegisterFinding::Judged {
+                class: Some(found),
+                ..
+            } => !found.is_at_least(class),
             RegisterFinding::Judged { class: None, .. } => true,
             RegisterFinding::OutOfTurn { .. } => true,
         }

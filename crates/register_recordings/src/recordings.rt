@@ -95,12 +95,7 @@ fn writes_value(register: Register, event: RegisterEvent) -> bool
     }
 }
 
-impl<W: Fifo<u64>, R: Fifo<ReaderState>, P: Fifo<usize>, C: Fifo<Chain>> JudgedLines<
-    W,
-    R,
-    P,
-    C,
-> {
+impl<W: Fifo<u64>, R: Fifo<ReaderState>, P: Fifo<usize>, C: Fifo<Chain>> JudgedLines<W, R, P, C> {
     // Reads one more line, without its line feed.
     fn read(&mut self, bytes: &[u8]) -> Result<(), RegisterTextFault>
         ensures read { OnOk result ((before : List RegisterLine) → HasJudged W.items R.items P.items C.items self.old before →

@@ -207,9 +207,7 @@ pub fn respond<R: AllocGlobal + Threads + Clock, A: Allocator + Copy, I: Read, O
     match request {
         Request::OnInput(question) => answer_input(alloc, json, question, input, out, err),
         Request::Calls { stop } => answer_calls(alloc, json, stop, input, out, err),
-        Request::Register(question) => {
-            answer_register(alloc, json, question, input, out, err)
-        }
+        Request::Register(question) => { answer_register(alloc, json, question, input, out, err) }
         Request::LongBits => {
             let answered = long_bits_answer(alloc, input);
             deliver(json, Source::Unkept, answered, out, err)

@@ -250,7 +250,13 @@ fn push_misses<A: Allocator + Copy>(
     push_miss(alloc, text, Class::Regular, regular, &misses.regular)?;
     let by_reader = is_same_line(&misses.by_reader, &misses.regular)
         || is_same_line(&misses.by_reader, &misses.atomic);
-    push_miss(alloc, text, Class::AtomicByReader, by_reader, &misses.by_reader)?;
+    push_miss(
+        alloc,
+        text,
+        Class::AtomicByReader,
+        by_reader,
+        &misses.by_reader,
+    )?;
     let atomic = is_same_line(&misses.atomic, &misses.regular);
     push_miss(alloc, text, Class::Atomic, atomic, &misses.atomic)
 }
@@ -288,7 +294,11 @@ fn push_report_if<A: Allocator>(
     ensures text { OnOk result (string_bytes text.new ≡ string_bytes text.old ++ report_if is_asked report.now) }
     ensures memory { IfErr result (λ e. e ≡ AppFault.OutOfMemory) }
 {
-    if is_asked { push_report(text, report) } else { Ok(()) }
+    if is_asked {
+        push_report(text, report)
+    } else {
+        Ok(())
+    }
 }
 
 /// The text of a finding: the strongest class, a line for each class that is missed, a report if it is asked for, and a line if the

@@ -234,8 +234,8 @@ fn fault_of_first_value(text: &[u8]) -> LineFault {
     let line = text.strip_prefix(b"cut ").unwrap_or(text);
     let mut words = line.split(|byte| *byte == b' ');
     match (words.next(), words.next(), words.next(), words.next()) {
-        (Some(b"register"), Some(first), Some(values), None) if is_index(first)
-            && is_index(values) => LineFault::FirstIsNoValue,
+        (Some(b"register"), Some(first), Some(values), None)
+            if is_index(first) && is_index(values) => LineFault::FirstIsNoValue,
         _ => LineFault::NoRegister,
     }
 }

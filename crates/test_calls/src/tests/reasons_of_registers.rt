@@ -1,6 +1,5 @@
 use register_calls::{
-    Chain, Class, EarlierRead, MissReason, ReaderState, Register, RegisterEvent,
-    RegisterWitness,
+    Chain, Class, EarlierRead, MissReason, ReaderState, Register, RegisterEvent, RegisterWitness,
 };
 use std::alloc::{AllocGlobal, Allocator};
 use std::collections::VecDeque;

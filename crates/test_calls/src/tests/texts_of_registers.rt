@@ -92,10 +92,7 @@ static TEXTS: &[(&str, Found)] = &[
         "register 5\nR1 read\nR1 got 4\nR1 read\nR1 got 3\n",
         judged!(None, missed!(Some(3), Some(3), Some(3), Some(3))),
     ),
-    (
-        "register 0\nW wrote\n",
-        Found::OutOfTurn(2),
-    ),
+    ("register 0\nW wrote\n", Found::OutOfTurn(2)),
     (
         "register 0\nR1 read\nW write 1\nR1 read\nR1 got 9\n",
         Found::OutOfTurn(4),
@@ -104,30 +101,12 @@ static TEXTS: &[(&str, Found)] = &[
     ("register 0", bad!(1)),
     ("\n", bad!(1)),
     ("W wrote\n", bad!(1)),
-    (
-        "register 0\nregister 0\n",
-        bad!(2),
-    ),
-    (
-        "register 0\ncut register 0\n",
-        bad!(2),
-    ),
-    (
-        "register 0 2\nR1 read\nW write 2\n",
-        bad!(3),
-    ),
-    (
-        "register 0\nR1 read\nR1 got 0",
-        bad!(3),
-    ),
-    (
-        "register 0\nW wrote\nW writ 1\n",
-        bad!(3),
-    ),
-    (
-        "register 0 2\nW wrote\nW write 3\n",
-        bad!(3),
-    ),
+    ("register 0\nregister 0\n", bad!(2)),
+    ("register 0\ncut register 0\n", bad!(2)),
+    ("register 0 2\nR1 read\nW write 2\n", bad!(3)),
+    ("register 0\nR1 read\nR1 got 0", bad!(3)),
+    ("register 0\nW wrote\nW writ 1\n", bad!(3)),
+    ("register 0 2\nW wrote\nW write 3\n", bad!(3)),
     ("register 0\r\n", bad!(1)),
     (
         "register 0\nR1 got 0000000000000000000000000000000000000000000000000",
@@ -213,7 +192,9 @@ fn an_endless_line_is_not_kept(rt: HostRuntime) -> Result<(), Fail> {
             assert!(rt; recording.read(&[b'1'; 47]) == Ok(()));
             assert!(rt; recording.read(b"1") == Err(RegisterTextFault::BadLine(2)));
             // the front of the bad line, to be shown
-            assert!(rt; recording.line() == Some(b"R1 got 111111111111111111111111111111111111111111111111"));
+            assert!(rt;
+                recording.line() == Some(b"R1 got 111111111111111111111111111111111111111111111111")
+            );
         }
         Err(_) => assert!(rt; false),
     }
