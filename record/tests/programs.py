@@ -65,7 +65,7 @@ REAL = [
     in_c("soundio", "soundio/soundio.h", "libsoundio-dev", "-lsoundio"),
     in_c("csound", "csound/csound.h", "libcsound64-dev", "-lcsound64"),
     in_c("spa", "spa/utils/ringbuffer.h", "libspa-0.2-dev", "-isystem /usr/include/spa-0.2"),
-    in_c("gst", "gst/gst.h", "libgstreamer1.0-dev pkg-config", "$(pkg-config --cflags --libs gstreamer-1.0)"),
+    in_c("gst", "gst/gst.h", "libgstreamer1.0-dev libunwind-dev pkg-config", "$(pkg-config --cflags --libs gstreamer-1.0)"),
     in_c("qb", "qb/qbrb.h", "libqb-dev", "-lqb"),
     in_c("zmq", "zmq.h", "libzmq3-dev", "-lzmq"),
     in_c("urcu", "urcu/wfcqueue.h", "liburcu-dev", "-lurcu-common"),
