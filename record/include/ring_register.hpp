@@ -41,6 +41,9 @@ public:
 
     bool print(const char* head, FILE* out) const { return ring_register_print(&rec, head, out) != 0; }
 
+    // For ring_register_audit.h: ring_register_lawful(&rec.recorded(), "register 0 4", RING_REGULAR).
+    const ring_register& recorded() const { return rec; }
+
     // Forgets what was recorded, between two rounds of a test: while no thread records.
     void restart() { ring_register_restart(&rec); }
 };
