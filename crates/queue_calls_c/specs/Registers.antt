@@ -15,7 +15,7 @@ use Rattle.register_calls.specs.declared.events.RegisterEvent.TheVariants.{Write
 use Rattle.register_calls.specs.declared.faults.RegisterFault.{RegisterFault}
 use Rattle.register_calls.specs.declared.faults.RegisterFault.TheVariants as fault
 use Rattle.queue_calls_c.specs.declared.registers.EventLine.{EventLine}
-use Rattle.queue_calls_c.specs.declared.registers.RegisterFound.{RegisterFound}
+use Rattle.queue_calls_c.specs.declared.registers.JudgeFound.{JudgeFound}
 use Rattle.queue_calls_c.specs.declared.judges.JudgedHistory.{JudgedHistory}
 use Rattle.queue_calls_c.specs.declared.judges.JudgeFault.{JudgeFault}
 use Rattle.queue_calls_c.specs.declared.judges.JudgeFault.TheVariants.{OutOfTurn, BadLine, TooFewSlots}
@@ -122,11 +122,11 @@ class_number (Some Regular) = 2
 class_number (Some AtomicByReader) = 3
 class_number (Some Atomic) = 4
 
-abbrev pub refused_as : (verdict line : ℕ) → RegisterFound
+abbrev pub refused_as : (verdict line : ℕ) → JudgeFound
 refused_as verdict line = record { line = line; not_safe = 0; not_regular = 0; not_by_reader = 0; not_atomic = 0; class = 0; verdict = verdict }
 
 -- the same as numbers
-abbrev pub register_found : Result JudgedHistory JudgeFault → RegisterFound
+abbrev pub register_found : Result JudgedHistory JudgeFault → JudgeFound
 register_found (Ok judged) = record {
   line = 0;
   not_safe = judged.lost.safe;
@@ -140,7 +140,7 @@ register_found (Err (OutOfTurn line)) = refused_as 1 line
 register_found (Err (BadLine line)) = refused_as 2 line
 register_found (Err (TooFewSlots line)) = refused_as 3 line
 
-abbrev pub JudgesRegister : (numbers : List ℕ) → (lines : List EventLine) → (slots : ℕ) → RegisterFound → Type 0
+abbrev pub JudgesRegister : (numbers : List ℕ) → (lines : List EventLine) → (slots : ℕ) → JudgeFound → Type 0
 JudgesRegister numbers lines slots found = (result : Result JudgedHistory JudgeFault) × IsJudgement numbers lines slots result × (found ≡ register_found result)
 
 -- ---- as far as lines were heard

@@ -4,7 +4,7 @@ ghost use Rattle.queue_calls_c.specs.declared.layouts.TheConstants.{SIZES};
 
 use crate::found::HeardFound;
 use crate::hearings::WordLine;
-use crate::registers::{EventLine, RegisterFound};
+use crate::registers::{EventLine, JudgeFound};
 use crate::states::Audit;
 use queue_calls::{CallsReport, Offered, Taken};
 use std::mem::size_of;
@@ -18,7 +18,7 @@ const SIZES: [u64; 8] = [
     size_of::<CallsReport>() as u64,
     size_of::<HeardFound>() as u64,
     size_of::<EventLine>() as u64,
-    size_of::<RegisterFound>() as u64,
+    size_of::<JudgeFound>() as u64,
 ];
 
 /// Writes how many bytes the structs of this library have to the front, if there is room for them: an audit, the entry of an item

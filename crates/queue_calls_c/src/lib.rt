@@ -14,7 +14,7 @@ pub use audits::{ring_audit_begin, ring_audit_hear, ring_audit_report};
 pub use found::HeardFound;
 pub use hearings::WordLine;
 pub use layouts::ring_audit_layout;
-pub use registers::{EventLine, RegisterFound, ring_register_judge};
+pub use registers::{EventLine, JudgeFound, ring_register_judge};
 pub use states::{Audit, Calls};
 
 #[cfg(test)]

@@ -22,7 +22,7 @@ pub struct EventLine {
 /// What is found of a history, as numbers. Lines are counted from 1 with that which gives the register; 0 is none.
 #[repr(C)]
 #[derive(Clone, Copy, PartialEq, Eq, Debug)]
-pub struct RegisterFound {
+pub struct JudgeFound {
     /// The line that is refused.
     pub line: u64,
     /// The first line with which the history is not safe, not regular, not atomic by reader, and not atomic.
@@ -111,10 +111,10 @@ fn class_number(class: Option<Class>) -> u32
 }
 
 // A refusal, as numbers.
-fn refused_as(verdict: u32, line: u64) -> RegisterFound
+fn refused_as(verdict: u32, line: u64) -> JudgeFound
     ensures { result ≡ refused_as verdict line }
 {
-    RegisterFound {
+    JudgeFound {
         line,
         not_safe: 0,
         not_regular: 0,
@@ -126,11 +126,11 @@ fn refused_as(verdict: u32, line: u64) -> RegisterFound
 }
 
 // What is found, as numbers.
-fn register_found(judgement: Result<JudgedHistory, JudgeFault>) -> RegisterFound
+fn register_found(judgement: Result<JudgedHistory, JudgeFault>) -> JudgeFound
     ensures { result ≡ register_found judgement }
 {
     match judgement {
-        Ok(judged) => RegisterFound {
+        Ok(judged) => JudgeFound {
             line: 0,
             not_safe: judged.lost.safe,
             not_regular: judged.lost.regular,
@@ -156,7 +156,7 @@ pub extern "C" fn ring_register_judge(
     numbers: &[u64],
     lines: &[EventLine],
     window: &mut [u64],
-    found: &mut RegisterFound,
+    found: &mut JudgeFound,
 )
     ensures judges { JudgesRegister numbers.now lines.now (length window.old) found.new }
 {

@@ -1,6 +1,6 @@
 use crate::states::{Audit, Calls};
 use crate::{
-    EventLine, HeardFound, RegisterFound, WordLine, ring_audit_begin, ring_audit_hear,
+    EventLine, HeardFound, JudgeFound, WordLine, ring_audit_begin, ring_audit_hear,
     ring_audit_layout, ring_audit_report, ring_register_judge,
 };
 use queue_calls::{CAUSE_WORDS, CallsReport, Offered, Taken};
@@ -257,21 +257,21 @@ const READ: EventLine = numbers!(EventLine: kind 2, reader 1, value 0);
 const GOT: EventLine = numbers!(EventLine: kind 3, reader 1, value 1);
 
 // What is found of the history of a register, with so many slots for its writes.
-fn judged(numbers: &[u64], lines: &[EventLine], slots: usize) -> RegisterFound {
+fn judged(numbers: &[u64], lines: &[EventLine], slots: usize) -> JudgeFound {
     let mut window = [7; 4];
     let room = slots.min(window.len());
-    let mut found = numbers!(RegisterFound:
+    let mut found = numbers!(JudgeFound:
         line 9, not_safe 9, not_regular 9, not_by_reader 9, not_atomic 9, class 9, verdict 9);
     ring_register_judge(numbers, lines, &mut window[..room], &mut found);
     found
 }
 
-const fn refused(verdict: u32, line: u64) -> RegisterFound {
-    numbers!(RegisterFound:
+const fn refused(verdict: u32, line: u64) -> JudgeFound {
+    numbers!(JudgeFound:
         line line, not_safe 0, not_regular 0, not_by_reader 0, not_atomic 0, class 0, verdict verdict)
 }
 
-const ATOMIC: RegisterFound = numbers!(RegisterFound:
+const ATOMIC: JudgeFound = numbers!(JudgeFound:
     line 0, not_safe 0, not_regular 0, not_by_reader 0, not_atomic 0, class 4, verdict 0);
 
 #[test]
@@ -292,7 +292,7 @@ fn each_class_is_lost_with_its_line(rt: HostRuntime) {
         event(3, 1, 0),
     ];
     let found = judged(&[0, 4], &lines, 2);
-    let wanted = numbers!(RegisterFound:
+    let wanted = numbers!(JudgeFound:
         line 0, not_safe 13, not_regular 10, not_by_reader 8, not_atomic 6, class 0, verdict 0);
     assert_eq!(rt; found, wanted);
     assert_eq!(rt; judged(&[0, 4], &lines[..3], 2), ATOMIC);
