@@ -4,8 +4,8 @@ use Rattle.std.proofs.lemmas.List.{length-reverse}
 use Rattle.register_calls.specs.declared.auditors.ReaderState.{ReaderState}
 use Rattle.register_calls.specs.declared.events.Register.{Register}
 use Rattle.register_calls.specs.declared.events.RegisterEvent.{RegisterEvent}
-use Rattle.register_calls.specs.declared.events.RegisterEvent.TheVariants.{WriteBegins, WriteEnds, ReadBegins, ReadEnds}
 use Rattle.register_calls.specs.declared.chains.Chain.{Chain}
+use Rattle.register_calls.proofs.ReadLemmas.{few_started}
 use Rattle.register_calls.specs.Histories.{started, IsWellFormed, ComesInTurn, WritesValue}
 use Rattle.register_calls.specs.Witnesses.{RemembersRegister}
 use Rattle.register_recordings.specs.declared.recordings.JudgedLines.{JudgedLines}
@@ -26,17 +26,10 @@ leaves_still r events e number is = record {
   leaves = is.leaves;
 }
 
-started_few : (h : List RegisterEvent) → started h ≤ length h
-started_few [] = omega arith
-started_few (WriteBegins v ∷ h) = let k = started_few h in omega (arith, k)
-started_few (WriteEnds ∷ h) = let k = started_few h in omega (arith, k)
-started_few (ReadBegins i ∷ h) = let k = started_few h in omega (arith, k)
-started_few (ReadEnds i v ∷ h) = let k = started_few h in omega (arith, k)
-
 -- as many events as writes that have begun
 pub many_events : (events : List RegisterEvent) → started (reverse events) ≡ 18446744073709551615 → 2 ^ 64 - 1 ≤ length events
 many_events events many =
-    let few : started (reverse events) ≤ length (reverse events) = started_few (reverse events) in
+    let few : started (reverse events) ≤ length (reverse events) = few_started (reverse events) in
     let same : length (reverse events) ≡ length events = length-reverse events in
     omega (arith, many, few, same)
 

@@ -42,10 +42,12 @@ is_same_line _ _ = false
 
 -- ---- words
 
--- the event at a place, from 0, stands on this line; readers are numbered from 1 in the text
-abbrev pub line_words : ℕ → List ℕ
-line_words place = codes " line " ++ decimal (place + 2)
+-- the event at a place, from 0, stands on this line
+-- again, as the lines of a trace are told by ring_program, far above this crate
+abbrev pub place_words : ℕ → List ℕ
+place_words place = codes " line " ++ decimal (place + 2)
 
+-- readers are numbered from 1 in the text
 abbrev pub reader_words : ℕ → List ℕ
 reader_words reader = codes "R" ++ decimal (reader + 1)
 
@@ -53,13 +55,13 @@ reader_words reader = codes "R" ++ decimal (reader + 1)
 abbrev pub first_read_words : Option EarlierRead → List ℕ
 first_read_words None = codes ", but an earlier read gave a later value"
 first_read_words (Some read) =
-    codes ", but a read of " ++ (reader_words read.reader ++ (codes " that ended at" ++ (line_words read.ended ++ (codes " gave the later value " ++ (decimal read.value ++ (codes ", of" ++ line_words read.written))))))
+    codes ", but a read of " ++ (reader_words read.reader ++ (codes " that ended at" ++ (place_words read.ended ++ (codes " gave the later value " ++ (decimal read.value ++ (codes ", of" ++ place_words read.written))))))
 
 -- one of the others, each of which says why the one before it is of no earlier write
 abbrev pub further_read_words : Option EarlierRead → List ℕ
 further_read_words None = []
 further_read_words (Some read) =
-    codes "; for the read of " ++ (reader_words read.reader ++ (codes " that ended at" ++ (line_words read.ended ++ (codes " can be of no write before that of" ++ line_words read.written))))
+    codes "; for the read of " ++ (reader_words read.reader ++ (codes " that ended at" ++ (place_words read.ended ++ (codes " can be of no write before that of" ++ place_words read.written))))
 
 abbrev pub cut_words : Bool → List ℕ
 cut_words true = codes "; .."
@@ -74,14 +76,14 @@ chain_words chain =
     ++ (further_read_words (read_at chain 4) ++ (further_read_words (read_at chain 5) ++ (further_read_words (read_at chain 6) ++ (further_read_words (read_at chain 7) ++ cut_words chain.is_cut)))))))
 
 -- since when the register held a value
-abbrev pub since_words : Option ℕ → List ℕ
-since_words None = codes " the start"
-since_words (Some place) = line_words place
+abbrev pub held_since_words : Option ℕ → List ℕ
+held_since_words None = codes " the start"
+held_since_words (Some place) = place_words place
 
 -- what speaks against a read that returned this value
 abbrev pub reason_words : (value : ℕ) → MissReason Chain → List ℕ
 reason_words v NoValue = codes ", which is no value of the register"
-reason_words v (Held value since) = codes ", but no write overlapped the read, and the register held " ++ (decimal value ++ (codes " since" ++ since_words since))
+reason_words v (Held value since) = codes ", but no write overlapped the read, and the register held " ++ (decimal value ++ (codes " since" ++ held_since_words since))
 reason_words v NotWritten = codes ", but neither the last write before the read nor one that overlapped it wrote " ++ decimal v
 reason_words v (Inverted chain) = chain_words chain
 

@@ -10,9 +10,9 @@ use std::fmt;
 struct AtLine(usize);
 
 impl fmt::Display for AtLine {
-    ghost use Rattle.register_recordings.specs.Misses.{line_words};
+    ghost use Rattle.register_recordings.specs.Misses.{place_words};
 
-    ghost output = { λ l. Some (line_words l.0) };
+    ghost output = { λ l. Some (place_words l.0) };
 
     fn fmt<W: fmt::Write>(&self, f: &mut fmt::Formatter<W>) -> fmt::Result {
         let line = self.0 as u128 + 2;
@@ -127,9 +127,9 @@ impl fmt::Display for Reads {
 struct Since(Option<usize>);
 
 impl fmt::Display for Since {
-    ghost use Rattle.register_recordings.specs.Misses.{since_words};
+    ghost use Rattle.register_recordings.specs.Misses.{held_since_words};
 
-    ghost output = { λ x. Some (since_words x.0) };
+    ghost output = { λ x. Some (held_since_words x.0) };
 
     fn fmt<W: fmt::Write>(&self, f: &mut fmt::Formatter<W>) -> fmt::Result {
         match self.0 {

@@ -202,7 +202,7 @@ fn audit<'a>(alloc: Global) -> Result<Command<'a>, AllocError>
     ensures { IfOk result (λ command. IsCommand command audit_command) }
 {
     let about =
-        "Audit a trace of a ring's accesses to safe bits, or recorded calls, from standard input";
+        "Audit a trace of a ring's accesses to safe bits, recorded calls or a recorded register, from standard input";
     let command = new_command(alloc, "audit", about, AUDIT_USAGE, AUDIT_HELP);
     let help = "Check the bits alone, not the programs of the two sides";
     let command = with_flag(alloc, command, "bits", help)?;

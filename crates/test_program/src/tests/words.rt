@@ -146,8 +146,9 @@ static WORDS: [(&str, u8, &[&str]); 12] = [
             "       lamport_ring audit --calls [--stop] < CALLS\n",
             "With --stop a fault is told as soon as its line is read,\nand nothing is read behind it.",
             "from standard input\n",
+            "       lamport_ring audit --register [--at-least CLASS] [--report] [--stop] < REGISTER\n",
             "  2  the command line is wrong\n",
-            "  3  the audit found a fault\n",
+            "  3  the audit found a fault, or the history lacks the class\n",
         ],
     ),
     // the name of a file: its trace has to come on standard input
