@@ -7,7 +7,7 @@ use Rattle.register_calls.specs.declared.events.RegisterEvent.{RegisterEvent}
 use Rattle.register_calls.specs.declared.events.RegisterEvent.TheVariants.{WriteBegins, WriteEnds, ReadBegins, ReadEnds}
 use Rattle.register_calls.specs.Histories.{IsWellFormed, started, finished, written_values, before_read}
 use Rattle.register_calls.specs.Classes.{Together, Choice, NoneIsLater, Orders}
-use Rattle.register_calls.specs.Reports.{NoneInvertsIsAtomic, could_invert, counted, is_shown, is_value, being_written}
+use Rattle.register_calls.specs.Reports.{NoneInvertsIsAtomic, could_invert, one_more_if, is_shown, is_value, being_written}
 use Rattle.register_calls.proofs.Sets.{get_end}
 use Rattle.register_calls.proofs.ReadLemmas.{length-written}
 use Rattle.register_calls.proofs.OrderLemmas.{NoneIsLater-more, changed, Orders-more}
@@ -68,7 +68,7 @@ module _ (of : Choice) (i : ℕ) where
     ]
   ]
 
-none_counted : (b : Bool) (n : ℕ) → counted b n ≡ 0 → (b ≡ false) × (n ≡ 0)
+none_counted : (b : Bool) (n : ℕ) → one_more_if b n ≡ 0 → (b ≡ false) × (n ≡ 0)
 none_counted true n none = absurd (omega (arith, none))
 none_counted false n none = (refl, none)
 

@@ -5,9 +5,9 @@ use Rattle.std.proofs.lemmas.Bool.{cases_lt, lt-ltb, le-ltb}
 use Rattle.register_calls.specs.declared.events.RegisterEvent.{RegisterEvent}
 use Rattle.register_calls.specs.declared.events.RegisterEvent.TheVariants.{WriteBegins, WriteEnds, ReadBegins, ReadEnds}
 use Rattle.register_calls.specs.Histories.{started, finished, before_read}
-use Rattle.register_calls.specs.Reports.{counted, reads_ended, overlapped_reads, overlapped_by_several, is_shown, could_invert}
+use Rattle.register_calls.specs.Reports.{one_more_if, reads_ended, overlapped_reads, overlapped_by_several, is_shown, could_invert}
 
-counted_few : (b : Bool) (n m : ℕ) → n ≤ m → counted b n ≤ suc m
+counted_few : (b : Bool) (n m : ℕ) → n ≤ m → one_more_if b n ≤ suc m
 counted_few true n m few = omega (arith, few)
 counted_few false n m few = omega (arith, few)
 
@@ -41,9 +41,9 @@ few_inverted (ReadEnds i v ∷ h) = let k = few_inverted h in omega (arith, k)
 
 -- one more of what is counted, if there is room for it
 pub count_more :
-    (old new n m most : ℕ) (b c : Bool) → old ≡ n → b ≡ c → n ≤ m → m < most → (old < most → new ≡ counted b old) → new ≡ counted c n
+    (old new n m most : ℕ) (b c : Bool) → old ≡ n → b ≡ c → n ≤ m → m < most → (old < most → new ≡ one_more_if b old) → new ≡ one_more_if c n
 count_more old new n m most b c same flag few within is =
-    is (omega (arith, same, few, within)) ∙ ap (λ (k : ℕ). counted b k) same ∙ ap (λ (z : Bool). counted z n) flag
+    is (omega (arith, same, few, within)) ∙ ap (λ (k : ℕ). one_more_if b k) same ∙ ap (λ (z : Bool). one_more_if z n) flag
 
 -- several writes have begun since that number of them had ended
 pub several_since : (before begun : ℕ) → nat_lt 1 (begun - before) ≡ nat_lt (suc before) begun

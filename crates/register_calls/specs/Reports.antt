@@ -17,8 +17,8 @@ reads_ended (ReadBegins i ∷ before) = reads_ended before
 reads_ended (ReadEnds i v ∷ before) = suc (reads_ended before)
 
 -- one more, if something holds
-abbrev pub counted : Bool → ℕ → ℕ
-counted b n = if b then suc n else n
+abbrev pub one_more_if : Bool → ℕ → ℕ
+one_more_if b n = if b then suc n else n
 
 -- how many of them a write overlapped: fewer writes had ended where the read began than had begun where it ended
 abbrev pub overlapped_reads : List RegisterEvent → ℕ
@@ -26,7 +26,7 @@ overlapped_reads [] = 0
 overlapped_reads (WriteBegins v ∷ before) = overlapped_reads before
 overlapped_reads (WriteEnds ∷ before) = overlapped_reads before
 overlapped_reads (ReadBegins i ∷ before) = overlapped_reads before
-overlapped_reads (ReadEnds i v ∷ before) = counted (nat_lt (finished (before_read i before)) (started before)) (overlapped_reads before)
+overlapped_reads (ReadEnds i v ∷ before) = one_more_if (nat_lt (finished (before_read i before)) (started before)) (overlapped_reads before)
 
 -- how many of them several writes overlapped
 abbrev pub overlapped_by_several : List RegisterEvent → ℕ
@@ -34,7 +34,7 @@ overlapped_by_several [] = 0
 overlapped_by_several (WriteBegins v ∷ before) = overlapped_by_several before
 overlapped_by_several (WriteEnds ∷ before) = overlapped_by_several before
 overlapped_by_several (ReadBegins i ∷ before) = overlapped_by_several before
-overlapped_by_several (ReadEnds i v ∷ before) = counted (nat_lt (suc (finished (before_read i before))) (started before)) (overlapped_by_several before)
+overlapped_by_several (ReadEnds i v ∷ before) = one_more_if (nat_lt (suc (finished (before_read i before))) (started before)) (overlapped_by_several before)
 
 -- the value of the write under way
 abbrev pub being_written : List RegisterEvent → Option ℕ
@@ -62,7 +62,7 @@ abbrev pub could_invert : List RegisterEvent → ℕ
 could_invert [] = 0
 could_invert (WriteBegins v ∷ before) = could_invert before
 could_invert (WriteEnds ∷ before) = could_invert before
-could_invert (ReadBegins i ∷ before) = counted (is_shown before) (could_invert before)
+could_invert (ReadBegins i ∷ before) = one_more_if (is_shown before) (could_invert before)
 could_invert (ReadEnds i v ∷ before) = could_invert before
 
 -- how much a history could have shown
@@ -76,7 +76,7 @@ report_of h = record {
 }
 
 -- what is kept of a history for its report
-pub record Tallies (t : RegisterTally) (h : List RegisterEvent) : Type 0 where
+pub record TalliesRegister (t : RegisterTally) (h : List RegisterEvent) : Type 0 where
   pub writes : t.report.writes ≡ started h
   pub reads : t.report.reads ≡ reads_ended h
   pub overlapped : t.report.overlapped ≡ overlapped_reads h

@@ -17,7 +17,7 @@ use Rattle.register_calls.specs.Classes.{Scope, Together, EachAlone, IsStrongest
 use Rattle.register_calls.specs.Audits.{AuditsRegister, RefusesRemembered, lows, own_lows, own_floors}
 use Rattle.register_calls.specs.Chains.{ShowsReads, chain_at}
 use Rattle.register_calls.specs.Reasons.{IsBound, IsMissReason}
-use Rattle.register_calls.specs.Reports.{Tallies}
+use Rattle.register_calls.specs.Reports.{TalliesRegister}
 
 -- the places where the writes begin, each at its number, after a 0 for the first value
 abbrev pub begin_places : List RegisterEvent → List ℕ
@@ -51,7 +51,7 @@ pub record RemembersRegister {W R P C : Type 0} (window : W → List ℕ) (state
       (own_lows (states w.auditor.readers)) (λ i. chain_at (chains w.own_low) i)
   pub of_all : KeepsBounds Together w.auditor.register.first h (λ i. w.auditor.floor) (λ i. w.floor)
       (lows (states w.auditor.readers)) (λ i. chain_at (chains w.low) i)
-  pub tallies : Tallies w.tally h
+  pub tallies : TalliesRegister w.tally h
 
 -- the read that ends now, as a chain names it, with the place where the write of this number began
 abbrev pub link_of : (places : List ℕ) (base count reader value number : ℕ) → EarlierRead

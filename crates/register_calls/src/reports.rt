@@ -1,7 +1,7 @@
 //! How much a history could have shown.
 ghost use Rattle.std.specs.Prelude.{◌≡◌, ◌<◌, ◌||◌, ℕ, suc, nat_lt, Bool, true, false, List, ◌∷◌, [], length, if◌then◌else◌};
 ghost use Rattle.register_calls.specs.Histories.{started, finished, before_read};
-ghost use Rattle.register_calls.specs.Reports.{Tallies, counted, is_value};
+ghost use Rattle.register_calls.specs.Reports.{TalliesRegister, one_more_if, is_value};
 ghost use Rattle.register_calls.specs.declared.events.RegisterEvent.{RegisterEvent};
 ghost use Rattle.register_calls.specs.declared.events.RegisterEvent.TheVariants.{WriteBegins, WriteEnds, ReadBegins, ReadEnds};
 
@@ -32,7 +32,7 @@ pub(crate) struct RegisterTally {
 
 // One more, if something holds.
 fn counted(count: usize, holds: bool) -> usize
-    ensures { count < usize.MAX → result ≡ counted holds count }
+    ensures { count < usize.MAX → result ≡ one_more_if holds count }
 {
     if holds {
         count.saturating_add(1)
@@ -61,7 +61,7 @@ fn either(one: bool, other: bool) -> bool
 impl RegisterTally {
     // Of no event.
     pub(crate) fn new() -> RegisterTally
-        ensures { Tallies result [] }
+        ensures { TalliesRegister result [] }
     {
         let report = RegisterReport {
             writes: 0,
@@ -79,8 +79,8 @@ impl RegisterTally {
 
     // A write begins.
     pub(crate) fn write_begins(&mut self, value: u64)
-        ensures { (h : List RegisterEvent) → length h < usize.MAX → Tallies self.old h →
-            Tallies self.new (WriteBegins value ∷ h) }
+        ensures { (h : List RegisterEvent) → length h < usize.MAX → TalliesRegister self.old h →
+            TalliesRegister self.new (WriteBegins value ∷ h) }
     {
         self.report.writes = counted(self.report.writes, true);
         self.under_way = Some(value);
@@ -89,7 +89,7 @@ impl RegisterTally {
 
     // The write ends.
     pub(crate) fn write_ends(&mut self)
-        ensures { (h : List RegisterEvent) → Tallies self.old h → Tallies self.new (WriteEnds ∷ h) }
+        ensures { (h : List RegisterEvent) → TalliesRegister self.old h → TalliesRegister self.new (WriteEnds ∷ h) }
     {
         self.under_way = None;
         self.is_shown = false;
@@ -97,8 +97,8 @@ impl RegisterTally {
 
     // A read begins.
     pub(crate) fn read_begins(&mut self)
-        ensures { (i : ℕ) (h : List RegisterEvent) → length h < usize.MAX → Tallies self.old h →
-            Tallies self.new (ReadBegins i ∷ h) }
+        ensures { (i : ℕ) (h : List RegisterEvent) → length h < usize.MAX → TalliesRegister self.old h →
+            TalliesRegister self.new (ReadBegins i ∷ h) }
     {
         self.report.could_invert = counted(self.report.could_invert, self.is_shown);
     }
@@ -106,7 +106,7 @@ impl RegisterTally {
     // A read ends, before whose begin this many writes had ended, and before whose end this many have begun.
     pub(crate) fn read_ends(&mut self, before: usize, begun: usize, value: u64)
         ensures { (i : ℕ) (h : List RegisterEvent) → length h < usize.MAX → before ≡ finished (before_read i h) →
-            begun ≡ started h → Tallies self.old h → Tallies self.new (ReadEnds i value ∷ h) }
+            begun ≡ started h → TalliesRegister self.old h → TalliesRegister self.new (ReadEnds i value ∷ h) }
     {
         self.report.reads = counted(self.report.reads, true);
         self.report.overlapped = counted(self.report.overlapped, before < begun);
