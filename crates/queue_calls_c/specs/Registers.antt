@@ -110,7 +110,7 @@ RefusesHead slots (TooFewSlots line) numbers = (line ≡ 1) × (slots ≡ 0)
 
 -- ---- what is found
 
--- what is found of lines after a first one of these numbers, with so many slots for writes
+-- what is found of lines after a first one of these numbers, with this many slots for writes
 abbrev pub IsJudgement : (numbers : List ℕ) → (lines : List EventLine) → (slots : ℕ) → Result JudgedHistory JudgeFault → Type 0
 IsJudgement numbers lines slots (Ok judged) = (r : Register) × (events : List RegisterEvent) × (register_of numbers ≡ Some r) × StandFor lines events × IsJudgedHistory r events judged
 IsJudgement numbers lines slots (Err refusal) = RefusesHead slots refusal numbers ⊎ ((r : Register) × (register_of numbers ≡ Some r) × IsRefusedAt slots r lines refusal)

@@ -256,7 +256,7 @@ const READ: EventLine = numbers!(EventLine: kind 2, reader 1, value 0);
 
 const GOT: EventLine = numbers!(EventLine: kind 3, reader 1, value 1);
 
-// What is found of the history of a register, with so many slots for its writes.
+// What is found of the history of a register, with this many slots for its writes.
 fn judged(numbers: &[u64], lines: &[EventLine], slots: usize) -> JudgeFound {
     let mut window = [7; 4];
     let room = slots.min(window.len());

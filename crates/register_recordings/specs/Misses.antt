@@ -43,7 +43,7 @@ is_same_line _ _ = false
 -- ---- words
 
 -- the event at a place, from 0, stands on this line
--- again, as the lines of a trace are told by ring_program, far above this crate
+-- again, as ring_program, far above this crate, has it for the lines of a trace
 abbrev pub place_words : ℕ → List ℕ
 place_words place = codes " line " ++ decimal (place + 2)
 
