@@ -18,15 +18,29 @@ type Recorded<A> = RegisterRecording<
     Vec<u8, A>,
 >;
 
+// The lines of the misses.
+#[derive(Clone, Copy, PartialEq, Eq, Debug)]
+struct MissLines {
+    safe: Option<u64>,
+    regular: Option<u64>,
+    by_reader: Option<u64>,
+    atomic: Option<u64>,
+}
+
 // What is found of a text: the strongest class, and the lines of the misses; or the line that is out of turn; or why it is refused.
 #[derive(Clone, Copy, PartialEq, Eq, Debug)]
 enum Found {
-    Judged(Option<Class>, [Option<u64>; 4]),
+    Judged(Option<Class>, MissLines),
     OutOfTurn(u64),
     Refused(RegisterTextFault),
 }
 
-const NO_MISSES: [Option<u64>; 4] = [None; 4];
+const NO_MISSES: MissLines = MissLines {
+    safe: None,
+    regular: None,
+    by_reader: None,
+    atomic: None,
+};
 
 macro_rules! judged {
     ($class:expr, $misses:expr) => {
@@ -36,7 +50,12 @@ macro_rules! judged {
 
 macro_rules! missed {
     ($safe:expr, $regular:expr, $by_reader:expr, $atomic:expr) => {
-        [$safe, $regular, $by_reader, $atomic]
+        MissLines {
+            safe: $safe,
+            regular: $regular,
+            by_reader: $by_reader,
+            atomic: $atomic,
+        }
     };
 }
 
@@ -121,13 +140,13 @@ fn line_of(miss: &Option<RegisterMiss>) -> Option<u64> {
     }
 }
 
-fn lines_of(misses: &Misses) -> [Option<u64>; 4] {
-    [
-        line_of(&misses.safe),
-        line_of(&misses.regular),
-        line_of(&misses.by_reader),
-        line_of(&misses.atomic),
-    ]
+fn lines_of(misses: &Misses) -> MissLines {
+    MissLines {
+        safe: line_of(&misses.safe),
+        regular: line_of(&misses.regular),
+        by_reader: line_of(&misses.by_reader),
+        atomic: line_of(&misses.atomic),
+    }
 }
 
 // A recording of which a text was read, in pieces of this many bytes.
