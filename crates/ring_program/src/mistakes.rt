@@ -105,9 +105,29 @@ fn asks_why_of_pieces(words: &[&str]) -> bool {
         && (gives(words, "--long") || gives(words, "--calls"))
 }
 
-// The words ask to stop at the first fault, and not of recorded calls.
+// The words ask to stop at the first fault, and not of recorded calls or of a recorded register.
 fn asks_stop_alone(words: &[&str]) -> bool {
-    names(words, "audit") && gives(words, "--stop") && !gives(words, "--calls")
+    names(words, "audit")
+        && gives(words, "--stop")
+        && !gives(words, "--calls")
+        && !gives(words, "--register")
+}
+
+// The words ask for an audit of a register, and for what does not go with it.
+fn asks_register_and_more(words: &[&str]) -> bool {
+    names(words, "audit")
+        && gives(words, "--register")
+        && (gives(words, "--bits")
+            || gives(words, "--long")
+            || gives(words, "--calls")
+            || gives(words, "--why"))
+}
+
+// The words ask for a class or a report, and not of a register.
+fn asks_class_alone(words: &[&str]) -> bool {
+    names(words, "audit")
+        && !gives(words, "--register")
+        && (value_of(words, "--at-least").is_some() || gives(words, "--report"))
 }
 
 // The words ask for a play by a near miss, and not for just one of its texts.
@@ -137,6 +157,16 @@ fn clash(words: &[&str]) -> Option<&'static str> {
     if asks_two_plays(words) {
         return Some("a play prints a trace or its calls: --trace and --calls do not go together");
     }
+    if asks_register_and_more(words) {
+        return Some(
+            "an audit of a register goes with --at-least, --report and --stop alone: not with --bits, --long, --calls or --why",
+        );
+    }
+    if asks_class_alone(words) {
+        return Some(
+            "a class and a report are asked of a recorded register: --at-least and --report go with --register",
+        );
+    }
     if asks_two_audits(words) {
         return Some("an audit is of bits or of calls: --bits and --calls do not go together");
     }
@@ -150,7 +180,7 @@ fn clash(words: &[&str]) -> Option<&'static str> {
     }
     if asks_stop_alone(words) {
         return Some(
-            "an audit of recorded calls may stop at the first fault: --stop goes with --calls",
+            "an audit of recorded calls or of a recorded register may stop at the first fault: --stop goes with --calls or --register",
         );
     }
     None
@@ -175,6 +205,17 @@ fn tell_miss<E: Write>(name: &str, err: &mut E) -> bool {
     )
 }
 
+// The words name no such class.
+fn tell_class<E: Write>(name: &str, err: &mut E) -> bool {
+    let name = Quoted(name);
+    complain_of(
+        format_args!(
+            "no class is called '{name}': there are safe, regular, atomic-by-reader and atomic"
+        ),
+        err,
+    )
+}
+
 // The words name no such ring.
 fn tell_ring<E: Write>(name: &str, err: &mut E) -> bool {
     let name = Quoted(name);
@@ -191,6 +232,9 @@ fn tell_unnamed<E: Write>(words: &[&str], err: &mut E) -> bool {
     }
     if let Some(name) = value_of(words, "--wrong") {
         return tell_miss(name, err);
+    }
+    if let Some(name) = value_of(words, "--at-least") {
+        return tell_class(name, err);
     }
     if let Some(name) = value_of(words, "--ring") {
         return tell_ring(name, err);

@@ -34,7 +34,7 @@ fn a_take_of_several_tells_its_items(rt: HostRuntime) {
 }
 
 // A complaint, and words behind the program's name that do not go together.
-static CLASHES: [(&str, &[&str]); 5] = [
+static CLASHES: [(&str, &[&str]); 8] = [
     (
         "no near miss is called 'torus': there are count-before-cell, no-second-scan, small-modulus, clears-first and clears-upwards",
         &["play --wrong torus --calls"],
@@ -55,8 +55,32 @@ static CLASHES: [(&str, &[&str]); 5] = [
         ],
     ),
     (
-        "an audit of recorded calls may stop at the first fault: --stop goes with --calls",
+        "an audit of recorded calls or of a recorded register may stop at the first fault: --stop goes with --calls or --register",
         &["audit --stop", "audit --stop --bits --why"],
+    ),
+    (
+        "an audit of a register goes with --at-least, --report and --stop alone: not with --bits, --long, --calls or --why",
+        &[
+            "audit --register --bits",
+            "audit --calls --register",
+            "audit --register --stop --why",
+            "audit --long --register",
+        ],
+    ),
+    (
+        "a class and a report are asked of a recorded register: --at-least and --report go with --register",
+        &[
+            "audit --report",
+            "audit --at-least safe",
+            "audit --calls --at-least=regular",
+        ],
+    ),
+    (
+        "no class is called 'best': there are safe, regular, atomic-by-reader and atomic",
+        &[
+            "audit --register --at-least best",
+            "audit --register --at-least=best --stop",
+        ],
     ),
     (
         "a play prints a trace or its calls: --trace and --calls do not go together",
