@@ -90,7 +90,7 @@ writes_none :
     (slots number : ℕ) (r : Register) (h : List RegisterEvent) (l : EventLine) (e : RegisterEvent) → Some e ≡ line_event l → ¬ WritesValue r e → RefusesEventLine slots (BadLine number) r h l
 writes_none slots number r h l e is never other same = subst (λ (x : RegisterEvent). ¬ WritesValue r x) (same_Some e other (is ∙ same)) never
 
--- of 64 readers each has room; so an event for which there is none begins a write
+-- each of 64 readers has room, so an event that finds no room begins a write
 no_room :
     (slots readers most number : ℕ) (r : Register) (h : List RegisterEvent) (l : EventLine) (e : RegisterEvent) → readers ≡ 64 → IsWithinReaders e → Some e ≡ line_event l →
     RefusesRegisterEvent slots readers most fault.OutOfMemory r h e → RefusesEventLine slots (TooFewSlots number) r h l

@@ -14,13 +14,13 @@ use Rattle.ring_program.specs.Texts.{calls_text_of}
 use Rattle.ring_program.specs.declared.answers.Ending.{Ending}
 use Rattle.ring_program.specs.declared.answers.Ending.TheVariants.{Done, FaultFound}
 
--- bytes, and a piece of which some was read, and then a line
+-- bytes, and a piece that was read in part, and then a line
 pub around : (bytes piece read line rest more : List ℕ) → piece ≡ (read ++ line) ++ rest → (bytes ++ read) ++ (line ++ (rest ++ more)) ≡ bytes ++ (piece ++ more)
 around bytes piece read line rest more is =
     append_assoc bytes read (line ++ (rest ++ more))
     ∙ ap (λ (t : List ℕ). bytes ++ t) (sym (append_assoc read line (rest ++ more)) ∙ sym (append_assoc (read ++ line) rest more) ∙ ap (λ (t : List ℕ). t ++ more) (sym is))
 
--- a piece of which some was read, and then a line
+-- a piece that was read in part, and then a line
 pub line_read : (piece read rest line more : List ℕ) → piece ≡ read ++ rest → rest ≡ line ++ more → piece ≡ (read ++ line) ++ more
 line_read piece read rest line more one two = one ∙ ap (λ (t : List ℕ). read ++ t) two ∙ sym (append_assoc read line more)
 

@@ -43,7 +43,7 @@ refusal_words refusal.NoSecondThread = codes "no second thread"
 abbrev pub refusal_line : Refusal → List ℕ
 refusal_line e = codes "refused: " ++ (refusal_words e ++ codes "\n")
 
--- it refuses a script, or a line of a trace, of recorded calls or of a recorded register, of which a second line may say what is wrong there
+-- it refuses a script, or a line of a trace, of recorded calls or of a recorded register; a second line may say what is wrong with it
 abbrev pub IsInText : Refusal → Type 0
 IsInText e = ((line : ℕ) × (e ≡ refusal.Trace (trace.BadLine line)))
     ⊎ (((line : ℕ) × (e ≡ refusal.Calls (calls.BadLine line))) ⊎ (((line : ℕ) × (e ≡ refusal.Register (register.BadLine line)))

@@ -143,7 +143,7 @@ fn answer_calls<A: Allocator + Copy, I: Read, O: Write, E: Write>(
     deliver(json, source, answered, out, err)
 }
 
-// Reads a recorded register in pieces, by a recording of which nothing was read, and answers of it.
+// Reads a recorded register in pieces, by a recording that has read nothing yet, and returns the answer.
 fn answer_recorded<A: Allocator + Copy, I: Read, O: Write, E: Write>(
     alloc: A,
     json: Global,

@@ -212,7 +212,7 @@ fn calls_ending(finding: &CallsFinding) -> Ending
     }
 }
 
-/// The answer of `audit --calls`, by a recording of which nothing was read. It notes where it comes to the end of the input.
+/// The answer of `audit --calls`, by a recording that has read nothing yet. It notes whether it reaches the end of the input.
 #[tactic(auto, unfolding(crate::specs::Answers::IsCallsCause))]
 pub fn calls_answer<A: Allocator + Copy, I: Read>(
     alloc: A,

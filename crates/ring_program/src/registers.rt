@@ -342,7 +342,7 @@ fn register_ending(class: Class, finding: &RegisterFinding) -> Ending
     }
 }
 
-/// The answer of `audit --register`, by a recording of which nothing was read. It notes if it comes to the end of the input.
+/// The answer of `audit --register`, by a recording that has read nothing yet. It notes whether it reaches the end of the input.
 #[tactic(auto, unfolding(crate::specs::Answers::IsRegisterCause))]
 pub(crate) fn register_answer<A: Allocator + Copy, I: Read>(
     alloc: A,

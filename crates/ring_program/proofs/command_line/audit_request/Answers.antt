@@ -5,7 +5,7 @@ use Rattle.std.specs.Prelude.{codes, option_map}
 use Rattle.ring_program.specs.CommandLine.{audit_asked, audit_request_of, is_flag_given}
 use Rattle.ring_program.proofs.command_line.audit_request.Goals as goal
 
--- what is asked is told by the options that were given
+-- the options that were given determine the request
 by_rows :
     (rows : List Row) (register : Bool) (name : Option Text) (report bits long calls stop why : Bool) → register ≡ is_flag_given (codes "register") rows → name ≡ first_of (codes "at-least") rows →
     report ≡ is_flag_given (codes "report") rows → bits ≡ is_flag_given (codes "bits") rows → long ≡ is_flag_given (codes "long") rows → calls ≡ is_flag_given (codes "calls") rows →

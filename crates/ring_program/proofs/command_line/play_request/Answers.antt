@@ -5,7 +5,7 @@ use Rattle.clap.specs.Words.{Row, Text, first_of, found_of, rows_of}
 use Rattle.ring_program.specs.CommandLine.{is_flag_given, play_asked, play_by, play_request_of}
 use Rattle.ring_program.proofs.command_line.play_request.Goals as goal
 
--- what is asked is told by the name and the flags that were given
+-- the name and the flags that were given determine the request
 by_rows : (rows : List Row) (name : Option Text) (trace calls : Bool) → name ≡ first_of (codes "wrong") rows → trace ≡ is_flag_given (codes "trace") rows → calls ≡ is_flag_given (codes "calls") rows
     → play_by name trace calls ≡ play_request_of rows
 by_rows rows name trace calls named traced called = λ i. play_by (named i) (traced i) (called i)

@@ -5,7 +5,7 @@ use Rattle.register_recordings.specs.Recordings.{RefusesRegisterText}
 use Rattle.register_recordings.specs.Reading.{HasReadRegister}
 use Rattle.register_recordings.proofs.recordings.RegisterRecording.read.Goals as goal
 
--- a piece of which some was read, and then a line
+-- a piece that was read in part, and then a line
 -- again, since this crate stands on no recordings of calls
 line_read : (piece read rest end more : List ℕ) → piece ≡ read ++ rest → rest ≡ end ++ 10 ∷ more → piece ≡ (read ++ (end ++ 10 ∷ [])) ++ more
 line_read piece read rest end more one two =
