@@ -1,5 +1,5 @@
 #!/usr/bin/env python3
-"""Copies the examples to page/examples and writes the page as one file that needs no server, page/lamport_ring.html.
+"""Writes the page as one file that needs no server, page/lamport_ring.html, and what page/src/index.html asks a server for, page/src/made.
 
     page/pack.py            with the module that page/build made, or else with that of the page that stands there
     page/pack.py --check    writes nothing; says where the page that stands there is not what these sources give, and what a lesson lacks
@@ -14,18 +14,21 @@ import subprocess
 import sys
 
 PAGE = os.path.dirname(os.path.abspath(__file__))
+SOURCES = os.path.join(PAGE, "src")
+MADE = os.path.join(SOURCES, "made")
 TOP = os.path.dirname(PAGE)
 EXAMPLES = os.path.join(TOP, "examples")
 SHIPPED = "lamport_ring.html"
 FIRST = ["new_old_inversion", "plain_path", "plain"]  # what the page begins with
 LEFT_OUT = {  # scripts of more events or letters than a picture is for; an item that JavaScript has no number for
     "a_million_idle_letters", "a_million_letters_full", "items_999", "largest_shape"}
-SCRIPTS = ["dom.js", "records.js", "module.js", "calls.js", "orders.js", "verdicts.js", "style.js", "sheet.js", "picture.js", "bars.js", "frame.js", "names.js", "script.js", "plays.js",
-           "replies.js", "recordings.js", "places.js", "logs.js", "opening.js", "lessons.js", "course.js", "editor.js", "views.js", "game.js", "inside.js", "queue.js", "strip.js",
-           "asking.js", "beside.js", "finder.js", "author.js", "page.js"]
-WORKER = ["records.js", "module.js", "hints.js", "shrinking.js", "worker.js"]  # what runs in a worker of the page, from a text
+STYLES = ["page", "large", "small", "print"]
+MAIN, WORKER = "main.js", "worker.js"  # the scripts that begin: of the page, and of the worker of the page's own
+IMPORTED = re.compile(r'^import \{ ?([^}]*?) ?\} from "([^"]+)";\n', flags=re.M)
+EXPORTED = re.compile(r"^export ((?:async )?function\*? |const |class )([\w$]+)", flags=re.M)
 MODES = {"trace": ".trace", "script": ".json", "calls": ".calls"}  # what a text may be, and the ends of the names of its files
-PARTS = {"=": "title", ">": "play", "?": "question", "!": "answer"}  # what begins each line of a lesson in lessons.txt; `play` is the link of a script that plays its story
+# What begins each line of a lesson in lessons.txt: `play` is the link of a script that plays its story; a challenge has its goal, a hint and its own story.
+PARTS = {"=": "title", ">": "play", "?": "question", "!": "answer", "@": "goal", "~": "hint", ".": "story"}
 MADE_OF = re.compile(rb'<meta name="made-of" content="([^"]*)">')
 
 
@@ -43,7 +46,8 @@ def read(name):
 
 def built():
     """The module that page/build made, and the words for what it was made of; or None."""
-    return (read("ring_page.wasm"), read("ring_page.from").decode().strip()) if has("ring_page.wasm") and has("ring_page.from") else None
+    names = ["src/made/ring_page.wasm", "src/made/ring_page.from"]
+    return (read(names[0]), read(names[1]).decode().strip()) if all(map(has, names)) else None
 
 
 def shipped():
@@ -51,7 +55,7 @@ def shipped():
     if not has(SHIPPED):
         return None
     page = read(SHIPPED)
-    module, made_of = re.search(rb'"ring_page.wasm": "([^"]*)"', page), MADE_OF.search(page)
+    module, made_of = re.search(rb'^globalThis.ringModule = "([^"]*)"', page, flags=re.M), MADE_OF.search(page)
     return (base64.b64decode(module[1]), made_of[1].decode()) if module and made_of else None
 
 
@@ -99,38 +103,57 @@ def lesson(told, chapter, mode, name):
 
 
 def lessons():
-    """The lessons in their order, of page/lessons.txt; an example that has none there comes last, without a question."""
-    told, list_, chapter = stories(), [], ""
+    """The lessons in their order."""
+    return lessons_and_plays()[0]
+
+
+def lessons_and_plays():
+    """The lessons in their order, of page/lessons.txt, and the scripts that stand there, by their names; an example that has no lesson there comes last,
+    without a question."""
+    told, list_, plays, chapter = stories(), [], {}, ""
     for line in read("lessons.txt").decode().splitlines():
         kind, _, words = line.strip().partition(" ")
         if kind == "#":
             chapter = words
         elif kind in MODES:
             list_.append(lesson(told, chapter, kind, words))
+        elif kind == "play":
+            name, _, script = words.partition(" ")
+            plays[name] = script
+            list_.append({**lesson({}, chapter, "script", name), "story": []})
+        elif kind == ".":
+            list_[-1]["story"].append(words)
         elif kind in PARTS:
             list_[-1][PARTS[kind]] = words
         elif line.strip():
-            sys.exit(f"page/lessons.txt: a line begins with none of {', '.join(['#', *MODES, *PARTS])}: {line}")
-    return list_
+            sys.exit(f"page/lessons.txt: a line begins with none of {', '.join(['#', *MODES, 'play', *PARTS])}: {line}")
+    return list_, plays
 
 
 def course():
-    """The steps of docs/COURSE.md that are lessons, in order: their minutes, the lesson, and what to say; with it, what comes then and is no lesson."""
+    """The steps of docs/COURSE.md, in order: their minutes, the lesson, what to say, and if it is the law or the commands, the board that shows it."""
     steps, modes = [], {"example": "trace", "script": "script", "calls": "calls"}
     with open(os.path.join(TOP, "docs", "COURSE.md"), encoding="utf-8") as file:
-        for minutes, shown, say in re.findall(r"^\| (\d+–\d+) \| (.*?) \| (.*) \|$", file.read(), flags=re.M):
-            lesson = re.fullmatch(r"`#(example|script|calls)=(\w+)`", shown)
-            if lesson:
-                steps.append({"minutes": minutes, "mode": modes[lesson[1]], "name": lesson[2], "say": say})
-            else:
-                steps[-1]["say"] += f" Then, in minutes {minutes} and not in the page: {say[0].lower()}{say[1:]}"
+        text = file.read()
+    table = re.search(r"^\| Clause \|.*\n\|[-|]*\|\n((?:\|.*\n)*)", text, flags=re.M)[1]
+    plain = [[re.sub(r"[`*]", "", cell).strip() for cell in row.strip("|\n").split(" | ")] for row in table.splitlines()]
+    before = text[:text.index("\n## The law of the ring")]
+    commands = [re.sub("^    ", "", it, flags=re.M).rstrip() for it in re.findall(r"(?:^    .*\n)+", before, flags=re.M)]
+    boards = {"the law": {"title": "The law of the ring", "rows": plain}, "the commands": {"title": "Two threads, and a recording", "commands": commands}}
+    for minutes, shown, say in re.findall(r"^\| (\d+–\d+) \| (.*?) \| (.*) \|$", text, flags=re.M):
+        it = re.fullmatch(r"`#(example|script|calls)=(\w+)`(?:, (the law|the commands) below)?", shown)
+        if not it:
+            sys.exit(f"docs/COURSE.md: the step of {minutes} shows none of the page: {shown}")
+        board = {"title": boards[it[3]]["title"], "board": boards[it[3]]} if it[3] else {}
+        steps.append({"minutes": minutes, "mode": modes[it[1]], "name": it[2], "say": say, **board})
     return steps
 
 
 def examples():
     """The files of the examples, and the list of their names; of recorded calls those that are lessons. A script of examples/wrong names in the page
     the ring that plays it."""
-    told, files, names = stories(), {}, {**{mode: [] for mode in MODES}, "lessons": lessons(), "course": course()}
+    told, files, (list_, plays) = stories(), {}, lessons_and_plays()
+    names = {**{mode: [] for mode in MODES}, "lessons": list_, "course": course()}
     taught = [(it["mode"], it["name"]) for it in names["lessons"]]
     for mode, end in MODES.items():
         folder = os.path.join(EXAMPLES, "calls") if mode == "calls" else EXAMPLES
@@ -144,7 +167,8 @@ def examples():
             if (mode, name) not in taught:
                 names["lessons"].append(lesson(told, "More", mode, name))
         if mode == "script":
-            names[mode] += wrong_scripts(files)
+            names[mode] += [*wrong_scripts(files), *plays]
+            files.update({f"examples/{name}.json": script.encode() for name, script in plays.items()})
         names[mode].sort(key=lambda name: (name not in FIRST[:1], name not in FIRST, name))
     for mode, name in taught:
         if name not in names[mode]:
@@ -166,41 +190,76 @@ def wrong_scripts(files):
 
 
 def lay_out():
-    """Writes the files that index.html asks a server for, and tells the module and what it was made of."""
+    """Writes the files that index.html asks a server for; returns the module and what it was made of."""
     made = built() or shipped()
     if not made:
         sys.exit("page/pack.py: there is no module: run page/build")
-    shutil.rmtree(os.path.join(PAGE, "examples"), ignore_errors=True)
-    os.makedirs(os.path.join(PAGE, "examples", "calls"))
+    shutil.rmtree(MADE, ignore_errors=True)
     for name, data in {"ring_page.wasm": made[0], "ring_page.from": made[1].encode() + b"\n", "worker_script.js": joined(WORKER).encode(), **examples()}.items():
-        with open(os.path.join(PAGE, name), "wb") as file:
+        os.makedirs(os.path.dirname(os.path.join(MADE, name)), exist_ok=True)
+        with open(os.path.join(MADE, name), "wb") as file:
             file.write(data)
     return made
 
 
-def joined(names):
-    """These scripts as one."""
-    script = "\n".join(read(name).decode() for name in names)
-    script = re.sub(r"^import .*\n", "", script, flags=re.M)
-    script = re.sub(r"^export ", "", script, flags=re.M)
-    found = re.findall(r"^(?:const|let|class|function\*?|async function) ([\w$]+)", script, flags=re.M)
-    assert len(set(found)) == len(found), f"a name stands in two scripts: {sorted(it for it in set(found) if found.count(it) > 1)}"
-    return script
+def imports_of(name, text):
+    """What a script imports: names, and the script that has them, by its place in page/src."""
+    found = [([*map(str.strip, names.split(","))], os.path.normpath(os.path.join(os.path.dirname(name), path))) for names, path in IMPORTED.findall(text)]
+    if len(found) != len(re.findall(r"^import\b", text, flags=re.M)):
+        sys.exit(f'page/src/{name}: an import is not of the form import {{ .. }} from "..";')
+    return found
+
+
+def scripts_of(name, found=None, above=()):
+    """The texts of the scripts that this one imports, and of those that they import, each after those that it imports itself; and of this one, last."""
+    found = {} if found is None else found
+    if name in above:
+        sys.exit(f"page/src/{name} imports itself: {' -> '.join([*above, name])}")
+    if name not in found:
+        text = read(f"src/{name}").decode()
+        for names, other in imports_of(name, text):
+            scripts_of(other, found, (*above, name))
+            missing = {*names} - {it for _, it in EXPORTED.findall(found[other])}
+            if missing:
+                sys.exit(f"page/src/{name}: page/src/{other} exports no {', '.join(sorted(missing))}")
+        found[name] = text
+    return found
+
+
+def joined(name):
+    """This script and all that it imports, as one, without lines that are a comment alone: each is a function of its own, which returns what it exports."""
+    parts = ["const modules = {};"]
+    for its, text in scripts_of(name).items():
+        if len(EXPORTED.findall(text)) != len(re.findall(r"^export\b", text, flags=re.M)):
+            sys.exit(f"page/src/{its}: an export is neither a function, nor a const, nor a class")
+        body = IMPORTED.sub(lambda it, its=its: f"const {{ {it[1]} }} = modules[\"{os.path.normpath(os.path.join(os.path.dirname(its), it[2]))}\"];\n", text)
+        body = re.sub(r"^ *//.*\n", "", body, flags=re.M)
+        exports = ", ".join(it for _, it in EXPORTED.findall(text))
+        parts.append(f'modules["{its}"] = (() => {{\n{EXPORTED.sub(lambda it: it[1] + it[2], body)}return {{ {exports} }};\n}})();')
+    return "\n".join(parts) + "\n"
+
+
+def unused():
+    """The scripts that neither the page nor its worker imports."""
+    used = {*scripts_of(MAIN), *scripts_of(WORKER)}
+    there = {os.path.relpath(os.path.join(folder, it), SOURCES) for folder, _, files in os.walk(SOURCES) for it in files if it.endswith(".js") and not folder.startswith(MADE)}
+    return sorted(there - used)
 
 
 def one_file(module, made_of):
     """The page with its style, its scripts in one, and its files; the policy allows these by their hashes and no others."""
-    files = {"ring_page.wasm": module, "worker_script.js": joined(WORKER).encode(), **examples()}
-    kept = "globalThis.ringFiles = " + json.dumps({name: base64.b64encode(it).decode() for name, it in sorted(files.items())}, indent=0) + ";\n"
-    script = joined(SCRIPTS)
-    style = read("page.css").decode()
+    files = {"worker_script.js": joined(WORKER).encode(), **examples()}
+    kept = f"globalThis.ringTexts = {json.dumps({name: it.decode() for name, it in sorted(files.items())}, indent=0)};\n"
+    kept += f"globalThis.ringModule = {json.dumps(base64.b64encode(module).decode())};\n"
+    script = joined(MAIN)
+    style = "".join(read(f"src/{name}.css").decode() for name in STYLES)
     assert not any(it in text for it in ("</script", "<!--") for text in (kept, script)) and "</" not in style
     assert not re.search('["<>&]', made_of), made_of
 
     def hash_of(text):
         return "'sha256-" + base64.b64encode(hashlib.sha256(text.encode()).digest()).decode() + "'"
 
-    page = read("index.html").decode()
+    page = read("src/index.html").decode()
     for old, new in [
         ("script-src 'self'", f"script-src {hash_of(kept)} {hash_of(script)}"),
         ("connect-src 'self'; ", ""),
@@ -208,8 +267,8 @@ def one_file(module, made_of):
         ('<meta name="made-of" content="">', f'<meta name="made-of" content="{made_of}">'),
         (" From the disk, open lamport_ring.html.", ""),
         ("comes from a server and runs", "runs"),
-        ('<link rel="stylesheet" href="page.css">', f"<style>{style}</style>"),
-        ('<script type="module" src="page.js"></script>', f'<script>{kept}</script>\n<script type="module">{script}</script>'),
+        ("\n".join(f'<link rel="stylesheet" href="{name}.css">' for name in STYLES), f"<style>{style}</style>"),
+        ('<script type="module" src="main.js"></script>', f'<script>{kept}</script>\n<script type="module">{script}</script>'),
     ]:
         assert page.count(old) == 1, old
         page = page.replace(old, new)
@@ -230,11 +289,11 @@ def wrongs():
     stands, kept, made = read(SHIPPED), shipped(), built()
     if kept is None:
         return [f"page/{SHIPPED} has no module, or does not say what it was made of: run page/build"]
-    lines, module = gaps(), kept[0]
+    lines, module = gaps() + [f"page/src/{it} is imported by none" for it in unused()], kept[0]
     if sources_sum() not in kept[1]:
         lines.append(f"page/{SHIPPED} was made of other crates ({kept[1]}; here {sources_sum()}): run page/build")
     if made and made[0] != module:
-        lines.append(f"page/ring_page.wasm is not the module in page/{SHIPPED}: run page/build, or remove it")
+        lines.append(f"page/src/made/ring_page.wasm is not the module in page/{SHIPPED}: run page/build, or remove it")
     fresh = one_file(*kept)
     if fresh != stands:
         at = next((i for i, (a, b) in enumerate(zip(fresh, stands)) if a != b), min(len(fresh), len(stands)))

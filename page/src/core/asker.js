@@ -1,0 +1,50 @@
+// Asks a worker of the page's own (worker.js) about the recording that is shown. It is made of a text, since a file that is opened from the
+// disk may read no other.
+
+const IDLE = 30000; // milliseconds without a question, until the worker's memory is given back
+
+// An asker, with the text of the worker and the bytes of the module. `ask` hands each answer to `then`, and what is told meanwhile to
+// `meanwhile`; an answer on a recording that is no longer shown is dropped. It answers whether there is a worker: a browser may allow none.
+// `stop` ends what is under way.
+export function askerOf(script, bytes) {
+  let worker = null, text = null, number = 0, idle = 0;
+  const waiting = new Map();
+
+  const open = () => {
+    const address = URL.createObjectURL(new Blob([script], {type: "text/javascript"}));
+    try {
+      worker = new Worker(address);
+    } catch {
+      return false;
+    } finally {
+      URL.revokeObjectURL(address);
+    }
+    worker.onmessage = ({data}) => {
+      const it = waiting.get(data.number);
+      if (data.answer === undefined) return it?.meanwhile?.(data.count);
+      waiting.delete(data.number);
+      clearTimeout(idle);
+      idle = setTimeout(() => waiting.size || stop(), IDLE);
+      it?.then(data.answer);
+    };
+    worker.postMessage({bytes});
+    return true;
+  };
+
+  const stop = () => {
+    worker?.terminate();
+    worker = text = null;
+    waiting.clear();
+  };
+
+  const ask = (of, asks, more, then, meanwhile) => {
+    if (!worker && !open()) return false;
+    if (text !== of) waiting.clear();
+    waiting.set(++number, {then, meanwhile});
+    worker.postMessage({...text === of ? {} : {text: of}, asks, number, ...more});
+    text = of;
+    return true;
+  };
+
+  return {ask, stop};
+}

@@ -1,0 +1,24 @@
+// The files of the page: the page in one file has them in itself, and one that a server sends asks for them.
+
+async function fetched(name) {
+  const answer = await fetch(`made/${name}`);
+  if (!answer.ok) throw new Error(`${name}: ${answer.status} ${answer.statusText}`);
+  return answer;
+}
+
+export const textOf = async name => globalThis.ringTexts?.[name] ?? (await fetched(name)).text();
+
+// The bytes of the proved module.
+export async function moduleBytes() {
+  if (globalThis.ringModule === undefined) return (await fetched("ring_page.wasm")).arrayBuffer();
+  return Uint8Array.from(atob(globalThis.ringModule), it => it.charCodeAt(0)).buffer;
+}
+
+// The name of the file of an example.
+const FILES = {
+  trace: name => `examples/${name}.trace`,
+  script: name => `examples/${name}.json`,
+  calls: name => `examples/calls/${name}.calls`,
+};
+
+export const exampleText = (mode, name) => textOf(FILES[mode](name));

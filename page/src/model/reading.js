@@ -1,0 +1,45 @@
+// What the module says of the whole of a text: at once if that is short, else by the worker, meanwhile with the words of what is under way.
+
+import { orStopped } from "../core/module.js";
+
+const LONG = 300000; // characters of recorded calls, or of a script, from which on the worker reads them
+const TICK = 100; // milliseconds between words on what is under way
+
+// A reader. `ask` asks the worker (core/asker.js), `views` are the kinds of text, and `tell` is called when there is something new. The
+// answer has `read`, which returns the whole of a text, or what is `pending` of it; and `stop`.
+export function readerOf({asker, views, tell}) {
+  let timer = 0, under = null; // what the worker reads
+
+  const end = () => {
+    clearInterval(timer);
+    under = null;
+  };
+  const pendingOf = (text, began) =>
+    ({pending: `auditing ${text.length.toLocaleString("en")} characters .. ${((performance.now() - began) / 1000).toFixed(1)} s`});
+
+  const readLater = (mode, text) => {
+    const began = performance.now(), mine = under = {mode, text};
+    const isAsked = asker.ask(text, "read", {mode}, answer => {
+      if (under !== mine) return;
+      end();
+      tell(views[mode].fromWorker(answer, text));
+    });
+    if (!isAsked) return null;
+    timer = setInterval(() => tell(pendingOf(text, began)), TICK);
+    return pendingOf(text, began);
+  };
+
+  return {
+    read(mode, text) {
+      end();
+      const later = text.length > LONG && mode !== "trace" ? readLater(mode, text) : null;
+      return later ?? orStopped(() => views[mode].read(text));
+    },
+    stop() {
+      if (!under) return;
+      asker.stop();
+      end();
+      tell({refused: "stopped before it was read to its end", line: 0});
+    },
+  };
+}

@@ -1,0 +1,9 @@
+// The three kinds of text, by what the proved module says of them. `read` asks it for the whole, `at` for as much as is shown: its words,
+// `line` at fault and what the step is. A text opens at the `first` and shows the `most`; `drawing` is what its picture is made of; `rows`
+// has its report, and `of` says of what that is.
+
+import { callsView } from "./calls_view.js";
+import { scriptView } from "./script_view.js";
+import { traceView } from "./trace_view.js";
+
+export const viewsOf = module => ({trace: traceView(module), script: scriptView(module), calls: callsView(module)});

@@ -1,0 +1,116 @@
+// The page: its state, what follows from it, and the texts that are put into it. What shows it are the panes, of which each renders the
+// state and the moment.
+
+import { addressWriter, askedBy, linkTo } from "./core/address.js";
+import { exampleText } from "./core/files.js";
+import { newState } from "./core/state.js";
+import { styleWithin } from "./draw/style.js";
+import { GOALS } from "./model/game.js";
+import { momentOf } from "./model/moment.js";
+import { readerOf } from "./model/reading.js";
+import { readFile } from "./text/files.js";
+import { laidOut } from "./text/script.js";
+
+const NO_TEXT = {text: "", example: "", file: "", course: null, note: "", refusal: "", offer: null, shown: Infinity};
+
+// The page over the examples, the kinds of text (model/views.js) and the worker. `setPanes` is called before anything is shown.
+export function pageOf({examples, views, asker}) {
+  const state = newState(), address = addressWriter(), paper = new CSSStyleSheet();
+  let panes = {}, whole = {}, now = null; // what shows it; what the module says of the whole text; what is shown
+  let loading = 0; // so that of several examples that are asked for at once the last is shown
+  const hasLines = () => state.mode !== "script";
+
+  // Shows all anew. `isStep` if it is another part of the same text.
+  function render(isStep = false) {
+    now = momentOf(state, whole, views, examples);
+    for (const pane of Object.values(panes)) pane.render(state, now, isStep);
+    if (!now.it.pending && !state.isWelcome && !state.refusal) address.write(linkTo(state, now.shown, now.opens));
+  }
+
+  const reader = readerOf({asker, views, tell(found) {
+    whole = found;
+    render();
+    if (!found.pending && hasLines()) panes.editor.scrollToMarked(state.shown);
+  }});
+
+  // Writes fields of the state, and shows what follows.
+  function change(fields, isStep = false) {
+    const read = ["text", "mode", "refusal"], before = read.map(name => state[name]);
+    Object.assign(state, fields);
+    if (read.some((name, i) => state[name] !== before[i]))
+      whole = state.refusal ? {refused: state.refusal, line: 0} : reader.read(state.mode, state.text);
+    render(isStep);
+  }
+
+  function setTheme(theme) {
+    state.theme = theme;
+    document.documentElement.className = theme;
+    paper.replaceSync(styleWithin(theme));
+  }
+
+  // ---- texts ---------------------------------------------------------------------------------------------------------------
+
+  // Puts a text into the editor, that of an example or another's, with what of the state goes with it; Back brings back what was there, but
+  // for a text of a link. A step of the course begins folded.
+  function open(mode, given, isNew = true) {
+    const {goal, isWelcome, left, course} = state, lesson = given.example ?? "", {text, example, file, shown} = state;
+    ++loading;
+    if (isNew) address.leave();
+    if (state.mode && mode !== state.mode) left[state.mode] = {text, example, file, lesson: state.lesson, shown};
+    const fields = {...NO_TEXT, goal, lesson, isHinted: false, isWelcome: isWelcome && !isNew, ...given, mode};
+    change({...fields, isFolded: fields.course !== null && (fields.course !== course || state.isFolded)});
+    if (hasLines()) panes.editor.scrollToMarked(state.shown);
+  }
+
+  // Shows an example.
+  async function load(mode, name, more = {}, isNew = true) {
+    const mine = ++loading, text = await exampleText(mode, name);
+    if (mine !== loading) return;
+    const {goal} = examples.lessons.find(it => it.mode === mode && it.name === name) ?? {};
+    open(mode, {text: mode === "script" ? laidOut(text) : text, example: name, ...goal ? {goal} : {}, ...more}, isNew);
+  }
+
+  // Shows a step of the course, from its first event on, or, if it is gone back to, at its end.
+  function openStep(number, shown = 1, isNew = true) {
+    const it = examples.course[number];
+    if (it) load(it.mode, it.name, {shown, course: number}, isNew);
+  }
+
+  async function openFile(file) {
+    const {mode, text, note, offer = null} = await readFile(file);
+    if (mode) open(mode, {text, file: file.name, note});
+    else open(state.mode, {file: file.name, refusal: note, offer});
+  }
+
+  // What the address may ask for.
+  const has = {
+    goal: name => GOALS.some(it => it.name === name),
+    step: number => examples.course[number] !== undefined,
+    example: ({mode, name}) => examples[mode].includes(name),
+    isOfStep: (number, {mode, name}) => mode === examples.course[number]?.mode && name === examples.course[number].name,
+  };
+
+  // Shows what the address asks for.
+  function follow() {
+    address.drop();
+    const {fields, step, isAtStart, named, mode, text, note} = askedBy(location.hash, has);
+    const {shown, lesson = "", goal, course = null, waves, isWelcome, theme} = fields;
+    setTheme(theme);
+    Object.assign(state, {waves, goal, isWelcome});
+    if (step !== undefined) return openStep(step, isAtStart ? 1 : shown, false);
+    if (named) return load(named.mode, named.name, {shown, note, course, ...goal ? {goal} : {}}, false);
+    if (text !== undefined) return open(mode, {text, lesson, shown, note, course}, false);
+    return load("trace", examples.trace[0], {shown, note}, false);
+  }
+
+  document.adoptedStyleSheets = [paper];
+  return {
+    state, examples, views, change, render, open, load, openStep, openFile, follow, setTheme, hasLines,
+    get now() { return now; },
+    get whole() { return whole; },
+    get panes() { return panes; },
+    setPanes: all => panes = all,
+    leave: address.leave,
+    stop: reader.stop,
+  };
+}
