@@ -153,8 +153,8 @@ def examples():
     """The files of the examples, and the list of their names; of recorded calls those that are lessons. A script of examples/wrong names in the page
     the ring that plays it."""
     told, files, (list_, plays) = stories(), {}, lessons_and_plays()
-    names = {**{mode: [] for mode in MODES}, "lessons": list_, "course": course()}
-    taught = [(it["mode"], it["name"]) for it in names["lessons"]]
+    listed = {**{mode: [] for mode in MODES}, "lessons": list_, "course": course()}
+    taught = [(it["mode"], it["name"]) for it in listed["lessons"]]
     for mode, end in MODES.items():
         folder = os.path.join(EXAMPLES, "calls") if mode == "calls" else EXAMPLES
         for file in sorted(os.listdir(folder)):
@@ -163,17 +163,22 @@ def examples():
                 continue
             with open(os.path.join(folder, file), "rb") as data:
                 files[os.path.relpath(os.path.join(folder, file), TOP)] = data.read()
-            names[mode].append(name)
+            listed[mode].append(name)
             if (mode, name) not in taught:
-                names["lessons"].append(lesson(told, "More", mode, name))
+                listed["lessons"].append(lesson(told, "More", mode, name))
         if mode == "script":
-            names[mode] += [*wrong_scripts(files), *plays]
+            listed[mode] += [*wrong_scripts(files), *plays]
             files.update({f"examples/{name}.json": script.encode() for name, script in plays.items()})
-        names[mode].sort(key=lambda name: (name not in FIRST[:1], name not in FIRST, name))
+        listed[mode].sort(key=lambda name: (name not in FIRST[:1], name not in FIRST, name))
     for mode, name in taught:
-        if name not in names[mode]:
+        if name not in listed[mode]:
             sys.exit(f"page/lessons.txt: {mode} {name}: examples/ has none, or the page leaves it out")
-    return {"examples.json": (json.dumps(names, indent=1) + "\n").encode(), **files}
+    return {"examples.json": (json.dumps(listed, indent=1) + "\n").encode(), **files}
+
+
+def names(mode):
+    """The names of the examples of a mode."""
+    return json.loads(examples()["examples.json"])[mode]
 
 
 def wrong_scripts(files):

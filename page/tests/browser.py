@@ -148,6 +148,11 @@ class Browser:
     def log(self, kind):
         return self.driver.get_log(kind)
 
+    def resize(self, wide, high, scale):
+        if wide is None:
+            return self.devtools("Emulation.clearDeviceMetricsOverride", {})
+        return self.devtools("Emulation.setDeviceMetricsOverride", {"width": wide, "height": high, "deviceScaleFactor": scale, "mobile": False})
+
     def devtools(self, command, params):
         return self.driver.execute_cdp_cmd(command, params)
 

@@ -5,7 +5,6 @@ import random
 import re
 import time
 
-import pack
 from browser import EXAMPLES, example
 
 WRONG = sorted(name.removesuffix(".json") for name in os.listdir(os.path.join(EXAMPLES, "wrong")) if name.endswith(".json"))

@@ -12,8 +12,8 @@ BLOCK = "P write s0 0\nC read s0\nC got s0 1\nP wrote s0\n"
 
 
 def resize(page, wide=None, high=None, scale=1):
-    metrics = {"width": wide or 0, "height": high or 0, "deviceScaleFactor": scale if wide else 0, "mobile": False}
-    page.browser.devtools("Emulation.setDeviceMetricsOverride" if wide else "Emulation.clearDeviceMetricsOverride", metrics if wide else {})
+    """Gives the page a size, as on another screen, and without one its own again."""
+    page.browser.resize(wide, high, scale)
 
 
 def media(page, kind="", **features):
