@@ -35,6 +35,11 @@ def same(what, got, want):
         print(f"{what}: got {got!r}, want {want!r}")
 
 
+def slack():
+    """How many times longer something may take: on a machine with other work, three times."""
+    return 3 if os.getloadavg()[0] > os.cpu_count() * 0.75 else 1
+
+
 def text_of(path):
     with open(path, encoding="utf-8", newline="") as file:
         return file.read()

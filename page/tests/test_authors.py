@@ -6,12 +6,12 @@ import subprocess
 import time
 import urllib.parse
 
-from browser import PAGE, TOP, Page
+from browser import PAGE, TOP, Page, slack
 from test_calls import flags, give, order, recordings, told
 from test_use import seen, words
 
 PROGRAM = os.path.join(TOP, "dist", "lamport_ring")
-STEPPED = 100  # milliseconds that a step of a million lines may take, the best of some, and a leap twice that, on a machine with other work
+STEPPED, OPENED = 60, 1  # milliseconds that a step of a million lines may take, the best of some, and a leap twice that; seconds to open them (slack)
 STEP_KEYS = ("ArrowLeft", "ArrowRight", "n", "b")
 MOST_MB = 300  # of memory of the tab's own
 
@@ -393,7 +393,8 @@ def test_sizes_of_recordings(page, same, folder):
                 until_words(page, "shrunk", "fault: line")
             used = megabytes(page)
             print(f"{lines} lines, {kind}: opened in {opened:.1f} s; a step {max(took[key] for key in STEP_KEYS):.0f} ms, a leap {max(took.values()):.0f} ms; {used} MB")
-            same(f"{lines} lines, {kind}: steps", {key: it for key, it in took.items() if it > STEPPED * (1 if key in STEP_KEYS else 2)}, {})
+            same(f"{lines} lines, {kind}: opened", opened < OPENED * slack(), True)
+            same(f"{lines} lines, {kind}: steps", {key: it for key, it in took.items() if it > slack() * STEPPED * (1 if key in STEP_KEYS else 2)}, {})
             same(f"{lines} lines, {kind}: memory", used < MOST_MB, True)
     page.open("calls=plain")
     page.browser.run("document.activeElement.blur()")

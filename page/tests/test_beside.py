@@ -3,6 +3,7 @@ import os
 import time
 import urllib.parse
 
+from browser import slack
 from test_authors import LOST, MOST_MB, STEPPED, STEPS, STEP_KEYS, audited, lossy, megabytes, place, press, shown, until_words
 from test_calls import flags, give
 from test_sizes import KEPT_NAMES, PHONE, printed
@@ -121,7 +122,7 @@ def test_million_beside(page, same, folder):
         runs = [page.browser.wait(STEPS) for _ in range(5)]
         took, used = {key: min(run[key] for run in runs) for key in runs[0]}, megabytes(page)
         print(f"a million lines {what}: a step {max(took[key] for key in STEP_KEYS):.0f} ms, a leap {max(took.values()):.0f} ms; {used} MB")
-        same(f"a million lines {what}: steps", {key: it for key, it in took.items() if it > STEPPED * (1 if key in STEP_KEYS else 2)}, {})
+        same(f"a million lines {what}: steps", {key: it for key, it in took.items() if it > slack() * STEPPED * (1 if key in STEP_KEYS else 2)}, {})
         same(f"a million lines {what}: memory", used < MOST_MB, True)
         if what == "kept":
             page.click("swap")

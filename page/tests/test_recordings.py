@@ -3,6 +3,7 @@ earlier text is left. Each takes the page, a `same` that compares and a folder."
 import os
 import time
 
+from browser import slack
 from test_authors import lossy
 from test_use import resize, seen, words
 
@@ -23,7 +24,7 @@ turn();"""
 OPENED = """const [bits, note] = ["bits", "note"].map(id => document.getElementById(id).textContent);
 return note.startsWith(arguments[0]) && bits === arguments[1] && document.getElementById("stop").hidden;"""
 LONGEST = "clearTimeout(globalThis.watching); return globalThis.longest"
-FROZEN = 200  # milliseconds without a turn, at most; three times as long on a machine that has other work
+FROZEN = 200  # milliseconds without a turn, at most (slack)
 
 
 def lawful(puts):
@@ -161,7 +162,7 @@ def test_long_texts(page, same, folder):
     """Nothing stands still for more than a moment: a recording of 50 MB, one of 4.2 million lines, and a script of 900,000 items are read by a worker, with
     words on it, and can be stopped."""
     page.open("calls=plain")
-    bound = FROZEN * (3 if os.getloadavg()[0] > 1.5 else 1)
+    bound = FROZEN * slack()
     big = "queue 64\n" + "".join(f"P put {10**18 + at}\nP stored\nC take\nC item {10**18 + at}\n" for at in range(740000))
     script = '{"capacity":1,"modulus":3,"width":1,"items":[' + ",".join("1" for _ in range(900000)) + '],"takes":1,"close":false,"schedule":"P8C10","oracle":""}'
     for name, text, verdict in (("fifty.calls", big, "calls: lawful"), ("lines.calls", lawful(1050000), "calls: lawful"), ("items.json", script, "refused: script has too many items")):
