@@ -23,7 +23,7 @@ FIRST = ["new_old_inversion", "plain_path", "plain"]  # what the page begins wit
 LEFT_OUT = {  # scripts of more events or letters than a picture is for; an item that JavaScript has no number for
     "a_million_idle_letters", "a_million_letters_full", "items_999", "largest_shape"}
 STYLES = ["page", "large", "small", "print"]
-MAIN, WORKER = "main.js", "worker.js"  # the scripts that begin: of the page, and of the worker of the page's own
+MAIN, WORKER, LAB = "main.js", "worker.js", "lab/explorer.js"  # the scripts that begin: of the page, of the worker of the page's own, and of page/lab
 IMPORTED = re.compile(r'^import \{ ?([^}]*?) ?\} from "([^"]+)";\n', flags=re.M)
 EXPORTED = re.compile(r"^export ((?:async )?function\*? |const |class )([\w$]+)", flags=re.M)
 MODES = {"trace": ".trace", "script": ".json", "calls": ".calls"}  # what a text may be, and the ends of the names of its files
@@ -245,8 +245,8 @@ def joined(name):
 
 
 def unused():
-    """The scripts that neither the page nor its worker imports."""
-    used = {*scripts_of(MAIN), *scripts_of(WORKER)}
+    """The scripts that neither the page nor its worker nor page/lab imports."""
+    used = {*scripts_of(MAIN), *scripts_of(WORKER), *scripts_of(LAB)}
     there = {os.path.relpath(os.path.join(folder, it), SOURCES) for folder, _, files in os.walk(SOURCES) for it in files if it.endswith(".js") and not folder.startswith(MADE)}
     return sorted(there - used)
 

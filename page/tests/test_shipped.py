@@ -45,7 +45,7 @@ def test_one_file(served, same, _):
 
 
 MOST_LINES, MOST_LETTERS, MOST_SIZE = 300, 140, 480_000
-LAYERS = ["core", "text", "draw", "model", "panes", "."]  # of page/src: a folder imports from those before it, and from itself
+LAYERS = ["lab", "core", "text", "draw", "model", "panes", "."]  # of page/src: a folder imports from those before it, and from itself
 
 
 def layer(path):

@@ -1,0 +1,16 @@
+// Numbered values in a regular register
+// after: Vitányi and Awerbuch, Atomic Shared Register Access by Asynchronous Hardware (1986), in its simplest form
+// 3 writes, 3 reads: regular; not atomic in 5 steps
+({
+  values: 2,
+  registers: {t: {kind: "regular", first: [0, 0], domain: [[0, 0]]}},
+  memory: {W: {n: 0}},
+  *write(value, my) {
+    my.n = my.n + 1;
+    yield write("t", [my.n, value]);
+  },
+  *read() {
+    const [n, value] = yield read("t");
+    return value;
+  },
+})

@@ -1,0 +1,14 @@
+// Three values in unary, cleared upwards, of regular bits
+// after: Lamport, On Interprocess Communication, Part II (1986), construction 4, turned round
+// 3 writes, 2 reads: safe; not regular in 13 steps; not atomic in 9 steps
+({
+  values: 3,
+  registers: {b0: {kind: "regular", first: 1}, b1: {kind: "regular"}, b2: {kind: "regular"}},
+  *write(value) {
+    yield write(`b${value}`, 1);
+    for (let i = 0; i < value; i++) yield write(`b${i}`, 0);
+  },
+  *read() {
+    for (let i = 0; i < 3; i++) if ((yield read(`b${i}`)) === 1) return i;
+  },
+})
