@@ -138,6 +138,7 @@ def test_refused(page, same, folder):
         give(page, cases[name])
         page.browser.until(f"{name} is told", "return !document.getElementById('bits').textContent.includes('calls: lawful') || document.getElementById('note').textContent !== ''")
         time.sleep(0.2)
+        page.settle()
         return page.browser.run(told)
 
     bits, _, picture = open_file("large.trace")

@@ -1,15 +1,17 @@
-// The one-pass audit of a register's history, as far as a search needs it: which classes were missed so far. It is an audit apart from the proved one,
-// to which each history that is found is given. Its numbers are relative to the oldest write that a read under way may be of, so that
-// histories that go on alike are alike.
+// The one-pass audit of a register's history, as far as a search needs it: which classes were missed so far. It is an audit apart from the
+// proved one, to which each history that is found is given. Its numbers are relative to the oldest write that a read under way may be of,
+// so that histories that go on alike are alike.
 
 // The classes, from the weakest on; a class is a bit in what was missed.
 export const CLASSES = ["safe", "regular", "atomic by reader", "atomic"];
 const [SAFE, REGULAR, BY_READER, ATOMIC] = [1, 2, 4, 8];
 const FROM_SAFE = SAFE | REGULAR | BY_READER | ATOMIC, FROM_REGULAR = REGULAR | BY_READER | ATOMIC;
 
-// What is kept: the `values` of the writes since the oldest one that matters, whether one `isOpen`, the `floor` below which no read may be of a write,
-// and of each reader its own; of each reader the read under way, {before, low, ownLow}, or null; and the classes that were `missed`.
-export const begunAt = (first, readers) => ({values: [first], isOpen: 0, floor: 0, own: Array(readers).fill(0), reads: Array(readers).fill(null), missed: 0});
+// What is kept: the `values` of the writes since the oldest one that matters, whether one `isOpen`, the `floor` below which no read may be
+// of a write, and of each reader its own; of each reader the read under way, {before, low, ownLow}, or null; and the classes that were
+// `missed`.
+export const begunAt = (first, readers) =>
+  ({values: [first], isOpen: 0, floor: 0, own: Array(readers).fill(0), reads: Array(readers).fill(null), missed: 0});
 
 const ended = ({values, isOpen}) => values.length - 1 - isOpen;
 

@@ -1,6 +1,6 @@
-// The explorer: a construction of a register under every interleaving and every answer of an overlapped read, up to a bound on its operations. The search
-// is breadth first over states, so the first history that is found for a class is a shortest one. It is tested and not proved: what it finds is
-// given to the proved audit, and what it does not find is a bound.
+// The explorer: a construction of a register under every interleaving and every answer of an overlapped read, up to a bound on its
+// operations. The search is breadth first over states, so the first history that is found for a class is a shortest one. It is tested and
+// not proved: what it finds is given to the proved audit, and what it does not find is a bound.
 
 import { CLASSES, begunAt, readBegins, readEnds, without, writeBegins, writeEnds } from "./audit.js";
 import { Wrong, proceduresOf } from "./procedures.js";
@@ -11,8 +11,8 @@ export const BOUNDS = {writes: 2, reads: 2, states: 300000, milliseconds: 10000,
 const MOST_OPERATIONS = 1000; // of a side
 const LOOKED = 256; // states between two looks at the clock
 
-// The steps of a construction from a state: each {state, events}. An event is {side, does, value} of an operation, or {side, does, register, value} of an
-// access, with the values themselves; an access of an atomic register is one event.
+// The steps of a construction from a state: each {state, events}. An event is {side, does, value} of an operation, or {side, does,
+// register, value} of an access, with the values themselves; an access of an atomic register is one event.
 function stepsOf(procedures) {
   const {form, sides, registers, nodes, root, follow} = procedures;
   const withAt = (list, place, it) => list.map((old, i) => i === place ? it : old);
@@ -26,7 +26,10 @@ function stepsOf(procedures) {
     const {value, memory} = nodes[id], {left} = state.sides[side];
     const audit = side ? readEnds(state.audit, side - 1, value, form.values) : writeEnds(state.audit);
     const end = side ? ofOperation(side, "got", value) : ofOperation(side, "wrote");
-    return {state: {...state, sides: withAt(state.sides, side, {left: left - 1, node: -1, memory, answers: -1}), audit}, events: [...events, end]};
+    return {
+      state: {...state, sides: withAt(state.sides, side, {left: left - 1, node: -1, memory, answers: -1}), audit},
+      events: [...events, end]
+    };
   };
 
   // The access of a side has ended with this answer.
@@ -46,7 +49,10 @@ function stepsOf(procedures) {
     }
     if (code < 0) {
       const {held, writing} = state, isOverlapped = writing[register] >= 0;
-      const own = 1 << held[register], answers = !isOverlapped ? own : kind === "safe" ? allAnswers(register) : own | 1 << writing[register];
+      const own = 1 << held[register],
+            answers = !isOverlapped ? own
+        : kind === "safe"           ? allAnswers(register)
+                                    : own | 1 << writing[register];
       return {state: {...state, sides: withAt(state.sides, side, {...it, answers})}, events: [...events, ofAccess(side, "read", node, -1)]};
     }
     // Each read of it that is under way may now give something else.
@@ -56,12 +62,16 @@ function stepsOf(procedures) {
       if (!its || its.register !== register || its.code >= 0) return other;
       return {...other, answers: kind === "safe" ? allAnswers(register) : other.answers | 1 << code};
     });
-    return {state: {...state, writing: withAt(state.writing, register, code), sides: sidesNow}, events: [...events, ofAccess(side, "write", node, code)]};
+    return {
+      state: {...state, writing: withAt(state.writing, register, code), sides: sidesNow},
+      events: [...events, ofAccess(side, "write", node, code)]
+    };
   };
 
   // The first step of an operation, of a write with this value.
   const starts = (state, side, value) => {
-    const {left, memory} = state.sides[side], id = root(side, value, memory), audit = side ? readBegins(state.audit, side - 1) : writeBegins(state.audit, value);
+    const {left, memory} = state.sides[side], id = root(side, value, memory),
+                 audit = side ? readBegins(state.audit, side - 1) : writeBegins(state.audit, value);
     const events = [side ? ofOperation(side, "read") : ofOperation(side, "write", value)];
     const begun = {...state, audit, sides: withAt(state.sides, side, {left, node: id, memory: 0, answers: -1})};
     return nodes[id].isDone ? ends(begun, side, id, events) : begins(begun, side, events);
@@ -79,7 +89,8 @@ function stepsOf(procedures) {
       const after = {...state, held: withAt(state.held, register, code), writing: withAt(state.writing, register, -1)};
       return [goesOn(after, side, 0, [ofAccess(side, "wrote", node, code)])];
     }
-    return registers[register].plain.flatMap((_, answer) => answers >> answer & 1 ? [goesOn(state, side, answer, [ofAccess(side, "got", node, answer)])] : []);
+    return registers[register].plain.flatMap(
+      (_, answer) => answers >> answer & 1 ? [goesOn(state, side, answer, [ofAccess(side, "got", node, answer)])] : []);
   };
 }
 
@@ -109,19 +120,21 @@ function countPaths(steps) {
   return counts[0];
 }
 
-// Explores a construction, up to so many writes, and reads of each reader. The answer has the strongest class that no history missed (`best`, or null);
-// of each class that was missed a shortest history (`found`: how many `steps`, and its `events`); how many states there were, whether these are all (`isWhole`), and how many
-// histories. `tell` is called with how many states there are, from time to time.
+// Explores a construction, up to so many writes, and reads of each reader. The answer has the strongest class that no history missed
+// (`best`, or null); of each class that was missed a shortest history (`found`: how many `steps`, and its `events`); how many states there
+// were, whether these are all (`isWhole`), and how many histories. `tell` is called with how many states there are, from time to time.
 export function explored(construction, bounds = {}, tell = () => {}) {
   const {writes, reads, states: most, milliseconds, all} = {...BOUNDS, ...bounds}, began = performance.now();
-  for (const count of [writes, reads]) if (!(Number.isInteger(count) && count >= 0 && count <= MOST_OPERATIONS)) throw new Wrong("a bound is a whole number");
+  for (const count of [writes, reads])
+    if (!(Number.isInteger(count) && count >= 0 && count <= MOST_OPERATIONS)) throw new Wrong("a bound is a whole number");
   const procedures = proceduresOf(construction), {form, sides, registers, firstMemory} = procedures, stepsFrom = stepsOf(procedures);
   checkAlone(procedures);
   const first = {
     held: registers.map(it => it.first), writing: registers.map(() => -1), audit: begunAt(form.first, form.readers),
     sides: sides.map((_, side) => ({left: side ? reads : writes, node: -1, memory: firstMemory(side), answers: -1})),
   };
-  const ids = new Map(), texts = [], parents = [], taken = [], steps = []; // of each state: its text, from which it came, by which step; where its steps go
+  const ids = new Map(), texts = [], parents = [], taken = [],
+        steps = []; // of each state: its text, from which it came, by which step; where its steps go
   const found = CLASSES.map(() => null);
   let missed = 0; // the classes that have their history
 
@@ -178,7 +191,8 @@ export function explored(construction, bounds = {}, tell = () => {}) {
 
 // The recording of a history, as docs/FORMATS.md has it.
 export function recordingOf({first, values}, events) {
-  const word = it => Number.isInteger(it) && it >= 0 ? it : values; // what is no number of the format stands as the least number that is no value
+  const word = it =>
+    Number.isInteger(it) && it >= 0 ? it : values; // what is no number of the format stands as the least number that is no value
   const lines = events.filter(it => it.register === undefined).map(({side, does, value}) =>
     does === "got" ? `${side} got ${word(value)}` : does === "write" ? `${side} write ${value}` : `${side} ${does}`);
   return [`register ${first} ${values}`, ...lines, ""].join("\n");

@@ -15,6 +15,7 @@ const MOST_NODES = 60000; // of all trees
 
 // What a construction does that it may not.
 export class Wrong extends Error {}
+const DEPENDS = "a procedure keeps something outside of `my`, or draws by chance: what it does may depend on its answers and on `my` alone";
 
 const isObject = it => it !== null && typeof it === "object" && !Array.isArray(it);
 const isCount = (it, least, most) => Number.isInteger(it) && it >= least && it <= most;
@@ -50,8 +51,8 @@ function registerOf(name, it, sides) {
   return {name, kind, writer, plain, code, first: code(first)};
 }
 
-// The procedures of a construction, and its registers. A node of a tree is {isDone, value, memory}, at the end of an operation, or {register, code},
-// the access that is due: `code` is that of the value that is written, or -1 for a read.
+// The procedures of a construction, and its registers. A node of a tree is {isDone, value, memory}, at the end of an operation,
+// or {register, code}, the access that is due: `code` is that of the value that is written, or -1 for a read.
 export function proceduresOf(construction) {
   const form = formOf(construction), sides = ["W", ...Array.from({length: form.readers}, (_, i) => `R${i + 1}`)];
   const registers = Object.entries(form.registers).map(([name, it]) => registerOf(name, it, sides));
@@ -67,10 +68,11 @@ export function proceduresOf(construction) {
   // One operation up to where it stands after these answers.
   const replay = (side, value, memory, answers) => {
     const my = JSON.parse(memories[memory]), run = side ? form.read(my, side) : form.write(value, my);
-    if (typeof run?.next !== "function") throw new Wrong(`${side ? "read" : "write"} is no generator: *${side ? "read" : "write"}(..) {..}`);
+    if (typeof run?.next !== "function")
+      throw new Wrong(`${side ? "read" : "write"} is no generator: *${side ? "read" : "write"}(..) {..}`);
     let step = run.next();
     for (const answer of answers) {
-      if (step.done) throw new Wrong("the procedure depends on more than its answers");
+      if (step.done) throw new Wrong(DEPENDS);
       step = run.next(answer);
     }
     return {my, step};
@@ -87,8 +89,7 @@ export function proceduresOf(construction) {
   // Each step is taken twice, since what a procedure does may depend on its answers and on `my` alone.
   const node = (side, value, memory, answers) => {
     const {my, step} = replay(side, value, memory, answers), again = replay(side, value, memory, answers);
-    if (JSON.stringify([my, step]) !== JSON.stringify([again.my, again.step]))
-      throw new Wrong("a procedure keeps something outside of `my`, or draws by chance: what it does may depend on its answers and on `my` alone");
+    if (JSON.stringify([my, step]) !== JSON.stringify([again.my, again.step])) throw new Wrong(DEPENDS);
     if (nodes.length === MOST_NODES) throw new Wrong("the procedures have too many ways to go");
     if (step.done) return nodes.push({isDone: true, value: step.value, memory: remember(my)}) - 1;
     if (answers.length === MOST_ACCESSES) throw new Wrong(`an operation makes more than ${MOST_ACCESSES} accesses`);

@@ -1,7 +1,7 @@
-// The states of a search: what the registers hold, where each side stands, and what the audit keeps; and each as a short text, so that a million of them
-// have room. A state is {held, writing, sides, audit}: of each register the code of what it holds, and of what is being written to it, or -1; of
-// each side {left, node, memory, answers}: how many operations it still makes, the access that is under way or due, or -1, what it remembers, and if an
-// access is under way the answers that it may have, a bit each, else -1.
+// The states of a search: what the registers hold, where each side stands, and what the audit keeps; and each as a short text, so that a
+// million of them have room. A state is {held, writing, sides, audit}: of each register the code of what it holds, and of what is being
+// written to it, or -1; of each side {left, node, memory, answers}: how many operations it still makes, the access that is under way or
+// due, or -1, what it remembers, and if an access is under way the answers that it may have, a bit each, else -1.
 
 const HALF = 15, LOW = (1 << HALF) - 1; // bits of a number that is told in two letters
 

@@ -80,7 +80,8 @@ export function scriptView(module) {
                 : "";
       const programs = script.wrong ? module.audit(traceOf(it.shape, it.events)).programs : null,
         found = callsFound(module, whole, it.events.length);
-      const follows = programs && !programs.isRun ? `letter ${whole.numbers[programs.place]} is not of the program` : "follows the programs";
+      const follows =
+        programs && !programs.isRun ? `letter ${whole.numbers[programs.place]} is not of the program` : "follows the programs";
       const ring = {words: `bits: lawful, ring: ${follows}`, mood: programs && !programs.isRun ? "dim" : "good"};
       return {
         ...it,
