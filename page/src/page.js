@@ -29,8 +29,9 @@ export function pageOf({examples, views, asker}) {
 
   const reader = readerOf({asker, views, tell(found) {
     whole = found;
+    if (found.pending) return panes.verdict.tell(found.pending);
     render();
-    if (!found.pending && hasLines()) panes.editor.scrollToMarked(state.shown);
+    if (hasLines()) panes.editor.scrollToMarked(state.shown);
   }});
 
   // Writes fields of the state, and shows what follows.

@@ -27,10 +27,12 @@ TITLE = "Histories of safe bits"  # until the page has read its first text
 KEYS = {"left": "\ue012", "right": "\ue014", "up": "\ue013", "down": "\ue015", "escape": "\ue00c", "enter": "\ue007", "home": "\ue011", "end": "\ue010", "tab": "\ue004", "shift": "\ue008", "ctrl": "\ue009",
         "pageup": "\ue00e", "pagedown": "\ue00f"}
 counts = {"passed": 0, "failed": 0}
+COUNTING = threading.Lock()
 
 
 def same(what, got, want):
-    counts["passed" if got == want else "failed"] += 1
+    with COUNTING:
+        counts["passed" if got == want else "failed"] += 1
     if got != want:
         print(f"{what}: got {got!r}, want {want!r}")
 

@@ -72,6 +72,14 @@ export async function openModule(bytes) {
 
   const setBytes = (place, bytes) => new Uint8Array(exports.memory.buffer, place, bytes.length).set(bytes);
   const setNumbers = (place, numbers) => new BigUint64Array(exports.memory.buffer, place, numbers.length).set(numbers.map(BigInt));
+  // Whole numbers of JavaScript, by their halves, as there may be a million.
+  const setSafeNumbers = (place, numbers) => {
+    const halves = new Uint32Array(exports.memory.buffer, place, 2 * numbers.length);
+    for (let i = 0; i < numbers.length; i++) {
+      halves[2 * i] = numbers[i] % 2 ** 32;
+      halves[2 * i + 1] = numbers[i] / 2 ** 32;
+    }
+  };
   const getNumbers = (place, count) => [...new BigUint64Array(exports.memory.buffer, place, count)].map(Number);
   const getEvents = (place, count) => {
     const marks = new Uint8Array(exports.memory.buffer, place, count * MARK);
@@ -129,7 +137,7 @@ export async function openModule(bytes) {
     const schedule = new TextEncoder().encode(texts.schedule), oracle = new TextEncoder().encode(texts.oracle);
     const [asked, itemsAt, scheduleAt, oracleAt, ...places] = lay([8 * 8, items.length * 8, schedule.length, oracle.length, ...lengths]);
     setNumbers(asked, [capacity, modulus, width, batch, take_batch, takes, close ? 1 : 0, letters]);
-    setNumbers(itemsAt, items);
+    setSafeNumbers(itemsAt, items);
     setBytes(scheduleAt, schedule);
     setBytes(oracleAt, oracle);
     return [[asked, itemsAt, items.length, scheduleAt, schedule.length, oracleAt, oracle.length], places];

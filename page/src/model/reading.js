@@ -14,8 +14,10 @@ export function readerOf({asker, views, tell}) {
     clearInterval(timer);
     under = null;
   };
-  const pendingOf = (text, began) =>
-    ({pending: `auditing ${text.length.toLocaleString("en")} characters .. ${((performance.now() - began) / 1000).toFixed(1)} s`});
+  const pendingOf = (text, began) => {
+    const millions = (text.length / 1e6).toFixed(1), seconds = ((performance.now() - began) / 1000).toFixed(1);
+    return {pending: `auditing ${millions} million characters .. ${seconds} s`};
+  };
 
   const readLater = (mode, text) => {
     const began = performance.now(), mine = under = {mode, text};

@@ -9,6 +9,7 @@ import { stripIn } from "../draw/strip.js";
 import { rowsAtLine } from "../model/items_in_recording.js";
 import { reportRows } from "../text/recorded_lines.js";
 
+const MANY_LINES = 500000; // from which on the strip of a recording takes its time
 const REST = 200; // milliseconds after the last step or edit, before the worker is asked
 
 const buttonOf = (label, does) => Object.assign(node("button", label), {type: "button", onclick: does});
@@ -52,7 +53,7 @@ function shrinkingOf({asker, open}) {
 // The pane, over an asker (asker.js). `acts` has `stepToLine`, `open`, and `fillReport`. The answer has the `keys` of recorded calls.
 export function authorPane(acts, asker) {
   const strip = stripIn($("strip"), acts.stepToLine), finder = finderOf(acts.stepToLine), shrinking = shrinkingOf({asker, open: acts.open});
-  let text = null, explained = null, at = 0, resting = 0; // what is shown; whose habits were asked for; the cursor
+  let text = null, explained = null, at = 0, resting = 0, inStrip = null; // what is shown; whose habits were asked for; the cursor
 
   // What a step needs of the worker, once no other follows.
   const ask = (whole, it, line, until) => {
@@ -77,7 +78,10 @@ export function authorPane(acts, asker) {
       at = line;
       if (!isShown) return;
       const {lines} = whole, until = Math.min(line, whole.line ? whole.line - 1 : lines.count);
-      strip.show({text, lines, line, fault: whole.line, against: whole.against});
+      const show = () => strip.show({text, lines, line, fault: whole.line, against: whole.against});
+      if (lines.count > MANY_LINES && inStrip !== lines) setTimeout(() => inStrip === lines && show()); // a turn of its own
+      else show();
+      inStrip = lines;
       $("shrink").hidden = !whole.line;
       shrinking.of(text, example || "recording");
       showContents(rowsAtLine(text, lines, until));

@@ -5,6 +5,7 @@ import { $, node } from "../core/dom.js";
 import { MODES } from "../core/state.js";
 
 const SEEN_LINES = 400, MOST_SEEN = 40000; // lines that are seen of a text that is too long, and characters at most
+const MOST_BEGUN = 2000; // characters that are seen of it before its lines are known
 const EDGE = 50; // lines at their ends, from which on others are put in
 const MOST_INSERTED = 2000; // characters that the browser inserts by itself, which takes it long
 
@@ -23,7 +24,7 @@ export function editorPane(acts) {
     shownText = text;
     noteOfLines = "";
     field.readOnly = long !== null;
-    const seen = long ? text.slice(0, MOST_SEEN) : text;
+    const seen = long ? text.slice(0, MOST_BEGUN) : text;
     if (field.value !== seen) field.value = seen;
   };
 

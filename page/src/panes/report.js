@@ -37,6 +37,7 @@ export function reportPane(acts) {
 
   // Marks the replies that have come by the first `shown` letters.
   const mark = (moments, shown) => {
+    if (!moments.length) return; // (where the list stands is asked for only then, as that has the whole page laid out)
     const buttons = [...$("moments").querySelectorAll("button")],
       last = moments.slice(0, MOST_MOMENTS).findLastIndex(it => it.letter <= shown);
     buttons.forEach((it, i) => it.classList.toggle("later", i > last));
