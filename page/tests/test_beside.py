@@ -126,6 +126,7 @@ def test_million_beside(page, same, folder):
         same(f"a million lines {what}: memory", used < MOST_MB, True)
         if what == "kept":
             page.click("swap")
+            page.settle()
             same("they have changed places", [head(page, "upper")[0], head(page, "underhead")[0]], ["million.calls", "empty_while_inside"])
     page.open("calls=plain")
 

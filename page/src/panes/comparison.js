@@ -58,6 +58,7 @@ export function comparisonPane(acts) {
       document.body.classList.toggle("beside", isOn());
       if (!isOn()) return;
       $("swap").disabled = now.isRefused;
+      if (now.it.pending) return $("upper").firstElementChild.replaceChildren(node("strong", nameOf(state)), node("span", "auditing"));
       fillHead($("upper").firstElementChild, now.whole, nameOf(state),
         state.text === second.text ? "the kept one itself: open, paste, shrink or edit another" : "");
     },
