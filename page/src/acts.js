@@ -11,7 +11,7 @@ import { withFields } from "./text/script.js";
 function stepsOf(page) {
   const {state, examples} = page;
 
-  // Shows so many events; a step leaves the first screen.
+  // Shows the first `shown` events; a step leaves the first screen.
   function stepTo(shown) {
     page.change({shown: Math.max(0, Math.min(shown, page.now.most)), isWelcome: false}, true);
     if (page.hasLines()) page.panes.editor.scrollToLine(state.shown + 1);
@@ -36,7 +36,7 @@ function stepsOf(page) {
       if (to < 1) return page.openStep(state.course - 1, Infinity);
       stepTo(to);
     },
-    // Steps to the begin of a bar, by its line, and selects that.
+    // Steps to the beginning of a bar, by its line, and selects that line.
     stepToBar(line) {
       if (!line) return;
       $("text").blur(); // so that the keys go on stepping

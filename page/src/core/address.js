@@ -7,7 +7,7 @@ import { MODES, WAVES } from "./state.js";
 
 export const MOST_LINKED = 200000; // characters of a text that a link has
 
-// What a link has for a text of each kind: for an example, and for a text that is none.
+// What a link has for a text of each kind: for an example, and for any other text.
 export const LINKS = {
   trace: {named: "example", given: "trace"},
   script: {named: "script", given: "play"},
@@ -15,7 +15,7 @@ export const LINKS = {
 };
 const KNOWN = ["example", "script", "calls", "trace", "play", "recording", "kept", "lesson", "course", "goal", "shown", "theme", "bits"];
 
-// The link to this state, which shows so many events; a text that `opens` there has no number.
+// The link to this state, which shows `shown` events; it has no number if that is where the text `opens`.
 export function linkTo(state, shown, opens) {
   const parts = new URLSearchParams(), {mode, text, example} = state, {named, given} = LINKS[mode];
   if (example) parts.set(named, example);
