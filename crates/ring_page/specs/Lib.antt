@@ -6,3 +6,4 @@ pub mod Play
 pub mod NearPlay
 pub mod Order
 pub mod Calls
+pub mod Registers

@@ -1,6 +1,7 @@
 // The calls of the proved module ring_page.wasm. A text or a script goes in as bytes; what the module says comes out as
 // objects with names and words. Nothing is decided here.
 
+import { REGISTER_NUMBERS, registerFinding } from "./register_words.js";
 import { EVENTS, KINDS, MISSES, WHYS, WORDS, eventAt, programsOf, scriptFault, traceFault } from "./words.js";
 
 const MARK = 9; // bytes of a mark
@@ -14,19 +15,21 @@ const MOST_TAKEN = 65536; // items taken that the audit of recorded calls keeps
 const MOST_OFFERED = 65536; // items inside that it has room for, before more is tried
 const NO_ROOM = 3; // its word for a text that needs more
 const BEGINNING = 3; // so many of the first of them begin a call
-// How many spaces there are in a text, in one line at most, and how many bytes behind its last line feed: of numbers in recorded calls
-// there are no more.
+// How many spaces there are in a text, in one line at most, and how many bytes after its last line feed: of numbers in recorded calls
+// there are no more. (By an index, as there may be tens of millions of bytes; `for .. of` takes several times as long.)
 function spacesIn(bytes) {
+  const {length} = bytes;
   let all = 0, most = 0, here = 0;
-  for (const byte of bytes) {
+  for (let i = 0; i < length; i++) {
+    const byte = bytes[i];
     if (byte === 32) here++;
-    if (byte === 10) {
+    else if (byte === 10) {
       all += here;
-      most = Math.max(most, here);
+      if (here > most) most = here;
       here = 0;
     }
   }
-  return [all + here, Math.max(most, here), bytes.length - 1 - bytes.lastIndexOf(10)];
+  return [all + here, Math.max(most, here), length - 1 - bytes.lastIndexOf(10)];
 }
 
 // What a call of the module returns, or that it stopped.
@@ -39,7 +42,7 @@ export function orStopped(call) {
   }
 }
 
-// Compiles the module. The answer has `audit`, `moments`, `play`, `playNear`, `calls` and `order`.
+// Compiles the module. The answer has `audit`, `moments`, `play`, `playNear`, `calls`, `order` and `register`.
 export async function openModule(bytes) {
   const compiled = await WebAssembly.compile(bytes);
   let exports = (await WebAssembly.instantiate(compiled)).exports;
@@ -247,5 +250,14 @@ export async function openModule(bytes) {
     return getNumbers(count, 1)[0];
   };
 
-  return {audit, moments, order, play, playNear, calls};
+  // What is found of a recorded register (register_words.js): with a slot for each of its writes, and one more.
+  const register = text => {
+    const bytes = new TextEncoder().encode(text), slots = (text.match(/^W write/gm)?.length ?? 0) + 1;
+    const [told, window, places, at] = lay([REGISTER_NUMBERS * 8, slots * 8, slots * 8, bytes.length]);
+    setBytes(at, bytes);
+    call("page_register", at, bytes.length, window, slots, places, slots, told);
+    return registerFinding(new BigUint64Array(exports.memory.buffer, told, REGISTER_NUMBERS));
+  };
+
+  return {audit, moments, order, play, playNear, calls, register};
 }
