@@ -23,10 +23,17 @@ FIRST = ["new_old_inversion", "plain_path", "plain"]  # what the page begins wit
 LEFT_OUT = {  # scripts of more events or letters than a picture is for; an item that JavaScript has no number for
     "a_million_idle_letters", "a_million_letters_full", "items_999", "largest_shape"}
 STYLES = ["page", "large", "small", "print"]
-MAIN, WORKER, LAB = "main.js", "worker.js", "lab/explorer.js"  # the scripts that begin: of the page, of the worker of the page's own, and of page/lab
+MAIN = "main.js"  # the script that begins the page
+WORKERS = {"worker_script.js": "worker.js", "lab_script.js": "lab_worker.js"}  # the texts of its workers, and the scripts that begin them
 IMPORTED = re.compile(r'^import \{ ?([^}]*?) ?\} from "([^"]+)";\n', flags=re.M)
 EXPORTED = re.compile(r"^export ((?:async )?function\*? |const |class )([\w$]+)", flags=re.M)
-MODES = {"trace": ".trace", "script": ".json", "calls": ".calls"}  # what a text may be, and the ends of the names of its files
+# What a text may be, and the ends of the names of its files.
+MODES = {"trace": ".trace", "script": ".json", "calls": ".calls", "register": ".reg", "lab": ".js"}
+FOLDERS = {"trace": EXAMPLES, "script": EXAMPLES, "calls": os.path.join(EXAMPLES, "calls"), "register": os.path.join(EXAMPLES, "registers"),
+           "lab": os.path.join(PAGE, "constructions")}
+TAUGHT = ["calls", "register"]  # of these the page has those that are lessons
+BOUND = re.compile(r"^(// \d+ writes?, \d+ reads?): .*$", flags=re.M)  # the line of a construction that names its bound, and what is found within
+UNTAUGHT = "Constructions"  # the chapter of the constructions that no lesson names
 # What begins each line of a lesson in lessons.txt: `play` is the link of a script that plays its story; a challenge has its goal, a hint and its own story.
 PARTS = {"=": "title", ">": "play", "?": "question", "!": "answer", "@": "goal", "~": "hint", ".": "story"}
 MADE_OF = re.compile(rb'<meta name="made-of" content="([^"]*)">')
@@ -72,13 +79,24 @@ def stories():
     """What examples/README.md tells of each example, without its drawings, since the picture stands there: of (mode, name) the paragraphs."""
     with open(os.path.join(EXAMPLES, "README.md"), encoding="utf-8") as file:
         text = file.read()
-    at = text.index("\n## Calls\n")
-    runs, calls = paragraphs(text[text.index("\n## Scripts\n"):at]), paragraphs(text[at:])
+    at, past = text.index("\n## Calls\n"), text.index("\n## Registers\n")
+    runs, calls, registers = paragraphs(text[text.index("\n## Scripts\n"):at]), paragraphs(text[at:past]), paragraphs(text[past:])
     # of lawful calls their line in the table tells what they are
-    for name, words in re.findall(r"^\| `(\w+)` \| lawful: (.*) \|$", text[at:], flags=re.M):
+    for name, words in re.findall(r"^\| `(\w+)` \| lawful: (.*) \|$", text[at:past], flags=re.M):
         calls[name] = [words[0].upper() + words[1:] + ".", *calls.get(name, [])]
     wrong = {("script", name.removeprefix("wrong/")): runs.pop(name) for name in [*runs] if name.startswith("wrong/")}
-    return {**{(mode, name): it for name, it in runs.items() for mode in ("trace", "script")}, **wrong, **{("calls", name): it for name, it in calls.items()}}
+    others = {("calls", name): it for name, it in calls.items()} | {("register", name): it for name, it in registers.items()}
+    return {**{(mode, name): it for name, it in runs.items() for mode in ("trace", "script")}, **wrong, **others}
+
+
+def heads():
+    """Of the constructions, by their names, what the comments at their heads say, but for what is found."""
+    lines = {name: re.match(r"(?://.*\n)*", read(f"constructions/{name}.js").decode())[0].splitlines() for name in constructions()}
+    return {name: [line.removeprefix("// ") for line in all_ if not BOUND.match(line)] for name, all_ in lines.items()}
+
+
+def constructions():
+    return sorted(it.removesuffix(".js") for it in os.listdir(FOLDERS["lab"]) if it.endswith(".js"))
 
 
 def paragraphs(text):
@@ -127,12 +145,16 @@ def lessons_and_plays():
             list_[-1][PARTS[kind]] = words
         elif line.strip():
             sys.exit(f"page/lessons.txt: a line begins with none of {', '.join(['#', *MODES, 'play', *PARTS])}: {line}")
+    # a construction without a story of its own has what its head says
+    for it in list_:
+        if it["mode"] == "lab" and not it["story"] and it["name"] in constructions():
+            it["story"] = heads()[it["name"]]
     return list_, plays
 
 
 def course():
     """The steps of docs/COURSE.md, in order: their minutes, the lesson, what to say, and if it is the law or the commands, the board that shows it."""
-    steps, modes = [], {"example": "trace", "script": "script", "calls": "calls"}
+    steps, modes = [], {"example": "trace", **{mode: mode for mode in MODES if mode != "trace"}}
     with open(os.path.join(TOP, "docs", "COURSE.md"), encoding="utf-8") as file:
         text = file.read()
     table = re.search(r"^\| Clause \|.*\n\|[-|]*\|\n((?:\|.*\n)*)", text, flags=re.M)[1]
@@ -141,7 +163,7 @@ def course():
     commands = [re.sub("^    ", "", it, flags=re.M).rstrip() for it in re.findall(r"(?:^    .*\n)+", before, flags=re.M)]
     boards = {"the law": {"title": "The law of the ring", "rows": plain}, "the commands": {"title": "Two threads, and a recording", "commands": commands}}
     for minutes, shown, say in re.findall(r"^\| (\d+–\d+) \| (.*?) \| (.*) \|$", text, flags=re.M):
-        it = re.fullmatch(r"`#(example|script|calls)=(\w+)`(?:, (the law|the commands) below)?", shown)
+        it = re.fullmatch(r"`#(example|script|calls|register|lab)=(\w+)`(?:, (the law|the commands) below)?", shown)
         if not it:
             sys.exit(f"docs/COURSE.md: the step of {minutes} shows none of the page: {shown}")
         board = {"title": boards[it[3]]["title"], "board": boards[it[3]]} if it[3] else {}
@@ -150,22 +172,23 @@ def course():
 
 
 def examples():
-    """The files of the examples, and the list of their names; of recorded calls those that are lessons. A script of examples/wrong names in the page
-    the ring that plays it."""
+    """The files of the examples, and the list of their names; of recorded calls and registers those that are lessons. A script of examples/wrong names in
+    the page the ring that plays it; a construction does not say there what is found of it."""
     told, files, (list_, plays) = stories(), {}, lessons_and_plays()
     listed = {**{mode: [] for mode in MODES}, "lessons": list_, "course": course()}
     taught = [(it["mode"], it["name"]) for it in listed["lessons"]]
     for mode, end in MODES.items():
-        folder = os.path.join(EXAMPLES, "calls") if mode == "calls" else EXAMPLES
+        folder = FOLDERS[mode]
         for file in sorted(os.listdir(folder)):
             name = file.removesuffix(end)
-            if name == file or mode == "script" and name in LEFT_OUT or mode == "calls" and (mode, name) not in taught:
+            if name == file or mode == "script" and name in LEFT_OUT or mode in TAUGHT and (mode, name) not in taught:
                 continue
             with open(os.path.join(folder, file), "rb") as data:
-                files[os.path.relpath(os.path.join(folder, file), TOP)] = data.read()
+                text = data.read()
+            files[os.path.relpath(os.path.join(folder, file), TOP)] = BOUND.sub(r"\1", text.decode()).encode() if mode == "lab" else text
             listed[mode].append(name)
             if (mode, name) not in taught:
-                listed["lessons"].append(lesson(told, "More", mode, name))
+                listed["lessons"].append(untaught(told, mode, name))
         if mode == "script":
             listed[mode] += [*wrong_scripts(files), *plays]
             files.update({f"examples/{name}.json": script.encode() for name, script in plays.items()})
@@ -173,7 +196,15 @@ def examples():
     for mode, name in taught:
         if name not in listed[mode]:
             sys.exit(f"page/lessons.txt: {mode} {name}: examples/ has none, or the page leaves it out")
-    return {"examples.json": (json.dumps(listed, indent=1) + "\n").encode(), **files}
+    return {"examples.json": (json.dumps(listed, indent=0, ensure_ascii=False) + "\n").encode(), **files}
+
+
+def untaught(told, mode, name):
+    """The lesson of an example that page/lessons.txt does not name."""
+    if mode != "lab":
+        return lesson(told, "More", mode, name)
+    title, *story = heads()[name]
+    return {**lesson(told, UNTAUGHT, mode, name), "title": title, "story": story}
 
 
 def names(mode):
@@ -200,11 +231,16 @@ def lay_out():
     if not made:
         sys.exit("page/pack.py: there is no module: run page/build")
     shutil.rmtree(MADE, ignore_errors=True)
-    for name, data in {"ring_page.wasm": made[0], "ring_page.from": made[1].encode() + b"\n", "worker_script.js": joined(WORKER).encode(), **examples()}.items():
+    for name, data in {"ring_page.wasm": made[0], "ring_page.from": made[1].encode() + b"\n", **texts()}.items():
         os.makedirs(os.path.dirname(os.path.join(MADE, name)), exist_ok=True)
         with open(os.path.join(MADE, name), "wb") as file:
             file.write(data)
     return made
+
+
+def texts():
+    """The texts that the page has in itself: those of its workers, and of the examples."""
+    return {**{name: joined(main).encode() for name, main in WORKERS.items()}, **examples()}
 
 
 def imports_of(name, text):
@@ -245,16 +281,15 @@ def joined(name):
 
 
 def unused():
-    """The scripts that neither the page nor its worker nor page/lab imports."""
-    used = {*scripts_of(MAIN), *scripts_of(WORKER), *scripts_of(LAB)}
+    """The scripts that neither the page nor one of its workers imports."""
+    used = {it for main in (MAIN, *WORKERS.values()) for it in scripts_of(main)}
     there = {os.path.relpath(os.path.join(folder, it), SOURCES) for folder, _, files in os.walk(SOURCES) for it in files if it.endswith(".js") and not folder.startswith(MADE)}
     return sorted(there - used)
 
 
 def one_file(module, made_of):
     """The page with its style, its scripts in one, and its files; the policy allows these by their hashes and no others."""
-    files = {"worker_script.js": joined(WORKER).encode(), **examples()}
-    kept = f"globalThis.ringTexts = {json.dumps({name: it.decode() for name, it in sorted(files.items())}, indent=0)};\n"
+    kept = f"globalThis.ringTexts = {json.dumps({name: it.decode() for name, it in sorted(texts().items())}, indent=0)};\n"
     kept += f"globalThis.ringModule = {json.dumps(base64.b64encode(module).decode())};\n"
     script = joined(MAIN)
     style = "".join(read(f"src/{name}.css").decode() for name in STYLES)
@@ -284,7 +319,7 @@ def gaps():
     """What the lessons lack, a line each."""
     where = {"story": "examples/README.md", "question": "page/lessons.txt", "answer": "page/lessons.txt"}
     taught = json.loads(examples()["examples.json"])["lessons"]
-    return [f"{it['mode']} {it['name']} has no {part} in {file}" for it in taught for part, file in where.items() if not it[part]]
+    return [f"{it['mode']} {it['name']} has no {part} in {file}" for it in taught if it["chapter"] != UNTAUGHT for part, file in where.items() if not it[part]]
 
 
 def wrongs():

@@ -41,7 +41,7 @@ function stepsOf(page) {
       if (!line) return;
       $("text").blur(); // so that the keys go on stepping
       const place = Number(line) - 2;
-      stepTo(page.hasLines() ? place + 1 : page.whole.numbers[place]);
+      stepTo(state.mode === "script" ? page.whole.numbers[place] : place + 1);
       if (page.hasLines()) page.panes.editor.selectLine(Number(line), false);
     },
     selectBar: line => line && page.hasLines() && page.panes.editor.selectLine(Number(line), true),
@@ -102,7 +102,9 @@ export function actsOf(page) {
     open: page.open, openLesson: page.load, openStep: page.openStep, openFile: page.openFile, leave: page.leave, stop: page.stop,
     edit(text) {
       if (state.example) page.leave();
-      page.change({text, example: "", file: "", note: "", refusal: "", shown: Infinity});
+      const isTrusted = state.mode !== "lab" || state.isTrusted || state.example !== ""; // a text of a link stays one as it is edited
+      page.change({text, example: "", file: "", note: "", refusal: "", shown: Infinity, missed: "", isTrusted,
+        isFolded: state.isFolded && state.course !== null});
     },
     setMode(mode) {
       const left = state.left[mode];
@@ -115,6 +117,9 @@ export function actsOf(page) {
       else page.openStep(state.course, page.now.isAside ? Infinity : 1);
     },
     reveal: () => page.change({isFolded: false}),
+    setBound: bound => page.change({bound}),
+    run: () => page.change({isTrusted: true}),
+    choose: missed => page.change({missed, shown: Infinity}),
     setLarge: isLarge => page.change({isLarge}),
     setNotes: hasNotes => page.change({hasNotes}),
     setWaves: waves => page.change({waves}),
@@ -134,7 +139,7 @@ export function keysOf(page, acts) {
   const always = {
     ArrowLeft: () => acts.step(-1),
     ArrowRight: () => acts.step(1),
-    Home: () => acts.stepTo(page.state.mode === "calls" ? 1 : 0),
+    Home: () => acts.stepTo(["calls", "register"].includes(page.state.mode) ? 1 : 0),
     End: () => acts.stepTo(Infinity),
     PageUp: () => acts.click(-1),
     PageDown: () => acts.click(1),

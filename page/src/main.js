@@ -6,6 +6,7 @@ import { askerOf } from "./core/asker.js";
 import { $ } from "./core/dom.js";
 import { moduleBytes, textOf } from "./core/files.js";
 import { listenToKeys } from "./core/keys.js";
+import { labAskerOf } from "./core/lab_asker.js";
 import { openModule } from "./core/module.js";
 import { titled } from "./model/moment.js";
 import { viewsOf } from "./model/views.js";
@@ -15,6 +16,7 @@ import { comparisonPane } from "./panes/comparison.js";
 import { contentsPane } from "./panes/contents.js";
 import { editorPane } from "./panes/editor.js";
 import { gamePane } from "./panes/game.js";
+import { labPane } from "./panes/lab.js";
 import { lecturePane } from "./panes/lecture.js";
 import { lessonPane } from "./panes/lesson.js";
 import { picturePane } from "./panes/picture.js";
@@ -34,6 +36,7 @@ function panesOf(acts, {examples}, module, asker) {
     lecture: lecturePane(acts, examples, titled),
     lesson: lessonPane(acts, examples),
     game: gamePane(acts),
+    lab: labPane(acts),
     contents: contentsPane(),
     author: authorPane(acts, asker),
     refusal: refusalPane(acts, module),
@@ -57,8 +60,8 @@ function cannotRun(error) {
 
 async function opened() {
   const examples = JSON.parse(await textOf("examples.json")), bytes = await moduleBytes(), module = await openModule(bytes);
-  const asker = askerOf(await textOf("worker_script.js"), bytes);
-  const page = pageOf({examples, views: viewsOf(module), asker}), acts = actsOf(page);
+  const asker = askerOf(await textOf("worker_script.js"), bytes), labAsker = labAskerOf(await textOf("lab_script.js"));
+  const page = pageOf({examples, views: viewsOf(module), asker, module, labAsker}), acts = actsOf(page);
   page.setPanes(panesOf(acts, page, module, asker));
   listenToKeys(() => page.state.mode, keysOf(page, acts));
   return page;

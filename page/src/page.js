@@ -6,19 +6,24 @@ import { exampleText } from "./core/files.js";
 import { newState } from "./core/state.js";
 import { styleWithin } from "./draw/style.js";
 import { GOALS } from "./model/game.js";
+import { labReaderOf } from "./model/lab_reading.js";
 import { momentOf } from "./model/moment.js";
 import { readerOf } from "./model/reading.js";
 import { readFile } from "./text/files.js";
 import { laidOut } from "./text/script.js";
 
-const NO_TEXT = {text: "", example: "", file: "", course: null, note: "", refusal: "", offer: null, shown: Infinity};
+const NO_TEXT = {text: "", example: "", file: "", course: null, note: "", refusal: "", offer: null, shown: Infinity, missed: "",
+  bound: null, isTrusted: false, exercise: null};
+const READ = ["text", "mode", "refusal", "example", "bound", "isTrusted"]; // fields of the state on which depends what is found
 
-// The page over the examples, the kinds of text (model/views.js) and the worker. `setPanes` is called before anything is shown.
-export function pageOf({examples, views, asker}) {
+// The page over the examples, the kinds of text (model/views.js), the module, the worker and the lab's. `setPanes` is called before
+// anything is shown.
+export function pageOf({examples, views, asker, module, labAsker}) {
+  const trusted = new Set(); // texts of constructions that the reader ran, which Back and Forward run again
   const state = newState(), address = addressWriter(), paper = new CSSStyleSheet();
   let panes = {}, whole = {}, now = null; // what shows it; what the module says of the whole text; what is shown
   let loading = 0; // so that of several examples that are asked for at once the last is shown
-  const hasLines = () => state.mode !== "script";
+  const hasLines = () => state.mode !== "script" && state.mode !== "lab"; // of which a place is one
 
   // Shows all anew. `isStep` if it is another part of the same text.
   function render(isStep = false) {
@@ -33,14 +38,32 @@ export function pageOf({examples, views, asker}) {
     render();
     if (hasLines()) panes.editor.scrollToMarked(state.shown);
   }});
+  const labReader = labReaderOf({module, asker: labAsker, meanwhile: words => panes.verdict.tell(words), tell(found) {
+    whole = found;
+    render();
+  }});
+  const readWhole = () => {
+    if (state.refusal || state.mode !== "lab") labReader.stop();
+    if (state.refusal) return {refused: state.refusal, line: 0};
+    if (state.mode !== "lab") return reader.read(state.mode, state.text);
+    reader.end();
+    if (state.isTrusted) trusted.add(state.text);
+    return labReader.read(state);
+  };
 
   // Writes fields of the state, and shows what follows.
   function change(fields, isStep = false) {
-    const read = ["text", "mode", "refusal"], before = read.map(name => state[name]);
+    const before = READ.map(name => state[name]);
     Object.assign(state, fields);
-    if (read.some((name, i) => state[name] !== before[i]))
-      whole = state.refusal ? {refused: state.refusal, line: 0} : reader.read(state.mode, state.text);
+    if (READ.some((name, i) => state[name] !== before[i])) whole = readWhole();
     render(isStep);
+  }
+
+  // A search that the reader stops.
+  function stopLab() {
+    labReader.stop();
+    whole = {refused: "stopped before it was explored", line: 0, text: state.text};
+    render();
   }
 
   function setTheme(theme) {
@@ -54,12 +77,15 @@ export function pageOf({examples, views, asker}) {
   // Puts a text into the editor, that of an example or another's, with what of the state goes with it; Back brings back what was there, but
   // for a text of a link. A step of the course begins folded.
   function open(mode, given, isNew = true) {
-    const {goal, isWelcome, left, course} = state, lesson = given.example ?? "", {text, example, file, shown} = state;
+    const {goal, isWelcome, left, course} = state, lesson = given.example ?? "";
+    const {text, example, file, shown, missed, bound, isTrusted, exercise} = state;
     ++loading;
     if (isNew) address.leave();
-    if (state.mode && mode !== state.mode) left[state.mode] = {text, example, file, lesson: state.lesson, shown};
+    if (state.mode && mode !== state.mode)
+      left[state.mode] = {text, example, file, lesson: state.lesson, shown, missed, bound, isTrusted, exercise};
     const fields = {...NO_TEXT, goal, lesson, isHinted: false, isWelcome: isWelcome && !isNew, ...given, mode};
-    change({...fields, isFolded: fields.course !== null && (fields.course !== course || state.isFolded)});
+    const isStep = fields.course !== null && (fields.course !== course || state.isFolded);
+    change({...fields, isFolded: fields.course === null ? given.isFolded ?? false : isStep});
     if (hasLines()) panes.editor.scrollToMarked(state.shown);
   }
 
@@ -67,8 +93,9 @@ export function pageOf({examples, views, asker}) {
   async function load(mode, name, more = {}, isNew = true) {
     const mine = ++loading, text = await exampleText(mode, name);
     if (mine !== loading) return;
-    const {goal} = examples.lessons.find(it => it.mode === mode && it.name === name) ?? {};
-    open(mode, {text: mode === "script" ? laidOut(text) : text, example: name, ...goal ? {goal} : {}, ...more}, isNew);
+    const {goal, question} = examples.lessons.find(it => it.mode === mode && it.name === name) ?? {};
+    const isFolded = mode === "lab" && Boolean(question); // first the reader says what is to be expected
+    open(mode, {text: mode === "script" ? laidOut(text) : text, example: name, isFolded, ...goal ? {goal} : {}, ...more}, isNew);
   }
 
   // Shows a step of the course, from its first event on, or, if it is gone back to, at its end.
@@ -79,7 +106,7 @@ export function pageOf({examples, views, asker}) {
 
   async function openFile(file) {
     const {mode, text, note, offer = null} = await readFile(file);
-    if (mode) open(mode, {text, file: file.name, note});
+    if (mode) open(mode, {text, file: file.name, note, isTrusted: true});
     else open(state.mode, {file: file.name, refusal: note, offer});
   }
 
@@ -95,12 +122,13 @@ export function pageOf({examples, views, asker}) {
   function follow() {
     address.drop();
     const {fields, step, isAtStart, named, mode, text, note} = askedBy(location.hash, has);
-    const {shown, lesson = "", goal, course = null, waves, isWelcome, theme} = fields;
+    const {shown, lesson = "", goal, course = null, waves, isWelcome, theme, missed, bound} = fields;
     setTheme(theme);
     Object.assign(state, {waves, goal, isWelcome});
     if (step !== undefined) return openStep(step, isAtStart ? 1 : shown, false);
-    if (named) return load(named.mode, named.name, {shown, note, course, ...goal ? {goal} : {}}, false);
-    if (text !== undefined) return open(mode, {text, lesson, shown, note, course}, false);
+    if (named) return load(named.mode, named.name, {shown, note, course, missed, bound, ...goal ? {goal} : {}}, false);
+    const isTrusted = trusted.has(text); // but else code of a link does not run before the reader asks for it
+    if (text !== undefined) return open(mode, {text, lesson, shown, note, course, missed, bound, isTrusted}, false);
     return load("trace", examples.trace[0], {shown, note}, false);
   }
 
@@ -112,6 +140,6 @@ export function pageOf({examples, views, asker}) {
     get panes() { return panes; },
     setPanes: all => panes = all,
     leave: address.leave,
-    stop: reader.stop,
+    stop: () => state.mode === "lab" ? stopLab() : reader.stop(),
   };
 }

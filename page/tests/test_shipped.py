@@ -44,7 +44,7 @@ def test_one_file(served, same, _):
     page.browser.until("Back, in it", "return document.getElementById('example').value === 'calls empty_while_inside'")
 
 
-MOST_LINES, MOST_LETTERS, MOST_SIZE = 300, 140, 480_000
+MOST_LINES, MOST_LETTERS, MOST_SIZE = 300, 140, 600_000
 LAYERS = ["lab", "core", "text", "draw", "model", "panes", "."]  # of page/src: a folder imports from those before it, and from itself
 
 

@@ -7,7 +7,7 @@ import urllib.parse
 import pack
 
 SIZES = [(390, 844, 1), (683, 384, 2), (1366, 768, 1), (1920, 1080, 1)]  # the second is 1366 at 200 %
-NAMED = {"trace": "example", "script": "script", "calls": "calls"}  # what a link has for the name of an example
+NAMED = {"trace": "example", "script": "script", "calls": "calls", "register": "register", "lab": "lab"}  # what a link has for the name of an example
 BLOCK = "P write s0 0\nC read s0\nC got s0 1\nP wrote s0\n"
 
 

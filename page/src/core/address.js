@@ -1,9 +1,10 @@
-// The link to what is shown, and what a link asks for: #example=NAME&shown=N&theme=dark&bits=all, with script=NAME for a script and
-// calls=NAME for recorded calls. trace=TEXT, play=TEXT and recording=TEXT have a text that is no example's, kept=N one that is too long for
-// a link.
+// The link to what is shown, and what a link asks for: #example=NAME&shown=N&theme=dark&bits=all, with script=NAME for a script,
+// calls=NAME for recorded calls, register=NAME for a recorded register and lab=NAME for a construction. trace=TEXT, play=TEXT,
+// recording=TEXT, history=TEXT and construction=TEXT have a text that is no example's, kept=N one that is too long for a link.
 
 import { keep, keptAt } from "./kept_texts.js";
 import { MODES, WAVES } from "./state.js";
+import { CLASSES } from "../lab/audit.js";
 
 export const MOST_LINKED = 200000; // characters of a text that a link has
 
@@ -12,8 +13,13 @@ export const LINKS = {
   trace: {named: "example", given: "trace"},
   script: {named: "script", given: "play"},
   calls: {named: "calls", given: "recording"},
+  register: {named: "register", given: "history"},
+  lab: {named: "lab", given: "construction"},
 };
-const KNOWN = ["example", "script", "calls", "trace", "play", "recording", "kept", "lesson", "course", "goal", "shown", "theme", "bits"];
+const KNOWN = [...Object.values(LINKS).flatMap(it => [it.named, it.given]), "kept", "lesson", "course", "goal", "shown", "theme", "bits",
+  "class", "writes", "reads", "exercise"];
+
+const HAS_CLASS = ["register", "lab"]; // kinds of text of which a class that is missed can be chosen
 
 // The link to this state, which shows `shown` events; it has no number if that is where the text `opens`.
 export function linkTo(state, shown, opens) {
@@ -24,6 +30,8 @@ export function linkTo(state, shown, opens) {
   if (state.lesson && !example) parts.set("lesson", state.lesson);
   if (state.course !== null) parts.set("course", state.course + 1);
   if (mode === "script" && state.goal) parts.set("goal", state.goal);
+  if (mode === "lab" && state.bound) for (const name of ["writes", "reads"]) parts.set(name, state.bound[name]);
+  if (HAS_CLASS.includes(mode) && state.missed) parts.set("class", state.missed);
   if (shown !== opens) parts.set("shown", shown);
   if (state.theme) parts.set("theme", state.theme);
   if (state.waves !== "some") parts.set("bits", state.waves);
@@ -38,6 +46,10 @@ export function askedBy(hash, has) {
   const among = (name, all, other) => all.includes(parts.get(name)) ? parts.get(name) : other;
   const fields = {theme: among("theme", ["light", "dark"], ""), waves: among("bits", WAVES, "some"), isWelcome: hash.length <= 1,
     goal: has.goal(parts.get("goal")) ? parts.get("goal") : "", shown: number ?? Infinity};
+  const count = name => /^\d{1,2}$/.test(parts.get(name) ?? "") ? Number(parts.get(name)) : null;
+  const writes = count("writes"), reads = count("reads");
+  fields.missed = CLASSES.includes(parts.get("class")) ? parts.get("class") : "";
+  fields.bound = writes === null || reads === null ? null : {writes, reads};
   const unknown = [...parts.keys()].filter(name => !KNOWN.includes(name)),
     notes = unknown.map(name => `A link has no part ${name}: it was left out.`);
   const named = MODES.map(mode => ({mode, name: parts.get(LINKS[mode].named)})).find(({name}) => name !== null) ?? null;

@@ -19,6 +19,8 @@ const FILES = {
   trace: name => `examples/${name}.trace`,
   script: name => `examples/${name}.json`,
   calls: name => `examples/calls/${name}.calls`,
+  register: name => `examples/registers/${name}.reg`,
+  lab: name => `page/constructions/${name}.js`,
 };
 
 export const exampleText = (mode, name) => textOf(FILES[mode](name));

@@ -3,24 +3,13 @@
 
 import { MOST_CALLED } from "../text/calls.js";
 import { callsWithin, capacityIn, lineIn } from "../text/recorded_lines.js";
-import { LEFT, escape, round, sheetOf } from "./sheet.js";
+import { LETTER, SMALL, barPath, barWords, fitted } from "./bar.js";
+import { escape, round, sheetOf } from "./sheet.js";
 
 const BARS = {P: 34, C: 116, high: 42, ruler: 100}; // within a row
 const EFFECTS = 36, UNDER = 42; // between the lanes, for the order of the operations; under them, for a flag
 const NEAR = 50, FAR = 110; // between two lines
-const LETTER = 7.3, SMALL = 6.7; // of the letters in a bar
 const MOST_WORDS = 34; // letters of a line that a flag has
-
-// As many of the words as this room has for letters so wide, and how many more there are. No number is cut: if the last of them has no room
-// beside the first word it stands alone, and else nothing does.
-function fitted(words, room, letter) {
-  const most = Math.floor(room / letter), all = words.split(" ");
-  for (let count = all.length; count > 0; count--) {
-    const some = [...all.slice(0, count), ...count < all.length ? [`+${all.length - count}`] : []].join(" ");
-    if (some.length <= most && (count > 1 || all.length === 1)) return some;
-  }
-  return all.length === 2 && all[1].length <= most ? all[1] : all[0].length <= most && !/^\d/.test(all[0]) ? all[0] : "";
-}
 
 // The picture of the first `count` lines behind the first of this recording, in a frame with room for all. The place `fault` is at fault
 // (null: none is), with the words `cause`; the one at `contradicts` speaks against it. `order` has the operations, from the place `ordered`
@@ -81,14 +70,6 @@ export function bars({
   // The call that begins in the line at fault: one of its side that has not ended is cut there.
   const second = fault === null ? undefined : callsWithin(text, lines, fault + 2, fault + 2).find(it => it.begin === fault);
 
-  const barPath = (y, from, to, begins, ends) =>
-    `<path d="M${to} ${y}H${from}${begins ? `V${y + lanes.high}` : `M${from} ${y + lanes.high}`}H${to}${ends ? `V${y}` : ""}"/>`;
-  const barWords = ({asks, says}, y, from, to, hasEnded) => {
-    const middle = round((from + to) / 2), room = to - from - 4,
-      words = [`<text class="asks" x="${middle}" y="${y + 17}">${escape(fitted(asks, room, LETTER))}</text>`];
-    return hasEnded ? [...words, `<text class="says" x="${middle}" y="${y + 34}">${escape(fitted(says, room, SMALL))}</text>`] : words;
-  };
-
   const drawBar = call => {
     const isCut = call.end === Infinity && call.begin < fault && call.side === second?.side, end = isCut ? fault : call.end,
       hasEnded = !isCut && end < count;
@@ -103,7 +84,7 @@ export function bars({
     for (const {y: rowTop, from, to, begins, ends} of partsOf(call.begin, end)) {
       const y = rowTop + lanes[call.side];
       own.push(`<rect class="bg" x="${from}" y="${y}" width="${round(to - from)}" height="${lanes.high}"/>`,
-        barPath(y, from, to, begins, ends), ...barWords(call, y, from, to, hasEnded));
+        barPath(y, lanes.high, from, to, begins, ends), ...barWords(call, y, from, to, hasEnded));
     }
     sheet.drawGroup(`class="${classes.join(" ")}" data-line="${call.begin + 2}"`, own);
   };
@@ -115,7 +96,8 @@ export function bars({
     for (const call of callsWithin(text, lines, first + 2, Math.min((row + 1) * each, whole) + 1).filter(it => it.begin >= first)) {
       const own = [`<title>${call.side} ${escape(call.asks)}, from line ${call.begin + 2}, after the cursor</title>`];
       for (const {y, from, to, begins, ends} of partsOf(call.begin, call.end, whole))
-        own.push(barPath(y + lanes[call.side], from, to, begins, ends), ...barWords(call, y + lanes[call.side], from, to, ends));
+        own.push(barPath(y + lanes[call.side], lanes.high, from, to, begins, ends),
+          ...barWords(call, y + lanes[call.side], from, to, ends));
       sheet.drawGroup(`class="bar later ${call.side === "P" ? "s" : "r"}" data-line="${call.begin + 2}"`, own);
     }
   });

@@ -2,6 +2,7 @@
 // what a bit holds, which reads a write overlapped and where a read and a write clash are numbers of the module.
 
 import { callWords, partWords, partsOfCall } from "../text/calls.js";
+import { accessPath } from "./bar.js";
 import { LEFT, escape, round, sheetOf } from "./sheet.js";
 
 // ---- accesses and waves ----------------------------------------------------------------------------------------------
@@ -73,7 +74,6 @@ const CALLS = 50; // the height of a side's braces
 const ROW = 176, WAVES = 14, WAVE = 27, SWING = 18; // heights: of a row, around its waves, of one, of its step
 const P_BAR = 44, C_BAR = 122, BAR = 28, RULER = 101; // within a row
 const ORDER = 34; // between the lanes, for the order of the operations
-const TOOTH = 5;
 
 // The picture of `events`, of which the one at place `fault` is at fault (null: none is), and the one at `broken` not of the program, in a
 // frame with room for the events `whole`. `found` has what is found of the calls, where that is a fault: its cause, its place and, where
@@ -172,11 +172,8 @@ export function picture({
     const call = it.begin >= stop ? undefined : calls.find(of => of.side === it.side && of.begin <= it.begin && it.begin <= of.end);
     const own = [`<title>${it.side} ${does}, ${when}${call ? `, of ${callWords(call)[1]}` : ""}</title>`];
     for (const {y: rowTop, from, to, begins, ends} of parts) {
-      const y = rowTop + lane(it.side), [quarter, half, most, low] = [1, 2, 3, 4].map(n => y + n * BAR / 4);
-      const right =
-        ends && it.ended ? `V${low}` : `L${round(to - TOOTH)} ${quarter}L${to} ${half}L${round(to - TOOTH)} ${most}L${to} ${low}`;
-      const left = begins ? "" : `L${from + TOOTH} ${most}L${from} ${half}L${from + TOOTH} ${quarter}L${from} ${y}`;
-      own.push(`<path d="M${from} ${y}H${to}${right}H${from}${left}Z"/>`,
+      const y = rowTop + lane(it.side);
+      own.push(accessPath(y, BAR, from, to, begins, ends && it.ended),
         `<text class="bit" x="${round((from + to) / 2)}" y="${rowTop + name(it.side)}">${it.bit}</text>`);
       // The value that is written stands at the begin of a long bar, an answer at its end.
       if (!it.isWrite && !(ends && it.ended)) continue;

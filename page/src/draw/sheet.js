@@ -1,5 +1,5 @@
-// The sheet that a history is drawn on: its places, an event or a line each, stand from left to right and row by row, between a lane of the
-// producer and one of the consumer. Of a long history some rows are drawn.
+// The sheet that a history is drawn on: its places, an event or a line each, stand from left to right and row by row, in lanes of their
+// sides. Of a long history some rows are drawn.
 
 import { operationWords } from "../text/calls.js";
 import { styleOf } from "./style.js";
@@ -10,6 +10,7 @@ const RIGHT = 22, HEAD = 68, WHY = 22, FOOT = 62; // beside them, above and belo
 export const NARROWEST = 720; // of a picture
 const WIDEST = 1280;
 const MOST_ROWS = 12, FEW_ROWS = 3; // in one picture; of these around a place apart
+const RING = {P: "producer", C: "consumer"};
 
 export const round = x => Math.round(x * 10) / 10;
 export const escape = text => String(text).replace(/&/g, "&amp;").replace(/</g, "&lt;").replace(/>/g, "&gt;").replace(/"/g, "&quot;");
@@ -42,10 +43,10 @@ function rowsAround(rows, row, other, most) {
 }
 
 // A sheet with room for the places `whole`, of which the first `count` are told; `middle` is one that is drawn, and so is `other` where it
-// is not null. A row is `tall`, and `up` of that lies above its lanes; `lanes` has where in the row those of P and C begin, how `high`
-// their bars are, and where the numbers stand (`ruler`). The places have the numbers that `numberOf` gives, which count what is `counted`
-// up to `total`, and it is no wider than `widest` and has at most so many `rows`; `words` is the heading, of the mood "good", "bad" or
-// none, `ring` a second one, `reasons` what stands below.
+// is not null. A row is `tall`, and `up` of that lies above its lanes; `lanes` has where in the row those of the `sides` begin, how `high`
+// their bars are, and where the numbers stand (`ruler`); `sides` has the names of the lanes, from the top, each with what it is. The places
+// have the numbers that `numberOf` gives, which count what is `counted` up to `total`, and it is no wider than `widest` and has at most so
+// many `rows`; `words` is the heading, of the mood "good", "bad" or none, `ring` a second one, `reasons` what stands below.
 export function sheetOf({
   whole,
   count,
@@ -54,6 +55,7 @@ export function sheetOf({
   tall,
   up,
   lanes,
+  sides = RING,
   least,
   most,
   aspect,
@@ -76,7 +78,7 @@ export function sheetOf({
     top = row => head + slots.get(row) * tall + up;
   const heading = Math.max((words.length + (ring?.words ? ring.words.length + 3 : 0)) * 12.1, ...reasons.map(it => it.length * 9.1));
   const breadth = widest ? width : Math.max(width, Math.ceil(LEFT + heading)), height = head + drawn.length * tall + FOOT;
-  const bottom = lanes.C + lanes.high, out = [];
+  const names = Object.keys(sides), first = lanes[names[0]], bottom = lanes[names.at(-1)] + lanes.high, out = [];
 
   // The parts of a stretch of places, of which those before `told` are told, one for each row that it runs through and that is drawn.
   const partsOf = (begin, end, told = count) => {
@@ -95,13 +97,13 @@ export function sheetOf({
   // The rows with their lanes, and a break where rows between two of them are not drawn.
   const drawRows = () => drawn.forEach((row, slot) => {
     const y = top(row), ends = Math.min(each, Math.max(whole - row * each, 0));
-    for (const side of "PC") {
+    for (const side of names) {
       out.push(
         `<rect class="band" x="${LEFT - 10}" y="${y + lanes[side] - 6}" width="${each * unit + 20}" height="${lanes.high + 12}" rx="4"/>`,
         `<text class="lane" x="38" y="${y + lanes[side] + 22}">${side}</text>`);
-      if (slot === 0) out.push(`<text class="who" x="38" y="${y + lanes[side] + 38}">${side === "P" ? "producer" : "consumer"}</text>`);
+      if (slot === 0) out.push(`<text class="who" x="38" y="${y + lanes[side] + 38}">${sides[side]}</text>`);
     }
-    const lines = Array.from({length: ends}, (_, i) => `M${x(i)} ${y + lanes.P - 6}V${y + bottom + 6}`);
+    const lines = Array.from({length: ends}, (_, i) => `M${x(i)} ${y + first - 6}V${y + bottom + 6}`);
     if (ends) out.push(`<path class="grid" d="${lines.join("")}"/>`);
     if (slot > 0 && drawn[slot - 1] < row - 1)
       out.push(`<path class="break" d="M${LEFT - 10} ${y - up}H${edge + 10}"/>`,
@@ -135,11 +137,11 @@ export function sheetOf({
     const place = count - 1;
     if (place < 0 || place + 1 >= whole || !isDrawn(rowOf(place))) return;
     const at = round(x(place) + unit / 2), y = top(rowOf(place));
-    out.push(`<path class="cursor" d="M${at} ${y + lanes.P - 12}V${y + bottom + 12}"/>`);
+    out.push(`<path class="cursor" d="M${at} ${y + first - 12}V${y + bottom + 12}"/>`);
   };
 
   // The same of a place that contradicts one at fault.
-  const drawAgainst = place => drawMark(place, " against", lanes.P - 6, bottom + 6);
+  const drawAgainst = place => drawMark(place, " against", first - 6, bottom + 6);
 
   // A flag over a place, or `isBelow` it, with a line through the row; `kind` is its class.
   const drawFlag = (place, words, kind = "", isBelow = false) => {
@@ -149,7 +151,7 @@ export function sheetOf({
     const flag = isBelow ? bottom + 12 : 2;
     out.push(`<rect class="flag${kind}" x="${from}" y="${y + flag}" width="${wide}" height="22" rx="4"/>`,
       `<text class="flagwords${kind}" x="${from + 10}" y="${y + flag + 16}">${escape(words)}</text>`);
-    drawMark(place, kind, isBelow ? lanes.P - 6 : 20, isBelow ? flag : bottom + 6);
+    drawMark(place, kind, isBelow ? first - 6 : 20, isBelow ? flag : bottom + 6);
   };
 
   // The operations from the place `from` on and before `until` stand on a line between the lanes, each where it takes effect, with a tick

@@ -17,7 +17,7 @@ const FORMS = `
 .ring .flagwords{font-size:14px;font-weight:700}
 .ring .wavename{font-size:14px;font-weight:600;text-anchor:end}.ring .level{fill:none;stroke-width:2.5}
 .ring .held{font-size:12.5px;font-weight:600}.ring .becomes{font-size:12.5px;font-weight:600;text-anchor:middle}
-.ring .underway{stroke-width:1.5}
+.ring .underway{stroke-width:1.5}.ring .hatch{fill:none;stroke-width:1}.ring .digit.little{font-size:11.5px}
 .ring .bar path{fill:none;stroke-width:2}.ring .bar.fault path,.ring .bar.against path{stroke-width:3.5}
 .ring .asks{font-size:12.5px;font-weight:600;text-anchor:middle}.ring .says{font-size:11.5px;text-anchor:middle}
 .ring .later{opacity:.45}.ring .later path{stroke-dasharray:3 4;stroke-width:1.5}
@@ -34,6 +34,7 @@ function paints(it) {
 .ring .bg{fill:${it.bg}}.ring .band{fill:${it.band}}.ring text{fill:${it.ink}}
 .ring .title,.ring .legend,.ring .who,.ring .line{fill:${it.dim}}.ring .line{stroke:${it.bg}}
 .ring .grid{stroke:${it.grid}}.ring .tie{stroke:${it.dim};stroke-opacity:.55}
+.ring .hatch{stroke:${it.may};stroke-opacity:.6}.ring .level{stroke:${it.ink}}
 .ring .clash{fill:${it.may};fill-opacity:${it.shade}}.ring .clashedge{stroke:${it.may}}
 ${families}
 .ring .write .digit{fill:${it.bg}}.ring .read.free path{fill:${it.may};fill-opacity:${it.shade}}

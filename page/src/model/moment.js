@@ -22,9 +22,9 @@ function sideOfKey(events, calls) {
 // What is shown: `it` has the words, as much as is `shown` of the `most` there is, where the text `opens`; `drawing` what the picture is
 // made of, null if the text is refused, or not read yet, and then `place` is where; `nexts` is what each side of a play does next, and
 // `calls` its calls so far.
-export function momentOf(state, whole, views, examples) {
-  const view = views[state.mode], isRead = !whole.refused && !whole.pending, most = isRead ? view.most(whole) : 0,
-    opens = isRead ? view.first(whole) : 0;
+export function momentOf(state, read, views, examples) {
+  const view = views[state.mode], isRead = !read.refused && !read.pending, whole = isRead && view.chosen ? view.chosen(read, state) : read;
+  const most = isRead ? view.most(whole) : 0, opens = isRead ? view.first(whole) : 0;
   const shown = state.shown === Infinity ? opens : Math.min(state.shown, most);
   const it = isRead ? orStopped(() => view.at(whole, shown)) : whole, isRefused = Boolean(it.refused || it.pending);
   const isPlayed = state.mode === "script" && !isRefused, at = lessonAt(examples, state), {lessons, course} = examples;
@@ -49,6 +49,7 @@ export function momentOf(state, whole, views, examples) {
     sideOfKey: isPlayed ? sideOfKey(it.events, calls) : null,
     isAside: step !== null
       && (state.mode !== step.mode || state.lesson !== step.name), // a text in a step of the course that is not the step's own
+    misses: isRead && view.misses ? view.misses(whole) : [],
     hint: lessons[at]?.hint ?? "",
     isWon: isPlayed && isReached(state.goal, it.found),
   };

@@ -6,7 +6,7 @@ const LONG = 300000; // characters of recorded calls, or of a script, from which
 const TICK = 100; // milliseconds between words on what is under way
 
 // A reader. `ask` asks the worker (core/asker.js), `views` are the kinds of text, and `tell` is called when there is something new. The
-// answer has `read`, which returns the whole of a text, or what is `pending` of it; and `stop`.
+// answer has `read`, which returns the whole of a text, or what is `pending` of it; `stop`, and `end`, which tells nothing.
 export function readerOf({asker, views, tell}) {
   let timer = 0, under = null; // what the worker reads
 
@@ -32,6 +32,7 @@ export function readerOf({asker, views, tell}) {
   };
 
   return {
+    end,
     read(mode, text) {
       end();
       const later = text.length > LONG && mode !== "trace" ? readLater(mode, text) : null;

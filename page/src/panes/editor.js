@@ -6,6 +6,7 @@ import { MODES } from "../core/state.js";
 
 const SEEN_LINES = 400, MOST_SEEN = 40000; // lines that are seen of a text that is too long, and characters at most
 const MOST_BEGUN = 2000; // characters that are seen of it before its lines are known
+const NAMES = {calls: "recorded calls", register: "recorded register", lab: "construction"};
 const EDGE = 50; // lines at their ends, from which on others are put in
 const MOST_INSERTED = 2000; // characters that the browser inserts by itself, which takes it long
 
@@ -113,9 +114,9 @@ export function editorPane(acts) {
         mode = state.mode;
         for (const name of MODES) document.body.classList.toggle(name, mode === name);
         document.querySelector(`input[name=mode][value=${mode}]`).checked = true;
-        field.setAttribute("aria-label", mode === "calls" ? "recorded calls" : mode);
+        field.setAttribute("aria-label", NAMES[mode] ?? mode);
       }
-      const line = isRefused ? Infinity : shown + 1;
+      const line = isRefused || mode === "lab" ? Infinity : shown + 1;
       showLines(it.line && !isStep ? it.line : line);
       if (mode === "script") unnumber();
       else number(state.isFolded ? 0 : it.line, line);

@@ -5,7 +5,7 @@ import { $, node } from "../core/dom.js";
 import { titled } from "../model/moment.js";
 import { laidOut } from "../text/script.js";
 
-const KINDS_OF_FILES = {".trace": "trace", ".json": "script", ".calls": "calls"};
+const KINDS_OF_FILES = {".trace": "trace", ".json": "script", ".calls": "calls", ".reg": "register", ".js": "lab"};
 
 // Words of a story that it does not explain, each with what it means here; `docs/MODEL.md` has them exactly.
 const MEANS = {
@@ -45,7 +45,7 @@ function paragraph(text, lessons, told = new Set(Object.keys(MEANS))) {
   const it = node("p", "");
   text.split("`").forEach((words, i) => {
     if (i % 2 === 0) return addWords(it, words, told);
-    const [, name, kind] = /^(\w+?)(\.trace|\.json|\.calls)?$/.exec(words) ?? [];
+    const [, name, kind] = /^(\w+?)(\.trace|\.json|\.calls|\.reg|\.js)?$/.exec(words) ?? [];
     const named = lessons.filter(it => it.name === name),
       lesson = named.find(it => it.mode === (KINDS_OF_FILES[kind] ?? "script")) ?? named[0];
     if (!lesson) return it.append(node("code", words));

@@ -5,9 +5,9 @@ import { offersFor } from "../text/kinds.js";
 import { excerpt } from "../text/refused_places.js";
 
 // What is offered, each with a button that does it.
-const offerRow = ({words, label, mode, text}, open) => {
+const offerRow = ({words, label, mode, text}, isTrusted, open) => {
   const row = node("p", `${words} `);
-  if (label) row.append(Object.assign(node("button", label), {type: "button", onclick: () => open(mode, {text})}));
+  if (label) row.append(Object.assign(node("button", label), {type: "button", onclick: () => open(mode, {text, isTrusted})}));
   return row;
 };
 
@@ -16,12 +16,12 @@ export function refusalPane(acts, module) {
   $("find").onclick = acts.find;
   let offered = null; // the text whose offers stand there
 
-  const showOffers = ({mode, text, refusal, offer}, isRefused) => {
+  const showOffers = ({mode, text, refusal, offer, isTrusted}, isRefused) => {
     const of = isRefused ? `${mode} ${refusal} ${text}` : null;
     if (offered === of) return;
     offered = of;
     const offers = !isRefused ? [] : refusal ? [offer].filter(Boolean) : offersFor(mode, text, module);
-    $("offers").replaceChildren(...offers.map(it => offerRow(it, acts.open)));
+    $("offers").replaceChildren(...offers.map(it => offerRow(it, isTrusted, acts.open)));
   };
 
   return {

@@ -52,7 +52,7 @@ export function reportPane(acts) {
       const rows = isRefused ? [] : view.rows(it), moments = !isRefused && whole.moments || NO_MOMENTS;
       if (rows) fill(rows);
       else $("report").classList.add("pending"); // that of the line before, until it is there
-      if (rows) $("report").hidden = mode === "trace" || rows.length === 0 && mode === "calls";
+      if (rows) $("report").hidden = rows.length === 0 && mode !== "script";
       list(moments, whole.letters);
       mark(moments, shown);
       $("reported").textContent = isRefused ? "" : view.of?.(it) ?? "";

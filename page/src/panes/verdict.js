@@ -9,7 +9,7 @@ const set = (id, words, mood) => {
 
 function titleOf({isFolded, mode}, {it, isRefused, step}) {
   if (isRefused) return it.pending ? "auditing" : "refused";
-  if (isFolded) return `step ${step.number + 1} of the course`;
+  if (isFolded) return step ? `step ${step.number + 1} of the course` : "what do you expect?";
   return [it.words, mode !== "script" ? it.ring?.words : it.found?.cause && it.found.words].filter(Boolean).join(", ");
 }
 
@@ -21,8 +21,9 @@ export function verdictPane(acts) {
 
 function renderVerdict(state, now) {
   const {it, isRefused, place} = now, mood = it.ring?.mood ?? "";
-  set("bits", it.pending ?? (isRefused ? `refused: ${it.refused}` : it.words), it.pending ? "dim" : isRefused ? "refused" : it.mood);
-  $("stop").hidden = !it.pending;
+  set("bits", it.pending ?? (isRefused ? `${state.mode === "lab" ? "" : "refused: "}${it.refused}` : it.words),
+    it.pending ? "dim" : isRefused ? "refused" : it.mood);
+  $("stop").hidden = !it.pending && !it.exploring;
   set("ring", it.ring?.words, mood);
   set("found", it.found?.words, it.found?.mood ?? "");
   set("why", isRefused ? place?.cause : it.why);

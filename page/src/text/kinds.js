@@ -8,15 +8,20 @@ const LINES_OF = {
     "^(?:(?:cut )?queue\\b|P (?:put \\d|(?:stored|some|full|short|nothing|closed?)\\b)"
     + "|C (?:take|item|some|empty|short|nothing|closed)\\b)"),
   trace: /^(?:shape \d|[PC] (?:read|got|write|wrote) )/,
+  register: /^(?:(?:cut )?register \d|W (?:write \d|wrote\b)|R\d+ (?:read\b|got \d))/,
 };
+// A construction begins with ({ after comments of JavaScript.
+const CONSTRUCTION = /^(?:\s|\/\/.*(?:\n|$)|\/\*[\s\S]*?\*\/)*\(\{/;
 const COMMENT = /^\s*(?:#|\/\/|;|--|%|$)/;
 export const LOOKED_AT = 20000; // characters in which the first line is sought that shows the kind
-export const KIND_WORDS = {trace: "a trace", script: "a script", calls: "recorded calls", log: "a log of another test"};
+export const KIND_WORDS = {trace: "a trace", script: "a script", calls: "recorded calls", register: "a recorded register",
+  lab: "a construction of a register", log: "a log of another test"};
 
 // What kind of text it is, or "" where no line tells.
 export function kindOf(text) {
   const front = text.slice(0, LOOKED_AT).replace(/^\uFEFF/, ""), [, first] = /^\s*\[\s*(\{[^{}]*\})/.exec(front) ?? [];
   if (first && isLog(first.replace(/\s+/g, " "))) return "log";
+  if (CONSTRUCTION.test(front.replace(/\r\n?/g, "\n"))) return "lab";
   const lines = front.split(/\r\n|\r|\n/);
   for (const it of lines) {
     const kind = Object.keys(LINES_OF).find(kind => LINES_OF[kind].test(it.trimStart()));
@@ -67,7 +72,7 @@ export function offersFor(mode, text, module) {
                            : {words: `This looks like ${KIND_WORDS.log}.`, label: "Open its calls", mode: "calls", text: it.text});
   } else if (kind && kind !== mode)
     offers.push({words: `This looks like ${KIND_WORDS[kind]}.`, label: `Open as ${KIND_WORDS[kind]}`, mode: kind, text});
-  else if (kind === "calls") {
+  else if (kind === "calls" || kind === "register") {
     const it = mended(text, module);
     if (it.causes.length) offers.push({words: `This recording ${it.causes.join("; it ")}.`, label: "Mend it", mode, text: it.text});
   }

@@ -30,7 +30,7 @@ function numbersIn(text, from, to) {
 }
 
 // How many digits the longest number of a text has, of so many at most.
-function longestIn(text, most) {
+export function longestIn(text, most) {
   let longest = 0, here = 0;
   for (let at = 0; at < text.length && longest < most; at++) {
     const code = text.charCodeAt(at);
@@ -39,7 +39,7 @@ function longestIn(text, most) {
   }
   return longest;
 }
-const MOST_DIGITS = 20; // of a number below 2^64
+export const MOST_DIGITS = 20; // of a number below 2^64
 
 // Where the lines of a text begin, counted from 1, and behind the last one its end; and how many there are.
 export function startsOf(text) {

@@ -61,6 +61,10 @@ const LINES = {
     first: "shape CAPACITY MODULUS WIDTH",
     further: ": S read BIT, S got BIT V, S write BIT V, S wrote BIT; or its bit is not in the shape"
   },
+  register: {
+    first: "register FIRST or register FIRST VALUES, or one of these behind cut",
+    further: ": W write V, W wrote, Ri read, Ri got V, with numbers below 2^64 that begin with no 0; or it writes no value of the register"
+  },
   calls: {
     first: "queue B, queue A B or queue, or one of these behind cut",
     further: " the lines of recorded calls, with numbers below 2^64 that begin with no 0"
@@ -72,8 +76,9 @@ function causeIn(mode, text, line) {
   const {from, to} = lineAt(text, line), it = text.slice(from, to), {first, further} = LINES[mode];
   if (text === "") return `there is no text: line 1 is to be: ${first}`;
   if (line === 1 && /^\s*\{/.test(text)) return "it looks like a script";
-  if (line === 1 && /^shape /.test(text) && mode === "calls") return "it looks like a trace";
-  if (line === 1 && /^(cut )?queue\b/.test(text) && mode === "trace") return "it looks like recorded calls";
+  if (line === 1 && /^shape /.test(text) && mode !== "trace") return "it looks like a trace";
+  if (line === 1 && /^(cut )?queue\b/.test(text) && mode !== "calls") return "it looks like recorded calls";
+  if (line === 1 && /^(cut )?register\b/.test(text) && mode !== "register") return "it looks like a recorded register";
   const cause = it === "" ? "is empty" : it.endsWith(" ") ? "ends in a space" : it.startsWith(" ") ? "begins with a space"
     : to === text.length ? "has no line feed at its end, or is not a line of the format"
     : line === 1 ? `is not: ${first}` : `is none of${further}`;
@@ -88,6 +93,7 @@ function fieldIn(text, name) {
 
 // Where what is refused stands: {from, to, cause}, or null where no place can be told.
 export function placeOf(mode, text, {refused, line}) {
+  if (mode === "lab") return line ? {...lineAt(text, line), cause: ""} : null;
   if (mode !== "script") return line ? {...lineAt(text, line), cause: causeIn(mode, text, line)} : null;
   if (refused === "script is not JSON") {
     const stop = jsonStop(text);

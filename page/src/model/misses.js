@@ -1,0 +1,18 @@
+// The classes of a register that a history misses, by what the proved module says of it.
+
+import { CLASSES } from "../lab/audit.js";
+
+export const rankOf = name => CLASSES.indexOf(name); // -1 of none
+
+// What a history misses of a class, in the module's words: a class has none of its own if a weaker one is missed at the same line, or, of
+// one reader, atomic is.
+export const missOf = ({misses}, name) => misses.find(it => it.class === name)
+  ?? misses.filter(it => rankOf(it.class) < rankOf(name)).at(-1) ?? misses.find(it => rankOf(it.class) > rankOf(name)) ?? null;
+
+// The lines that contradict a read at fault: those where the earlier reads ended, and where their writes begin, or where the last write
+// ended.
+export const linesAgainst = ({reads, since}) =>
+  [...new Set([since, ...reads.flatMap(it => [it.written, it.line])])].filter(line => line > 1);
+
+// The verdict in words, with its mood.
+export const classWords = ({class: name, words}) => ({words, mood: name === "atomic" ? "good" : name ? "" : "bad"});
