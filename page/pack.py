@@ -126,8 +126,8 @@ def lessons():
 
 
 def lessons_and_plays():
-    """The lessons in their order, of page/lessons.txt, and the scripts that stand there, by their names; an example that has no lesson there comes last,
-    without a question."""
+    """The lessons in their order, of page/lessons.txt, and the scripts that stand there, by their names; an example or a construction that has no lesson
+    there comes last, without a question."""
     told, list_, plays, chapter = stories(), [], {}, ""
     for line in read("lessons.txt").decode().splitlines():
         kind, _, words = line.strip().partition(" ")
@@ -149,7 +149,8 @@ def lessons_and_plays():
     for it in list_:
         if it["mode"] == "lab" and not it["story"] and it["name"] in constructions():
             it["story"] = heads()[it["name"]]
-    return list_, plays
+    taught = [it["name"] for it in list_ if it["mode"] == "lab"]
+    return list_ + [untaught(name) for name in constructions() if name not in taught], plays
 
 
 def course():
@@ -188,7 +189,7 @@ def examples():
             files[os.path.relpath(os.path.join(folder, file), TOP)] = BOUND.sub(r"\1", text.decode()).encode() if mode == "lab" else text
             listed[mode].append(name)
             if (mode, name) not in taught:
-                listed["lessons"].append(untaught(told, mode, name))
+                listed["lessons"].append(lesson(told, "More", mode, name))
         if mode == "script":
             listed[mode] += [*wrong_scripts(files), *plays]
             files.update({f"examples/{name}.json": script.encode() for name, script in plays.items()})
@@ -199,12 +200,10 @@ def examples():
     return {"examples.json": (json.dumps(listed, indent=0, ensure_ascii=False) + "\n").encode(), **files}
 
 
-def untaught(told, mode, name):
-    """The lesson of an example that page/lessons.txt does not name."""
-    if mode != "lab":
-        return lesson(told, "More", mode, name)
+def untaught(name):
+    """The lesson of a construction that page/lessons.txt does not name: what its head says."""
     title, *story = heads()[name]
-    return {**lesson(told, UNTAUGHT, mode, name), "title": title, "story": story}
+    return {**lesson({}, UNTAUGHT, "lab", name), "title": title, "story": story}
 
 
 def names(mode):

@@ -8,7 +8,7 @@ from test_use import resize, seen, words
 # Whether a part of the lesson is seen, without scrolling.
 SEEN = """const of = id => document.getElementById(id).getBoundingClientRect(), [it, lesson] = [of(arguments[0]), of("lesson")];
 return it.height > 10 && it.top >= lesson.top - 1 && it.bottom <= lesson.bottom + 1 && lesson.bottom <= innerHeight;"""
-FILES = {".trace": "trace", ".json": "script", ".calls": "calls"}
+FILES = {".trace": "trace", ".json": "script", ".calls": "calls", ".reg": "register", ".js": "lab"}
 STALE = r"lesson before|the same (take|put|writes)|as before|\bgate\b|\b(docs|examples|page|tests)/|\.md\b|\.json\b"  # what no text of a lesson has
 
 
@@ -19,7 +19,7 @@ def titles():
 def shown(text, lessons):
     """A text as the page shows it: the name of a lesson by its title."""
     def told(match):
-        name, ending = re.fullmatch(r"(\w+?)(\.trace|\.json|\.calls)?|.*", match[1]).groups()
+        name, ending = re.fullmatch(r"(\w+?)(\.trace|\.json|\.calls|\.reg|\.js)?|.*", match[1]).groups()
         named = [it for it in lessons if it["name"] == name]
         first = next((it for it in named if it["mode"] == FILES.get(ending, "script")), named[0] if named else None)
         return f"“{first['title']}”" if first else match[1]
@@ -30,7 +30,7 @@ def shown(text, lessons):
 def test_titles(page, same, _):
     """Each lesson has a title in plain words, in the list and beside the picture, with the name of its example."""
     lessons = pack.lessons()
-    for it in lessons:
+    for it in (it for it in lessons if it["chapter"] != pack.UNTAUGHT):
         same(f"the title of {it['name']} is plain and short", ["_" in it["title"], len(it["title"].split()) <= 7, it["title"] != it["name"].replace("_", " ")], [False, True, True])
     same("no title twice", len({it["title"] for it in lessons}), len(lessons))
     page.open("script=two_cells")
@@ -58,7 +58,7 @@ def test_lessons(page, same, _):
     names = json.loads(pack.examples()["examples.json"])
     same("each example has one lesson", sorted((it["mode"], it["name"]) for it in lessons),
          sorted((mode, it) for mode in pack.MODES for it in names[mode]))
-    chapters = list(dict.fromkeys(it["chapter"] for it in lessons))
+    chapters = list(dict.fromkeys(it["chapter"] for it in lessons if it["mode"] not in ("register", "lab")))
     same("chapters", chapters, ["A safe bit", "The unary register", "A put and a take", "A count while it is written", "The close", "Several items at once", "Rings that are wrong",
                                 "Break the ring", "Played by rings that are wrong", "A modulus one too small", "Recorded calls"])
     page.open("")
@@ -69,10 +69,11 @@ def test_lessons(page, same, _):
              [shown(text, lessons) for text in told.get((it["mode"], it["name"]), it["story"])])
         same(f"question of {it['name']}", [words(page, "question"), words(page, "answer"), page.browser.run("return document.getElementById('answer').checkVisibility()")],
              [shown(it["question"], lessons), shown(it["answer"], lessons), False])
-        same(f"{it['name']} has all three", all([it["question"], it["answer"], it["story"]]), True)
-        same(f"question of {it['name']} is seen", page.browser.run(SEEN, "question"), True)
-        page.click("question")
-        page.browser.until(f"answer of {it['name']} is seen when it unfolds", SEEN, "answer")
+        if it["chapter"] != pack.UNTAUGHT:
+            same(f"{it['name']} has all three", all([it["question"], it["answer"], it["story"]]), True)
+            same(f"question of {it['name']} is seen", page.browser.run(SEEN, "question"), True)
+            page.click("question")
+            page.browser.until(f"answer of {it['name']} is seen when it unfolds", SEEN, "answer")
         if at + 1 < len(lessons):
             page.click("next")
     same("the last", page.browser.run("return document.getElementById('next').disabled"), True)
