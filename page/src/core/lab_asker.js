@@ -26,7 +26,7 @@ export function labAskerOf(script) {
 
   function explore(text, bounds, then, meanwhile) {
     stop();
-    const {whole, lines: before} = scriptWith(script, text, bounds), last = linesIn(text);
+    const {whole, lines: before} = scriptWith(script, text, bounds), last = linesIn(text.trimEnd());
     const address = URL.createObjectURL(new Blob([whole], {type: "text/javascript"}));
     try {
       worker = new Worker(address);

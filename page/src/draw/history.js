@@ -141,11 +141,11 @@ export function history({
       `<g class="bar r"><path d="M1 13h21v14h-21z"/></g><text class="legend" x="32" y="24">a read</text>`];
     const parts = isOfBars ? bars : [
       brace, `<g class="write s"><path d="M330 -11h21v14h-21z"/></g><text class="legend" x="361" y="0">an access that writes</text>`,
-      `<g class="read r"><path d="M530 -11h21v14h-21z"/></g><text class="legend" x="561" y="0">one that reads</text>`,
+      `<g class="read r"><path d="M545 -11h21v14h-21z"/></g><text class="legend" x="576" y="0">one that reads</text>`,
       `<g class="read r free"><path d="M1 13h21v14h-21z"/></g>`,
       `<text class="legend" x="42" y="24">a write overlaps it: its register's kind says what it may return</text>`,
-      ...shownWaves.length ? [`<rect class="underway" x="530" y="13" width="21" height="15"/>`,
-        `<text class="legend" x="561" y="24">being written</text>`] : [],
+      ...shownWaves.length ? [`<rect class="underway" x="545" y="13" width="21" height="15"/>`,
+        `<text class="legend" x="576" y="24">being written</text>`] : [],
     ];
     if (isOfBars && others.length)
       parts.push(`<rect class="chip against" x="334" y="13" width="34" height="16" rx="4"/>`,
@@ -157,11 +157,12 @@ export function history({
   sheet.drawHead([escape(head.slice(0, MOST_HEAD)), more].filter(Boolean));
   sheet.drawRows();
   for (const place of sheet.placesDrawn()) if (place !== fault && !others.includes(place)) sheet.drawNumber(place);
+  // what is marked lies under the operations, whose words stay to be read
+  for (const place of others) sheet.drawAgainst(place);
+  if (fault !== null && isDrawn(rowOf(fault))) sheet.drawFlag(fault, flag);
   if (!isOfBars) accesses.filter(isSeen).forEach(drawAccess);
   operations.filter(isSeen).forEach(isOfBars ? drawBar : drawBrace);
   drawWaves(sheet, {shown: shownWaves, accesses: accesses ?? [], count, down: underLanes + 6});
-  for (const place of others) sheet.drawAgainst(place);
-  if (fault !== null && isDrawn(rowOf(fault))) sheet.drawFlag(fault, flag);
   drawLegend();
   return sheet.textOfSheet(theme);
 }

@@ -9,6 +9,7 @@ export const read = name => ({does: "read", name});
 export const write = (name, value) => ({does: "write", name, value});
 
 export const KINDS_OF_REGISTERS = ["safe", "regular", "atomic"];
+const MOST_REGISTERS = 64;
 const MOST_VALUES = 30; // of one of the registers that it is built of
 const MOST_ACCESSES = 64; // of one operation
 const MOST_NODES = 60000; // of all trees
@@ -28,6 +29,7 @@ function formOf(it) {
   if (!isCount(first, 0, values - 1)) throw new Wrong("first: one of its values, from 0");
   if (!isCount(readers, 1, 4)) throw new Wrong("readers: from 1 to 4");
   if (!isObject(registers) || Object.keys(registers).length === 0) throw new Wrong("registers: those that it is built of, by their names");
+  if (Object.keys(registers).length > MOST_REGISTERS) throw new Wrong(`registers: at most ${MOST_REGISTERS}`);
   for (const name of ["write", "read"]) if (typeof it[name] !== "function") throw new Wrong(`*${name}(..) {..} is missing`);
   return {values, first, readers, registers, memory, write: it.write, read: it.read};
 }
