@@ -106,6 +106,20 @@ function checkAlone({form, sides, registers, nodes, root, follow, firstMemory}) 
   }
 }
 
+// The accesses of an operation of these sides that makes the most of them, as {does, register, value}; the last of a read has no value, as
+// its answer does not matter. What a side does only after an answer that no history gives is in no tree.
+function longestOf({registers, nodes, root}, isOf) {
+  const due = nodes.filter(it => !it.isDone && isOf(it.of[0]));
+  if (!due.length) return [];
+  const {of: [side, value, memory, answers]} = due.reduce((best, it) => it.of[3].length > best.of[3].length ? it : best);
+  let id = root(side, value, memory);
+  return Array.from({length: answers.length + 1}, (_, place) => {
+    const {register, code, next} = nodes[id], {name, plain, code: codeOf} = registers[register], isRead = code < 0;
+    if (place < answers.length) id = next[isRead ? codeOf(answers[place]) : 0];
+    return {does: isRead ? "read" : "write", register: name, value: isRead ? answers[place] : plain[code]};
+  });
+}
+
 // How many paths there are from the first state to one without a step, by the steps of each.
 function countPaths(steps) {
   const counts = new Float64Array(steps.length).fill(-1), stack = [0];
@@ -122,7 +136,9 @@ function countPaths(steps) {
 
 // Explores a construction, up to so many writes, and reads of each reader. The answer has the strongest class that no history missed
 // (`best`, or null); of each class that was missed a shortest history (`found`: how many `steps`, and its `events`); how many states there
-// were, whether these are all (`isWhole`), and how many histories. `tell` is called with how many states there are, from time to time.
+// were, whether these are all (`isWhole`), and how many histories, or null if not all of them were explored. As far as it was explored,
+// `longest` has of a write and of a read the accesses of one with the most of them, `accesses` how many these are, and `registers` of each
+// register its name, its kind and how many values it takes. `tell` is called with how many states there are, from time to time.
 export function explored(construction, bounds = {}, tell = () => {}) {
   const {writes, reads, states: most, milliseconds, all} = {...BOUNDS, ...bounds}, began = performance.now();
   for (const count of [writes, reads])
@@ -181,10 +197,16 @@ export function explored(construction, bounds = {}, tell = () => {}) {
     });
   }
   const isAll = isWhole && at === texts.length, strongest = found.findIndex(it => it !== null);
+  const longest = {
+    write: writes ? longestOf(procedures, side => side === 0) : [],
+    read: reads ? longestOf(procedures, side => side > 0) : [],
+  };
   return {
     best: strongest === 0 ? null : CLASSES[(strongest < 0 ? CLASSES.length : strongest) - 1],
     found: Object.fromEntries(CLASSES.map((name, place) => [name, found[place]])),
     states: texts.length, isWhole: isAll || found.every(it => it !== null), histories: isAll ? countPaths(steps) : null, form,
+    longest, accesses: {write: longest.write.length, read: longest.read.length},
+    registers: registers.map(({name, kind, plain}) => ({name, kind, values: plain.length})),
     milliseconds: performance.now() - began,
   };
 }
