@@ -58,7 +58,7 @@ function differsIn({readers, registers}, {steps, events}, name, history, verdict
 }
 
 // What was found, as far as it can be shown: {.., best, misses}, with a history and its verdict for each class that is missed, the weakest
-// first; or {differs}, in words. `best` is the strongest class below those that are missed.
+// first; or {differs}, in words. `best` is the strongest class that each of these histories has, or null.
 export function judgedFound(module, given) {
   const found = plainFound(given), none = words => ({differs: words});
   if (!found) return none("what the worker of the text posted is nothing that an exploration finds");
@@ -73,7 +73,9 @@ export function judgedFound(module, given) {
     if (differs) return none(`The explorer and the proved audit differ on the history that is “not ${name}”: ${differs}.`);
     misses.push({class: name, ...history, verdict, why: missOf(verdict, name)});
   }
-  const weakest = CLASSES.find(name => found.found[name]), best = weakest ? CLASSES[rankOf(weakest) - 1] ?? null : CLASSES.at(-1);
-  const isTold = it => it.class === "atomic by reader" && it.recording === misses.find(other => other.class === "atomic")?.recording;
-  return {...found, best, sides: sidesOf(found.readers), misses: misses.filter(it => !isTold(it))};
+  // a history of a weaker class is told once; of one reader that reader alone is not told apart
+  const own = misses.filter(it => found.readers > 1 || it.class !== "atomic by reader"),
+    isTold = (it, place) => own.slice(0, place).some(other => other.recording === it.recording);
+  const best = Math.min(CLASSES.length - 1, ...misses.flatMap(it => [rankOf(it.class) - 1, rankOf(it.verdict.class)]));
+  return {...found, best: CLASSES[best] ?? null, sides: sidesOf(found.readers), misses: own.filter((it, place) => !isTold(it, place))};
 }

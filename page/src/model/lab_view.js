@@ -47,9 +47,9 @@ export const labView = {
       step: miss && shown ? `step ${shown}: ${miss.words[shown - 1]}` : "", recording: miss?.recording ?? "",
     };
   },
-  drawing({miss, sides, registers}, it, waves, shown) {
+  drawing({miss, sides: all, registers}, it, waves, shown) {
     if (!miss) return null;
-    const kinds = registers.map(of => `${of.name} ${of.kind}`).join(", ");
+    const sides = all.filter((side, i) => i < 2 || miss.operations.some(of => of.side === side)), kinds = registers.map(of => `${of.name} ${of.kind}`).join(", ");
     return {
       draw: history, sides, whole: miss.steps, count: shown, operations: miss.operations, accesses: miss.accesses, registers, waves,
       fault: it.fault, flag: `not ${miss.class}`,
