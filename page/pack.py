@@ -267,13 +267,14 @@ def scripts_of(name, found=None, above=()):
 
 
 def joined(name):
-    """This script and all that it imports, as one, without lines that are a comment alone: each is a function of its own, which returns what it exports."""
+    """This script and all that it imports, as one, without lines that are a comment alone and without indents (so no text of several lines may need
+    them): each is a function of its own, which returns what it exports."""
     parts = ["const modules = {};"]
     for its, text in scripts_of(name).items():
         if len(EXPORTED.findall(text)) != len(re.findall(r"^export\b", text, flags=re.M)):
             sys.exit(f"page/src/{its}: an export is neither a function, nor a const, nor a class")
         body = IMPORTED.sub(lambda it, its=its: f"const {{ {it[1]} }} = modules[\"{os.path.normpath(os.path.join(os.path.dirname(its), it[2]))}\"];\n", text)
-        body = re.sub(r"^ *//.*\n", "", body, flags=re.M)
+        body = re.sub(r"^ +", "", re.sub(r"^ *//.*\n", "", body, flags=re.M), flags=re.M)
         exports = ", ".join(it for _, it in EXPORTED.findall(text))
         parts.append(f'modules["{its}"] = (() => {{\n{EXPORTED.sub(lambda it: it[1] + it[2], body)}return {{ {exports} }};\n}})();')
     return "\n".join(parts) + "\n"

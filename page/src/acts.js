@@ -99,7 +99,8 @@ export function actsOf(page) {
   const {state, examples} = page;
   return {
     ...stepsOf(page), ...playsOf(page),
-    open: page.open, openLesson: page.load, openStep: page.openStep, openFile: page.openFile, leave: page.leave, stop: page.stop,
+    open: (mode, given) => mode === "exercise" ? page.openExercise(given.text, {isTrusted: given.isTrusted}) : page.open(mode, given),
+    openLesson: page.load, openStep: page.openStep, openFile: page.openFile, leave: page.leave, stop: page.stop,
     edit(text) {
       if (state.example) page.leave();
       const isTrusted = state.mode !== "lab" || state.isTrusted || state.example !== ""; // a text of a link stays one as it is edited
@@ -113,7 +114,8 @@ export function actsOf(page) {
     },
     // The lesson's own text again, or that of the step of the course.
     reset() {
-      if (state.course === null) page.load(state.mode, state.lesson);
+      if (state.exercise) page.change({text: state.exercise.text, shown: Infinity});
+      else if (state.course === null) page.load(state.mode, state.lesson);
       else page.openStep(state.course, page.now.isAside ? Infinity : 1);
     },
     reveal: () => page.change({isFolded: false}),

@@ -1,6 +1,7 @@
 // In a worker of its own, before the text of a construction: takes from that text all of the browser but the language, explores what it
 // gives, and posts what was found as plain data. The page takes none of it on trust.
 
+import { judged } from "./lab/exercises.js";
 import { explored } from "./lab/explorer.js";
 import { Wrong, read, write } from "./lab/procedures.js";
 
@@ -49,17 +50,18 @@ function wrongOf(error) {
 
 let isGiven = false, last = 0;
 
-// Explores what `give` returns, once.
-globalThis.construction = (bounds, give) => {
+// Explores what `give` returns, once, and judges it if there is an exercise.
+globalThis.construction = ({exercise, ...bounds}, give) => {
   if (isGiven) return;
   isGiven = true;
   try {
-    const found = explored(give(), bounds, states => {
+    const tell = states => {
       if (now() - last < TICK) return;
       last = now();
       post({states});
-    });
-    post({found: plainOf(found)});
+    };
+    const {found, isMet, lines} = exercise ? judged(exercise, give(), bounds, tell) : {found: explored(give(), bounds, tell)};
+    post({found: plainOf(found), ...exercise ? {met: {isMet, lines}} : {}});
   } catch (error) {
     post(wrongOf(error));
   }

@@ -15,6 +15,7 @@ import { authorPane } from "./panes/author_tools.js";
 import { comparisonPane } from "./panes/comparison.js";
 import { contentsPane } from "./panes/contents.js";
 import { editorPane } from "./panes/editor.js";
+import { exercisePane } from "./panes/exercise.js";
 import { gamePane } from "./panes/game.js";
 import { labPane } from "./panes/lab.js";
 import { lecturePane } from "./panes/lecture.js";
@@ -37,6 +38,7 @@ function panesOf(acts, {examples}, module, asker) {
     lesson: lessonPane(acts, examples),
     game: gamePane(acts),
     lab: labPane(acts),
+    exercise: exercisePane(acts),
     contents: contentsPane(),
     author: authorPane(acts, asker),
     refusal: refusalPane(acts, module),

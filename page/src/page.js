@@ -9,12 +9,13 @@ import { GOALS } from "./model/game.js";
 import { labReaderOf } from "./model/lab_reading.js";
 import { momentOf } from "./model/moment.js";
 import { readerOf } from "./model/reading.js";
+import { readExercise } from "./text/exercise.js";
 import { readFile } from "./text/files.js";
 import { laidOut } from "./text/script.js";
 
 const NO_TEXT = {text: "", example: "", file: "", course: null, note: "", refusal: "", offer: null, shown: Infinity, missed: "",
   bound: null, isTrusted: false, exercise: null};
-const READ = ["text", "mode", "refusal", "example", "bound", "isTrusted"]; // fields of the state on which depends what is found
+const READ = ["text", "mode", "refusal", "example", "bound", "isTrusted", "exercise"]; // fields of the state on which depends what is found
 
 // The page over the examples, the kinds of text (model/views.js), the module, the worker and the lab's. `setPanes` is called before
 // anything is shown.
@@ -104,9 +105,17 @@ export function pageOf({examples, views, asker, module, labAsker}) {
     if (it) load(it.mode, it.name, {shown, course: number}, isNew);
   }
 
+  // Shows an exercise of this text, with the construction that it begins with or another one.
+  function openExercise(given, {text, ...more} = {}, isNew = true) {
+    const {exercise, refusal} = readExercise(given);
+    if (refusal) open("lab", {...more, refusal}, isNew);
+    else open("lab", {...more, text: text ?? exercise.text, exercise}, isNew);
+  }
+
   async function openFile(file) {
     const {mode, text, note, offer = null} = await readFile(file);
-    if (mode) open(mode, {text, file: file.name, note, isTrusted: true});
+    if (mode === "exercise") openExercise(text, {file: file.name, note, isTrusted: true});
+    else if (mode) open(mode, {text, file: file.name, note, isTrusted: true});
     else open(state.mode, {file: file.name, refusal: note, offer});
   }
 
@@ -121,12 +130,16 @@ export function pageOf({examples, views, asker, module, labAsker}) {
   // Shows what the address asks for.
   function follow() {
     address.drop();
-    const {fields, step, isAtStart, named, mode, text, note} = askedBy(location.hash, has);
+    const {fields, step, isAtStart, named, mode, text, exercise, note} = askedBy(location.hash, has);
     const {shown, lesson = "", goal, course = null, waves, isWelcome, theme, missed, bound} = fields;
     setTheme(theme);
     Object.assign(state, {waves, goal, isWelcome});
     if (step !== undefined) return openStep(step, isAtStart ? 1 : shown, false);
     if (named) return load(named.mode, named.name, {shown, note, course, missed, bound, ...goal ? {goal} : {}}, false);
+    if (exercise !== undefined) {
+      const own = text ?? readExercise(exercise).exercise?.text;
+      return openExercise(exercise, {text, shown, note, missed, isTrusted: trusted.has(own)}, false);
+    }
     const isTrusted = trusted.has(text); // but else code of a link does not run before the reader asks for it
     if (text !== undefined) return open(mode, {text, lesson, shown, note, course, missed, bound, isTrusted}, false);
     return load("trace", examples.trace[0], {shown, note}, false);
@@ -134,7 +147,7 @@ export function pageOf({examples, views, asker, module, labAsker}) {
 
   document.adoptedStyleSheets = [paper];
   return {
-    state, examples, views, change, render, open, load, openStep, openFile, follow, setTheme, hasLines,
+    state, examples, views, change, render, open, load, openStep, openFile, openExercise, follow, setTheme, hasLines,
     get now() { return now; },
     get whole() { return whole; },
     get panes() { return panes; },

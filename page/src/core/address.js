@@ -24,7 +24,9 @@ const HAS_CLASS = ["register", "lab"]; // kinds of text of which a class that is
 // The link to this state, which shows `shown` events; it has no number if that is where the text `opens`.
 export function linkTo(state, shown, opens) {
   const parts = new URLSearchParams(), {mode, text, example} = state, {named, given} = LINKS[mode];
+  if (mode === "lab" && state.exercise) parts.set("exercise", state.exercise.file);
   if (example) parts.set(named, example);
+  else if (mode === "lab" && state.exercise?.text === text) parts.delete(given);
   else if (text.length <= MOST_LINKED) parts.set(given, text);
   else parts.set("kept", keep(mode, text));
   if (state.lesson && !example) parts.set("lesson", state.lesson);
@@ -39,7 +41,7 @@ export function linkTo(state, shown, opens) {
 }
 
 // What a link asks for: fields of the state; with `named`, {mode, name}, an example; with `text` and `mode`, a text; with `step`, a step of
-// the course; a text that is not the step's own stays in that step, as its `course`. `note` says what of it there is not. `has` says
+// the course; a text that is not the step's own stays in that step, as its `course`; with `exercise` that of a teacher. `note` says what of it there is not. `has` says
 // whether there is an example {mode, name}, a step, a goal, and whether an example is that of a step.
 export function askedBy(hash, has) {
   const parts = new URLSearchParams(hash.slice(1)), number = /^\d+$/.test(parts.get("shown") ?? "") ? Number(parts.get("shown")) : null;
@@ -64,6 +66,8 @@ export function askedBy(hash, has) {
   if (named && !given) notes.push(`There is no example ${named.name} of this kind.`);
   if (kept) return {fields: {...fields, lesson}, mode: kept.mode, text: kept.text, note: notes.join(" ")};
   if (parts.has("kept")) notes.push("That text was too long for a link: open its file again.");
+  if (parts.has("exercise"))
+    return {fields, exercise: parts.get("exercise"), text: parts.get(LINKS.lab.given) ?? undefined, note: notes.join(" ")};
   if (given) return {fields: {...fields, lesson}, mode: given, text: parts.get(LINKS[given].given), note: notes.join(" ")};
   return {fields, note: notes.join(" ")};
 }

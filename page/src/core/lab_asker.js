@@ -13,7 +13,7 @@ function scriptWith(script, text, bounds) {
   return {whole: `${before}${text.replace(/[;\s]*$/, "")}\n));\n`, lines: linesIn(before) - 1};
 }
 
-// An asker over the lab's script. `explore` hands what comes of a text to `then`, as {found}, {wrong, line}, {late} or {none}, if the
+// An asker over the lab's script. `explore` hands what comes of a text to `then`, as {found, met}, {wrong, line}, {late} or {none}, if the
 // browser lets no worker run; and how many states there are so far to `meanwhile`. Another search, or `stop`, ends the one under way.
 export function labAskerOf(script) {
   let worker = null, timer = 0;
@@ -47,7 +47,7 @@ export function labAskerOf(script) {
       if (Number.isInteger(data.states)) meanwhile(data.states);
       else if (typeof data.wrong === "string")
         end({wrong: data.wrong.slice(0, MOST_WORDS), line: isList(data.lines) ? data.lines.map(lineIn).find(it => it > 0) ?? 0 : 0});
-      else end({found: data.found});
+      else end({found: data.found, met: data.met});
     };
     mine.onerror = event => {
       event.preventDefault();

@@ -6,7 +6,7 @@ import { KINDS_OF_REGISTERS } from "../lab/procedures.js";
 import { historyOf, recordingOfRegister } from "./lab_history.js";
 import { missOf, rankOf } from "./misses.js";
 
-const MOST_EVENTS = 20000, MOST_TEXT = 2000, MOST_REGISTERS = 100, MOST_VALUES = 64;
+const MOST_EVENTS = 20000, MOST_TEXT = 2000, MOST_REGISTERS = 100, MOST_VALUES = 64, MOST_LINES = 20;
 const OF_OPERATION = ["write", "wrote", "read", "got"], OF_ACCESS = [...OF_OPERATION, "gives", "sets"];
 
 const isCount = (it, least = 0, most = Number.MAX_SAFE_INTEGER) => Number.isInteger(it) && it >= least && it <= most;
@@ -46,6 +46,13 @@ export function plainFound(it) {
   }
   const registers = it.registers.map(({name, kind, first, domain}) => ({name, kind, first, domain: [...domain]}));
   return {values, first, readers, registers, states, isWhole, histories: histories === null ? null : Number(histories), found};
+}
+
+// What was posted of an exercise, {isMet, lines}, if it is as it has to be; else null.
+export function plainMet(it) {
+  const isLine = line => isObject(line) && typeof line.is === "boolean" && isText(line.words);
+  if (!isObject(it) || !allOf(it.lines, MOST_LINES, isLine)) return null;
+  return {isMet: it.isMet === true && it.lines.every(line => line.is), lines: it.lines.map(({is, words}) => ({is, words}))};
 }
 
 // Why the proved audit does not find the same of a history, or "".

@@ -1,7 +1,7 @@
 // What is found of a construction: at once if it was explored before, else by the lab's worker, meanwhile with what was found before it. A
 // text that came by a link waits until the reader asks for it.
 
-import { judgedFound } from "./lab_found.js";
+import { judgedFound, plainMet } from "./lab_found.js";
 
 const REST = 500; // milliseconds after the last key, until a text is explored
 const STATES = 300000, MILLISECONDS = 10000; // of one search
@@ -11,11 +11,15 @@ const NO_ANSWER = `The text has not answered within ${MILLISECONDS / 1000 + 3} s
 const NO_WORKER = "This browser lets no worker run here: page/lab explores the text";
 
 // The bound that a text names in the comments at its head, as `// 3 writes, 2 reads`, or else 2 and 2.
-export function boundIn(text) {
+function boundIn(text) {
   const [, writes, reads] = /^\/\/ *(\d{1,2}) writes?, (\d{1,2}) reads?\b/m.exec(text) ?? [];
   const of = count => Math.min(MOST_BOUND, Number(count ?? 2));
   return {writes: of(writes), reads: of(reads)};
 }
+
+// The bound of a state: that of its exercise, the one that the reader chose, or that of the text.
+export const boundOf = ({text, bound, exercise}) =>
+  exercise ? {writes: exercise.needs.writes, reads: exercise.needs.reads} : bound ?? boundIn(text);
 
 // A reader over the module and an asker (core/lab_asker.js). `tell` is called when there is something new, `meanwhile` with words on what
 // is under way. The answer has `read`, of a state, and `stop`.
@@ -38,12 +42,12 @@ export function labReaderOf({module, asker, tell, meanwhile}) {
     line: line ?? 0,
   });
 
-  function explore(text, bound, key) {
-    const began = performance.now();
-    asker.explore(text, {...bound, states: STATES, milliseconds: MILLISECONDS, all: false}, answer => {
+  function explore(text, bound, exercise, key) {
+    const began = performance.now(), bounds = {...bound, states: STATES, milliseconds: MILLISECONDS, all: false};
+    asker.explore(text, {...bounds, ...exercise ? {exercise: exercise.asked} : {}}, answer => {
       under = "";
       const judged = answer.found === undefined ? null : judgedFound(module, answer.found);
-      const it = judged ? {text, bound, seconds: (performance.now() - began) / 1000, ...judged, misses: judged.misses ?? []}
+      const it = judged ? {text, bound, seconds: (performance.now() - began) / 1000, ...judged, misses: judged.misses ?? [], met: plainMet(answer.met)}
                         : {...refusedBy(answer), text, bound};
       if (!answer.late) keep(key, it);
       if (judged && !judged.differs) last = it;
@@ -52,8 +56,9 @@ export function labReaderOf({module, asker, tell, meanwhile}) {
   }
 
   return {
-    read({text, bound: chosen, example, isTrusted}) {
-      const bound = chosen ?? boundIn(text), key = `${bound.writes} ${bound.reads} ${text}`;
+    read(state) {
+      const {text, example, isTrusted, exercise} = state, bound = boundOf(state);
+      const key = [bound.writes, bound.reads, exercise?.file ?? "", text].join(" ");
       if (under === key) return {...last ?? {misses: []}, text, bound, exploring: "exploring .."};
       end();
       if (text.trim() === "") return {refused: "there is no text", line: 0, text, bound};
@@ -61,7 +66,7 @@ export function labReaderOf({module, asker, tell, meanwhile}) {
       if (kept.has(key) && (example || isTrusted)) return kept.get(key);
       if (!example && !isTrusted) return {text, bound, waits: true, misses: []};
       under = key;
-      timer = setTimeout(() => explore(text, bound, key), example || last?.text === text ? 0 : REST);
+      timer = setTimeout(() => explore(text, bound, exercise, key), example || last?.text === text ? 0 : REST);
       return {...last ?? {misses: []}, text, bound, exploring: "exploring .."};
     },
     stop: end,

@@ -35,7 +35,7 @@ function foundWords({exploring, waits, differs, best, isWhole}) {
 }
 
 export const labView = {
-  chosen: (whole, {missed}) => ({...whole, miss: chosenOf(whole.misses, missed)}),
+  chosen: (whole, {missed, exercise}) => ({...whole, miss: chosenOf(whole.misses, missed || exercise?.needs.class)}),
   most: ({miss}) => miss?.steps ?? 0,
   first: ({miss}) => miss?.steps ?? 0,
   at(whole, shown) {
@@ -49,7 +49,8 @@ export const labView = {
   },
   drawing({miss, sides: all, registers}, it, waves, shown) {
     if (!miss) return null;
-    const sides = all.filter((side, i) => i < 2 || miss.operations.some(of => of.side === side)), kinds = registers.map(of => `${of.name} ${of.kind}`).join(", ");
+    const sides = all.filter((side, i) => i < 2 || miss.operations.some(of => of.side === side));
+    const kinds = registers.map(of => `${of.name} ${of.kind}`).join(", ");
     return {
       draw: history, sides, whole: miss.steps, count: shown, operations: miss.operations, accesses: miss.accesses, registers, waves,
       fault: it.fault, flag: `not ${miss.class}`,

@@ -2,7 +2,7 @@
 // the recording of the history that is shown.
 
 import { $, node } from "../core/dom.js";
-import { boundIn, MOST_BOUND } from "../model/lab_reading.js";
+import { MOST_BOUND, boundOf } from "../model/lab_reading.js";
 
 // The pane. `acts` has `choose`, `setBound`, `run`, `reveal` and `open`.
 export function labPane(acts) {
@@ -31,7 +31,7 @@ export function labPane(acts) {
 
   return {
     render(state, {whole, it, misses, isRefused, step}) {
-      const isLab = state.mode === "lab", {writes, reads} = state.bound ?? boundIn(state.text);
+      const isLab = state.mode === "lab", {writes, reads} = boundOf(state);
       document.body.classList.toggle("stale", isLab && Boolean(whole.exploring));
       showMisses(isRefused ? [] : misses);
       $("bound").textContent = isLab && !isRefused ? it.bound : "";
@@ -44,6 +44,7 @@ export function labPane(acts) {
       $("predict").hidden = !state.isFolded || step !== null;
       for (const [field, value] of [[$("writes"), writes], [$("reads"), reads]])
         if (document.activeElement !== field) field.value = value;
+      for (const field of fields) field.parentElement.hidden = state.exercise !== null;
     },
   };
 }

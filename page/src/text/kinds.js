@@ -15,12 +15,13 @@ const CONSTRUCTION = /^(?:\s|\/\/.*(?:\n|$)|\/\*[\s\S]*?\*\/)*\(\{/;
 const COMMENT = /^\s*(?:#|\/\/|;|--|%|$)/;
 export const LOOKED_AT = 20000; // characters in which the first line is sought that shows the kind
 export const KIND_WORDS = {trace: "a trace", script: "a script", calls: "recorded calls", register: "a recorded register",
-  lab: "a construction of a register", log: "a log of another test"};
+  lab: "a construction of a register", exercise: "an exercise", log: "a log of another test"};
 
 // What kind of text it is, or "" where no line tells.
 export function kindOf(text) {
   const front = text.slice(0, LOOKED_AT).replace(/^\uFEFF/, ""), [, first] = /^\s*\[\s*(\{[^{}]*\})/.exec(front) ?? [];
   if (first && isLog(first.replace(/\s+/g, " "))) return "log";
+  if (/^\s*\{\s*"exercise"\s*:/.test(front)) return "exercise";
   if (CONSTRUCTION.test(front.replace(/\r\n?/g, "\n"))) return "lab";
   const lines = front.split(/\r\n|\r|\n/);
   for (const it of lines) {
