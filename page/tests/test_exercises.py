@@ -1,4 +1,5 @@
-"""Tests of the exercises for a class, for page/test: those of tests/exercises.mjs, by node. Each takes the page, a `same` that compares and a folder."""
+"""Tests of the exercises for a class, for page/test: those of tests/exercises.mjs and of tests/check.mjs, by node. Each takes the page, a `same` that
+compares and a folder."""
 import os
 import re
 import shutil
@@ -7,14 +8,23 @@ import subprocess
 from browser import PAGE, counts
 
 
-def test_exercises(_, same, __):
-    """A teacher's file, what is said of a construction, and the codes of hand-ins."""
+def try_by_node(same, name):
     if not shutil.which("node"):
-        return print("left out, as there is no node on the PATH: exercises")
-    said = subprocess.run(["node", os.path.join(PAGE, "tests", "exercises.mjs")], capture_output=True, text=True, check=False).stdout
+        return print(f"left out, as there is no node on the PATH: {name}")
+    said = subprocess.run(["node", os.path.join(PAGE, "tests", name)], capture_output=True, text=True, check=False).stdout
     passed, failed = map(int, re.search(r"(\d+) passed, (\d+) failed\n$", said).groups())
     counts["passed"] += passed
-    same("exercises", [failed, said if failed else ""], [0, ""])
+    same(name, [failed, said if failed else ""], [0, ""])
 
 
-TESTS = [test_exercises]
+def test_exercises(_, same, __):
+    """A teacher's file, what is said of a construction, and the codes of hand-ins."""
+    try_by_node(same, "exercises.mjs")
+
+
+def test_check(_, same, __):
+    """page/check: the exercises that ship, a class of 60, hand-ins that mean harm."""
+    try_by_node(same, "check.mjs")
+
+
+TESTS = [test_exercises, test_check]

@@ -1,0 +1,14 @@
+// met
+({
+  values: 2,
+  registers: {b: {kind: "safe"}},
+  memory: {W: {held: 0}},
+  *write(value, my) {
+    if (value === my.held) return;
+    my.held = value;
+    yield write("b", value);
+  },
+  *read() {
+    return yield read("b");
+  },
+})

@@ -1,0 +1,19 @@
+// not met, registers that are safe: v is atomic
+({
+  values: 2,
+  registers: {v: {kind: "atomic"}, w: {kind: "atomic"}, r: {kind: "atomic", writer: "R1"}},
+  memory: {W: {v: 0, w: 0}, R: {r: 0, last: 0}},
+  *write(value, my) {
+    if (value === my.v) return;
+    yield write("v", my.v = value);
+    if ((yield read("r")) === my.w) yield write("w", my.w = 1 - my.w);
+  },
+  *read(my) {
+    if ((yield read("w")) === my.r) return my.last;
+    const value = yield read("v");
+    if ((yield read("w")) !== my.r) yield write("r", my.r = 1 - my.r);
+    my.last = yield read("v");
+    my.last = yield read("v");
+    return value;
+  },
+})

@@ -1,0 +1,15 @@
+// met
+({
+  values: 3,
+  registers: {b0: {kind: "atomic", first: 1}, b1: {kind: "atomic"}, b2: {kind: "atomic"}},
+  *write(value) {
+    yield write(`b${value}`, 1);
+    for (let i = value - 1; i >= 0; i--) yield write(`b${i}`, 0);
+  },
+  *read() {
+    let found = 0;
+    while ((yield read(`b${found}`)) === 0) found++;
+    for (let i = found - 1; i >= 0; i--) if ((yield read(`b${i}`)) === 1) found = i;
+    return found;
+  },
+})

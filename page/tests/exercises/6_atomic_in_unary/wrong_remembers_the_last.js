@@ -1,0 +1,13 @@
+// not met, atomic: missed, in 6 steps
+({
+  values: 3,
+  registers: {b0: {kind: "atomic", first: 1}, b1: {kind: "atomic"}, b2: {kind: "atomic"}},
+  *write(value) {
+    yield write(`b${value}`, 1);
+    for (let i = value - 1; i >= 0; i--) yield write(`b${i}`, 0);
+  },
+  memory: {R: {last: 0}},
+  *read(my) {
+    for (let i = 0; i < 3; i++) if ((yield read(`b${i}`)) === 1) return my.last = Math.max(my.last, i);
+  },
+})
