@@ -4,7 +4,7 @@
 
 import { CLASSES, begunAt, readBegins, readEnds, without, writeBegins, writeEnds } from "./audit.js";
 import { Wrong, proceduresOf } from "./procedures.js";
-import { packed, unpacked } from "./states.js";
+import { Numbers, States } from "./states.js";
 
 // The bounds of a search: `all` if it goes on once every class has its history, to count the histories.
 export const BOUNDS = {writes: 2, reads: 2, states: 300000, milliseconds: 10000, all: false};
@@ -120,16 +120,20 @@ function longestOf({registers, nodes, root}, isOf) {
   });
 }
 
-// How many paths there are from the first state to one without a step, by the steps of each.
-function countPaths(steps) {
-  const counts = new Float64Array(steps.length).fill(-1), stack = [0];
+// How many paths there are from the first state to one without a step: of each state where its steps go, and where the next one's begin.
+function countPaths(to, ends) {
+  const counts = new Float64Array(ends.count).fill(-1), stack = [0];
   while (stack.length) {
-    const id = stack.at(-1), waiting = steps[id].filter(it => counts[it] < 0);
-    if (waiting.length) stack.push(...waiting);
-    else {
-      counts[id] = steps[id].length ? steps[id].reduce((sum, it) => sum + counts[it], 0) : 1;
-      stack.pop();
+    const id = stack.at(-1), from = id ? ends.all[id - 1] : 0, end = ends.all[id], {length} = stack;
+    let sum = from === end ? 1 : 0;
+    for (let i = from; i < end; i++) {
+      const count = counts[to.all[i]];
+      if (count < 0) stack.push(to.all[i]);
+      else sum += count;
     }
+    if (stack.length > length) continue;
+    counts[id] = sum;
+    stack.pop();
   }
   return counts[0];
 }
@@ -149,15 +153,16 @@ export function explored(construction, bounds = {}, tell = () => {}) {
     held: registers.map(it => it.first), writing: registers.map(() => -1), audit: begunAt(form.first, form.readers),
     sides: sides.map((_, side) => ({left: side ? reads : writes, node: -1, memory: firstMemory(side), answers: -1})),
   };
-  const ids = new Map(), texts = [], parents = [], taken = [],
-        steps = []; // of each state: its text, from which it came, by which step; where its steps go
+  // Of each state from which it came, by which step; and where its steps go, with where those of the next one begin.
+  const kept = new States(registers.length, sides.length), parents = new Numbers(Int32Array), taken = new Numbers(Int16Array),
+        to = new Numbers(Uint32Array), ends = new Numbers(Uint32Array);
   const found = CLASSES.map(() => null);
   let missed = 0; // the classes that have their history
 
   // The events on the way to a state, and by one step more.
   const historyTo = (id, last) => {
     const way = [];
-    for (let at = id; parents[at] >= 0; at = parents[at]) way.unshift(taken[at]);
+    for (let at = id; parents.all[at] >= 0; at = parents.all[at]) way.unshift(taken.all[at]);
     let state = first;
     const events = [...way, last].flatMap(number => {
       const step = sides.flatMap((_, side) => stepsFrom(state, side))[number];
@@ -167,36 +172,34 @@ export function explored(construction, bounds = {}, tell = () => {}) {
     return {steps: way.length + 1, events};
   };
   const add = (state, parent, number) => {
-    const text = packed({...state, audit: without(state.audit, missed)});
-    let id = ids.get(text);
-    if (id === undefined) {
-      ids.set(text, id = texts.push(text) - 1);
+    const before = kept.count, id = kept.add({...state, audit: without(state.audit, missed)});
+    if (id === before) {
       parents.push(parent);
       taken.push(number);
-      steps.push([]);
     }
     return id;
   };
 
   add(first, -1, -1);
   let isWhole = true, at = 0;
-  for (; at < texts.length && (all || found.some(it => it === null)); at++) {
-    if (texts.length > most || at % LOOKED === 0 && performance.now() - began > milliseconds) {
+  for (; at < kept.count && (all || found.some(it => it === null)); at++) {
+    if (kept.count > most || at % LOOKED === 0 && performance.now() - began > milliseconds) {
       isWhole = false;
       break;
     }
-    if (at % LOOKED === 0) tell(texts.length);
-    const state = unpacked(texts[at], registers.length, sides.length);
+    if (at % LOOKED === 0) tell(kept.count);
+    const state = kept.at(at);
     sides.flatMap((_, side) => stepsFrom(state, side)).forEach((step, number) => {
       for (const [place] of CLASSES.entries()) {
         if (found[place] !== null || !(step.state.audit.missed >> place & 1)) continue;
         found[place] = historyTo(at, number);
         missed |= 1 << place;
       }
-      steps[at].push(add(step.state, at, number));
+      to.push(add(step.state, at, number));
     });
+    ends.push(to.count);
   }
-  const isAll = isWhole && at === texts.length, strongest = found.findIndex(it => it !== null);
+  const isAll = isWhole && at === kept.count, strongest = found.findIndex(it => it !== null);
   const longest = {
     write: writes ? longestOf(procedures, side => side === 0) : [],
     read: reads ? longestOf(procedures, side => side > 0) : [],
@@ -204,7 +207,7 @@ export function explored(construction, bounds = {}, tell = () => {}) {
   return {
     best: strongest === 0 ? null : CLASSES[(strongest < 0 ? CLASSES.length : strongest) - 1],
     found: Object.fromEntries(CLASSES.map((name, place) => [name, found[place]])),
-    states: texts.length, isWhole: isAll || found.every(it => it !== null), histories: isAll ? countPaths(steps) : null, form,
+    states: kept.count, isWhole: isAll || found.every(it => it !== null), histories: isAll ? countPaths(to, ends) : null, form,
     longest, accesses: {write: longest.write.length, read: longest.read.length},
     registers: registers.map(({name, kind, plain}) => ({name, kind, values: plain.length})),
     milliseconds: performance.now() - began,

@@ -1,14 +1,31 @@
-// The states of a search: what the registers hold, where each side stands, and what the audit keeps; and each as a short text, so that a
-// million of them have room. A state is {held, writing, sides, audit}: of each register the code of what it holds, and of what is being
-// written to it, or -1; of each side {left, node, memory, answers}: how many operations it still makes, the access that is under way or
-// due, or -1, what it remembers, and if an access is under way the answers that it may have, a bit each, else -1.
+// The states of a search: what the registers hold, where each side stands, and what the audit keeps. They are kept as numbers of 16 bits
+// in one array that grows, with a table by which each is found again, so that a million of them have room. A state is {held, writing,
+// sides, audit}: of each register the code of what it holds, and of what is being written to it, or -1; of each side {left, node, memory,
+// answers}: how many operations it still makes, the access that is under way or due, or -1, what it remembers, and if an access is under
+// way the answers that it may have, a bit each, else -1.
 
-const HALF = 15, LOW = (1 << HALF) - 1; // bits of a number that is told in two letters
+const HALF = 15, LOW = (1 << HALF) - 1; // bits of a number that is kept as two
 
-// The text of a state, a letter to a number.
-export function packed({held, writing, sides, audit}) {
-  const codes = [];
-  const add = number => codes.push(number + 1);
+// Numbers that become more.
+export class Numbers {
+  constructor(kind) {
+    this.all = new kind(1 << 10);
+    this.count = 0;
+  }
+
+  push(number) {
+    if (this.count === this.all.length) {
+      const more = new this.all.constructor(2 * this.count);
+      more.set(this.all);
+      this.all = more;
+    }
+    this.all[this.count++] = number;
+  }
+}
+
+// The numbers of a state at the end of the others, each one more than it is, so that none is below 0.
+function put(letters, {held, writing, sides, audit}) {
+  const add = number => letters.push(number + 1);
   held.forEach(add);
   writing.forEach(add);
   for (const {left, node, memory, answers} of sides) {
@@ -16,7 +33,10 @@ export function packed({held, writing, sides, audit}) {
     add(node);
     add(memory);
     if (answers < 0) add(-1);
-    else codes.push((answers & LOW) + 1, (answers >> HALF) + 1);
+    else {
+      add(answers & LOW);
+      add(answers >> HALF);
+    }
   }
   add(audit.values.length);
   audit.values.forEach(add);
@@ -26,25 +46,79 @@ export function packed({held, writing, sides, audit}) {
   audit.own.forEach(add);
   for (const it of audit.reads) {
     if (it === null) add(-1);
-    else [it.before, it.low, it.ownLow].forEach(add);
+    else {
+      add(it.before);
+      add(it.low);
+      add(it.ownLow);
+    }
   }
-  return String.fromCharCode(...codes);
 }
 
-// The state of a text, of so many registers and sides.
-export function unpacked(text, registers, sides) {
-  let at = 0;
-  const next = () => text.charCodeAt(at++) - 1, list = (count, one = next) => Array.from({length: count}, one);
-  const half = () => text.charCodeAt(at++) - 1;
-  const side = () => {
-    const left = next(), node = next(), memory = next(), low = half();
-    return {left, node, memory, answers: low < 0 ? -1 : low | half() << HALF};
-  };
-  const held = list(registers), writing = list(registers), all = list(sides, side), values = list(next());
-  const [isOpen, floor, missed] = list(3), own = list(sides - 1);
-  const reads = list(sides - 1, () => {
-    const before = next();
-    return before < 0 ? null : {before, low: next(), ownLow: next()};
-  });
-  return {held, writing, sides: all, audit: {values, isOpen, floor, missed, own, reads}};
+// States, each once, by their numbers from 0 on.
+export class States {
+  constructor(registers, sides) {
+    this.form = {registers, sides};
+    this.letters = new Numbers(Uint16Array);
+    this.ends = new Numbers(Uint32Array); // where the numbers of each state end
+    this.table = new Int32Array(1 << 11).fill(-1);
+  }
+
+  get count() {
+    return this.ends.count;
+  }
+
+  begin(id) {
+    return id ? this.ends.all[id - 1] : 0;
+  }
+
+  // Where a state stands in the table, or would stand, by its numbers from one place to another.
+  placeOf(from, to) {
+    const {letters: {all}, ends, table} = this, mask = table.length - 1;
+    let sum = 0x811c9dc5;
+    for (let i = from; i < to; i++) sum = Math.imul(sum ^ all[i], 0x01000193);
+    for (let place = (sum ^ sum >>> 15) & mask; ; place = place + 1 & mask) {
+      const id = table[place];
+      if (id < 0) return place;
+      const begin = this.begin(id);
+      let same = 0;
+      if (ends.all[id] - begin === to - from) while (from + same < to && all[begin + same] === all[from + same]) same++;
+      if (from + same === to) return place;
+    }
+  }
+
+  // The number of a state, which is one more than before if it was not there.
+  add(state) {
+    const {letters, ends} = this, from = letters.count;
+    put(letters, state);
+    const to = letters.count, place = this.placeOf(from, to), id = this.table[place];
+    if (id >= 0) {
+      letters.count = from;
+      return id;
+    }
+    this.table[place] = this.count;
+    ends.push(to);
+    if (2 * this.count > this.table.length) {
+      this.table = new Int32Array(2 * this.table.length).fill(-1);
+      for (let other = 0; other < this.count; other++) this.table[this.placeOf(this.begin(other), ends.all[other])] = other;
+    }
+    return this.count - 1;
+  }
+
+  // The state of this number.
+  at(id) {
+    const {letters: {all}, form: {registers, sides}} = this;
+    let at = this.begin(id);
+    const next = () => all[at++] - 1, list = (count, one = next) => Array.from({length: count}, one);
+    const side = () => {
+      const left = next(), node = next(), memory = next(), low = next();
+      return {left, node, memory, answers: low < 0 ? -1 : low | next() << HALF};
+    };
+    const held = list(registers), writing = list(registers), its = list(sides, side), values = list(next());
+    const [isOpen, floor, missed] = list(3), own = list(sides - 1);
+    const reads = list(sides - 1, () => {
+      const before = next();
+      return before < 0 ? null : {before, low: next(), ownLow: next()};
+    });
+    return {held, writing, sides: its, audit: {values, isOpen, floor, missed, own, reads}};
+  }
 }
