@@ -114,6 +114,8 @@ same("cut short", said("unary_of_the_ring", OF_THE_RING, CUT), [false, said("una
   `one operation makes at most 4 accesses: ${UNKNOWN}`,
 ]]);
 same("cut short, and missed", said("bit_always_written", {...NEEDS, values: 2, reads: 3}, {states: 20, milliseconds: 60000})[2].at(-2), "regular: missed, in 3 steps");
+for (const bound of ["numbers", "steps"])
+  same(`cut short by its ${bound}`, said("unary_of_the_ring", OF_THE_RING, {...WHOLLY, [bound]: 1000})[2].map(it => it.includes(UNKNOWN)), [true, true, true]);
 same("no time", said("tromp", TROMP, {states: 100000, milliseconds: -1})[2][0], `atomic, up to 2 writes and 2 reads: ${UNKNOWN}, after 1 states`);
 same("one of each", boundWords({writes: 1, reads: 1, readers: 1}), "up to 1 write and 1 read");
 same("two readers", boundWords({writes: 2, reads: 1, readers: 2}), "up to 2 writes and 1 read of each of 2 readers");

@@ -6,8 +6,11 @@ import { CLASSES, begunAt, readBegins, readEnds, without, writeBegins, writeEnds
 import { Wrong, proceduresOf } from "./procedures.js";
 import { Numbers, States } from "./states.js";
 
-// The bounds of a search: `all` if it goes on once every class has its history, to count the histories.
-export const BOUNDS = {writes: 2, reads: 2, states: 300000, milliseconds: 10000, all: false};
+// The bounds of a search: `all` if it goes on once every class has its history, to count the histories; `numbers` and `steps` of all states
+// keep it within 256 and 128 MB, whatever the size of a state.
+export const BOUNDS = {
+  writes: 2, reads: 2, states: 300000, milliseconds: 10000, all: false, numbers: (1 << 27) - (1 << 22), steps: (1 << 25) - (1 << 10),
+};
 const MOST_OPERATIONS = 1000; // of a side
 const LOOKED = 256; // states between two looks at the clock
 
@@ -144,7 +147,7 @@ function countPaths(to, ends) {
 // `longest` has of a write and of a read the accesses of one with the most of them, `accesses` how many these are, and `registers` of each
 // register its name, its kind and how many values it takes. `tell` is called with how many states there are, from time to time.
 export function explored(construction, bounds = {}, tell = () => {}) {
-  const {writes, reads, states: most, milliseconds, all} = {...BOUNDS, ...bounds}, began = performance.now();
+  const {writes, reads, milliseconds, all, ...most} = {...BOUNDS, ...bounds}, began = performance.now();
   for (const count of [writes, reads])
     if (!(Number.isInteger(count) && count >= 0 && count <= MOST_OPERATIONS)) throw new Wrong("a bound is a whole number");
   const procedures = proceduresOf(construction), {form, sides, registers, firstMemory} = procedures, stepsFrom = stepsOf(procedures);
@@ -183,7 +186,8 @@ export function explored(construction, bounds = {}, tell = () => {}) {
   add(first, -1, -1);
   let isWhole = true, at = 0;
   for (; at < kept.count && (all || found.some(it => it === null)); at++) {
-    if (kept.count > most || at % LOOKED === 0 && performance.now() - began > milliseconds) {
+    const isFull = kept.count > most.states || kept.numbers.count > most.numbers || to.count > most.steps;
+    if (isFull || at % LOOKED === 0 && performance.now() - began > milliseconds) {
       isWhole = false;
       break;
     }

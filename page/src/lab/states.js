@@ -24,8 +24,8 @@ export class Numbers {
 }
 
 // The numbers of a state at the end of the others, each one more than it is, so that none is below 0.
-function put(letters, {held, writing, sides, audit}) {
-  const add = number => letters.push(number + 1);
+function put(numbers, {held, writing, sides, audit}) {
+  const add = number => numbers.push(number + 1);
   held.forEach(add);
   writing.forEach(add);
   for (const {left, node, memory, answers} of sides) {
@@ -58,7 +58,7 @@ function put(letters, {held, writing, sides, audit}) {
 export class States {
   constructor(registers, sides) {
     this.form = {registers, sides};
-    this.letters = new Numbers(Uint16Array);
+    this.numbers = new Numbers(Uint16Array);
     this.ends = new Numbers(Uint32Array); // where the numbers of each state end
     this.table = new Int32Array(1 << 11).fill(-1);
   }
@@ -73,7 +73,7 @@ export class States {
 
   // Where a state stands in the table, or would stand, by its numbers from one place to another.
   placeOf(from, to) {
-    const {letters: {all}, ends, table} = this, mask = table.length - 1;
+    const {numbers: {all}, ends, table} = this, mask = table.length - 1;
     let sum = 0x811c9dc5;
     for (let i = from; i < to; i++) sum = Math.imul(sum ^ all[i], 0x01000193);
     for (let place = (sum ^ sum >>> 15) & mask; ; place = place + 1 & mask) {
@@ -88,11 +88,11 @@ export class States {
 
   // The number of a state, which is one more than before if it was not there.
   add(state) {
-    const {letters, ends} = this, from = letters.count;
-    put(letters, state);
-    const to = letters.count, place = this.placeOf(from, to), id = this.table[place];
+    const {numbers, ends} = this, from = numbers.count;
+    put(numbers, state);
+    const to = numbers.count, place = this.placeOf(from, to), id = this.table[place];
     if (id >= 0) {
-      letters.count = from;
+      numbers.count = from;
       return id;
     }
     this.table[place] = this.count;
@@ -106,7 +106,7 @@ export class States {
 
   // The state of this number.
   at(id) {
-    const {letters: {all}, form: {registers, sides}} = this;
+    const {numbers: {all}, form: {registers, sides}} = this;
     let at = this.begin(id);
     const next = () => all[at++] - 1, list = (count, one = next) => Array.from({length: count}, one);
     const side = () => {
