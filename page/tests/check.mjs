@@ -1,7 +1,7 @@
 // Tests page/check, by node: each exercise that ships, with its solution and wrong ones of tests/exercises; a class of 60, with three that mean harm; each text
 // of hostile_hand_ins.mjs; a report; files that are no hand-ins; misuse. The last line is `N passed, M failed`.
 import { execFileSync, spawnSync } from "node:child_process";
-import { existsSync, mkdirSync, mkdtempSync, readFileSync, readdirSync, rmSync, symlinkSync, writeFileSync } from "node:fs";
+import { cpSync, existsSync, mkdirSync, mkdtempSync, readFileSync, readdirSync, rmSync, symlinkSync, writeFileSync } from "node:fs";
 import { availableParallelism, loadavg, tmpdir } from "node:os";
 import { join } from "node:path";
 import { fileURLToPath } from "node:url";
@@ -70,16 +70,16 @@ for (let i = 10; i < 67; i++) {
 files["50.txt"] = handIn(EXERCISE, `// by student 41\n${textOf("unary_of_the_ring")}`, "Student 50"); // as 41.js has it
 want[40] = "Student 50 (50.txt): met";
 const stopped = seconds => `not met, it was stopped after ${seconds} s: a part of it does not end`;
-for (const [name, file, words] of [["loop", "67.js", stopped(25)], ["memory", "68.js"], ["pollution_of_a_wrong_one", "69.js"]]) {
+for (const [name, file, words] of [["loop", "67.js", stopped(15)], ["memory", "68.js"], ["pollution_of_a_wrong_one", "69.js"]]) {
   const [, text, its] = [...ENDLESS, ...HOSTILE].find(it => it[0] === name);
   files[file] = text;
   want.push(`${file}: ${its ?? words}`);
 }
 same("a class of 60", [want.length, Object.keys(files).length], [60, 60]);
 const klass = folderOf("class", files), began = performance.now();
-same("what is said of them", checked(three, klass), [1, ...want, "the same text: 41.js, Student 50 (50.txt)", "21 met, 39 not met"]);
+same("what is said of them", checked(three, klass, "--jobs", "1", "--seconds", "10"), [1, ...want, "the same text: 41.js, Student 50 (50.txt)", "21 met, 39 not met"]);
 const seconds = (performance.now() - began) / 1000, isBusy = loadavg()[0] > availableParallelism();
-console.log(`60 hand-ins, of which one is stopped after 25 s: ${seconds.toFixed(1)} s${isBusy ? ", on a machine with other work" : ""}`);
+console.log(`60 hand-ins, of which one is stopped after 15 s: ${seconds.toFixed(1)} s${isBusy ? ", on a machine with other work" : ""}`);
 same("in a minute", seconds < (isBusy ? 180 : 60), true);
 
 // ---- those that mean harm ------------------------------------------------------------------------------------------------------------------------------
@@ -93,7 +93,7 @@ const harm = folderOf("harm", {
 const HARM = [...HOSTILE.map(([name, , words]) => [`${name}.js`, words]), ["writes_a_file.js", "met"], ["\x1b[31mred.js", "not met, it throws 1"]];
 const inOrder = HARM.sort(([a], [b]) => a < b ? -1 : 1).map(([file, words]) => `${file.replace("\x1b", "\\u{1b}")}: ${words}`);
 const met = inOrder.filter(it => it.endsWith(": met")).length;
-same("those that mean harm", checked(three, harm).filter(it => !String(it).startsWith("the same text")),
+same("those that mean harm", checked(three, harm, "--jobs", "1").filter(it => !String(it).startsWith("the same text")),
      [1, ...inOrder, `${met} met, ${inOrder.length - met} not met`]);
 same("no file is written", marks.map(existsSync), [false, false]);
 const endless = folderOf("endless", Object.fromEntries(ENDLESS.map(([name, text]) => [`${name}.js`, text])));
@@ -104,16 +104,28 @@ const NAIVE = `import { runInNewContext } from "node:vm"; import { readFileSync 
   explored(runInNewContext(readFileSync(0, "utf8"), {read, write}), {writes: 1, reads: 1});`;
 const escaped = LOOKING.filter(([, text]) => spawnSync(process.execPath, ["--input-type=module", "-e", NAIVE], {input: text, encoding: "utf8"}).stderr.includes("Error: ESCAPED by"));
 same("ways out, if objects are passed", escaped.map(([name]) => name), ["constructors", "arguments", "stacks", "imports"]);
-// Where a text has left its context, node's permissions still keep it from files and programs.
-const flag = ["--permission", "--experimental-permission"].find(it => process.allowedNodeEnvironmentFlags.has(it));
-const source = readFileSync(join(page, "check"), "utf8");
-same("the process has no permissions", [source.includes(`"${flag}"`), /--allow-(?!fs-read)/.test(source)], [true, false]);
+// They find none in the process that judges, even without node's permissions.
+const apart = LOOKING.map(([name, text]) => {
+  const input = JSON.stringify({exercise: EXERCISE, text, bounds: {states: 1000000, milliseconds: 60000}});
+  return [name, JSON.parse(spawnSync(process.execPath, [join(page, "check_one.js")], {input, encoding: "utf8"}).stdout)];
+});
+same("no way out", apart.filter(([, it]) => !it.isMet).map(([name, it]) => `${name}: ${it.wrong ?? it.lines.find(line => !line.is).words}`), []);
+// What has left its context is kept from files and programs: another judge, which tries to write, to read, to begin a program and a thread.
+const another = folderOf("another", {"package.json": '{"type": "module"}', "check_one.js": `import { spawnSync } from "node:child_process";
+import { readFileSync, writeFileSync } from "node:fs"; import { Worker } from "node:worker_threads";
+const tried = [() => writeFileSync("${marks[0]}", ""), () => readFileSync("${three}"), () => spawnSync("/bin/true"), () => new Worker("", {eval: true})];
+const said = tried.map(it => { try { it(); return "done"; } catch (error) { return error.code; } });
+console.log(JSON.stringify({wrong: [...said, Object.keys(process.env).join()].join(" ")}));`});
+cpSync(join(page, "check"), join(another, "check"));
+cpSync(join(page, "src/lab"), join(another, "src/lab"), {recursive: true});
+const {stdout} = spawnSync(join(another, "check"), [three, folderOf("one", {"a.js": "1"})], {encoding: "utf8"});
+same("what it may not", stdout.split("\n")[0].replace(/( (?:PWD|_|SHLVL|OLDPWD)(?:,(?:PWD|_|SHLVL|OLDPWD))*)?$/, ""), `a.js: not met,${" ERR_ACCESS_DENIED".repeat(4)}`);
 
 // ---- files, reports, misuse --------------------------------------------------------------------------------------------------------------------------
 
 const code = handIn(EXERCISE, textOf("unary_up"), "Zoë"), other = handIn({exercise: "Another"}, "x", "Eve\u202e");
 const odd = folderOf("odd", {
-  "a.txt": code, "b.txt": code.slice(0, -3), "c.txt": code.replace("A", "B"), "d.txt": other, "e.js": ` ${code.replace(/.{60}/g, "$&\r\n")}\n`, "f.txt": "", ".hidden": "x",
+  "a.txt": code, "b.txt": code.slice(0, -3), "c.txt": code.replace("A", "B"), "d.txt": other, "e.js": ` ${code.replace(/.{60}/g, "$&\r\n")}\n`, "f.txt": textOf("unary_up"), ".hidden": "x",
   "g.js": Buffer.from([255, 254]), "h.js": Buffer.alloc((1 << 20) + 1, 32),
 });
 mkdirSync(join(odd, "i"));
@@ -123,7 +135,7 @@ const AGAIN = "copy it again, from kegbygone-1 to its last character";
 same("files that are no hand-ins", checked(three, odd), [
   1, "Zoë (a.txt): not met, regular: missed, in 13 steps", `b.txt: not met, this code is cut short: ${AGAIN}`, `c.txt: not met, this code is mistyped: ${AGAIN}`,
   "Eve\\u{202e} (d.txt): not met, this is of another exercise, Another", "Zoë (e.js): not met, regular: missed, in 13 steps",
-  `f.txt: not met, this code is cut short: ${AGAIN}`, "g.js: not met, this file is no text in UTF-8", "h.js: not met, this file has more than 1048576 bytes",
+  "f.txt: not met, this file has no code; a construction is in a file NAME.js", "g.js: not met, this file is no text in UTF-8", "h.js: not met, this file has more than 1048576 bytes",
   ...["i", "j.txt", "k.txt"].map(it => `${it}: not met, this is no regular file`), "0 met, 11 not met",
 ]);
 rmSync(join(odd, "e.js"));
