@@ -98,7 +98,7 @@ def test_views(page, same, folder):
     names = KEPT_NAMES.replace("#picture", "#under").replace("#names", "#undernames")
     same("names on a phone", [page.browser.run(KEPT_NAMES, 10000), page.browser.run(names, 10000)], [[True] * 3, [True] * 3])
     resize(page)
-    page.browser.run("location.hash = 'course=8'")
+    page.browser.run("location.hash = 'course=15'")
     page.browser.until("a step of the course", "return document.body.classList.contains('course')")
     same("in the course", [seen(page, it) for it in PARTS], [False] * 3)
     title, said = page.browser.run("return [document.getElementById('compare').title, document.getElementById('help').textContent]")

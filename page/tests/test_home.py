@@ -60,7 +60,7 @@ def test_letters(page, same, _):
 def test_narrow(page, same, _):
     """On a phone nothing is wider than the screen, and the legend is seen whole under a picture that is."""
     resize(page, *PHONE)
-    links = [f"{NAMED[it['mode']]}={it['name']}" for it in pack.lessons()[::4]] + ["", "course=13", "course=18", "script=break_the_ring"]
+    links = [f"{NAMED[it['mode']]}={it['name']}" for it in pack.lessons()[::4]] + ["", "course=20", "course=25", "script=break_the_ring"]
     for link in links:
         page.open(link)
         same(f"{link}: nothing is wider", page.browser.run(TOO_WIDE), [False, []])

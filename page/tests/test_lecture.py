@@ -63,9 +63,9 @@ def test_clicker(page, same, _):
 
 
 def test_boards(page, same, _):
-    """All minutes of the lecture are in the page: the steps follow each other, from 0 to 50, and what is no history is a board."""
+    """All minutes of the lecture are in the page: the steps follow each other, from 0 to 65, and what is no history is a board."""
     minutes = [tuple(map(int, it["minutes"].split("–"))) for it in pack.course()]
-    same("minutes", [minutes[0][0], minutes[-1][1], all(one[1] == two[0] for one, two in zip(minutes, minutes[1:]))], [0, 50, True])
+    same("minutes", [minutes[0][0], minutes[-1][1], all(one[1] == two[0] for one, two in zip(minutes, minutes[1:]))], [0, 65, True])
     page.open(f"course={len(minutes)}")
     same("the commands", "lamport_ring run --record" in words(page, "board"), True)
 
@@ -74,7 +74,7 @@ def test_large(page, same, _):
     """With the picture alone rules, goal, hint and Start over are a click away, and winning stands over the picture."""
     browser = page.browser
     resize(page, 1366, 768)
-    page.open("course=15")
+    page.open("course=22")
     browser.press("f")
     browser.until("large", "return document.body.classList.contains('present')")
     same("at hand", [seen(page, it) for it in ("rule", "goal", "anew")], [False, False, False])
