@@ -24,7 +24,7 @@ LEFT_OUT = {  # scripts of more events or letters than a picture is for; an item
     "a_million_idle_letters", "a_million_letters_full", "items_999", "largest_shape"}
 STYLES = ["page", "large", "small", "print"]
 MAIN = "main.js"  # the script that begins the page
-WORKERS = {"worker_script.js": "worker.js", "lab_script.js": "lab_worker.js"}  # the texts of its workers, and the scripts that begin them
+WORKERS = ["worker.js", "lab_worker.js"]  # the scripts with which its workers begin
 IMPORTED = re.compile(r'^import \{ ?([^}]*?) ?\} from "([^"]+)";\n', flags=re.M)
 EXPORTED = re.compile(r"^export ((?:async )?function\*? |const |class )([\w$]+)", flags=re.M)
 # What a text may be, and the ends of the names of its files.
@@ -197,7 +197,7 @@ def examples():
     for mode, name in taught:
         if name not in listed[mode]:
             sys.exit(f"page/lessons.txt: {mode} {name}: examples/ has none, or the page leaves it out")
-    return {"examples.json": (json.dumps(listed, indent=0, ensure_ascii=False) + "\n").encode(), **files}
+    return {"examples.json": (json.dumps(listed, separators=(",", ":"), ensure_ascii=False) + "\n").encode(), **files}
 
 
 def untaught(name):
@@ -230,16 +230,12 @@ def lay_out():
     if not made:
         sys.exit("page/pack.py: there is no module: run page/build")
     shutil.rmtree(MADE, ignore_errors=True)
-    for name, data in {"ring_page.wasm": made[0], "ring_page.from": made[1].encode() + b"\n", **texts()}.items():
+    workers = {f"{name}.joined": joined(name).encode() for name in WORKERS}
+    for name, data in {"ring_page.wasm": made[0], "ring_page.from": made[1].encode() + b"\n", **workers, **examples()}.items():
         os.makedirs(os.path.dirname(os.path.join(MADE, name)), exist_ok=True)
         with open(os.path.join(MADE, name), "wb") as file:
             file.write(data)
     return made
-
-
-def texts():
-    """The texts that the page has in itself: those of its workers, and of the examples."""
-    return {**{name: joined(main).encode() for name, main in WORKERS.items()}, **examples()}
 
 
 def imports_of(name, text):
@@ -266,32 +262,33 @@ def scripts_of(name, found=None, above=()):
     return found
 
 
-def joined(name):
+def joined(name, *others):
     """This script and all that it imports, as one, without lines that are a comment alone and without indents (so no text of several lines may need
-    them): each is a function of its own, which returns what it exports."""
-    parts = ["const modules = {};"]
-    for its, text in scripts_of(name).items():
+    them): each is a function of its own, which returns what it exports, and is called once it is used. The last line uses the script; those of `others`
+    are there to be used in its place."""
+    parts = ["const scripts = {}, used = {}, use = name => used[name] ??= scripts[name]();"]
+    for its, text in {each: text for main in (name, *others) for each, text in scripts_of(main).items()}.items():
         if len(EXPORTED.findall(text)) != len(re.findall(r"^export\b", text, flags=re.M)):
             sys.exit(f"page/src/{its}: an export is neither a function, nor a const, nor a class")
-        body = IMPORTED.sub(lambda it, its=its: f"const {{ {it[1]} }} = modules[\"{os.path.normpath(os.path.join(os.path.dirname(its), it[2]))}\"];\n", text)
+        body = IMPORTED.sub(lambda it, its=its: f"const {{ {it[1]} }} = use(\"{os.path.normpath(os.path.join(os.path.dirname(its), it[2]))}\");\n", text)
         body = re.sub(r"^ +", "", re.sub(r"^ *//.*\n", "", body, flags=re.M), flags=re.M)
         exports = ", ".join(it for _, it in EXPORTED.findall(text))
-        parts.append(f'modules["{its}"] = (() => {{\n{EXPORTED.sub(lambda it: it[1] + it[2], body)}return {{ {exports} }};\n}})();')
-    return "\n".join(parts) + "\n"
+        parts.append(f'scripts["{its}"] = () => {{\n{EXPORTED.sub(lambda it: it[1] + it[2], body)}return {{ {exports} }};\n}};')
+    return "\n".join([*parts, f'use("{name}");']) + "\n"
 
 
 def unused():
     """The scripts that neither the page nor one of its workers imports."""
-    used = {it for main in (MAIN, *WORKERS.values()) for it in scripts_of(main)}
+    used = {it for main in (MAIN, *WORKERS) for it in scripts_of(main)}
     there = {os.path.relpath(os.path.join(folder, it), SOURCES) for folder, _, files in os.walk(SOURCES) for it in files if it.endswith(".js") and not folder.startswith(MADE)}
     return sorted(there - used)
 
 
 def one_file(module, made_of):
     """The page with its style, its scripts in one, and its files; the policy allows these by their hashes and no others."""
-    kept = f"globalThis.ringTexts = {json.dumps({name: it.decode() for name, it in sorted(texts().items())}, indent=0)};\n"
+    kept = f"globalThis.ringTexts = {json.dumps({name: it.decode() for name, it in sorted(examples().items())}, indent=0, ensure_ascii=False)};\n"
     kept += f"globalThis.ringModule = {json.dumps(base64.b64encode(module).decode())};\n"
-    script = joined(MAIN)
+    script = joined(MAIN, *WORKERS)
     style = "".join(read(f"src/{name}.css").decode() for name in STYLES)
     assert not any(it in text for it in ("</script", "<!--") for text in (kept, script)) and "</" not in style
     assert not re.search('["<>&]', made_of), made_of
@@ -308,7 +305,7 @@ def one_file(module, made_of):
         (" From the disk, open lamport_ring.html.", ""),
         ("comes from a server and runs", "runs"),
         ("\n".join(f'<link rel="stylesheet" href="{name}.css">' for name in STYLES), f"<style>{style}</style>"),
-        ('<script type="module" src="main.js"></script>', f'<script>{kept}</script>\n<script type="module">{script}</script>'),
+        ('<script type="module" src="main.js"></script>', f'<script>{kept}</script>\n<script type="module" id="script">{script}</script>'),
     ]:
         assert page.count(old) == 1, old
         page = page.replace(old, new)

@@ -4,7 +4,7 @@ import { actsOf, keysOf } from "./acts.js";
 import { MOST_LINKED } from "./core/address.js";
 import { askerOf } from "./core/asker.js";
 import { $ } from "./core/dom.js";
-import { moduleBytes, textOf } from "./core/files.js";
+import { moduleBytes, textOf, workerText } from "./core/files.js";
 import { listenToKeys } from "./core/keys.js";
 import { labAskerOf } from "./core/lab_asker.js";
 import { openModule } from "./core/module.js";
@@ -62,7 +62,7 @@ function cannotRun(error) {
 
 async function opened() {
   const examples = JSON.parse(await textOf("examples.json")), bytes = await moduleBytes(), module = await openModule(bytes);
-  const asker = askerOf(await textOf("worker_script.js"), bytes), labAsker = labAskerOf(await textOf("lab_script.js"));
+  const asker = askerOf(await workerText("worker.js"), bytes), labAsker = labAskerOf(await workerText("lab_worker.js"));
   const page = pageOf({examples, views: viewsOf(module), asker, module, labAsker}), acts = actsOf(page);
   page.setPanes(panesOf(acts, page, module, asker));
   listenToKeys(() => page.state.mode, keysOf(page, acts));

@@ -8,6 +8,12 @@ async function fetched(name) {
 
 export const textOf = async name => globalThis.ringTexts?.[name] ?? (await fetched(name)).text();
 
+// The text of the script of a worker. In the page in one file all scripts are one, whose last line says which of them begins.
+export async function workerText(name) {
+  const all = document.getElementById("script")?.textContent;
+  return all ? all.replace(/\buse\("main\.js"\);\s*$/, `use("${name}");\n`) : textOf(`${name}.joined`);
+}
+
 // The bytes of the proved module.
 export async function moduleBytes() {
   if (globalThis.ringModule === undefined) return (await fetched("ring_page.wasm")).arrayBuffer();
