@@ -97,12 +97,14 @@ same("those that mean harm", checked(three, harm, "--jobs", "1").filter(it => !S
      [1, ...inOrder, `${met} met, ${inOrder.length - met} not met`]);
 same("no file is written", marks.map(existsSync), [false, false]);
 const endless = folderOf("endless", Object.fromEntries(ENDLESS.map(([name, text]) => [`${name}.js`, text])));
-same("those that do not end", checked(three, endless, "--seconds", "1", "--jobs", "1"), [1, ...["loop", "loop_in_a_builtin", "loop_in_a_write"].map(it => `${it}.js: ${stopped(6)}`), "0 met, 3 not met"]);
+same("those that do not end", checked(three, endless, "--seconds", "1", "--jobs", "1"),
+     [1, ...["loop", "loop_in_a_builtin", "loop_in_a_write"].map(it => `${it}.js: ${stopped(6)}`), "0 met, 3 not met"]);
 // Those that look for a way out find it in a context to which objects are passed, as page/lab does it; or none is there.
 const NAIVE = `import { runInNewContext } from "node:vm"; import { readFileSync } from "node:fs";
   import { explored } from "${page}src/lab/explorer.js"; import { read, write } from "${page}src/lab/procedures.js";
   explored(runInNewContext(readFileSync(0, "utf8"), {read, write}), {writes: 1, reads: 1});`;
-const escaped = LOOKING.filter(([, text]) => spawnSync(process.execPath, ["--input-type=module", "-e", NAIVE], {input: text, encoding: "utf8"}).stderr.includes("Error: ESCAPED by"));
+const naive = text => spawnSync(process.execPath, ["--input-type=module", "-e", NAIVE], {input: text, encoding: "utf8"}).stderr;
+const escaped = LOOKING.filter(([, text]) => naive(text).includes("Error: ESCAPED by"));
 same("ways out, if objects are passed", escaped.map(([name]) => name), ["constructors", "arguments", "stacks", "imports"]);
 // They find none in the process that judges, even without node's permissions.
 const apart = LOOKING.map(([name, text]) => {
@@ -125,7 +127,8 @@ same("what it may not", stdout.split("\n")[0].replace(/( (?:PWD|_|SHLVL|OLDPWD)(
 
 const code = handIn(EXERCISE, textOf("unary_up"), "Zoë"), other = handIn({exercise: "Another"}, "x", "Eve\u202e");
 const odd = folderOf("odd", {
-  "a.txt": code, "b.txt": code.slice(0, -3), "c.txt": code.replace("A", "B"), "d.txt": other, "e.js": ` ${code.replace(/.{60}/g, "$&\r\n")}\n`, "f.txt": textOf("unary_up"), ".hidden": "x",
+  "a.txt": code, "b.txt": code.slice(0, -3), "c.txt": code.replace("A", "B"), "d.txt": other,
+  "e.js": ` ${code.replace(/.{60}/g, "$&\r\n")}\n`, "f.txt": textOf("unary_up"), ".hidden": "x",
   "g.js": Buffer.from([255, 254]), "h.js": Buffer.alloc((1 << 20) + 1, 32),
 });
 mkdirSync(join(odd, "i"));
@@ -135,7 +138,8 @@ const AGAIN = "copy it again, from kegbygone-1 to its last character";
 same("files that are no hand-ins", checked(three, odd), [
   1, "Zoë (a.txt): not met, regular: missed, in 13 steps", `b.txt: not met, this code is cut short: ${AGAIN}`, `c.txt: not met, this code is mistyped: ${AGAIN}`,
   "Eve\\u{202e} (d.txt): not met, this is of another exercise, Another", "Zoë (e.js): not met, regular: missed, in 13 steps",
-  "f.txt: not met, this file has no code; a construction is in a file NAME.js", "g.js: not met, this file is no text in UTF-8", "h.js: not met, this file has more than 1048576 bytes",
+  "f.txt: not met, this file has no code; a construction is in a file NAME.js",
+  "g.js: not met, this file is no text in UTF-8", "h.js: not met, this file has more than 1048576 bytes",
   ...["i", "j.txt", "k.txt"].map(it => `${it}: not met, this is no regular file`), "0 met, 11 not met",
 ]);
 rmSync(join(odd, "e.js"));
@@ -155,7 +159,8 @@ const none = folderOf("none", {}), USAGE = "page/check: usage: page/check EXERCI
 for (const [given, words] of [
   [[], USAGE], [[three], USAGE], [[three, odd, odd], USAGE], [[three, none], `page/check: ${none} has no hand-ins`],
   [[three, odd, "--report", "Ada"], `page/check: ${odd} has no hand-in of Ada`], [[three, odd, "--seconds", "0"], "page/check: --seconds: a whole number from 1 to 3600"],
-  [[three, odd, "--states", "x"], "page/check: --states: a whole number from 1 to 10000000"], [[three, odd, "--jobs", "1.5"], "page/check: --jobs: a whole number from 1 to 64"],
+  [[three, odd, "--states", "x"], "page/check: --states: a whole number from 1 to 10000000"],
+  [[three, odd, "--jobs", "1.5"], "page/check: --jobs: a whole number from 1 to 64"],
   [[fileOf("no.json", "{}"), odd], 'page/check: field "exercise" is missing: a line of 1 to 200 characters'],
   [[join(folder, "nowhere.json"), odd], `page/check: ENOENT: no such file or directory, open '${join(folder, "nowhere.json")}'`],
 ]) same(`misuse: ${given.slice(1).join(" ")}`, checked(...given), [2, words]);
