@@ -1,6 +1,7 @@
 """Tests of the lab in the page, and of recorded registers, for page/test: the page's explorer in its worker, texts that are wrong or mean harm, links, pictures.
 Each takes the page, a `same` that compares and a folder."""
 import glob
+import json
 import os
 import re
 import time
@@ -302,4 +303,48 @@ def test_phone(page, same, _):
     resize(page)
 
 
-TESTS = [test_constructions, test_wrong_texts, test_hostile, test_links, test_judged, test_lab, test_predict, test_registers, test_kinds_of_files, test_phone]
+EXERCISE = {"exercise": "A <b>bit</b>", "task": "Make it <i>regular</i>.", "text": GOOD,
+            "needs": {"class": "regular", "values": 2, "readers": 1, "kinds": ["safe"], "registers": 1, "accesses": 1, "writes": 2, "reads": 2}}
+SOLVED = '({values: 2, registers: {b: {}}, memory: {W: {held: 0}}, *write(value, my) { if (value !== my.held) yield write("b", my.held = value); }, *read() { return yield read("b"); }})\n'
+NEEDS = "return [...document.querySelectorAll('#needs li')].map(it => [it.className, it.textContent])"
+
+
+def test_exercise(page, same, folder):
+    """A teacher's file shows its task and what is met of it; once all is, the code to hand in, which page/check's reader reads."""
+    path, browser = os.path.join(folder, "bit.json"), page.browser
+    with open(path, "w", encoding="ascii") as file:
+        json.dump(EXERCISE, file)
+    page.open("example=plain_path")
+    give(page, path)
+    page.settle()
+    same("its words are text", [words(page, "exercisename"), words(page, "task"), page.count("#exercise b, #exercise i")], ["A <b>bit</b>", "Make it <i>regular</i>.", 0])
+    missed = [it for it in browser.run(NEEDS) if it[0] != "met"]
+    same("what is missed, with its history", [missed, words(page, "why").startswith("not regular: line "), seen(page, "handing")], [[["", "regular: missed, in 3 steps"]], True, False])
+    page.write(SOLVED)
+    same("all is met", [sorted({it[0] for it in browser.run(NEEDS)}), seen(page, "handing"), browser.run("return document.getElementById('handin').disabled")], [["met"], True, True])
+    browser.run("const it = document.getElementById('student'); it.value = 'Ada'; it.dispatchEvent(new Event('input'))")
+    page.click("handin")
+    read = "const {readHandIn} = await import(new URL('lab/exercises.js', location)); return readHandIn(document.getElementById('code').value);"
+    same("the code", browser.wait(read), {"exercise": "A <b>bit</b>", "name": "Ada", "text": SOLVED})
+    page.click("savecode")
+    for _ in range(100):
+        if os.path.exists(os.path.join(folder, "Ada.txt")):
+            break
+        time.sleep(0.05)
+    same("as a file", text_of(os.path.join(folder, "Ada.txt")).strip(), browser.run("return document.getElementById('code').value"))
+    page.write(GOOD)
+    same("and no longer", [seen(page, "handing"), seen(page, "handed")], [False, False])
+    page.write(SOLVED)
+    link = page.hash()
+    page.open(link[1:])
+    same("its link does not run", [seen(page, "run"), words(page, "exercisename"), page.text()], [True, "A <b>bit</b>", SOLVED])
+    page.click("afresh")
+    same("nor the text that it begins with", [seen(page, "run"), page.text(), browser.run(NEEDS)], [True, GOOD, []])
+    page.click("run")
+    page.settle()
+    same("but then", len(browser.run(NEEDS)), 6)
+    page.open(urllib.parse.urlencode({"exercise": '{"exercise": "none"}'}))
+    same("one that is none", words(page, "bits"), "this is no exercise: field \"task\" is missing: a text of 1 to 20000 characters")
+
+
+TESTS = [test_constructions, test_wrong_texts, test_hostile, test_links, test_judged, test_lab, test_predict, test_registers, test_kinds_of_files, test_exercise, test_phone]

@@ -12,7 +12,7 @@ const WAVES = 14, WAVE = 27; // around the waves of a row; the height of one
 const NEAR = 46, FAR = 100; // between two places
 const BEYOND = 10; // of a brace beyond its accesses; half an access that is one place
 const WIDE = 11, NARROW = 7; // letters in an access
-const MOST_HEAD = 90; // characters
+const MOST_HEAD = 70; // characters
 
 const lanesOf = (sides, {first, ruler, readers, apart, high}) =>
   ({ruler, high, ...Object.fromEntries(sides.map((side, i) => [side, i ? readers + (i - 1) * apart : first]))});
@@ -135,17 +135,17 @@ export function history({
   };
 
   const drawLegend = () => {
-    const brace = `<g class="call"><path d="M1 3v-8h30v8"/></g><text class="legend" x="42" y="0">an operation, and what it returned</text>`;
+    const brace = `<g class="call"><path d="M1 3v-8h30v8"/></g><text class="legend" x="42" y="0">an operation, and its result</text>`;
     const write = `<g class="bar s"><path d="M1 -11h21v14h-21z"/></g>`;
     const bars = [`${write}<text class="legend" x="32" y="0">a write, from its begin to its end</text>`,
       `<g class="bar r"><path d="M1 13h21v14h-21z"/></g><text class="legend" x="32" y="24">a read</text>`];
     const parts = isOfBars ? bars : [
-      brace, `<g class="write s"><path d="M330 -11h21v14h-21z"/></g><text class="legend" x="361" y="0">an access that writes</text>`,
-      `<g class="read r"><path d="M545 -11h21v14h-21z"/></g><text class="legend" x="576" y="0">one that reads</text>`,
+      brace, `<g class="write s"><path d="M268 -11h21v14h-21z"/></g><text class="legend" x="299" y="0">an access that writes</text>`,
+      `<g class="read r"><path d="M470 -11h21v14h-21z"/></g><text class="legend" x="501" y="0">one that reads</text>`,
       `<g class="read r free"><path d="M1 13h21v14h-21z"/></g>`,
-      `<text class="legend" x="42" y="24">a write overlaps it: its register's kind says what it may return</text>`,
-      ...shownWaves.length ? [`<rect class="underway" x="545" y="13" width="21" height="15"/>`,
-        `<text class="legend" x="576" y="24">being written</text>`] : [],
+      `<text class="legend" x="42" y="24">overlapped by a write: its kind says what it may return</text>`,
+      ...shownWaves.length ? [`<rect class="underway" x="470" y="13" width="21" height="15"/>`,
+        `<text class="legend" x="501" y="24">being written</text>`] : [],
     ];
     if (isOfBars && others.length)
       parts.push(`<rect class="chip against" x="334" y="13" width="34" height="16" rx="4"/>`,
@@ -154,7 +154,7 @@ export function history({
   };
 
   const more = shownWaves.length < wavesInAll ? `values of ${shownWaves.length} of ${wavesInAll} registers` : "";
-  sheet.drawHead([escape(head.slice(0, MOST_HEAD)), more].filter(Boolean));
+  sheet.drawHead([escape(head.length > MOST_HEAD ? `${head.slice(0, MOST_HEAD - 1)}…` : head), more].filter(Boolean));
   sheet.drawRows();
   for (const place of sheet.placesDrawn()) if (place !== fault && !others.includes(place)) sheet.drawNumber(place);
   // what is marked lies under the operations, whose words stay to be read

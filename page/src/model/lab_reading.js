@@ -47,8 +47,8 @@ export function labReaderOf({module, asker, tell, meanwhile}) {
     asker.explore(text, {...bounds, ...exercise ? {exercise: exercise.asked} : {}}, answer => {
       under = "";
       const judged = answer.found === undefined ? null : judgedFound(module, answer.found);
-      const it = judged ? {text, bound, seconds: (performance.now() - began) / 1000, ...judged, misses: judged.misses ?? [], met: plainMet(answer.met)}
-                        : {...refusedBy(answer), text, bound};
+      const seconds = (performance.now() - began) / 1000, met = plainMet(answer.met);
+      const it = judged ? {text, bound, seconds, ...judged, misses: judged.misses ?? [], met} : {...refusedBy(answer), text, bound};
       if (!answer.late) keep(key, it);
       if (judged && !judged.differs) last = it;
       tell(it);

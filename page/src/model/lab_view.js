@@ -2,6 +2,7 @@
 // history missed, up to the bound, and of each class that is missed a shortest history.
 
 import { history } from "../draw/history.js";
+import { KINDS_OF_REGISTERS } from "../lab/procedures.js";
 import { linesAgainst } from "./misses.js";
 
 const WAITS = "This text came by a link, and has not run: it is code. Look at it, and run it if you trust it.";
@@ -50,7 +51,8 @@ export const labView = {
   drawing({miss, sides: all, registers}, it, waves, shown) {
     if (!miss) return null;
     const sides = all.filter((side, i) => i < 2 || miss.operations.some(of => of.side === side));
-    const kinds = registers.map(of => `${of.name} ${of.kind}`).join(", ");
+    const kinds = KINDS_OF_REGISTERS.map(kind => [kind, ...registers.filter(of => of.kind === kind).map(of => of.name)].join(" "))
+      .filter(words => words.includes(" ")).join(", ");
     return {
       draw: history, sides, whole: miss.steps, count: shown, operations: miss.operations, accesses: miss.accesses, registers, waves,
       fault: it.fault, flag: `not ${miss.class}`,

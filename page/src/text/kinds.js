@@ -11,7 +11,7 @@ const LINES_OF = {
   register: /^(?:(?:cut )?register \d|W (?:write \d|wrote\b)|R\d+ (?:read\b|got \d))/,
 };
 // A construction begins with ({ after comments of JavaScript.
-const CONSTRUCTION = /^(?:\s|\/\/.*(?:\n|$)|\/\*[\s\S]*?\*\/)*\(\{/;
+const CONSTRUCTION = /^(?:\s|\/\/.*(?:\n|$)|\/\*(?:[^*]|\*(?!\/))*\*\/)*\(\{/;
 const COMMENT = /^\s*(?:#|\/\/|;|--|%|$)/;
 export const LOOKED_AT = 20000; // characters in which the first line is sought that shows the kind
 export const KIND_WORDS = {trace: "a trace", script: "a script", calls: "recorded calls", register: "a recorded register",
