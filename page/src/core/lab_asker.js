@@ -4,6 +4,9 @@
 const MORE = 3000; // milliseconds beyond those of a search, until a worker that does not answer is stopped
 const MOST_WORDS = 600; // characters of what is said to be wrong
 
+// (Firefox reports a script that it cannot read without a word on it.)
+const NO_PLACE = "the text has a syntax error; this browser does not say in which line, Chromium does";
+
 const isList = it => Array.isArray(it);
 const linesIn = text => text.split("\n").length;
 
@@ -51,7 +54,7 @@ export function labAskerOf(script) {
     };
     mine.onerror = event => {
       event.preventDefault();
-      end({wrong: String(event.message ?? "the text does not run").replace(/^Uncaught /, "").slice(0, MOST_WORDS),
+      end({wrong: String(event.message ?? NO_PLACE).replace(/^Uncaught /, "").slice(0, MOST_WORDS),
         line: lineIn(event.lineno)});
     };
     timer = setTimeout(() => end({late: true}), bounds.milliseconds + MORE);

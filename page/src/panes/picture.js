@@ -8,7 +8,7 @@ import { NARROWEST } from "../draw/sheet.js";
 
 const LARGE = 1.5; // times its own size that a picture is shown at least, for a class to read its letters
 const LONG = 1.2; // times the height of the window from which on a picture is scrolled, and not shrunk
-const NOTHING_FOUND = {fault: null, broken: null, found: null, contradicts: null, against: []};
+const NOTHING_FOUND = {fault: null, broken: null, found: null, contradicts: null, against: [], head: ""};
 
 const room = () => document.querySelector("main");
 const bars = () => [...$("picture").querySelectorAll("[data-line]")];
