@@ -103,7 +103,7 @@ export function actsOf(page) {
     openLesson: page.load, openStep: page.openStep, openFile: page.openFile, leave: page.leave, stop: page.stop,
     edit(text) {
       if (state.example) page.leave();
-      const isTrusted = state.mode !== "lab" || state.isTrusted || state.example !== ""; // a text of a link stays one as it is edited
+      const isTrusted = state.isTrusted || state.example !== ""; // a text of a link stays one as it is edited
       page.change({text, example: "", file: "", note: "", refusal: "", shown: Infinity, missed: "", isTrusted,
         isFolded: state.isFolded && state.course !== null});
     },
@@ -115,12 +115,12 @@ export function actsOf(page) {
     // The lesson's own text again, or that of the step of the course.
     reset() {
       if (state.exercise) page.change({text: state.exercise.text, shown: Infinity});
-      else if (state.course === null) page.load(state.mode, state.lesson);
+      else if (state.course === null) page.load(state.mode, state.lesson, {isFolded: false});
       else page.openStep(state.course, page.now.isAside ? Infinity : 1);
     },
     reveal: () => page.change({isFolded: false}),
     setBound: bound => page.change({bound}),
-    run: () => page.change({isTrusted: true}),
+    run: page.run,
     choose: missed => page.change({missed, shown: Infinity}),
     setLarge: isLarge => page.change({isLarge}),
     setNotes: hasNotes => page.change({hasNotes}),

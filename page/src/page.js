@@ -60,10 +60,15 @@ export function pageOf({examples, views, asker, module, labAsker}) {
     render(isStep);
   }
 
-  // A search that the reader stops.
+  // A search that the reader stops, or asks for.
   function stopLab() {
     labReader.stop();
-    whole = {refused: "stopped before it was explored", line: 0, text: state.text};
+    whole = {text: state.text, waits: "stopped before it was explored", misses: []};
+    render();
+  }
+  function run() {
+    state.isTrusted = true;
+    whole = readWhole();
     render();
   }
 
@@ -153,6 +158,7 @@ export function pageOf({examples, views, asker, module, labAsker}) {
     get panes() { return panes; },
     setPanes: all => panes = all,
     leave: address.leave,
+    run,
     stop: () => state.mode === "lab" ? stopLab() : reader.stop(),
   };
 }

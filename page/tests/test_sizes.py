@@ -64,12 +64,19 @@ return [shown.map(it => it.textContent).join() === own.map(it => it.textContent)
   shown.every((it, i) => at(it).left >= at(main).left && at(it).right < at(main).left + 80 && Math.abs(at(it).top - at(own[i]).top) < 2), main.scrollLeft > 0];"""
 
 
+def show(page, it, behind=""):
+    """A lesson, with what is found of it."""
+    page.open(f"{NAMED[it['mode']]}={it['name']}{behind}")
+    if it["mode"] == "lab" and it["question"]:
+        page.browser.press("v")
+
+
 def test_phone(page, same, _):
     """On a phone the fault or the cursor is in view, rows keep their names as they are scrolled, and the steps stay beside the story."""
     resize(page, *PHONE)
     for it in pack.lessons():
         what = f"{it['mode']} {it['name']}"
-        page.open(f"{NAMED[it['mode']]}={it['name']}")
+        show(page, it)
         same(f"{what}: in view", page.browser.run(IN_VIEW), True)
         names = page.browser.run(KEPT_NAMES, 10000)
         same(f"{what}: names", names[:2], [True, True])
@@ -180,16 +187,16 @@ def printed(page, wide, high):
 def test_paper(page, same, _):
     """Each lesson is one sheet of paper, with all of its story, its question and its picture."""
     for at, it in enumerate(pack.lessons()):
-        page.open(f"{NAMED[it['mode']]}={it['name']}")
+        show(page, it)
         for name, size in SHEETS.items() if at % 6 == 0 or it["name"] in ("five_items", "clears_first") else [("A4", SHEETS["A4"])]:
             same(f"{it['mode']} {it['name']}: sheets of {name}", len(re.findall(rb"/Type\s*/Page\b", printed(page, *size))), 1)
     resize(page, 718, 1046)  # A4 without its margins
     media(page, "print")
     for it in pack.lessons():
-        page.open(f"{NAMED[it['mode']]}={it['name']}")
+        show(page, it)
         cut = page.browser.run("""return ["lesson", "side", "told"].filter(id => document.getElementById(id).scrollHeight > document.getElementById(id).clientHeight + 1)
             .concat(["story", "question", "verdict"].filter(id => !document.getElementById(id).checkVisibility()),
-              document.querySelector("#picture svg").getBoundingClientRect().bottom > innerHeight ? ["picture"] : [])""")
+              document.querySelector("#picture svg")?.getBoundingClientRect().bottom > innerHeight ? ["picture"] : [])""")
         same(f"{it['mode']} {it['name']}: what is cut or lacks on paper", cut, [])
     media(page)
     resize(page)
@@ -214,7 +221,7 @@ def test_numbers_of_one(page, same, _):
         return [document.title, document.body.innerText, ...titles, ...names].join("\\n").match(/(?<![\\d.])1 (items|letters|lines|events|cells|bits|bytes|reads|writes|calls|takes|puts|scans|digits|steps|lessons|rows)\\b/g)"""
     for it in pack.lessons():
         for behind in ("", "&shown=1"):
-            page.open(f"{NAMED[it['mode']]}={it['name']}{behind}")
+            show(page, it, behind)
             same(f"of one, {it['mode']} {it['name']}{behind}", page.browser.run(said), None)
     page.open("script=nothing")
     page.browser.press("p")

@@ -118,7 +118,7 @@ export function history({
     const classes = [it.isWrite ? "write" : "read", family(it.side), hasEnded && it.isOverlapped && "free"].filter(Boolean).join(" ");
     const of = operations.find(other => other.side === it.side && other.begin <= it.begin && it.begin <= other.end);
     const does = it.isWrite ? `writes ${it.value} to ${register}` : hasEnded ? `reads ${register}: ${it.value}` : `reads ${register}`;
-    const own = [`<title>${it.side} ${escape(does)}, ${when(it)}${of ? `, of its ${of.isWrite ? "write" : "read"}` : ""}</title>`];
+    const own = [`<title>${it.side}: ${escape(does)}, ${when(it)}${of ? `, of its ${of.isWrite ? "write" : "read"}` : ""}</title>`];
     for (const {y: rowTop, from: left, to: right, begins, ends} of partsOf(it.begin, it.end)) {
       const y = rowTop + lanes[it.side], half = Math.min(BEYOND, unit / 3);
       const [from, to] = isPoint ? [round(left - half), round(right + half)] : [left, right];

@@ -8,6 +8,7 @@ const STATES = 300000, MILLISECONDS = 10000; // of one search
 const MOST_TEXT = 20000, MOST_KEPT = 8; // characters of a text; results that are kept
 export const MOST_BOUND = 20; // writes, and reads of a reader
 const NO_ANSWER = `The text has not answered within ${MILLISECONDS / 1000 + 3} seconds, and was stopped: does something in it never end?`;
+const WAITS = "This text came by a link, and has not run: it is code. Look at it, and run it if you trust it.";
 const NO_WORKER = "This browser lets no worker run here: page/lab explores the text";
 
 // The bound that a text names in the comments at its head, as `// 3 writes, 2 reads`, or else 2 and 2.
@@ -64,7 +65,7 @@ export function labReaderOf({module, asker, tell, meanwhile}) {
       if (text.trim() === "") return {refused: "there is no text", line: 0, text, bound};
       if (text.length > MOST_TEXT) return {refused: `a construction has at most ${MOST_TEXT} characters here`, line: 0, text, bound};
       if (kept.has(key) && (example || isTrusted)) return kept.get(key);
-      if (!example && !isTrusted) return {text, bound, waits: true, misses: []};
+      if (!example && !isTrusted) return {text, bound, waits: WAITS, misses: []};
       under = key;
       timer = setTimeout(() => explore(text, bound, exercise, key), example || last?.text === text ? 0 : REST);
       return {...last ?? {misses: []}, text, bound, exploring: "exploring .."};

@@ -5,7 +5,8 @@ import { history } from "../draw/history.js";
 import { KINDS_OF_REGISTERS } from "../lab/procedures.js";
 import { linesAgainst } from "./misses.js";
 
-const WAITS = "This text came by a link, and has not run: it is code. Look at it, and run it if you trust it.";
+
+const NONE_MISSED = "No history within the bound misses a class, so none is drawn.";
 
 const plural = (count, word) => `${count.toLocaleString("en")} ${word}${count === 1 ? "" : "s"}`;
 
@@ -30,7 +31,7 @@ const chosenOf = (misses, name) => misses.find(it => it.class === name) ?? misse
 
 function foundWords({exploring, waits, differs, best, isWhole}) {
   if (exploring) return {words: exploring, mood: "dim"};
-  if (waits) return {words: WAITS, mood: "waits"};
+  if (waits) return {words: waits, mood: "waits"};
   if (differs) return {words: differs, mood: "refused"};
   return {words: `${best ?? "not safe"}${isWhole ? "" : ", so far"}`, mood: best === "atomic" && isWhole ? "good" : best ? "" : "bad"};
 }
@@ -45,7 +46,8 @@ export const labView = {
     return {
       words, mood, line: 0, exploring, fault: isAtFault ? fault : null, bound: isFound ? boundWords(whole) : "",
       why: isAtFault && isFound ? `not ${miss.class}: ${miss.why.words}` : "",
-      step: miss && shown ? `step ${shown}: ${miss.words[shown - 1]}` : "", recording: miss?.recording ?? "",
+      due: isFound && !miss ? NONE_MISSED : "", step: miss && shown ? `step ${shown}: ${miss.words[shown - 1]}` : "",
+      recording: miss?.recording ?? "",
     };
   },
   drawing({miss, sides: all, registers}, it, waves, shown) {
@@ -64,5 +66,5 @@ export const labView = {
   place: ({miss}, shown) => miss ? `step ${shown} / ${miss.steps}` : "",
   rows: () => [],
   misses: ({misses, miss, exploring}) =>
-    exploring ? [] : misses.map(it => ({name: it.class, words: `not ${it.class}: ${it.steps} steps`, isOn: it === miss})),
+    exploring ? [] : misses.map(it => ({name: it.class, words: `not ${it.class}: ${plural(it.steps, "step")}`, isOn: it === miss})),
 };
