@@ -280,6 +280,9 @@ def test_registers(page, same, folder):
     browser.press("left")
     same("before the fault", [words(page, "bits"), words(page, "place"), page.count("#picture .fault")], ["register: atomic", "line 6 / 9", 0])
     same("its link", page.hash(), "#register=unary&shown=5")
+    long = "register 0 2\n" + "W write 1\nR1 read\nW wrote\nR1 got 1\nW write 0\nW wrote\n" * 6500
+    page.write(long + "R1 read\nR1 got 1\n")
+    same("a long one", [len(long) > 300000, words(page, "bits"), words(page, "place"), page.count("#picture .bar.fault")], [True, "register: not safe", "line 39003 / 39003", 1])
     page.write("register 0 2\nR1 read\nR1 got 0\n")
     same("an own text", [words(page, "bits"), page.linked("history"), words(page, "due")], ["register: atomic", "register 0 2\nR1 read\nR1 got 0\n", "this recording cannot tell a regular register from an atomic one"])
 

@@ -35,7 +35,7 @@ export function readerOf({asker, views, tell}) {
     end,
     read(mode, text) {
       end();
-      const later = text.length > LONG && mode !== "trace" ? readLater(mode, text) : null;
+      const later = text.length > LONG && (mode === "calls" || mode === "script") ? readLater(mode, text) : null;
       return later ?? orStopped(() => views[mode].read(text));
     },
     stop() {
