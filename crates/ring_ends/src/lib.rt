@@ -12,6 +12,8 @@ mod ends;
 mod machines;
 mod meetings;
 mod putters;
+mod resting_putters;
+mod resting_takers;
 mod rings;
 mod takers;
 
@@ -21,5 +23,7 @@ pub use counter_takers::CounterTaker;
 pub use ends::{PutEnd, RingOf, TakeEnd};
 pub use meetings::Finished;
 pub use putters::Putter;
+pub use resting_putters::RestingPutter;
+pub use resting_takers::RestingTaker;
 pub use rings::{FlickerRing, RunFault, Start, StartIn};
 pub use takers::Taker;
