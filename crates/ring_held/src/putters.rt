@@ -1,0 +1,85 @@
+//! The end that puts, with its ring.
+ghost use Rattle.ring_ends.specs.Meetings.{ClosesAre};
+
+use bits_core::Shape;
+use ring_core::{BatchReply, PutReply};
+use ring_ends::{CounterRing, PutEnd, RestingPutter};
+use std::alloc::Allocator;
+use std::marker::Model;
+use std::sync::Arc;
+
+/// The producer's end of a counter ring, which owns the ring together with the other end. It may be a field of a struct, and go
+/// to a thread of its own; the ring's memory is given back once both ends are gone. To a contract it is an end, as a
+/// [`CounterPutter`](ring_ends::CounterPutter) is, and its calls are those of [`PutEnd`].
+#[derive(Drop)]
+pub struct HeldPutter<A: Allocator> {
+    pub(crate) ring: Arc<CounterRing<A>, A>,
+    // (`None` only while a call is under way)
+    pub(crate) end: Option<RestingPutter>,
+}
+
+impl<A: Allocator> Model for HeldPutter<A> {
+    ghost use Rattle.std.specs.Arc.{arc_value};
+    ghost use Rattle.ring_seats.specs.Ring.{RingEnd};
+    ghost use Rattle.bits_core.specs.declared.events.Side.TheVariants.{P};
+    ghost use Rattle.ring_held.specs.Held.{held_end, IsHeldEnd};
+
+    ghost Value = { RingEnd };
+
+    ghost view = { λ h. held_end (arc_value h.ring) h.end };
+
+    ghost invariant = { λ h. IsHeldEnd P (arc_value h.ring) h.end };
+}
+
+impl<A: Allocator> HeldPutter<A> {
+    /// Whether it has closed the ring: whether a close stands in its list of whole calls.
+    pub fn is_closed(&self) -> bool
+        ensures { ClosesAre self.now.ring.shape self.now.list result }
+    {
+        let Some(end) = &self.end else {
+            unreachable!();
+        };
+        end.is_closed()
+    }
+}
+
+impl<A: Allocator> PutEnd for HeldPutter<A> {
+    ghost end = { λ h. h };
+
+    ghost idle = { λ _. Unit {0} };
+
+    ghost answered = { λ _ _. Unit {0} };
+
+    fn shape(&self) -> Shape {
+        self.ring.shape()
+    }
+
+    fn put(&mut self, item: u64) -> PutReply {
+        let Some(end) = self.end.take() else {
+            unreachable!();
+        };
+        let mut putter = end.at(&self.ring);
+        let reply = putter.put(item);
+        self.end = Some(putter.rest());
+        reply
+    }
+
+    fn put_all(&mut self, items: &[u64]) -> BatchReply {
+        let Some(end) = self.end.take() else {
+            unreachable!();
+        };
+        let mut putter = end.at(&self.ring);
+        let reply = putter.put_all(items);
+        self.end = Some(putter.rest());
+        reply
+    }
+
+    fn close(&mut self) {
+        let Some(end) = self.end.take() else {
+            unreachable!();
+        };
+        let mut putter = end.at(&self.ring);
+        putter.close();
+        self.end = Some(putter.rest());
+    }
+}

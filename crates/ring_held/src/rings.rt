@@ -1,0 +1,96 @@
+//! How a held ring is made, and how its two ends meet and end.
+ghost use Rattle.std.specs.Prelude.{◌≡◌, IfOk};
+ghost use Rattle.bits_core.specs.declared.events.Side.TheVariants.{P, C};
+ghost use Rattle.ring_core.specs.Linear.{EachReadingIsLinearizable};
+ghost use Rattle.ring_seats.specs.Steppers.{StandsAs};
+ghost use Rattle.ring_ends.specs.Meetings.{ClosesAre, KeepsEnd, Meets, TellsAre};
+ghost use Rattle.ring_held.specs.Held.{FreshEnds, TakesArePrefix};
+
+use crate::putters::HeldPutter;
+use crate::takers::HeldTaker;
+use bits_core::Shape;
+use ring_core::laws::{ring_law, whole_calls_count};
+use ring_ends::{CounterRing, Finished, RunFault};
+use std::alloc::Allocator;
+use std::sync::Arc;
+
+/// A new counter ring of this shape, by its two ends: the one puts, the other takes. It takes memory for the ring's words and
+/// once for the ring itself. `OutOfMemory` is answered if the allocator refused either, and then all is given back.
+pub fn hold<A: Allocator + Copy>(
+    alloc: A,
+    shape: Shape,
+) -> Result<(HeldPutter<A>, HeldTaker<A>), RunFault>
+    ensures { IfOk result (λ r. FreshEnds shape r.0 r.1) }
+{
+    let (ring, start) = CounterRing::new(alloc, shape)?;
+    let (putter, taker) = ring.ends(start);
+    let putter = putter.rest();
+    let taker = taker.rest();
+    let ring = Arc::new(alloc, ring)?;
+    let theirs = Arc::try_clone(&ring)?;
+    Ok((
+        HeldPutter {
+            ring,
+            end: Some(putter),
+        },
+        HeldTaker {
+            ring: theirs,
+            end: Some(taker),
+        },
+    ))
+}
+
+/// Both ends learn one lawful history, whose sides are their two lists and which begins with what each knew. Its calls are
+/// linearizable. The ends are those of one ring; they come back with the same lists. It makes no access and takes no memory.
+pub fn meet<A: Allocator>(
+    putter: HeldPutter<A>,
+    taker: HeldTaker<A>,
+) -> (HeldPutter<A>, HeldTaker<A>)
+    requires ring { putter.ring ≡ taker.ring }
+    ensures putter { KeepsEnd putter result.0 }
+    ensures taker { KeepsEnd taker result.1 }
+    ensures one { result.1.known ≡ result.0.known }
+    ensures meets { Meets putter taker result.0.known }
+    ensures linearizable { EachReadingIsLinearizable putter.ring.shape result.0.known }
+    ensures lawful { StandsAs P result.0 × StandsAs C result.1 }
+{
+    let HeldPutter { ring, end: p } = putter;
+    let HeldTaker {
+        ring: theirs,
+        end: c,
+    } = taker;
+    let (Some(p), Some(c)) = (p, c) else {
+        unreachable!();
+    };
+    let (p, c) = CounterRing::meet(p.at(&ring), c.at(&theirs));
+    let (p, c) = (p.rest(), c.rest());
+    (
+        HeldPutter { ring, end: Some(p) },
+        HeldTaker {
+            ring: theirs,
+            end: Some(c),
+        },
+    )
+}
+
+/// Ends the ring's run, of which one lawful history is left, whose sides are the two lists and which begins with what each end
+/// knew; its calls are linearizable, and the items taken are a prefix of the items put. The ends are those of one ring; they are
+/// gone, and the ring with them. It makes no access and takes no memory.
+pub fn finish<A: Allocator>(putter: HeldPutter<A>, taker: HeldTaker<A>) -> Finished
+    requires ring { putter.ring ≡ taker.ring }
+    ensures ring { result.id ≡ putter.ring.id }
+    ensures meets { Meets putter taker result.history }
+    ensures linearizable { EachReadingIsLinearizable putter.ring.shape result.history }
+    ensures closed { ClosesAre putter.ring.shape putter.list result.closed }
+    ensures told { TellsAre taker.ring.shape taker.list result.told }
+    ensures prefix { TakesArePrefix putter taker }
+{
+    ring_law();
+    whole_calls_count();
+    let HeldPutter { ring, end: p } = putter;
+    let HeldTaker { end: c, .. } = taker;
+    let (Some(p), Some(c)) = (p, c) else {
+        unreachable!();
+    };
+    CounterRing::finish(p.at(&ring), c.at(&ring))
+}
