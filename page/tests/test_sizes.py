@@ -5,7 +5,7 @@ import re
 
 import pack
 from browser import example
-from test_use import NAMED, SIZES, media, resize, seen
+from test_use import SIZES, media, resize, seen, show
 
 PHONE = (390, 844)
 SHEETS = {"A4": (8.27, 11.69), "letter": (8.5, 11)}  # of paper, in inches
@@ -62,13 +62,6 @@ const own = [...document.querySelectorAll("#picture .lane, #picture .wavename")]
 const shown = kept.length ? kept : own;
 return [shown.map(it => it.textContent).join() === own.map(it => it.textContent).join(),
   shown.every((it, i) => at(it).left >= at(main).left && at(it).right < at(main).left + 80 && Math.abs(at(it).top - at(own[i]).top) < 2), main.scrollLeft > 0];"""
-
-
-def show(page, it, behind=""):
-    """A lesson, with what is found of it."""
-    page.open(f"{NAMED[it['mode']]}={it['name']}{behind}")
-    if it["mode"] == "lab" and it["question"]:
-        page.browser.press("v")
 
 
 def test_phone(page, same, _):

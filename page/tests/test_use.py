@@ -30,6 +30,13 @@ def seen(page, id_):
     return page.browser.run("return document.getElementById(arguments[0]).checkVisibility()", id_)
 
 
+def show(page, it, behind=""):
+    """A lesson, with what is found of it."""
+    page.open(f"{NAMED[it['mode']]}={it['name']}{behind}")
+    if it["mode"] == "lab" and it["question"]:
+        page.browser.press("v")
+
+
 def test_own(page, same, folder):
     trace, script = "shape 1 3 1\nP write s0 1\nC read s0\nC got s0 0\n", '{"<img src=x>":"&amp;+% \u00e9"}'
     page.open("example=plain_path")
@@ -171,7 +178,8 @@ def calls_of(page):
 
 
 # The words over braces, parts, bars and flags that lie on one another, or out of the picture.
-COLLISIONS = """const texts = [...document.querySelectorAll("#picture .callwords, #picture .part, #picture .bit, #picture .flagwords, #picture .legend, #picture .asks, #picture .says, #picture .effect")].map(it => [it.textContent, it.getBoundingClientRect()]);
+COLLISIONS = """if (!document.querySelector("#picture svg")) return []; // of a construction that misses no class
+const texts = [...document.querySelectorAll("#picture .callwords, #picture .part, #picture .bit, #picture .flagwords, #picture .legend, #picture .asks, #picture .says, #picture .effect")].map(it => [it.textContent, it.getBoundingClientRect()]);
 const room = document.querySelector("#picture svg").getBoundingClientRect(), found = texts.filter(([, it]) => it.left < room.left - 1 || it.right > room.right + 1).map(([text]) => text);
 texts.forEach(([text, a], i) => texts.slice(0, i).forEach(([other, b]) => {
   if (a.left < b.right - 1 && b.left < a.right - 1 && a.top < b.bottom - 3 && b.top < a.bottom - 3) found.push(`${text} on ${other}`);
@@ -188,7 +196,7 @@ def test_collisions(page, same, _):
         resize(page, wide, high, scale)
         for it in lessons if wide == 1366 else lessons[::4]:
             for theme in ("light", "dark") if it is lessons[0] or it["name"] == "stale_item" else ("light",):
-                page.open(f"{NAMED[it['mode']]}={it['name']}&theme={theme}")
+                show(page, it, f"&theme={theme}")
                 same(f"words on words, {wide} {theme} {it['mode']} {it['name']}", page.browser.run(COLLISIONS), [])
     for wide, high, scale in SIZES:
         resize(page, wide, high, scale)
