@@ -188,8 +188,8 @@ def test_paper(page, same, _):
     for it in pack.lessons():
         show(page, it)
         cut = page.browser.run("""return ["lesson", "side", "told"].filter(id => document.getElementById(id).scrollHeight > document.getElementById(id).clientHeight + 1)
-            .concat(["story", "question", "verdict"].filter(id => !document.getElementById(id).checkVisibility()),
-              document.querySelector("#picture svg")?.getBoundingClientRect().bottom > innerHeight ? ["picture"] : [])""")
+            .concat(["story", ...arguments[0] ? ["question"] : [], "verdict"].filter(id => !document.getElementById(id).checkVisibility()),
+              document.querySelector("#picture svg")?.getBoundingClientRect().bottom > innerHeight ? ["picture"] : [])""", it["question"] != "")
         same(f"{it['mode']} {it['name']}: what is cut or lacks on paper", cut, [])
     media(page)
     resize(page)
@@ -211,7 +211,7 @@ return all.flatMap(it => [it, ...it.querySelectorAll("span, b, code")]).filter(i
 def test_numbers_of_one(page, same, _):
     """Of one thing the page speaks in the singular."""
     said = """const titles = [...document.querySelectorAll("svg title")].map(it => it.textContent), names = [...document.querySelectorAll("[aria-label], [title]")].map(it => `${it.ariaLabel} ${it.title}`);
-        return [document.title, document.body.innerText, ...titles, ...names].join("\\n").match(/(?<![\\d.])1 (items|letters|lines|events|cells|bits|bytes|reads|writes|calls|takes|puts|scans|digits|steps|lessons|rows)\\b/g)"""
+        return [document.title, document.body.innerText, ...titles, ...names].join("\\n").match(/(?<![\\w.])1 (items|letters|lines|events|cells|bits|bytes|reads|writes|calls|takes|puts|scans|digits|steps|lessons|rows)\\b/g)"""
     for it in pack.lessons():
         for behind in ("", "&shown=1"):
             show(page, it, behind)
