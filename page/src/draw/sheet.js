@@ -15,7 +15,8 @@ const RING = {P: "producer", C: "consumer"};
 export const round = x => Math.round(x * 10) / 10;
 // A text as a picture may have it; what no XML has is replaced.
 const NO_XML = /[^\t\n\r\x20-\ud7ff\ue000-\ufffd\u{10000}-\u{10ffff}]/gu;
-export const escape = text => String(text).replace(NO_XML, "\ufffd").replace(/&/g, "&amp;").replace(/</g, "&lt;").replace(/>/g, "&gt;").replace(/"/g, "&quot;");
+export const escape = text =>
+  String(text).replace(NO_XML, "\ufffd").replace(/&/g, "&amp;").replace(/</g, "&lt;").replace(/>/g, "&gt;").replace(/"/g, "&quot;");
 
 // How so many places are laid out in rows: with the widest letters with which the whole picture fits a frame of this height over width;
 // where none does, with the least. As many places in a row as fit, from `least` to `most` apart, and the rows evenly filled.
