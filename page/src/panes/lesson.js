@@ -84,7 +84,7 @@ function fillLesson(lessons, at, step, isAside) {
 
 // The list of the steps of the course and of the lessons, by chapters, for a <select>.
 function lessonOptions(lessons, course) {
-  const groups = new Map([["Course", Object.assign(document.createElement("optgroup"), {label: "Course, 50 minutes"})]]);
+  const groups = new Map([["Course", Object.assign(document.createElement("optgroup"), {label: "Course, 65 minutes"})]]);
   const optionOf = ({title, name}, words, value) => Object.assign(new Option(words + title, value), {title: name});
   course.forEach((it, i) => groups.get("Course").append(optionOf(titled(lessons, it), `${i + 1}. `, `course ${i}`)));
   for (const it of lessons) {
