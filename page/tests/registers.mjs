@@ -17,15 +17,11 @@ function same(what, got, want) {
   console.log(`${what}: got ${JSON.stringify(got)}, want ${JSON.stringify(want)}`);
 }
 
-// A class that is missed on the line of one of these is left out by `audit --register`.
-const LEFT_OUT_BY = {safe: [], regular: ["safe"], "atomic by reader": ["regular", "atomic"], atomic: ["regular"]};
-
 // What `audit --register` prints of what the module finds.
 function printed({refused, words, class: name, misses, isCut}) {
   if (refused) return `refused: ${refused}\n`;
   if (words.startsWith("fault")) return `${words}\n${isCut ? "cut yes\n" : ""}`;
-  const isPrinted = it => !misses.some(other => LEFT_OUT_BY[it.class].includes(other.class) && other.line === it.line);
-  return `${[name ?? "not safe", ...misses.filter(isPrinted).map(it => `not ${it.class}: ${it.words}`)].join("\n")}\n${isCut ? "cut yes\n" : ""}`;
+  return `${[name ?? "not safe", ...misses.map(it => `not ${it.class}: ${it.words}`)].join("\n")}\n${isCut ? "cut yes\n" : ""}`;
 }
 
 const reported = ({report: {writes, reads, overlapped, by_several, could_invert}}) =>
