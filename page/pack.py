@@ -19,7 +19,7 @@ MADE = os.path.join(SOURCES, "made")
 TOP = os.path.dirname(PAGE)
 EXAMPLES = os.path.join(TOP, "examples")
 SHIPPED = "lamport_ring.html"
-FIRST = ["new_old_inversion", "plain_path", "plain"]  # what the page begins with
+FIRST = ["new_old_inversion", "plain_path", "plain", "unary", "bit_always_written"]  # what each kind of text begins with
 LEFT_OUT = {  # scripts of more events or letters than a picture is for; an item that JavaScript has no number for
     "a_million_idle_letters", "a_million_letters_full", "items_999", "largest_shape"}
 STYLES = ["page", "large", "small", "print"]
