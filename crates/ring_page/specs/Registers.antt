@@ -22,6 +22,7 @@ use Rattle.ring_page.specs.declared.registers.RegisterCounts.{RegisterCounts}
 use Rattle.ring_page.specs.declared.registers.RegisterTold.{RegisterTold}
 
 -- the number of a class, or of none
+-- again, as queue_calls_c, on which no crate stands, has it
 abbrev pub class_number : Option Class → ℕ
 class_number None = 0
 class_number (Some Safe) = 1
