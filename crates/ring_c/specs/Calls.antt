@@ -1,5 +1,5 @@
 -- What a call of C comes to, by the end that its handle has, if it has one.
-use Rattle.std.specs.Prelude.{◌≡◌, ◌⊎◌, ℕ, ◌^◌, ◌<◌, ◌≤◌, Bool, true, false, Option, Some, None, List, drop, length}
+use Rattle.std.specs.Prelude.{◌≡◌, ◌⊎◌, ℕ, ◌^◌, ◌<◌, ◌≤◌, Bool, true, false, Option, Some, None, List, [], drop, length, take}
 use Rattle.bits_core.specs.declared.shapes.Shape.{Shape}
 use Rattle.bits_core.specs.declared.events.Event.{Event}
 use Rattle.bits_core.specs.declared.events.Side.TheVariants.{P, C}
@@ -13,11 +13,13 @@ use Rattle.ring_core.specs.declared.replies.TakeReply.TheVariants as taking
 use Rattle.ring_core.specs.declared.replies.TakeBatchReply.{TakeBatchReply}
 use Rattle.ring_core.specs.declared.replies.TakeBatchReply.TheVariants as several
 use Rattle.ring_core.specs.Puts.{IsBatch}
+use Rattle.ring_core.specs.ConsumerCalls.{reply_items}
 use Rattle.ring_core.specs.Linear.{EachReadingIsLinearizable}
 use Rattle.ring_seats.specs.Ring.{RingEnd}
 use Rattle.ring_seats.specs.Steppers.{IsSameEnd, StandsAs}
-use Rattle.ring_ends.specs.Ends.{HasClosed, HasPut, HasPutAll, HasTaken, HasTakenAll}
+use Rattle.ring_ends.specs.Ends.{HasClosed, HasPut, HasPutAll, HasTaken, HasTakenAll, number_brought}
 use Rattle.ring_ends.specs.Meetings.{ClosesAre, Meets, TellsAre}
+use Rattle.ring_ends.specs.Stored.{StoresMore, TakesMore, item_stored, number_stored}
 use Rattle.ring_held.specs.Held.{FreshEnds, TakesArePrefix}
 
 -- ---- the numbers of the replies
@@ -45,12 +47,14 @@ IsSeveralNumber several.Closed code taken = (code ≡ 2) × (taken ≡ 0)
 
 -- ---- the producer's calls
 
--- the end made this call: its list has the call's phrase more, and the number is the phrase's reply
+-- the end made this call: its list has the call's phrase more, so it has stored the item if it was stored, and the number is the
+-- phrase's reply
 pub record PutsAs (a b : RingEnd) (item code : ℕ) : Type 0 where
   pub same : IsSameEnd a b
   pub lawful : StandsAs P b
   pub reply : PutReply
   pub phrase : HasPut b.ring.shape item a.list b.list reply
+  pub queue : StoresMore a b (item_stored reply item)
   pub code_is : code ≡ put_number reply
 
 -- or it was refused, which changes nothing
@@ -67,6 +71,7 @@ pub record PutsAllAs (a b : RingEnd) (items : List ℕ) (code stored : ℕ) : Ty
   pub lawful : StandsAs P b
   pub reply : BatchReply
   pub phrase : HasPutAll b.ring.shape items a.list b.list reply
+  pub queue : StoresMore a b (take (number_stored reply) items)
   pub code_is : IsBatchNumber reply code stored
 
 abbrev pub PutsAllOr : (a b : RingEnd) → List ℕ → (code stored : ℕ) → Type 0
@@ -81,6 +86,7 @@ pub record ClosesAs (a b : RingEnd) : Type 0 where
   pub same : IsSameEnd a b
   pub lawful : StandsAs P b
   pub phrase : HasClosed b.ring.shape a.list b.list
+  pub queue : StoresMore a b []
 
 abbrev pub ClosesBy : Option RingEnd → Option RingEnd → Bool → Type 0
 ClosesBy None after done = (after ≡ None) × (done ≡ false)
@@ -98,6 +104,7 @@ pub record TakesAs (a b : RingEnd) (code before after : ℕ) : Type 0 where
   pub lawful : StandsAs C b
   pub reply : TakeReply
   pub phrase : HasTaken b.ring.shape a.list b.list reply
+  pub queue : TakesMore a b (reply_items reply)
   pub code_is : IsTakeNumber reply code before after
 
 abbrev pub TakesBy : Option RingEnd → Option RingEnd → (code before after : ℕ) → Type 0
@@ -109,6 +116,7 @@ pub record TakesAllAs (a b : RingEnd) (code : ℕ) (before after : List ℕ) (ta
   pub lawful : StandsAs C b
   pub reply : TakeBatchReply
   pub phrase : HasTakenAll b.ring.shape (length before) a.list b.list reply after
+  pub queue : TakesMore a b (take (number_brought reply) after)
   pub code_is : IsSeveralNumber reply code taken
   pub others : drop taken after ≡ drop taken before
 

@@ -13,3 +13,5 @@ pub mod TakerWhole
 pub mod TakesAll
 pub mod CounterPutterCalls
 pub mod CounterTakerCalls
+pub mod Passed
+pub mod StoredItems

@@ -3,3 +3,4 @@ pub mod Ends
 pub mod Machines
 pub mod Meetings
 pub mod Moves
+pub mod Stored

@@ -1,15 +1,12 @@
 -- The ends of a ring which own it together.
-use Rattle.std.specs.Prelude.{◌≡◌, Option, Some, None, []}
+use Rattle.std.specs.Prelude.{◌≡◌, ℕ, Bool, true, Option, Some, None, List, []}
 use Rattle.bits_core.specs.declared.shapes.Shape.{Shape}
 use Rattle.bits_core.specs.declared.events.Side.{Side}
 use Rattle.bits_core.specs.declared.events.Side.TheVariants.{P, C}
 use Rattle.bits_core.specs.Made.{IsPrefix}
-use Rattle.ring_core.specs.Puts.{Puts}
-use Rattle.ring_core.specs.Takes.{Takes}
-use Rattle.ring_core.specs.Items.{all_put, all_taken}
 use Rattle.ring_seats.specs.Ring.{Ring, RingEnd}
 use Rattle.ring_seats.specs.Steppers.{StandsAs}
-use Rattle.ring_seats.specs.Calls.{HasPuts, HasTakes}
+use Rattle.ring_ends.specs.Stored.{HasStored, HasTook}
 
 -- what such an end is: the end that it holds
 abbrev pub held_end : Ring → Option RingEnd → RingEnd
@@ -29,9 +26,13 @@ pub record FreshEnds (shape : Shape) (p c : RingEnd) : Type 0 where
   pub taker : c ≡ record { ring = c.ring; side = C; list = []; known = []; loads = [] }
   pub puts : StandsAs P p
   pub takes : StandsAs C c
+  pub stored : HasStored p []
+  pub took : HasTook c []
 
--- however the lists of the two ends are read as calls, the items taken are a prefix of the items put
+-- the items that the second end took are a prefix of those that the first stored
 abbrev pub TakesArePrefix : (p c : RingEnd) → Type 0
-TakesArePrefix p c =
-    (puts : Puts) (takes : Takes) → HasPuts p.ring.shape p.list puts → HasTakes p.ring.shape c.list takes →
-    IsPrefix (all_taken takes.takes) (all_put puts.puts)
+TakesArePrefix p c = (put taken : List ℕ) → HasStored p put → HasTook c taken → IsPrefix taken put
+
+-- if the second end was told that the ring is closed, they are all of them
+abbrev pub TakesAreAll : (p c : RingEnd) → Bool → Type 0
+TakesAreAll p c told = (put taken : List ℕ) → HasStored p put → HasTook c taken → told ≡ true → taken ≡ put

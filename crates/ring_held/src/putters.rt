@@ -1,5 +1,12 @@
 //! The end that puts, with its ring.
+ghost use Rattle.std.specs.Prelude.{◌<◌, ◌^◌, [], take};
+ghost use Rattle.bits_core.specs.Shape.{width_of};
+ghost use Rattle.bits_core.specs.declared.events.Side.TheVariants.{P};
+ghost use Rattle.ring_core.specs.Puts.{IsBatch};
+ghost use Rattle.ring_seats.specs.Steppers.{IsSameEnd, StandsAs};
+ghost use Rattle.ring_ends.specs.Ends.{HasClosed, HasPut, HasPutAll};
 ghost use Rattle.ring_ends.specs.Meetings.{ClosesAre};
+ghost use Rattle.ring_ends.specs.Stored.{StoresMore, item_stored, number_stored};
 
 use bits_core::Shape;
 use ring_core::{BatchReply, PutReply};
@@ -54,7 +61,14 @@ impl<A: Allocator> PutEnd for HeldPutter<A> {
         self.ring.shape()
     }
 
-    fn put(&mut self, item: u64) -> PutReply {
+    /// As each put; in a queue's words, the items stored are those before and then this one, if it was stored.
+    fn put(&mut self, item: u64) -> PutReply
+        requires fits { item < 2 ^ width_of self.old.ring.shape }
+        ensures same { IsSameEnd self.old self.new }
+        ensures lawful { StandsAs P self.new }
+        ensures phrase { HasPut self.new.ring.shape item self.old.list self.new.list result }
+        ensures stored { StoresMore self.old self.new (item_stored result item) }
+    {
         let Some(end) = self.end.take() else {
             unreachable!();
         };
@@ -64,7 +78,14 @@ impl<A: Allocator> PutEnd for HeldPutter<A> {
         reply
     }
 
-    fn put_all(&mut self, items: &[u64]) -> BatchReply {
+    /// As each put of several; the items stored are those before and then the first of these, as many as it answers.
+    fn put_all(&mut self, items: &[u64]) -> BatchReply
+        requires batch { IsBatch self.old.ring.shape items.now }
+        ensures same { IsSameEnd self.old self.new }
+        ensures lawful { StandsAs P self.new }
+        ensures phrase { HasPutAll self.new.ring.shape items.now self.old.list self.new.list result }
+        ensures stored { StoresMore self.old self.new (take (number_stored result) items.now) }
+    {
         let Some(end) = self.end.take() else {
             unreachable!();
         };
@@ -74,7 +95,13 @@ impl<A: Allocator> PutEnd for HeldPutter<A> {
         reply
     }
 
-    fn close(&mut self) {
+    /// As each close; the items stored stay.
+    fn close(&mut self)
+        ensures same { IsSameEnd self.old self.new }
+        ensures lawful { StandsAs P self.new }
+        ensures phrase { HasClosed self.new.ring.shape self.old.list self.new.list }
+        ensures stored { StoresMore self.old self.new [] }
+    {
         let Some(end) = self.end.take() else {
             unreachable!();
         };

@@ -4,7 +4,7 @@ ghost use Rattle.bits_core.specs.declared.events.Side.TheVariants.{P, C};
 ghost use Rattle.ring_core.specs.Linear.{EachReadingIsLinearizable};
 ghost use Rattle.ring_seats.specs.Steppers.{StandsAs};
 ghost use Rattle.ring_ends.specs.Meetings.{ClosesAre, KeepsEnd, Meets, TellsAre};
-ghost use Rattle.ring_held.specs.Held.{FreshEnds, TakesArePrefix};
+ghost use Rattle.ring_held.specs.Held.{FreshEnds, TakesAreAll, TakesArePrefix};
 
 use crate::putters::HeldPutter;
 use crate::takers::HeldTaker;
@@ -16,6 +16,7 @@ use std::sync::Arc;
 
 /// A new counter ring of this shape, by its two ends: the one puts, the other takes. It takes memory for the ring's words and
 /// once for the ring itself. `OutOfMemory` is answered if the allocator refused either, and then all is given back.
+#[tactic(auto, using(ring_ends::proofs::StoredItems::none_stored, ring_ends::proofs::StoredItems::none_took))]
 pub fn hold<A: Allocator + Copy>(
     alloc: A,
     shape: Shape,
@@ -74,8 +75,8 @@ pub fn meet<A: Allocator>(
 }
 
 /// Ends the ring's run, of which one lawful history is left, whose sides are the two lists and which begins with what each end
-/// knew; its calls are linearizable, and the items taken are a prefix of the items put. The ends are those of one ring; they are
-/// gone, and the ring with them. It makes no access and takes no memory.
+/// knew; its calls are linearizable. The items taken are a prefix of the items stored, and all of them once the taker was told that
+/// the ring is closed. The ends are those of one ring; they are gone, and the ring with them. It makes no access and takes no memory.
 pub fn finish<A: Allocator>(putter: HeldPutter<A>, taker: HeldTaker<A>) -> Finished
     requires ring { putter.ring ≡ taker.ring }
     ensures ring { result.id ≡ putter.ring.id }
@@ -84,6 +85,7 @@ pub fn finish<A: Allocator>(putter: HeldPutter<A>, taker: HeldTaker<A>) -> Finis
     ensures closed { ClosesAre putter.ring.shape putter.list result.closed }
     ensures told { TellsAre taker.ring.shape taker.list result.told }
     ensures prefix { TakesArePrefix putter taker }
+    ensures all { TakesAreAll putter taker result.told }
 {
     ring_law();
     whole_calls_count();

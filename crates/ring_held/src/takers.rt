@@ -1,5 +1,12 @@
 //! The end that takes, with its ring.
+ghost use Rattle.std.specs.Prelude.{◌≡◌, ◌≤◌, drop, length, take};
+ghost use Rattle.bits_core.specs.Shape.{take_batch_of};
+ghost use Rattle.bits_core.specs.declared.events.Side.TheVariants.{C};
+ghost use Rattle.ring_core.specs.ConsumerCalls.{reply_items};
+ghost use Rattle.ring_seats.specs.Steppers.{IsSameEnd, StandsAs};
+ghost use Rattle.ring_ends.specs.Ends.{HasTaken, HasTakenAll, number_brought};
 ghost use Rattle.ring_ends.specs.Meetings.{TellsAre};
+ghost use Rattle.ring_ends.specs.Stored.{TakesMore};
 
 use bits_core::Shape;
 use ring_core::{TakeBatchReply, TakeReply};
@@ -20,6 +27,7 @@ pub struct HeldTaker<A: Allocator> {
 impl<A: Allocator> Model for HeldTaker<A> {
     ghost use Rattle.std.specs.Arc.{arc_value};
     ghost use Rattle.ring_seats.specs.Ring.{RingEnd};
+    ghost use Rattle.bits_core.specs.Shape.{take_batch_of};
     ghost use Rattle.bits_core.specs.declared.events.Side.TheVariants.{C};
     ghost use Rattle.ring_held.specs.Held.{held_end, IsHeldEnd};
 
@@ -53,7 +61,13 @@ impl<A: Allocator> TakeEnd for HeldTaker<A> {
         self.ring.shape()
     }
 
-    fn take(&mut self) -> TakeReply {
+    /// As each take; in a queue's words, the items taken are those before and then the one that it answers, if it answers one.
+    fn take(&mut self) -> TakeReply
+        ensures same { IsSameEnd self.old self.new }
+        ensures lawful { StandsAs C self.new }
+        ensures phrase { HasTaken self.new.ring.shape self.old.list self.new.list result }
+        ensures taken { TakesMore self.old self.new (reply_items result) }
+    {
         let Some(end) = self.end.take() else {
             unreachable!();
         };
@@ -63,7 +77,18 @@ impl<A: Allocator> TakeEnd for HeldTaker<A> {
         reply
     }
 
-    fn take_all(&mut self, into: &mut [u64]) -> TakeBatchReply {
+    /// As each take of several; the items taken are those before and then those in the first places, as many as it answers.
+    fn take_all(&mut self, into: &mut [u64]) -> TakeBatchReply
+        requires some { 1 ≤ length into.old }
+        requires few { length into.old ≤ take_batch_of self.old.ring.shape }
+        ensures same { IsSameEnd self.old self.new }
+        ensures lawful { StandsAs C self.new }
+        ensures phrase { HasTakenAll self.new.ring.shape (length into.old) self.old.list self.new.list result into.new }
+        ensures within { number_brought result ≤ length into.old }
+        ensures long { length into.new ≡ length into.old }
+        ensures others { drop (number_brought result) into.new ≡ drop (number_brought result) into.old }
+        ensures taken { TakesMore self.old self.new (take (number_brought result) into.new) }
+    {
         let Some(end) = self.end.take() else {
             unreachable!();
         };

@@ -3,6 +3,7 @@ pub mod Relays
 pub use Rattle.ring_ends.specs.Ends
 pub use Rattle.ring_ends.specs.Machines
 pub use Rattle.ring_ends.specs.Meetings
+pub use Rattle.ring_ends.specs.Stored
 pub use Rattle.ring_seats.specs.Counters
 pub use Rattle.ring_seats.specs.Programs
 pub use Rattle.ring_seats.specs.Ring

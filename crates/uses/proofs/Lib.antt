@@ -3,4 +3,3 @@ pub mod Judging
 pub mod Packing
 pub mod Passing
 pub mod Played
-pub mod Taking

@@ -2,7 +2,6 @@ pub mod ByHand
 pub mod Findings
 pub mod Judged
 pub mod Minstd
-pub mod Passed
 pub mod Plays
 pub mod Reading
 pub mod Stepping

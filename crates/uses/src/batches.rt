@@ -4,7 +4,7 @@ ghost use Rattle.bits_core.specs.Shape.{take_batch_of};
 ghost use Rattle.ring_core.specs.Puts.{IsBatch};
 ghost use Rattle.ring_run.specs.Steppers.{IsSameEnd};
 ghost use Rattle.ring_run.specs.Ends.{HasPutAll, HasTakenAll, number_brought};
-ghost use Rattle.uses.specs.Passed.{HasStored, HasTook, number_stored};
+ghost use Rattle.ring_run.specs.Stored.{HasStored, HasTook, number_stored};
 
 use ring_core::laws::{puts_are_read, takes_are_read};
 use ring_core::{BatchReply, TakeBatchReply};

@@ -4,7 +4,7 @@ ghost use Rattle.std.specs.Prelude.{◌≡◌, ◌≤◌, ◌%◌, true, [], IfO
 ghost use Rattle.bits_core.specs.Made.{IsPrefix};
 ghost use Rattle.bits_core.specs.Shape.{AllFit, modulus_of};
 ghost use Rattle.ring_run.specs.Steppers.{IsSameEnd};
-ghost use Rattle.uses.specs.Passed.{HasStored, HasTook};
+ghost use Rattle.ring_run.specs.Stored.{HasStored, HasTook};
 
 use crate::batches::put_batch;
 use bits_core::Shape;

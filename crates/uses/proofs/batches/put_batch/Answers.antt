@@ -1,6 +1,6 @@
 use Rattle.std.proofs.Common.{◌≤◌, ◌++◌, length, subst, sym, take}
-use Rattle.uses.specs.Passed.{HasStored}
-use Rattle.uses.proofs.Passing.{few_all, stored_all}
+use Rattle.ring_run.specs.Stored.{HasStored}
+use Rattle.ring_ends.proofs.StoredItems.{few_all, stored_all}
 use Rattle.uses.proofs.batches.put_batch.Goals as goal
 
 pub returns-clause-few : goal.returns-clause-few

@@ -1,6 +1,6 @@
 use Rattle.std.proofs.Common.{◌++◌, length, subst, sym, take}
-use Rattle.uses.specs.Passed.{HasTook}
-use Rattle.uses.proofs.Taking.{took_all}
+use Rattle.ring_run.specs.Stored.{HasTook}
+use Rattle.ring_ends.proofs.StoredItems.{took_all}
 use Rattle.uses.proofs.batches.take_batch.Goals as goal
 
 pub returns-clause-took : goal.returns-clause-took

@@ -4,7 +4,8 @@ use Rattle.ring_core.specs.declared.replies.TakeReply.{TakeReply}
 use Rattle.ring_run.specs.Ring.{RingEnd}
 use Rattle.ring_core.specs.ConsumerCalls.{reply_items}
 use Rattle.uses.specs.Stepping.{IsFirstPut, IsFirstTake}
-use Rattle.uses.proofs.Passing.{first_put, first_take, passed, then_begins}
+use Rattle.uses.proofs.Passing.{first_put, first_take, then_begins}
+use Rattle.ring_ends.proofs.Passed.{passed}
 use Rattle.uses.proofs.steps.take_amid_put.Goals as goal
 
 pub returns-in-Some-Some : goal.returns-in-Some-Some

@@ -3,8 +3,9 @@ use Rattle.bits_core.specs.Shape.{modulus_of}
 use Rattle.ring_run.specs.Counters.{ShowsWords}
 use Rattle.ring_run.specs.Ring.{Ring, RingEnd}
 use Rattle.ring_run.specs.Meetings.{TellsAre}
-use Rattle.uses.specs.Passed.{HasTook}
-use Rattle.uses.proofs.Passing.{counts_put, counts_taken, of_ok, passed, passed_all}
+use Rattle.ring_run.specs.Stored.{HasTook}
+use Rattle.uses.proofs.Passing.{counts_put, counts_taken, of_ok}
+use Rattle.ring_ends.proofs.Passed.{passed, passed_all}
 use Rattle.uses.proofs.two_threads.pass_through.Goals as goal
 
 pub returns-clause-prefix : goal.returns-clause-prefix

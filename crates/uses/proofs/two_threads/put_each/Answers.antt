@@ -2,9 +2,10 @@ use Rattle.std.proofs.Common.{◌≡◌, ◌+◌, ℕ, List, take, refl, ap, sym
 use Rattle.bits_core.specs.declared.shapes.Shape.{Shape}
 use Rattle.bits_core.specs.Shape.{batch_of}
 use Rattle.ring_run.specs.Ring.{Ring}
-use Rattle.uses.specs.Passed.{HasStored}
+use Rattle.ring_run.specs.Stored.{HasStored}
 use Rattle.ring_run.proofs.RelayLemmas.{fit_there, same_trans}
-use Rattle.uses.proofs.Passing.{chunk, chunk_first, chunk_within, none_stored}
+use Rattle.uses.proofs.Passing.{chunk, chunk_first, chunk_within}
+use Rattle.ring_ends.proofs.StoredItems.{none_stored}
 use Rattle.uses.proofs.two_threads.put_each.Goals as goal
 
 pub puts-init : goal.puts-init

@@ -1,6 +1,6 @@
 use Rattle.std.proofs.Common.{◌≡◌, ◌≤◌, length, take}
 use Rattle.ring_run.specs.Steppers.{IsSameEnd}
-use Rattle.uses.specs.Passed.{HasStored}
+use Rattle.ring_run.specs.Stored.{HasStored}
 use Rattle.uses.proofs.two_threads.put_each.Given as goal
 
 abbrev pub invariant-puts : goal.invariant-puts

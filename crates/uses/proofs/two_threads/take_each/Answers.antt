@@ -1,6 +1,6 @@
 use Rattle.std.proofs.Common.{refl, sym, subst}
-use Rattle.uses.specs.Passed.{HasTook}
-use Rattle.uses.proofs.Passing.{none_took}
+use Rattle.ring_run.specs.Stored.{HasTook}
+use Rattle.ring_ends.proofs.StoredItems.{none_took}
 use Rattle.uses.proofs.two_threads.take_each.Goals as goal
 
 pub takes-init : goal.takes-init

@@ -1,5 +1,5 @@
 use Rattle.ring_run.specs.Steppers.{IsSameEnd}
-use Rattle.uses.specs.Passed.{HasTook}
+use Rattle.ring_run.specs.Stored.{HasTook}
 use Rattle.uses.proofs.two_threads.take_each.Given as goal
 
 abbrev pub invariant-takes : goal.invariant-takes

@@ -1,7 +1,7 @@
 use Rattle.std.proofs.Common.{List, ℕ, refl, sym, subst}
 use Rattle.ring_core.specs.declared.replies.TakeReply.TheVariants.{Item, Empty, Closed}
-use Rattle.uses.specs.Passed.{HasTook}
-use Rattle.uses.proofs.Passing.{took_more, took_none}
+use Rattle.ring_run.specs.Stored.{HasTook}
+use Rattle.ring_ends.proofs.StoredItems.{took_more, took_none}
 use Rattle.uses.proofs.two_threads.take_one.Goals as goal
 
 pub returns-in_ok-push-in-Item-clause-took : goal.returns-in_ok-push-in-Item-clause-took

@@ -1,0 +1,15 @@
+use Rattle.std.proofs.Common.{◌≡◌, Some, ap, sym, subst, ◌∙◌}
+use Rattle.std.specs.Prelude.{◌++◌, take}
+use Rattle.ring_ends.specs.Stored.{number_stored}
+use Rattle.ring_seats.specs.Ring.{RingEnd}
+use Rattle.ring_ends.specs.Stored.{HasStored}
+use Rattle.ring_ends.proofs.StoredItems.{put_all_stores}
+use Rattle.ring_held.specs.Held.{held_end}
+use Rattle.ring_held.proofs.putters.HeldPutterPutEnd.put_all.Goals as goal
+
+pub returns-clause-stored : goal.returns-clause-stored
+returns-clause-stored g c before has =
+    let held : c.self.inside.end ≡ Some c.in-Some.end = search in
+    let at : c.at-putter.result ≡ c.args.self.now = c.at-putter.ensures ∙ sym (sym c.self.view_is ∙ ap (held_end _) held) in
+    subst (λ (e : RingEnd). HasStored e (before ++ take (number_stored c.put_all-reply.result) c.args.items.now)) (sym c.rest.ensures)
+    (put_all_stores c.at-putter.result c.put_all-reply.new.self c.args.items.now c.put_all-reply.result c.put_all-reply.ensures.same c.put_all-reply.ensures.phrase before (subst (λ (e : RingEnd). HasStored e before) (sym at) has))
