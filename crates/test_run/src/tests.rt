@@ -3,6 +3,7 @@ mod calls;
 mod expects;
 mod gates;
 mod growths;
+mod held;
 mod limits;
 mod observed;
 mod oracles;
