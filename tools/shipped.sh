@@ -54,27 +54,29 @@ runs_here() {
     return 1
 }
 
-# The same of the library for C, dist/libring_audit.a and libring_audit.so.1, and dist/LIBRARY.
+# The same of the libraries for C, each as NAME.a and NAME.so.1, with a file of dist/ that says of what it was built. Of each of them: its
+# crate, its name and that file.
+for_c="queue_calls_c:libring_audit:LIBRARY ring_c:libcounter_ring:RING"
 
-# library_sum: the sum of the sources that the library is built from, as they stand.
+# library_sum CRATE: the sum of the sources that the library of the crate is built from, as they stand.
 library_sum() {
     # shellcheck disable=SC2046
-    sources_sum $(crates_below queue_calls_c)
+    sources_sum $(crates_below "$1")
 }
 
-# library_of WORD: what dist/LIBRARY says behind the word.
+# library_of FILE WORD: what dist/FILE says behind the word.
 library_of() {
     while read -r word said; do
-        [ "$word" != "$1" ] || echo "$said"
-    done <"$top/dist/LIBRARY"
+        [ "$word" != "$2" ] || echo "$said"
+    done <"$top/dist/$1"
 } 2>/dev/null
 
-# is_library_of SUM: whether dist/LIBRARY says that the library was built of the sources with this sum.
-is_library_of() { [ "$(library_of sources)" = "$1" ]; }
+# is_library_of FILE SUM: whether dist/FILE says that its library was built of the sources with this sum.
+is_library_of() { [ "$(library_of "$1" sources)" = "$2" ]; }
 
-# is_library_whole: whether both files have the bytes that dist/LIBRARY names.
+# is_library_whole FILE NAME: whether both files of the library have the bytes that dist/FILE names.
 is_library_whole() {
-    for file in libring_audit.a libring_audit.so.1; do
-        [ "$(library_of "$file")" = "$(sha_of "$top/dist/$file")" ] || return
+    for ending in a so.1; do
+        [ "$(library_of "$1" "$2.$ending")" = "$(sha_of "$top/dist/$2.$ending")" ] || return
     done
 } 2>/dev/null
