@@ -16,7 +16,7 @@
  *
  * What the caller owes, and nothing checks (docs/TRUST.md):
  * - A handle is all 0 before ring_open, and from then on nothing but the library writes to it. No copy of it is used beside it
- *   (ring_move_putter, ring_move_taker move one).
+ *   (ring_move_putter, ring_move_taker move one). What it leads to is neither read nor written.
  * - One call at a time on one handle; the two handles of a ring may be used at the same time. A handle goes to another thread by
  *   that thread's start or join, by a lock, or by a sequentially consistent atomic.
  * - A pointer leads to as many values as the length after it says, and is not null, even if that length is 0. What two arguments of a

@@ -172,7 +172,7 @@ int main(int words, char **word) {
     test_refusals();
     test_ends_alone();
     test_moved();
-    EXPECT(ring_calls_init(&recorded, 1 << 21));
+    EXPECT(ring_calls_init(&recorded, 1 << 22));
     for (int round = 0; round < rounds; round++) {
         uint64_t capacity = 1 + (uint64_t)rand_r(&seed) % 64, least, modulus;
         pthread_t puts, takes;
