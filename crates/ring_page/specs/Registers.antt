@@ -22,13 +22,13 @@ use Rattle.ring_page.specs.declared.registers.RegisterCounts.{RegisterCounts}
 use Rattle.ring_page.specs.declared.registers.RegisterTold.{RegisterTold}
 
 -- the number of a class, or of none
--- again, as queue_calls_c, on which no crate stands, has it
-abbrev pub class_number : Option Class → ℕ
-class_number None = 0
-class_number (Some Safe) = 1
-class_number (Some Regular) = 2
-class_number (Some AtomicByReader) = 3
-class_number (Some Atomic) = 4
+-- again, as queue_calls_c, on which no crate stands, has it as class_number
+abbrev pub class_told : Option Class → ℕ
+class_told None = 0
+class_told (Some Safe) = 1
+class_told (Some Regular) = 2
+class_told (Some AtomicByReader) = 3
+class_told (Some Atomic) = 4
 
 -- the numbers of a report, and of none
 abbrev pub register_counts : RegisterReport → RegisterCounts
@@ -102,7 +102,7 @@ nothing_told = record {
 -- a finding, and whether later operations are missing, as numbers
 abbrev pub told_of_register_finding : RegisterFinding → (is_cut : Bool) → RegisterTold
 told_of_register_finding (Judged class misses report) is_cut = record nothing_told {
-  class = class_number class; cut = bit_number is_cut; counts = register_counts report;
+  class = class_told class; cut = bit_number is_cut; counts = register_counts report;
   safe = miss_told misses.safe; regular = miss_told misses.regular; by_reader = miss_told misses.by_reader; atomic = miss_told misses.atomic;
 }
 told_of_register_finding (OutOfTurn line) is_cut = record nothing_told { outcome = 1; line = line; cut = bit_number is_cut }

@@ -1,7 +1,7 @@
 //! The audit of a recorded register.
 ghost use Rattle.std.specs.Prelude.{◌≡◌, IfErr, IfOk};
 ghost use Rattle.register_recordings.specs.Recordings.{RefusesRegisterText};
-ghost use Rattle.ring_page.specs.Registers.{IsRegisterFindingIn, ReportsRegister, chain_told, class_number, miss_told, plain_miss, read_told, register_counts, told_of_register_finding, told_of_register_refusal};
+ghost use Rattle.ring_page.specs.Registers.{IsRegisterFindingIn, ReportsRegister, chain_told, class_told, miss_told, plain_miss, read_told, register_counts, told_of_register_finding, told_of_register_refusal};
 
 use crate::marks::bit_number;
 use lists::{Filled, Slots};
@@ -98,7 +98,7 @@ pub struct RegisterTold {
 }
 
 fn class_number(class: Option<Class>) -> u64
-    ensures { result ≡ class_number class }
+    ensures { result ≡ class_told class }
 {
     match class {
         None => 0,
