@@ -56,8 +56,22 @@ read_told (Some read) = record { is_there = 1; reader = read.reader; ended = rea
 -- the class is not missed
 abbrev pub no_miss : MissTold
 no_miss = record {
-  line = 0; reader = 0; value = 0; reason = 0; held = 0; is_since = 0; since = 0; is_cut = 0;
-  first = no_read; second = no_read; third = no_read; fourth = no_read; fifth = no_read; sixth = no_read; seventh = no_read; eighth = no_read;
+  line = 0;
+  reader = 0;
+  value = 0;
+  reason = 0;
+  held = 0;
+  is_since = 0;
+  since = 0;
+  is_cut = 0;
+  first = no_read;
+  second = no_read;
+  third = no_read;
+  fourth = no_read;
+  fifth = no_read;
+  sixth = no_read;
+  seventh = no_read;
+  eighth = no_read;
 }
 
 -- a miss with the reason of this number, of which no more is said
@@ -75,8 +89,14 @@ chain_read chain place = read_told (slice_index_or chain.reads place None)
 
 abbrev pub chain_told : RegisterMiss → Chain → MissTold
 chain_told miss chain = record (plain_miss miss 4) {
-  first = chain_read chain 0; second = chain_read chain 1; third = chain_read chain 2; fourth = chain_read chain 3;
-  fifth = chain_read chain 4; sixth = chain_read chain 5; seventh = chain_read chain 6; eighth = chain_read chain 7;
+  first = chain_read chain 0;
+  second = chain_read chain 1;
+  third = chain_read chain 2;
+  fourth = chain_read chain 3;
+  fifth = chain_read chain 4;
+  sixth = chain_read chain 5;
+  seventh = chain_read chain 6;
+  eighth = chain_read chain 7;
   is_cut = bit_number chain.is_cut;
 }
 
@@ -95,15 +115,28 @@ miss_told (Some miss) = told_by_reason miss miss.reason
 -- nothing is found
 abbrev pub nothing_told : RegisterTold
 nothing_told = record {
-  outcome = 0; number = 0; line = 0; class = 0; cut = 0; counts = no_register_counts;
-  safe = no_miss; regular = no_miss; by_reader = no_miss; atomic = no_miss;
+  outcome = 0;
+  number = 0;
+  line = 0;
+  class = 0;
+  cut = 0;
+  counts = no_register_counts;
+  safe = no_miss;
+  regular = no_miss;
+  by_reader = no_miss;
+  atomic = no_miss;
 }
 
 -- a finding, and whether later operations are missing, as numbers
 abbrev pub told_of_register_finding : RegisterFinding → (is_cut : Bool) → RegisterTold
 told_of_register_finding (Judged class misses report) is_cut = record nothing_told {
-  class = class_told class; cut = bit_number is_cut; counts = register_counts report;
-  safe = miss_told misses.safe; regular = miss_told misses.regular; by_reader = miss_told misses.by_reader; atomic = miss_told misses.atomic;
+  class = class_told class;
+  cut = bit_number is_cut;
+  counts = register_counts report;
+  safe = miss_told misses.safe;
+  regular = miss_told misses.regular;
+  by_reader = miss_told misses.by_reader;
+  atomic = miss_told misses.atomic;
 }
 told_of_register_finding (OutOfTurn line) is_cut = record nothing_told { outcome = 1; line = line; cut = bit_number is_cut }
 

@@ -36,7 +36,8 @@ fn earlier(ended: u64, value: u64, written: u64) -> ReadTold {
 
 #[test]
 fn each_class_that_is_missed_is_reported_with_its_reason(rt: HostRuntime) {
-    let text = "register 0 4\nW write 1\nR1 read\nR1 got 1\nR2 read\nR2 got 0\nR1 read\nR1 got 0\nR1 read\nR1 got 2\n\
+    let text =
+        "register 0 4\nW write 1\nR1 read\nR1 got 1\nR2 read\nR2 got 0\nR1 read\nR1 got 0\nR1 read\nR1 got 2\n\
         W wrote\nR1 read\nR1 got 0\n";
     let inverted = numbers!(MissTold: reason 4, first earlier(2, 1, 0); NO_MISS);
     let wanted = RegisterTold {
@@ -61,7 +62,8 @@ fn a_value_that_was_held_since_the_start_has_no_place(rt: HostRuntime) {
 }
 
 // A recording in which each read leans on the one before it: nine of them, and one more that none of them allows.
-static LEANING: &str = "register 0 2\nW write 1\nR1 read\nR1 got 1\nR1 read\nW wrote\nW write 0\nR1 got 0\nR1 read\nW wrote\nW write 1\n\
+static LEANING: &str =
+    "register 0 2\nW write 1\nR1 read\nR1 got 1\nR1 read\nW wrote\nW write 0\nR1 got 0\nR1 read\nW wrote\nW write 1\n\
     R1 got 1\nR1 read\nW wrote\nW write 0\nR1 got 0\nR1 read\nW wrote\nW write 1\nR1 got 1\nR1 read\nW wrote\nW write 0\nR1 got 0\n\
     R1 read\nW wrote\nW write 1\nR1 got 1\nR1 read\nW wrote\nW write 0\nR1 got 0\nR1 read\nW wrote\nW write 1\nR1 got 1\nR1 read\nR1 got 0\n";
 
@@ -79,9 +81,18 @@ fn the_first_eight_reads_of_a_chain_are_reported(rt: HostRuntime) {
 
 // Texts, and the outcome, the number, the line, the class, and whether later operations are missing.
 static OTHERS: [(&str, [u64; 5]); 9] = [
-    ("cut register 0 2\nW write 1\nW wrote\nR1 read\nR1 got 1\n", [0, 0, 0, 4, 1]),
-    ("register 0 2\nW write 1\nR1 read\nR1 got 1\nR2 read\nR2 got 0\n", [0, 0, 0, 3, 0]),
-    ("register 0\nW write 1\nR1 read\nR1 got 5\n", [0, 0, 0, 1, 0]),
+    (
+        "cut register 0 2\nW write 1\nW wrote\nR1 read\nR1 got 1\n",
+        [0, 0, 0, 4, 1],
+    ),
+    (
+        "register 0 2\nW write 1\nR1 read\nR1 got 1\nR2 read\nR2 got 0\n",
+        [0, 0, 0, 3, 0],
+    ),
+    (
+        "register 0\nW write 1\nR1 read\nR1 got 5\n",
+        [0, 0, 0, 1, 0],
+    ),
     ("register 0 2\nW write 1\nW write 0\n", [1, 0, 3, 0, 0]),
     ("cut register 0 2\nR64 got 0\n", [1, 0, 2, 0, 1]),
     ("register 0 2\nW write 2\n", [2, 1, 2, 0, 0]),

@@ -6,9 +6,7 @@ ghost use Rattle.ring_page.specs.Registers.{IsRegisterFindingIn, ReportsRegister
 use crate::marks::bit_number;
 use lists::{Filled, Slots};
 use register_calls::{Chain, Class, EarlierRead, MissReason, ReaderState, RegisterReport};
-use register_recordings::{
-    RegisterFinding, RegisterMiss, RegisterRecording, RegisterTextFault,
-};
+use register_recordings::{RegisterFinding, RegisterMiss, RegisterRecording, RegisterTextFault};
 
 /// How many readers a register may have.
 pub const READER_ROOM: usize = 64;
