@@ -131,7 +131,7 @@ abbrev pub TakesAllBy : Option RingEnd → Option RingEnd → (code : ℕ) → (
 TakesAllBy None end code before after taken = (end ≡ None) × (code ≡ 3) × (after ≡ before) × (taken ≡ 0)
 TakesAllBy (Some a) end code before after taken = (b : RingEnd) × (end ≡ Some b) × TakesAllOr a b code before after taken
 
--- whether a take was told that the ring is closed, which changes nothing
+-- whether a take has returned Closed, which changes nothing
 abbrev pub ReportsTold : Option RingEnd → Option RingEnd → Bool → Type 0
 ReportsTold None end told = (end ≡ None) × (told ≡ false)
 ReportsTold (Some a) end told = (end ≡ Some a) × TellsAre a.ring.shape a.list told

@@ -72,7 +72,7 @@ pub extern "C" fn ring_take_all(
     code
 }
 
-/// Returns whether the handle has an end of which a take was told that the ring is closed. It makes no access.
+/// Returns whether the handle has an end of which a take has returned Closed. It makes no access.
 #[unsafe(no_mangle)]
 pub extern "C" fn ring_is_told(alloc: Global, taker: &mut RingTaker) -> bool
     ensures { ReportsTold taker.old.slot.value taker.new.slot.value result }

@@ -119,7 +119,7 @@ module _ (read : PutsAreRead) (a b : RingEnd) (same : b.ring ≡ a.ring) (items 
   refused_by_one calls has false given (puts.Stored seen few, of, answered, after) = absurd (cc)
   refused_by_one calls has false given (puts.Full seen, of, answered, after) = absurd (cc)
 
-  -- nor did one behind a close
+  -- nor did one after a close
   pub stored_late : (given : List ℕ) → HasPutAll b.ring.shape given a.list b.list several.Closed → HasStored b items
   stored_late given h = refused_by_one h.calls h.before_is h.calls.closes given h.adds
 

@@ -33,6 +33,6 @@ pub record FreshEnds (shape : Shape) (p c : RingEnd) : Type 0 where
 abbrev pub TakesArePrefix : (p c : RingEnd) → Type 0
 TakesArePrefix p c = (put taken : List ℕ) → HasStored p put → HasTook c taken → IsPrefix taken put
 
--- if the second end was told that the ring is closed, they are all of them
+-- if a take of the second end returned Closed, they are all of them
 abbrev pub TakesAreAll : (p c : RingEnd) → Bool → Type 0
 TakesAreAll p c told = (put taken : List ℕ) → HasStored p put → HasTook c taken → told ≡ true → taken ≡ put

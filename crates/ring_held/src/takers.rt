@@ -39,7 +39,7 @@ impl<A: Allocator> Model for HeldTaker<A> {
 }
 
 impl<A: Allocator> HeldTaker<A> {
-    /// Whether a take was told that the ring is closed: whether the last of its list of whole takes was.
+    /// Whether a take has returned Closed: whether the last of its list of whole takes did.
     pub fn is_told(&self) -> bool
         ensures { TellsAre self.now.ring.shape self.now.list result }
     {
