@@ -1,8 +1,8 @@
 #!/usr/bin/env python3
 """Writes the page as one file that needs no server, page/lamport_ring.html, and what page/src/index.html asks a server for, page/src/made.
 
-    page/pack.py            with the module that page/build made, or else with that of the page that stands there
-    page/pack.py --check    writes nothing; says where the page that stands there is not what these sources give, and what a lesson lacks
+    page/pack.py            with the module that page/build made, or else with that of the page that is there
+    page/pack.py --check    writes nothing; says how the page that is there differs from what these sources give, and what a lesson lacks
 """
 import base64
 import hashlib
@@ -58,7 +58,7 @@ def built():
 
 
 def shipped():
-    """The same of the page that stands there."""
+    """The same of the page that is there."""
     if not has(SHIPPED):
         return None
     page = read(SHIPPED)
@@ -76,12 +76,12 @@ def sources_sum():
 
 
 def stories():
-    """What examples/README.md tells of each example, without its drawings, since the picture stands there: of (mode, name) the paragraphs."""
+    """What examples/README.md says of each example, without its drawings, as the page draws them: of (mode, name) the paragraphs."""
     with open(os.path.join(EXAMPLES, "README.md"), encoding="utf-8") as file:
         text = file.read()
     at, past = text.index("\n## Calls\n"), text.index("\n## Registers\n")
     runs, calls, registers = paragraphs(text[text.index("\n## Scripts\n"):at]), paragraphs(text[at:past]), paragraphs(text[past:])
-    # of lawful calls their line in the table tells what they are
+    # of lawful calls their line in the table says what they are
     for name, words in re.findall(r"^\| `(\w+)` \| lawful: (.*) \|$", text[at:past], flags=re.M):
         calls[name] = [words[0].upper() + words[1:] + ".", *calls.get(name, [])]
     wrong = {("script", name.removeprefix("wrong/")): runs.pop(name) for name in [*runs] if name.startswith("wrong/")}
@@ -100,7 +100,7 @@ def constructions():
 
 
 def paragraphs(text):
-    """The paragraphs on each name that stands at the head of one, in bold."""
+    """The paragraphs on each name that is in bold at the start of one."""
     found, names = {}, []
     for part in re.sub(r"^```.*?^```$", "", text, flags=re.M | re.S).split("\n\n"):
         part = " ".join(part.split())
@@ -115,9 +115,9 @@ def paragraphs(text):
     return found
 
 
-def lesson(told, chapter, mode, name):
-    """A lesson without its own words: its title is the name of its example, its story what is told of that."""
-    return {"chapter": chapter, "mode": mode, "name": name, "title": name.replace("_", " "), "story": told.get((mode, name), []), "play": "", "question": "", "answer": ""}
+def lesson(said, chapter, mode, name):
+    """A lesson without its own words: its title is the name of its example, its story what is said of that."""
+    return {"chapter": chapter, "mode": mode, "name": name, "title": name.replace("_", " "), "story": said.get((mode, name), []), "play": "", "question": "", "answer": ""}
 
 
 def lessons():
@@ -126,15 +126,15 @@ def lessons():
 
 
 def lessons_and_plays():
-    """The lessons in their order, of page/lessons.txt, and the scripts that stand there, by their names; an example or a construction that has no lesson
+    """The lessons in their order, of page/lessons.txt, and the scripts that it has, by their names; an example or a construction that has no lesson
     there comes last, without a question."""
-    told, list_, plays, chapter = stories(), [], {}, ""
+    said, list_, plays, chapter = stories(), [], {}, ""
     for line in read("lessons.txt").decode().splitlines():
         kind, _, words = line.strip().partition(" ")
         if kind == "#":
             chapter = words
         elif kind in MODES:
-            list_.append(lesson(told, chapter, kind, words))
+            list_.append(lesson(said, chapter, kind, words))
         elif kind == "play":
             name, _, script = words.partition(" ")
             plays[name] = script
@@ -175,7 +175,7 @@ def course():
 def examples():
     """The files of the examples, and the list of their names; of recorded calls and registers those that are lessons. A script of examples/wrong names in
     the page the ring that plays it; a construction does not say there what is found of it."""
-    told, files, (list_, plays) = stories(), {}, lessons_and_plays()
+    said, files, (list_, plays) = stories(), {}, lessons_and_plays()
     listed = {**{mode: [] for mode in MODES}, "lessons": list_, "course": course()}
     taught = [(it["mode"], it["name"]) for it in listed["lessons"]]
     for mode, end in MODES.items():
@@ -189,7 +189,7 @@ def examples():
             files[os.path.relpath(os.path.join(folder, file), TOP)] = BOUND.sub(r"\1", text.decode()).encode() if mode == "lab" else text
             listed[mode].append(name)
             if (mode, name) not in taught:
-                listed["lessons"].append(lesson(told, "More", mode, name))
+                listed["lessons"].append(lesson(said, "More", mode, name))
         if mode == "script":
             listed[mode] += [*wrong_scripts(files), *plays]
             files.update({f"examples/{name}.json": script.encode() for name, script in plays.items()})
@@ -314,13 +314,13 @@ def one_file(module, made_of):
 
 def gaps():
     """What the lessons lack, a line each."""
-    where = {"story": "examples/README.md", "question": "page/lessons.txt", "answer": "page/lessons.txt"}
+    files = {"story": "examples/README.md", "question": "page/lessons.txt", "answer": "page/lessons.txt"}
     taught = json.loads(examples()["examples.json"])["lessons"]
-    return [f"{it['mode']} {it['name']} has no {part} in {file}" for it in taught if it["chapter"] != UNTAUGHT for part, file in where.items() if not it[part]]
+    return [f"{it['mode']} {it['name']} has no {part} in {file}" for it in taught if it["chapter"] != UNTAUGHT for part, file in files.items() if not it[part]]
 
 
 def wrongs():
-    """What is wrong with the page that stands there, a line each."""
+    """What is wrong with the page that is there, a line each."""
     if not has(SHIPPED):
         return [f"page/{SHIPPED} is not there: run page/build"]
     stands, kept, made = read(SHIPPED), shipped(), built()

@@ -1,4 +1,4 @@
-// Numbered values; two readers that tell each other before they answer
+// Numbered values; two readers that inform each other before they answer
 // after: Israeli and Li, Bounded Time-Stamps (1987), with numbers that grow
 // 2 writes, 2 reads: atomic
 ({

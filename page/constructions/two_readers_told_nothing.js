@@ -1,4 +1,4 @@
-// Numbered values; two readers that tell each other nothing
+// Numbered values; two readers that do not inform each other
 // after: Israeli and Li, Bounded Time-Stamps (1987), with numbers that grow, without its last step
 // 2 writes, 2 reads: atomic by reader; not atomic in 9 steps
 ({

@@ -55,12 +55,12 @@ globalThis.construction = ({exercise, ...bounds}, give) => {
   if (isGiven) return;
   isGiven = true;
   try {
-    const tell = states => {
+    const report = states => {
       if (now() - last < TICK) return;
       last = now();
       post({states});
     };
-    const {found, isMet, lines} = exercise ? judged(exercise, give(), bounds, tell) : {found: explored(give(), bounds, tell)};
+    const {found, isMet, lines} = exercise ? judged(exercise, give(), bounds, report) : {found: explored(give(), bounds, report)};
     post({found: plainOf(found), ...exercise ? {met: {isMet, lines}} : {}});
   } catch (error) {
     post(wrongOf(error));

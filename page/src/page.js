@@ -33,13 +33,13 @@ export function pageOf({examples, views, asker, module, labAsker}) {
     if (!now.it.pending && !state.isWelcome && !state.refusal) address.write(linkTo(state, now.shown, now.opens));
   }
 
-  const reader = readerOf({asker, views, tell(found) {
+  const reader = readerOf({asker, views, show(found) {
     whole = found;
-    if (found.pending) return panes.verdict.tell(found.pending);
+    if (found.pending) return panes.verdict.say(found.pending);
     render();
     if (hasLines()) panes.editor.scrollToMarked(state.shown);
   }});
-  const labReader = labReaderOf({module, asker: labAsker, meanwhile: words => panes.verdict.tell(words), tell(found) {
+  const labReader = labReaderOf({module, asker: labAsker, meanwhile: words => panes.verdict.say(words), show(found) {
     whole = found;
     render();
   }});

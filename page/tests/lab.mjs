@@ -1,4 +1,4 @@
-// Tests the lab's explorer, by node: each construction of page/constructions has the class and the shortest histories that its head tells, which the proved
+// Tests the lab's explorer, by node: each construction of page/constructions has the class and the shortest histories that its head states, which the proved
 // audit finds to be so; with small bounds it agrees with an enumeration that merges nothing; and what is no construction is refused.
 // The audit is $PROGRAM audit --register. The last line is `N passed, M failed`.
 import { execFileSync, spawnSync } from "node:child_process";
@@ -28,7 +28,7 @@ function same(what, got, want) {
 const textOf = name => readFileSync(new URL(name, folder), "utf8");
 const constructionOf = text => runInNewContext(text, {read, write});
 
-// What the head of a construction tells: its bound, its class, and of each class that is missed in how many steps.
+// What the head of a construction states: its bound, its class, and of each class that is missed in how many steps.
 function headOf(text) {
   const [, writes, reads, best, rest] = /^\/\/ (\d+) writes, (\d+) reads: ([a-z ]+)(.*)$/m.exec(text);
   const missed = Object.fromEntries([...rest.matchAll(/not ([a-z ]+) in (\d+) steps/g)].map(([, name, steps]) => [name, Number(steps)]));
@@ -38,22 +38,22 @@ function headOf(text) {
 // The strongest class of a recording, by the proved audit.
 const audited = recording => spawnSync(program, ["audit", "--register"], {input: recording, encoding: "utf8"}).stdout.split("\n")[0];
 
-// Of each class its steps, where a class that is not told is missed together with the one before it.
+// Of each class its steps; a class that is not listed is missed together with the one before it.
 function stepsTold({missed}, {found}) {
-  const told = {};
+  const steps = {};
   let last = null;
   for (const name of CLASSES) {
     if (name in missed) last = missed[name];
-    told[name] = name in missed ? missed[name] : found[name] ? Math.min(found[name].steps, last ?? Infinity) : null;
+    steps[name] = name in missed ? missed[name] : found[name] ? Math.min(found[name].steps, last ?? Infinity) : null;
   }
-  return told;
+  return steps;
 }
 
 for (const name of readdirSync(folder).sort()) {
   const text = textOf(name), head = headOf(text), it = explored(constructionOf(text), {...head, states: 1000000, milliseconds: 120000});
   same(`${name}: its class`, it.best, head.best);
   same(`${name}: its shortest histories`, Object.fromEntries(CLASSES.map(each => [each, it.found[each]?.steps ?? null])), stepsTold(head, it));
-  same(`${name}: each that its head tells`, Object.keys(head.missed).map(each => it.found[each]?.steps), Object.values(head.missed));
+  same(`${name}: each that its head states`, Object.keys(head.missed).map(each => it.found[each]?.steps), Object.values(head.missed));
   for (const [missed, found] of Object.entries(it.found).filter(([, one]) => one !== null)) {
     const recording = recordingOf(it.form, found.events), before = recording.replace(/[^\n]*\n$/, "");
     same(`${name}: not ${missed}, by the audit`, [recording, before].map(one => ORDER.indexOf(audited(one)) >= ORDER.indexOf(missed)), [false, true]);
@@ -70,7 +70,7 @@ for (const name of readdirSync(folder).sort()) {
   console.log(`${name}: ${it.best ?? "not safe"}, ${it.histories ?? "-"} histories in ${it.states} states, ${(it.milliseconds / 1000).toFixed(1)} s; one by one ${each}`);
 }
 
-// What a student is told whose text is no construction.
+// What a student reads whose text is no construction.
 const bit = "values: 2, registers: {b: {}}", put = "*write(value) { yield write('b', value); }", get = "*read() { return yield read('b'); }";
 for (const [text, words] of [
   ["1", "a construction is an object"],
@@ -86,14 +86,14 @@ for (const [text, words] of [
   [`({${bit}, ${put}, *read() { return this.n = (this.n ?? 0) + 1; }})`, "a procedure keeps something outside of `my`"],
   [`({${bit}, ${put}, *read() { return Math.random() < 0.5 ? 0 : yield read('b'); }})`, "a procedure keeps something outside of `my`"],
 ]) {
-  let told = "nothing";
+  let said = "nothing";
   try {
     // (a draw by chance may be the same twice)
     for (let tried = 0; tried < 20; tried++) explored(constructionOf(text), {writes: 1, reads: 1});
   } catch (error) {
-    told = error instanceof Wrong ? error.message : String(error);
+    said = error instanceof Wrong ? error.message : String(error);
   }
-  same(text, told.startsWith(words) ? words : told, words);
+  same(text, said.startsWith(words) ? words : said, words);
 }
 same("enumerations", enumerations >= 20, true);
 console.log(`${passed} passed, ${failed} failed`);

@@ -5,7 +5,7 @@ const CLASSES = ["safe", "regular", "atomic by reader", "atomic"];
 const isSame = (a, b) => JSON.stringify(a) === JSON.stringify(b);
 const distinct = list => list.filter((it, i) => list.findIndex(other => isSame(other, it)) === i);
 
-// Where a side stands after its own events, by running its procedures from the first one: {isAtWork, due, open, left, result}.
+// The state of a side after its own events, by running its procedures from the first one: {isAtWork, due, open, left, result}.
 function standing(construction, side, own, operations) {
   const my = structuredClone(construction.memory?.[side ? "R" : "W"] ?? {});
   let run = null, due = null, open = null, left = operations, result;

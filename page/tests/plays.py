@@ -6,7 +6,7 @@ import collections
 import sys
 
 RINGS = ("", "count-before-cell", "no-second-scan", "small-modulus", "clears-first", "clears-upwards")
-TWICE, NEVER, EMPTY, CLOSED, OTHER = ("take an item twice", "take what was never put", "be told Empty with an item inside", "be told Closed with an item inside", "another fault")
+TWICE, NEVER, EMPTY, CLOSED, OTHER = ("take an item twice", "take what was never put", "get Empty with an item inside", "get Closed with an item inside", "another fault")
 # The key that makes the next event of a side, and the one that makes all events up to the end of its call.
 KEYS = {("P", False): "p", ("C", False): "c", ("P", True): "P", ("C", True): "C"}
 

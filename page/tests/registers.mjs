@@ -1,5 +1,5 @@
-// Tests what the page's module finds of recordings of registers, by node: of each of examples/registers the verdict that stands beside it, and the
-// report if one does; the numbers behind the words; texts that are none; and 2,000 random recordings, whose verdicts $PROGRAM audit --register prints.
+// Tests what the page's module finds of recordings of registers, by node: of each of examples/registers the verdict beside it, and the
+// report if there is one; the numbers behind the words; texts that are none; and 2,000 random recordings, whose verdicts $PROGRAM audit --register prints.
 // The last line is `N passed, M failed`.
 import { execFileSync, spawnSync } from "node:child_process";
 import { existsSync, readFileSync, readdirSync } from "node:fs";

@@ -71,12 +71,12 @@ def test_ways(page, same, _):
     page.browser.press("3", "enter")
     same("to the next line of an item", [place(page), words(page, "sought")], [11, ""])
     page.browser.press("enter")
-    same("there is none behind", [place(page), words(page, "sought")], [11, "no line behind names it"])
+    same("there is none behind", [place(page), words(page, "sought")], [11, "no later line names it"])
     page.click("itemback")
     same("to the one before", place(page), 8)
     page.browser.run("document.getElementById('item').value = '5'")
     page.click("itemon")
-    same("an item that is nowhere", [place(page), words(page, "sought")], [8, "no line behind names it"])
+    same("an item that is nowhere", [place(page), words(page, "sought")], [8, "no later line names it"])
     page.click("tofault")
     same("the button of the fault", [place(page), flags(page)[1]], [11, "line 11: item 3, but item 2 of line 6 is next"])
     page.browser.run("document.querySelector('#picture [data-line=\"6\"]').dispatchEvent(new MouseEvent('click', {bubbles: true}))")
@@ -111,9 +111,9 @@ def filled(count, first=0):
 
 
 HINTED = [  # a recording with a fault, how a hint begins, and what its button makes of the recording
-    ("queue 8\n" + filled(7) + "P put 7\nP full\nC take\nC item 0\n" + filled(1, 7) + "P put 8\nP full\n", "It held 7 where 8 were told: try queue 7. Then it is lawful.", ("queue 8", "queue 7")),
-    ("queue 8\n" + filled(10), "It held 10 where 8 were told: try queue 10. Then it is lawful.", ("queue 8", "queue 10")),
-    ("queue 4\n" + filled(4) + "C take\nC item 0\nP put 4\nP full\n", "It may say that it is full with 3 inside, and holds 4: queue 3 4 allows that. Then it is lawful.", ("queue 4", "queue 3 4")),
+    ("queue 8\n" + filled(7) + "P put 7\nP full\nC take\nC item 0\n" + filled(1, 7) + "P put 8\nP full\n", "It held 7, not the 8 of its first line: try queue 7. Then it is lawful.", ("queue 8", "queue 7")),
+    ("queue 8\n" + filled(10), "It held 10, not the 8 of its first line: try queue 10. Then it is lawful.", ("queue 8", "queue 10")),
+    ("queue 4\n" + filled(4) + "C take\nC item 0\nP put 4\nP full\n", "It may report full with 3 inside, and holds 4: queue 3 4 allows that. Then it is lawful.", ("queue 4", "queue 3 4")),
     ("queue 8\n" + filled(6) + "P put 6 7 8\nP full\n", "This put of 3 is all or nothing: P short says that there was not room for all. Then it is lawful.", ("P full", "P short")),
     ("queue 8\nP put 1\nP put 2\nP stored\nP stored\nC take\nC item 1\n", "A put begins in line 3 while the call of line 2 has not ended: two producers? A recording has one. Then it is lawful.", ("P put 2\nP stored\n", "")),
     ("queue 8\nC take\nC take\nC empty\nC empty\nP put 1\nP stored\n", "A take begins in line 3 while the call of line 2 has not ended: two consumers? A recording has one. Then it is lawful.", ("C take\nC empty\n", "")),

@@ -222,8 +222,8 @@ def test_links(page, same, folder):
 
 def test_wrong_texts(page, same, _):
     page.open("calls=plain")
-    for text, why in [("", "there is no text: line 1 is to be: queue B, queue A B or queue, or one of these behind cut"), ("shape 1 3 1\n", "it looks like a trace"), ("{", "it looks like a script"),
-                      ("queue 0\n", "line 1 is not: queue B, queue A B or queue, or one of these behind cut"), ("cut\n", "line 1 is not: queue B, queue A B or queue, or one of these behind cut"), ("queue 8\nP put 1 \n", "line 2 ends in a space"), ("queue 8\n\n", "line 2 is empty"),
+    for text, why in [("", "there is no text: line 1 is to be: queue B, queue A B or queue, or one of these after cut"), ("shape 1 3 1\n", "it looks like a trace"), ("{", "it looks like a script"),
+                      ("queue 0\n", "line 1 is not: queue B, queue A B or queue, or one of these after cut"), ("cut\n", "line 1 is not: queue B, queue A B or queue, or one of these after cut"), ("queue 8\nP put 1 \n", "line 2 ends in a space"), ("queue 8\n\n", "line 2 is empty"),
                       ("queue 8\nP put 01\n", "line 2 is none of the lines of recorded calls, with numbers below 2^64 that begin with no 0"),
                       ("queue 8\nC take", "line 2 has no line feed at its end, or is not a line of the format")]:
         page.write(text)

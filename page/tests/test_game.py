@@ -8,9 +8,9 @@ import time
 from browser import EXAMPLES, example
 
 WRONG = sorted(name.removesuffix(".json") for name in os.listdir(os.path.join(EXAMPLES, "wrong")) if name.endswith(".json"))
-# What each of the rings that are nearly right is told of by its example, and the goal that it reaches.
-GOALS = {"small_modulus": "take an item twice", "small_modulus__takes": "take what was never put", "count_before_cell": "take what was never put", "clears_first": "be told Empty with an item inside",
-         "no_second_scan": "be told Closed with an item inside"}
+# Of each wrong ring the fault that its example shows, and the goal that it reaches.
+GOALS = {"small_modulus": "take an item twice", "small_modulus__takes": "take what was never put", "count_before_cell": "take what was never put", "clears_first": "get Empty with an item inside",
+         "no_second_scan": "get Closed with an item inside"}
 AT_RANDOM = 10_000  # plays of each goal's ring with all rules kept
 
 FOUND = "return document.getElementById('found').textContent"
@@ -207,7 +207,7 @@ def test_inside(page, same, _):
     print("scans:", {name: found[name] for name in ("tried", "several", "none")})
     same("scans of several counts, and of none", [found["several"] > 40, found["none"] > 0, found["tried"] > 1000], [True, True, True])
     page.open("script=small_modulus")
-    same("inside of a ring that is wrong: no items are told", page.browser.run(INSIDE), ["s 1→0~ 1", "r 1* 1", "cell 1", "x 0"])
+    same("inside of a wrong ring: no items are shown", page.browser.run(INSIDE), ["s 1→0~ 1", "r 1* 1", "cell 1", "x 0"])
     page.write(json.dumps({**json.loads(example("plain_path.json")), "capacity": 64, "modulus": 256}))
     same("of many bits and cells those that are not 0", page.browser.run(INSIDE), ["queue –", "s s1: 1", "r r1: 1", "cells c0: 1", "x 0"])
 
@@ -216,7 +216,7 @@ WELCOME = "return document.getElementById('welcome').checkVisibility()"
 
 
 def test_first_screen(page, same, _):
-    """What the page is stands on its first screen, with ways in; and what a word of a story means is told where it is reached."""
+    """The first screen says what the page is, with ways in; and a word of a story is explained when it is reached."""
     browser = page.browser
     page.open("")
     same("the first screen", browser.run(WELCOME), True)
@@ -235,7 +235,7 @@ def test_first_screen(page, same, _):
     browser.run("document.activeElement.blur()")
     same("and nothing behind it", browser.run(means), "")
     terms = browser.run("return [...document.querySelectorAll('#story .term')].map(it => it.textContent.toLowerCase())")
-    same("each is told once", len(terms), len(set(terms)))
+    same("each is explained once", len(terms), len(set(terms)))
 
 
 TESTS = [test_wrong_rings, test_hand, test_rules, test_inside, test_first_screen, test_goals]

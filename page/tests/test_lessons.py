@@ -95,7 +95,7 @@ def test_replays(page, same, _):
     browser = page.browser
     for name, (script, line, found) in REPLAYS.items():
         page.open(f"example={name}")
-        same(f"{name}: where its calls end", words(page, "uncalled"), f"behind line {line} the accesses are of no calls of the ring" if line else "")
+        same(f"{name}: where its calls end", words(page, "uncalled"), f"after line {line} the accesses belong to no calls of the ring" if line else "")
         trace = page.text()
         browser.run("document.querySelector('#replay').click()")
         browser.until(f"{name} is played", "return document.body.classList.contains('script')")
@@ -234,7 +234,7 @@ def test_exercises(page, same, _):
     same("exercise 10, wrong", play("p" * 5 + "c0" + "c" * 8), ["calls: fault: letter 15: item 0 was not inside; item 1 of letter 1 is next", "reached"])
     same("exercise 10, right", play("p" * 8 + "c" * 10), ["calls: lawful", "not reached"])
     # 11: told Closed behind one scan, and not where the put comes first
-    page.open("script=no_second_scan&goal=be+told+Closed+with+an+item+inside")
+    page.open("script=no_second_scan&goal=get+Closed+with+an+item+inside")
     same("exercise 11, wrong", play("cc" + "p" * 10 + "cc"), ["calls: fault: letter 14: closed, but item 1 was inside since letter 10", "reached"])
     same("exercise 11, right", play("p" * 10 + "c" * 20), ["calls: lawful", "not reached"])
     # 12: the second answer doubles the item; the ring itself says Empty there

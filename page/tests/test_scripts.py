@@ -51,7 +51,7 @@ def test_scripts(page, same, _):
 def test_refused_scripts(page, same, _):
     whole = json.loads(example("plain_path.json"))
     room = "script has more than this page has room for: 10000 events, 1000 runs of letters, 10000 answers"
-    above = "is not below 2^53: this page does not tell such numbers exactly"
+    above = "is not below 2^53: this page cannot represent such numbers exactly"
 
     def but(**fields):
         return json.dumps({**whole, **fields})

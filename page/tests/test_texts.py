@@ -25,7 +25,7 @@ OFFERED = [
     ("calls", "shape 1 3 1\nP write s0 0\n", "This looks like a trace.", "trace", "bits: lawful", None),
     ("calls", "P write s0 0\nP wrote s0\n", "This looks like a trace.", "trace", "refused: trace line 1 is not a line of the format", None),
     ("calls", '{"capacity":1}', "This looks like a script.", "script", "refused: field modulus is missing", None),
-    ("calls", CALLS.removeprefix("queue 2\n"), "This recording has no first line that tells its queue: \"queue\" is put there", "calls", "calls: lawful", "queue\n" + CALLS.removeprefix("queue 2\n")),
+    ("calls", CALLS.removeprefix("queue 2\n"), "This recording has no first line that describes its queue: \"queue\" is put there", "calls", "calls: lawful", "queue\n" + CALLS.removeprefix("queue 2\n")),
     ("calls", "P put 1\nP stored\nP put 2\nP full\n", '"queue 1" is put there', "calls", "calls: lawful", "queue 1\nP put 1\nP stored\nP put 2\nP full\n"),
     ("calls", "P put 1\nP full\nP put 2\nP stored\n", '"queue 0 1" is put there', "calls", "calls: lawful", "queue 0 1\nP put 1\nP full\nP put 2\nP stored\n"),
     ("calls", "# mine\nqueue 2\n\nP put 1\n// and\nP stored\n", "This recording has 3 lines that are comments, or empty.", "calls", "calls: lawful", "queue 2\nP put 1\nP stored\n"),

@@ -21,7 +21,7 @@ const KNOWN = [...Object.values(LINKS).flatMap(it => [it.named, it.given]), "kep
 
 const HAS_CLASS = ["register", "lab"]; // kinds of text of which a class that is missed can be chosen
 
-// The link to this state, which shows `shown` events; it has no number if that is where the text `opens`.
+// The link to this state, which shows `shown` events; without a number if the text `opens` there.
 export function linkTo(state, shown, opens) {
   const parts = new URLSearchParams(), {mode, text, example} = state, {named, given} = LINKS[mode];
   if (mode === "lab" && state.exercise) parts.set("exercise", state.exercise.file);

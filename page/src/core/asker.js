@@ -3,8 +3,8 @@
 
 const IDLE = 30000; // milliseconds without a question, until the worker's memory is given back
 
-// An asker, with the text of the worker and the bytes of the module. `ask` hands each answer to `then`, and what is told meanwhile to
-// `meanwhile`; an answer on a recording that is no longer shown is dropped. It answers whether there is a worker: a browser may allow none.
+// An asker, with the text of the worker and the bytes of the module. `ask` passes each answer to `then`, and reports of progress to
+// `meanwhile`; an answer on a recording that is no longer shown is dropped. It returns whether there is a worker: a browser may allow none.
 // `stop` ends what is under way.
 export function askerOf(script, bytes) {
   let worker = null, text = null, number = 0, idle = 0;

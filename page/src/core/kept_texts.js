@@ -1,10 +1,10 @@
-// Texts that no link holds, which Back brings again while the page stands.
+// Texts too long for a link; Back finds them again until the page is reloaded.
 
 const MOST_KEPT = 64000000; // characters, beside the text that is shown
 const kept = new Map(); // by their numbers: {mode, text}
 let lastKept = 0;
 
-// The number by which this text is found again, while the page stands.
+// The number by which this text is found again, until the page is reloaded.
 export function keep(mode, text) {
   for (const [number, it] of kept) if (it.mode === mode && it.text === text) return number;
   let room = MOST_KEPT;

@@ -10,14 +10,14 @@ const NO_PLACE = "the text has a syntax error; this browser does not say in whic
 const isList = it => Array.isArray(it);
 const linesIn = text => text.split("\n").length;
 
-// The whole script, and how many lines stand before the text.
+// The whole script, and how many lines precede the text.
 function scriptWith(script, text, bounds) {
   const before = `(() => {\n${script}\n})();\nconstruction(${JSON.stringify(bounds)}, () => (\n`;
   return {whole: `${before}${text.replace(/[;\s]*$/, "")}\n));\n`, lines: linesIn(before) - 1};
 }
 
-// An asker over the lab's script. `explore` hands what comes of a text to `then`, as {found, met}, {wrong, line}, {late} or {none}, if the
-// browser lets no worker run; and how many states there are so far to `meanwhile`. Another search, or `stop`, ends the one under way.
+// An asker over the lab's script. `explore` passes what comes of a text to `then`, as {found, met}, {wrong, line}, {late} or {none} (the
+// browser lets no worker run), and the number of states so far to `meanwhile`. Another search, or `stop`, ends the one under way.
 export function labAskerOf(script) {
   let worker = null, timer = 0;
 
@@ -43,7 +43,7 @@ export function labAskerOf(script) {
       stop();
       then(answer);
     };
-    // The line in the text of one in the script, or 0; what is missed at the end stands behind the text.
+    // The line of the text at a line of the script, or 0; what is missing at the end is reported after the text.
     const lineIn = line => Number.isInteger(line) && line > before ? Math.min(line - before, last) : 0;
     mine.onmessage = ({data}) => {
       if (worker !== mine || data === null || typeof data !== "object") return;

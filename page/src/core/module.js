@@ -7,14 +7,14 @@ import { EVENTS, KINDS, MISSES, WHYS, WORDS, eventAt, programsOf, scriptFault, t
 const MARK = 9; // bytes of a mark
 const PAGE = 65536; // bytes by which memory grows
 
-const TOLD = 11 + 8 + 3 * 6; // numbers of what an audit tells: of the trace, of its programs, of three events that were due
-const CALLS_TOLD = 6 + 11; // numbers of what is told of recorded calls: the finding with its lines, how many bytes its words have and
+const TOLD = 11 + 8 + 3 * 6; // numbers of an audit: of the trace, of its programs, of three events that were due
+const CALLS_TOLD = 6 + 11; // numbers on recorded calls: the finding with its lines, how many bytes its words have and
                            // whether it is cut, the report
 const CAUSE_WORDS = 256; // bytes that hold the words of any cause
 const MOST_TAKEN = 65536; // items taken that the audit of recorded calls keeps
 const MOST_OFFERED = 65536; // items inside that it has room for, before more is tried
 const NO_ROOM = 3; // its word for a text that needs more
-const BEGINNING = 3; // so many of the first of them begin a call
+const BEGINNING = 3; // the first three of them begin a call
 // How many spaces there are in a text, in one line at most, and how many bytes after its last line feed: of numbers in recorded calls
 // there are no more. (By an index, as there may be tens of millions of bytes; `for .. of` takes several times as long.)
 function spacesIn(bytes) {
@@ -48,7 +48,7 @@ export async function openModule(bytes) {
   let exports = (await WebAssembly.instantiate(compiled)).exports;
   let laid = null; // the recorded calls that lie in the memory
 
-  // Engines of older drafts of 64-bit memory take a number of pages, where today's take a BigInt.
+  // Engines of older drafts of 64-bit memory take a number of pages; today's take a BigInt.
   const grow = pages => {
     try {
       exports.memory.grow(BigInt(pages));
@@ -58,7 +58,7 @@ export async function openModule(bytes) {
     }
   };
 
-  // The addresses of zeroed pieces of these lengths, behind the module's own data, or from this address on, each at a multiple of 16.
+  // The addresses of zeroed pieces of these lengths, after the module's own data, or from this address on, each at a multiple of 16.
   const lay = (lengths, base = Number(exports.__heap_base.value)) => {
     laid = null;
     let past = base;
@@ -100,8 +100,8 @@ export async function openModule(bytes) {
     }
   };
 
-  // The verdicts on this text: {refused, line}, or that of the audit of bits, {words, kind, why, place, since, shape, events}, where
-  // `place` is that of the event at fault, or null, and `since` behind how many events the bit holds what an answer had to be; and
+  // The verdicts on this text: {refused, line}, or that of the audit of bits, {words, kind, why, place, since, shape, events}; `place` is
+  // that of the event at fault, or null, and `since` the number of events after which the bit held what the answer had to be; and
   // `programs`.
   const audit = text => {
     const bytes = new TextEncoder().encode(text);
@@ -120,8 +120,8 @@ export async function openModule(bytes) {
     return {words: `fault: line ${place + 2}: ${kind}`, kind, why: WHYS[number] ?? "", place, since, shape, events, programs};
   };
 
-  // What the audit of programs tells of the first events of a trace, of none, one, two and so on up to `most`; and the items put and taken
-  // by the last of these, in decimal.
+  // What the audit of programs reports of the first events of a trace: of none, one, two and so on up to `most`; and the items put and
+  // taken by the last of these, in decimal.
   const moments = (text, most) => {
     const bytes = new TextEncoder().encode(text), slots = most + 64;
     const [told, put, taken, at] = lay([TOLD * 8, slots * 8, slots * 8, bytes.length]);
@@ -135,7 +135,7 @@ export async function openModule(bytes) {
     return {found, put: items(put, last.put), taken: items(taken, last.taken)};
   };
 
-  // Lays a script of which so many letters are played, and pieces of these lengths: what a play is told of it, and where the pieces are.
+  // Lays out a script of which `letters` are played, and pieces of these lengths: the arguments of a play, and where the pieces are.
   const layScript = ({capacity, modulus, width, batch, take_batch, items, takes, close, ...texts}, letters, lengths) => {
     const schedule = new TextEncoder().encode(texts.schedule), oracle = new TextEncoder().encode(texts.oracle);
     const [asked, itemsAt, scheduleAt, oracleAt, ...places] = lay([8 * 8, items.length * 8, schedule.length, oracle.length, ...lengths]);
@@ -146,8 +146,8 @@ export async function openModule(bytes) {
     return [[asked, itemsAt, items.length, scheduleAt, schedule.length, oracleAt, oracle.length], places];
   };
 
-  // The play of the first letters of a script: {refused} or {shape, events, report, letters}, where `letters` is how
-  // many the schedule stands for. The events are told where they are wanted.
+  // The play of the first letters of a script: {refused} or {shape, events, report, letters}; `letters` is how many letters the schedule
+  // has. The events are there if they were asked for.
   const play = (script, letters, isDrawn = true) => {
     const {capacity, modulus, width, batch, take_batch, items} = script, room = isDrawn ? EVENTS : 0;
     const [asked, [told, put, taken, marks]] = layScript(script, letters, [12 * 8, items.length * 8, items.length * 8, room * MARK]);
@@ -159,10 +159,10 @@ export async function openModule(bytes) {
     return {shape: {capacity, modulus, width, batch, take_batch}, events: getEvents(marks, Math.min(count, room)), report, letters: all};
   };
 
-  // The same by the ring that is nearly right of this name: {refused} or {shape, events, told, letters, roundAt} and how many
-  // events and tellings there are. Its counts go round at `roundAt`, and `told` has each begin of a call, with its `kind`, and each end,
-  // with its `reply`, {side, kind, reply, number, items}: of a put that begins `number` items are stored, by one that ends so many were; a
-  // take that begins wants so many, and one that took so many has these items.
+  // The same by the wrong ring of this name: {refused} or {shape, events, told, letters, roundAt} and how many events and reports of calls
+  // there are. Its counts wrap at `roundAt`, and `told` has the start of each call, with its `kind`, and each end, with its `reply`, as
+  // {side, kind, reply, number, items}: `number` is how many items a put offers at its start and has stored at its end, and how many a
+  // take asks for at its start and has taken at its end; then `items` has them.
   const playNear = (name, script, letters, isDrawn = true) => {
     const {capacity, modulus, width, batch, take_batch} = script, room = isDrawn ? EVENTS : 0;
     const [asked, [played, tellings, items, marks]] = layScript(script, letters, [9 * 8, room * 2 * 8, room * 8, room * MARK]);
@@ -187,7 +187,7 @@ export async function openModule(bytes) {
     };
   };
 
-  // Lays a text, and tells where and how many bytes it has: without a copy of it on the way, where each of its characters is a byte.
+  // Lays out a text, and returns where it is and how many bytes it has; it makes no copy on the way if each character is one byte.
   const layText = text => {
     const [at] = lay([text.length]),
       {written, read} = new TextEncoder().encodeInto(text, new Uint8Array(exports.memory.buffer, at, text.length));
@@ -197,8 +197,8 @@ export async function openModule(bytes) {
     return [place, bytes.length];
   };
 
-  // Lays recorded calls, with room for so many items inside, and says where all of it lies; those that lie there already are not laid
-  // again.
+  // Lays out recorded calls, with room for this number of items inside, and returns where all of it lies; calls that lie there already are
+  // not laid out again.
   const layCalls = (text, room) => {
     if (laid !== null && laid.text === text && laid.room === room) return laid;
     const [at, length] = layText(text), [all, most, last] = spacesIn(new Uint8Array(exports.memory.buffer, at, length)),
@@ -208,8 +208,8 @@ export async function openModule(bytes) {
   };
 
   // What is found of recorded calls, of their first `past` characters: {refused, line}, or {words, cause, line, against, isCut, report},
-  // where `line` is that at fault, or 0, `cause` has the module's words for what speaks against it, where it is in its turn, `against` is
-  // the line that contradicts it, or 0, and it `isCut` where the first line says that later calls are missing.
+  // where `line` is that at fault, or 0, `cause` has the module's words for what contradicts it, if it is in turn, `against` is the line
+  // that contradicts it, or 0, and it `isCut` if the first line says that later calls are missing.
   const calls = (text, past = text.length, room = MOST_OFFERED) => {
     const {isAll, length, counts: [offeredCount, takenCount, most, rest], places: [told, offered, taken, numbers, restAt, said, at]} =
       layCalls(text, room);

@@ -1,4 +1,4 @@
-// What the module's numbers on a recorded register stand for, in the words of `audit --register`.
+// What the module's numbers on a recorded register mean, in the words of `audit --register`.
 
 const CLASSES = ["safe", "regular", "atomic by reader", "atomic"];
 const READ = 5, READS = 8, MISS = 8 + READ * READS; // numbers of an earlier read, how many there are, and numbers of a class that is missed

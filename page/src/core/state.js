@@ -4,7 +4,7 @@
 export const MODES = ["trace", "script", "calls", "register", "lab"];
 export const WAVES = ["some", "all", "none"];
 
-// The state before any text was shown. `shown` is how many events, letters or lines are asked for; Infinity stands for where a text opens.
+// The state before any text was shown. `shown` is how many events, letters or lines are asked for; Infinity: where a text opens.
 export const newState = () => ({
   mode: "", // of MODES, once a text is shown
   text: "",

@@ -1,4 +1,4 @@
-// What the numbers of the proved module stand for: events, kinds of faults, what is refused. The words are those of docs/FORMATS.md.
+// What the numbers of the proved module mean: events, kinds of faults, what is refused. The words are those of docs/FORMATS.md.
 
 export const EVENTS = 10000; // that there is room for: as many as the module reads or plays
 
@@ -39,8 +39,8 @@ function nameOf(family, index, digit, rank) {
   return name;
 }
 
-// An event, with what the module tells of the moment just after it: what its bit holds, whether a write overlapped
-// the read that it ends, and whether a read and a write of one bit are open. Its numbers stand in the list from a place on.
+// An event, with what the module reports of the moment just after it: what its bit holds, whether a write overlapped the read that it
+// ends, and whether a read and a write of one bit are open. Its numbers are in the list from a place on.
 export function eventAt(list, at) {
   const family = FAMILIES[list[at + 1]], index = list[at + 2], digit = list[at + 3], act = list[at + 4];
   const rank = (list[at + 1] * 256 + index) * 256 + digit;
@@ -59,9 +59,9 @@ export function eventAt(list, at) {
   };
 }
 
-// What the audit of programs tells: of a history that is of the programs `isRun`, how many items were put and taken, whether a take was
-// told that the ring is closed, and whether a close, and a scan of the consumer, may begin next; else the place where it stops being of
-// them, the kind of the fault, and which events of that side were due.
+// What the audit of programs reports. Of a history of the programs (`isRun`): how many items were put and taken, whether a take returned
+// Closed, and whether a close, and a scan of the consumer, may begin next; else the place where it leaves them, the kind of the fault, and
+// which events of that side were due.
 export function programsOf([outcome, number, place, put, taken, told, mayClose, mayScan, ...dues]) {
   const due = [0, 6, 12].map(at => dues.slice(at, at + 6)).filter(([isDue]) => isDue === 1)
     .map(([, row, index, digit, act, value]) => eventAt([0, row, index, digit, act, value, 0, 0, 0], 0));

@@ -6,8 +6,8 @@ export const LETTER = 7.3; // of the letters in a bar
 export const SMALL = 6.7;
 const TOOTH = 5;
 
-// As many of the words as this room has for letters so wide, and how many more there are. No number is cut: if the last of them has no room
-// beside the first word it stands alone, and else nothing does.
+// As many of the words as there is room for at this letter width, and how many more there are. No number is cut: if the last word has no
+// room beside the first, it is drawn alone, or nothing is.
 export function fitted(words, room, letter) {
   const most = Math.floor(room / letter), all = words.split(" ");
   for (let count = all.length; count > 0; count--) {
@@ -17,7 +17,7 @@ export function fitted(words, room, letter) {
   return all.length === 2 && all[1].length <= most ? all[1] : all[0].length <= most && !/^\d/.test(all[0]) ? all[0] : "";
 }
 
-// The path of a bar so `high`, open where it does not begin or end in its row.
+// The path of a bar of this height, open at a side at which it goes on in another row.
 export const barPath = (y, high, from, to, begins, ends) =>
   `<path d="M${to} ${y}H${from}${begins ? `V${y + high}` : `M${from} ${y + high}`}H${to}${ends ? `V${y}` : ""}"/>`;
 
@@ -28,7 +28,7 @@ export function barWords({asks, says}, y, from, to, hasEnded) {
   return hasEnded ? [...words, `<text class="says" x="${middle}" y="${y + 34}">${escape(fitted(says, room, SMALL))}</text>`] : words;
 }
 
-// An access so `high`, torn where it does not begin or end in its row.
+// An access of this height, torn at a side at which it goes on in another row.
 export function accessPath(y, high, from, to, begins, ends) {
   const [quarter, half, most, low] = [1, 2, 3, 4].map(n => y + n * high / 4);
   const right = ends ? `V${low}` : `L${round(to - TOOTH)} ${quarter}L${to} ${half}L${round(to - TOOTH)} ${most}L${to} ${low}`;

@@ -1,4 +1,4 @@
-// The picture of recorded calls: a bar for each call of a side, from the line where it begins to that where it ends, with the words of
+// The picture of recorded calls: a bar for each call of a side, from the line that begins it to the one that ends it, with the words of
 // both. It places rectangles: the line at fault, and the one that contradicts it, are numbers of the module.
 
 import { MOST_CALLED } from "../text/calls.js";
@@ -11,8 +11,8 @@ const EFFECTS = 36, UNDER = 42; // between the lanes, for the order of the opera
 const NEAR = 50, FAR = 110; // between two lines
 const MOST_WORDS = 34; // letters of a line that a flag has
 
-// The picture of the first `count` lines behind the first of this recording, in a frame with room for all. The place `fault` is at fault
-// (null: none is), with the words `cause`; the one at `contradicts` speaks against it. `order` has the operations, from the place `ordered`
+// The picture of the first `count` lines after the first of this recording, in a frame with room for all. The place `fault` is at fault
+// (null: none is), with the words `cause`; the one at `contradicts` contradicts it. `order` has the operations, from the place `ordered`
 // on; `ring` is a second heading, as in sheet.js.
 export function bars({
   text,
@@ -89,7 +89,7 @@ export function bars({
     sheet.drawGroup(`class="${classes.join(" ")}" data-line="${call.begin + 2}"`, own);
   };
 
-  // In a long recording, of which some rows are drawn, the calls behind those that are told, pale.
+  // In a long recording, of which some rows are drawn, the calls after the cursor, pale.
   const drawLater = () => drawn.forEach(row => {
     const first = Math.max(row * each, count);
     for (let place = first; place < Math.min((row + 1) * each, whole); place++) sheet.drawNumber(place);

@@ -1,4 +1,4 @@
-// A picture in the page. Each line of its text is an element, and one whose line stands there already stays: of a step most do.
+// A picture in the page. Each line of its text is an element, and one whose line is there already stays: after a step most do.
 
 import { HEADING } from "./sheet.js";
 
@@ -26,8 +26,8 @@ function renew({svg, lines: old}, head, lines) {
   return made;
 }
 
-// The text of a drawing, for a frame: its verdict and its reasons stand above it there. With it its width, its height over that, and its
-// attributes.
+// The text of a drawing, for a frame, in which its verdict and its reasons are above it; with its width, its height divided by that, and
+// its attributes.
 export function textFor(drawn, more) {
   const text = drawn.draw({...drawn, ring: null, why: "", due: "", ...more}),
     [width, height] = /viewBox="0 0 (\S+) (\S+)"/.exec(text).slice(1).map(Number);

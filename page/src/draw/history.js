@@ -1,6 +1,6 @@
-// The picture of a register's history: its operations, each from the place where it begins to that where it ends, as bars; of a
-// construction as braces over its accesses, with what the registers hold that it is built of. It places rectangles: what is at fault, and
-// what contradicts it, the module says.
+// The picture of a register's history: its operations, each from the place that begins it to the one that ends it, as bars; of a
+// construction as braces over its accesses, with what the registers hold that it is built of. It places rectangles: the module says what
+// is at fault, and what contradicts it.
 
 import { LETTER, accessPath, barPath, barWords } from "./bar.js";
 import { escape, round, sheetOf } from "./sheet.js";
@@ -26,7 +26,7 @@ const wordsOf = ({isWrite, value, answer}) =>
 // `total`. `operations` are {side, isWrite, value, answer, begin, end} and `accesses` {side, register, isWrite, value, begin, end,
 // isOverlapped}, with Infinity for an end that is not there; `registers` are {name, first}, and `waves` says whose values are drawn. The
 // operation that ends at the place `fault` is at fault, in the words of the `flag`; those of the places `against` contradict it. `head` is
-// what stands under the verdict `words`.
+// what is below the verdict `words`.
 export function history({
   sides,
   whole,

@@ -1,5 +1,5 @@
 // The picture of a history: events as module.js makes them go in, the text of an SVG comes out. It places rectangles:
-// what a bit holds, which reads a write overlapped and where a read and a write clash are numbers of the module.
+// what a bit holds, which reads a write overlapped, and at which places a read and a write overlap are numbers of the module.
 
 import { callWords, partWords, partsOfCall } from "../text/calls.js";
 import { accessPath } from "./bar.js";
@@ -7,8 +7,8 @@ import { LEFT, escape, round, sheetOf } from "./sheet.js";
 
 // ---- accesses and waves ----------------------------------------------------------------------------------------------
 
-// The accesses of events, by their places: each runs from its begin to the next event of its side (`ended` where that is
-// its end), and to Infinity where there is none. `strays` are the events that end nothing.
+// The accesses of events, by their places: each runs from its start to the next event of its side (`ended` if that is its end), and to
+// Infinity if there is none. `strays` are the events that end nothing.
 export function accessesOf(events) {
   const accesses = [], strays = [], open = {P: null, C: null};
   events.forEach((event, place) => {
@@ -32,8 +32,8 @@ export function accessesOf(events) {
   return {accesses, strays};
 }
 
-// What a bit holds, from before its `first` event to the place `past` behind the last of the `count` events that the
-// module tells of: stretches of {from, to} with the value `held`, or with the `write` that is under way.
+// What a bit holds, from before its `first` event to the place `past` after the last of the `count` events that the module reports on:
+// stretches of {from, to} with the value `held`, or with the `write` that is under way.
 export function waveOf(first, events, accesses, count, past) {
   const wave = [];
   let from = -1, held = first.held;
@@ -53,10 +53,10 @@ const MOST_WAVES = 5;
 // The first events of the bits whose waves are drawn, and of how many these are. "some": those of overlapped reads and of
 // the fault, or else those that are written, five of them at most, that of the fault first.
 function wavesOf(events, fault, choice) {
-  const told = events.slice(0, fault ?? events.length), firsts = new Map();
-  for (const it of told) if (!firsts.has(it.bit)) firsts.set(it.bit, it);
+  const seen = events.slice(0, fault ?? events.length), firsts = new Map();
+  for (const it of seen) if (!firsts.has(it.bit)) firsts.set(it.bit, it);
   const bits =
-    isChosen => [...new Set(told.filter(isChosen).map(it => it.bit))].map(bit => firsts.get(bit)).sort((a, b) => a.rank - b.rank);
+    isChosen => [...new Set(seen.filter(isChosen).map(it => it.bit))].map(bit => firsts.get(bit)).sort((a, b) => a.rank - b.rank);
   if (choice === "none") return {drawn: [], of: 0};
   const all = bits(() => true);
   if (choice === "all") return {drawn: all, of: all.length};
@@ -76,11 +76,11 @@ const P_BAR = 44, C_BAR = 122, BAR = 28, RULER = 101; // within a row
 const ORDER = 34; // between the lanes, for the order of the operations
 
 // The picture of `events`, of which the one at place `fault` is at fault (null: none is), and the one at `broken` not of the program, in a
-// frame with room for the events `whole`. `found` has what is found of the calls, where that is a fault: its cause, its place and, where
-// one contradicts it, the place of that; the counts go round at `roundAt`. `words` is its heading, of the mood "good", "bad" or none, with
-// that of the `ring`; `kind` and `why` tell of the fault, `due` of what was due. `calls` are braced, with room for braces where it
-// `hasCalls`; the operations of the `order` stand between the lanes. `waves` is "some", "all" or "none". The events have the numbers of
-// their lines, or else `numbers`, which count what is `counted` up to `total`. The style sheet is in the picture where `theme` is given.
+// frame with room for the events `whole`. `found` has what is found of the calls, if that is a fault: its cause, its place and, if one
+// contradicts it, the place of that; the counts wrap at `roundAt`. `words` is its heading, of the mood "good", "bad" or none, with that of
+// the `ring`; `kind` and `why` are of the fault, `due` is what was due. `calls` are braced, with room for braces if it `hasCalls`; the
+// operations of the `order` are between the lanes. `waves` is "some", "all" or "none". The events have the numbers of their lines, or else
+// `numbers`, which count what is `counted` up to `total`. The style sheet is in the picture if `theme` is given.
 export function picture({
   shape,
   events,
@@ -139,7 +139,7 @@ export function picture({
   const lane = side => side === "P" ? P_BAR : cBar;
   const name = side => side === "P" ? P_BAR - 7 : cBar + BAR + 18;
 
-  // Where a read and a write of one bit are open, the stretch from one event to the next is shaded between the lanes.
+  // While a read and a write of one bit are open, the stretch from one event to the next is shaded between the lanes.
   const drawClashes = () => events.forEach((event, place) => {
     if (!event.clashes) return;
     for (const {y, from, to, begins, ends} of partsOf(place, place + 1)) {
@@ -175,7 +175,7 @@ export function picture({
       const y = rowTop + lane(it.side);
       own.push(accessPath(y, BAR, from, to, begins, ends && it.ended),
         `<text class="bit" x="${round((from + to) / 2)}" y="${rowTop + name(it.side)}">${it.bit}</text>`);
-      // The value that is written stands at the begin of a long bar, an answer at its end.
+      // The value that is written is at the start of a long bar, an answer at its end.
       if (!it.isWrite && !(ends && it.ended)) continue;
       const isLong = it.end - it.begin > 2 && to - from > 60;
       const at = !isLong ? (from + to) / 2 : it.isWrite ? from + 17 : to - 17;
@@ -192,7 +192,7 @@ export function picture({
       `<path d="M${at - 10} ${bar}H${at}V${bar + BAR}H${at - 10}"/><text class="bit" x="${at}" y="${y + name(it.side)}">${it.bit}</text>`]);
   };
 
-  // A call is a brace over the lane of its side, with what it came to; between the brace and the bars stand its parts.
+  // A call is a brace over the lane of its side, with what it came to; its parts are between the brace and the bars.
   const drawCall = call => {
     const isPut = call.side === "P", [short, long] = callWords(call),
       when = call.end < Infinity ? `${counted}s ${numberOf(call.begin)} to ${numberOf(call.end)}`
@@ -200,7 +200,7 @@ export function picture({
     const [line, tip, label, below] = isPut ? [-22, -15, -28, -4] : [tallRow + 22, tallRow + 15, tallRow + 37, tallRow + 8];
     const fits = (text, wide) => text.length * 7.4 + 4 <= wide;
     const own = [`<title>${call.side} ${escape(long)}, ${when}</title>`];
-    const until = Math.min(call.end, stop); // nothing is told of calls from there on
+    const until = Math.min(call.end, stop); // nothing is known of calls from there on
     partsOf(call.begin, until).forEach(({y, from, to, begins, ends}) => {
       const left = begins ? `M${from} ${y + tip}V${y + line}` : `M${from} ${y + line}`,
         right = ends && call.end < Infinity ? `H${to}V${y + tip}` : `H${to}`;

@@ -1,5 +1,5 @@
-// The sheet that a history is drawn on: its places, an event or a line each, stand from left to right and row by row, in lanes of their
-// sides. Of a long history some rows are drawn.
+// The sheet that a history is drawn on: its places, an event or a line each, from left to right and row by row, in lanes of their sides.
+// Of a long history some rows are drawn.
 
 import { operationWords } from "../text/calls.js";
 import { styleOf } from "./style.js";
@@ -18,8 +18,8 @@ const NO_XML = /[^\t\n\r\x20-\ud7ff\ue000-\ufffd\u{10000}-\u{10ffff}]/gu;
 export const escape = text =>
   String(text).replace(NO_XML, "\ufffd").replace(/&/g, "&amp;").replace(/</g, "&lt;").replace(/>/g, "&gt;").replace(/"/g, "&quot;");
 
-// How so many places are laid out in rows: with the widest letters with which the whole picture fits a frame of this height over width;
-// where none does, with the least. As many places in a row as fit, from `least` to `most` apart, and the rows evenly filled.
+// How the places are laid out in rows: with the widest letters with which the whole picture fits a frame of this height divided by width;
+// if none do, with the narrowest. As many places in a row as fit, from `least` to `most` apart, and the rows evenly filled.
 function layout({count, tall, head, aspect, least, most, widest: limit = WIDEST}) {
   let found;
   for (let widest = NARROWEST; widest <= limit; widest += 40) {
@@ -45,11 +45,11 @@ function rowsAround(rows, row, other, most) {
   return [...new Set([...around(other, few), ...around(row, most - few)])].sort((a, b) => a - b);
 }
 
-// A sheet with room for the places `whole`, of which the first `count` are told; `middle` is one that is drawn, and so is `other` where it
-// is not null. A row is `tall`, and `up` of that lies above its lanes; `lanes` has where in the row those of the `sides` begin, how `high`
-// their bars are, and where the numbers stand (`ruler`); `sides` has the names of the lanes, from the top, each with what it is. The places
-// have the numbers that `numberOf` gives, which count what is `counted` up to `total`, and it is no wider than `widest` and has at most so
-// many `rows`; `words` is the heading, of the mood "good", "bad" or none, `ring` a second one, `reasons` what stands below.
+// A sheet with room for the places `whole`, of which the first `count` are shown; `middle` is one that is drawn, and so is `other` if it is
+// not null. A row is `tall`, and `up` of that lies above its lanes; `lanes` has the places in the row at which those of the `sides` begin,
+// how `high` their bars are, and the place of the numbers (`ruler`); `sides` has the names of the lanes, from the top, each with what it
+// is. The places have the numbers that `numberOf` gives, which count what is `counted` up to `total`. It is no wider than `widest` and has
+// at most `rows` rows; `words` is the heading, of the mood "good", "bad" or none, `ring` a second one, `reasons` what is below.
 export function sheetOf({
   whole,
   count,
@@ -83,12 +83,12 @@ export function sheetOf({
   const breadth = widest ? width : Math.max(width, Math.ceil(LEFT + heading)), height = head + drawn.length * tall + FOOT;
   const names = Object.keys(sides), first = lanes[names[0]], bottom = lanes[names.at(-1)] + lanes.high, out = [];
 
-  // The parts of a stretch of places, of which those before `told` are told, one for each row that it runs through and that is drawn.
-  const partsOf = (begin, end, told = count) => {
-    const last = Math.max(begin, Math.min(end, told - 1)), [from, past] = [rowOf(begin), rowOf(last)];
+  // The parts of a stretch of places, of which those before `shown` are shown, one for each row that it runs through and that is drawn.
+  const partsOf = (begin, end, shown = count) => {
+    const last = Math.max(begin, Math.min(end, shown - 1)), [from, past] = [rowOf(begin), rowOf(last)];
     if (past < drawn[0] || from > drawn.at(-1)) return [];
     return drawn.filter(row => from <= row && row <= past).map(row => {
-      const begins = row === from, ends = end < told && row === rowOf(end);
+      const begins = row === from, ends = end < shown && row === rowOf(end);
       const to = ends ? x(end) : row === past ? Math.min(x(last) + unit / 2 + 4, right) : right;
       return {y: top(row), from: begins ? x(begin) : LEFT - 4, to: round(to), begins, ends};
     });
@@ -97,7 +97,7 @@ export function sheetOf({
   // Some elements in one.
   const drawGroup = (attributes, parts) => out.push(`<g ${attributes}>${parts.join("")}</g>`);
 
-  // The rows with their lanes, and a break where rows between two of them are not drawn.
+  // The rows with their lanes, and a break if rows between two of them are not drawn.
   const drawRows = () => drawn.forEach((row, slot) => {
     const y = top(row), ends = Math.min(each, Math.max(whole - row * each, 0));
     for (const side of names) {
@@ -114,7 +114,7 @@ export function sheetOf({
           numberOf(row * each - 1)} are not drawn</text>`);
   });
 
-  // The number of a place, where it has room.
+  // The number of a place, if there is room for it.
   const drawNumber = place => {
     const isWide = String(numberOf(place)).length > 5 && place % 2; // of two numbers that have no room side by side, one
     const isNow = place === count - 1;
@@ -122,7 +122,7 @@ export function sheetOf({
       out.push(`<text class="line${isNow ? " now" : ""}" x="${x(place)}" y="${top(rowOf(place)) + lanes.ruler}">${numberOf(place)}</text>`);
   };
 
-  // The places that are told and drawn.
+  // The places that are shown and drawn.
   const placesDrawn = () =>
     drawn.flatMap(row => Array.from({length: Math.max(0, Math.min(each, count - row * each))}, (_, i) => row * each + i));
 
@@ -135,7 +135,7 @@ export function sheetOf({
       `<text class="line bad${kind}${place === count - 1 ? " now" : ""}" x="${at}" y="${y + lanes.ruler}">${number}</text>`);
   };
 
-  // The cursor: a line through its row, after the last place that is told, if more are drawn behind it.
+  // The cursor: a line through its row, after the last place that is shown, if more are drawn after it.
   const drawCursor = () => {
     const place = count - 1;
     if (place < 0 || place + 1 >= whole || !isDrawn(rowOf(place))) return;
@@ -157,8 +157,8 @@ export function sheetOf({
     drawMark(place, kind, isBelow ? first - 6 : 20, isBelow ? flag : bottom + 6);
   };
 
-  // The operations from the place `from` on and before `until` stand on a line between the lanes, each where it takes effect, with a tick
-  // to the lane of its side.
+  // The operations from the place `from` on and before `until` are on a line between the lanes, each at the place at which it takes effect,
+  // with a tick to the lane of its side.
   const drawOrder = (order, until, from = 0) => {
     const y = lanes.ruler + 20, spots = new Map();
     for (const it of order) if (it.at < until && it.at < count) spots.set(it.at, [...spots.get(it.at) ?? [], it]);
@@ -184,7 +184,7 @@ export function sheetOf({
     }
   };
 
-  // The heading, with these words below it and which rows are drawn where not all are.
+  // The heading, with these words below it, and which rows are drawn if not all are.
   const drawHead = parts => {
     const stretches = [];
     for (const row of drawn) isDrawn(row - 1) ? stretches.at(-1)[1] = row : stretches.push([row, row]);
@@ -198,7 +198,7 @@ export function sheetOf({
 
   const drawLegend = parts => drawGroup(`class="legends" transform="translate(${LEFT - 10} ${height - 36})"`, parts);
 
-  // All of it, an element of the sheet to a line; the style sheet is in it where `theme` is given.
+  // All of it, an element of the sheet to a line; the style sheet is in it if `theme` is given.
   const textOfSheet = theme => {
     const style = theme === undefined ? "" : `<style>${styleOf(theme)}</style>`;
     return `<svg xmlns="http://www.w3.org/2000/svg" class="ring" viewBox="0 0 ${breadth} ${height}" role="img" aria-label="${

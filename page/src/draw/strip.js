@@ -8,7 +8,7 @@ const NS = "http://www.w3.org/2000/svg";
 const STRIP_WIDE = 1000, STRIP_HIGH = 40; // in its own units
 const LEAST_LINES = 20; // lines of a stretch
 const DRAGGED = 4; // pixels from which on a press is a drag
-const STEPS = 100; // by a key the cursor goes through so many parts of what is shown, by a key of pages through a tenth of them
+const STEPS = 100; // a key moves the cursor by one of this number of parts of what is shown, a page key by a tenth of them
 
 const madeSvg = (name, attributes = {}) => {
   const it = document.createElementNS(NS, name);
@@ -16,7 +16,7 @@ const madeSvg = (name, attributes = {}) => {
   return it;
 };
 
-// The least and the most of each of so many columns over the lines from `first` to `last`: those that end at one line have what it has.
+// The least and the most of each of `count` columns over the lines from `first` to `last`: those that end at one line have what it has.
 export function columnsOf(lines, first, last, most, count) {
   const low = new Float64Array(count), high = new Float64Array(count), wide = (last - first + 1) / count;
   for (let i = 0; i < count; i++) {

@@ -98,12 +98,12 @@ function domainLine({domain}, {registers, histories}) {
 }
 
 // Whether a construction meets an exercise: {isMet, lines, found}, with a line {is, words} for each requirement, and the explorer's answer.
-// `bounds` are its limits, {states, milliseconds}; `tell` is called as the explorer calls it.
-export function judged(exercise, construction, bounds = {}, tell = () => {}) {
+// `bounds` are its limits, {states, milliseconds}; `report` is called as the explorer calls it.
+export function judged(exercise, construction, bounds = {}, report = () => {}) {
   const {needs} = exercise, {values, readers, kinds, registers, domain, accesses, writes, reads} = needs;
   // What the longest operation is, and which values a register takes, is known only if every history is explored.
   const all = bounds.all || domain !== undefined || accesses !== undefined;
-  const found = explored(construction, {...bounds, writes, reads, all}, tell), {form} = found;
+  const found = explored(construction, {...bounds, writes, reads, all}, report), {form} = found;
   const other = found.registers.find(it => !kinds.includes(it.kind)), used = found.registers.length;
   const equal = (name, has, asked) => ({is: has === asked, words: `${name}: ${has}${has === asked ? "" : `, but ${asked} asked for`}`});
   const lines = [
@@ -144,7 +144,7 @@ export function handIn({exercise}, construction, name) {
   return `${code}.${sumOf(code)}`;
 }
 
-// What stands in such a code, {exercise, name, text}; white space is left out, as a mail may break a line.
+// What is in such a code, {exercise, name, text}; white space is left out, as a mail may break a line.
 export function readHandIn(code) {
   const wrong = words => new Wrong(`this code ${words}: copy it again, from ${VERSION} to its last character`);
   const own = code.replace(/\s+/g, "");

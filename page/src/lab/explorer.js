@@ -97,7 +97,7 @@ function stepsOf(procedures) {
   };
 }
 
-// An operation that does not end by itself, with nothing beside it, is told at once.
+// An operation that does not end by itself, with nothing beside it, is reported at once.
 function checkAlone({form, sides, registers, nodes, root, follow, firstMemory}) {
   for (const side of sides.keys()) for (let value = side ? -1 : 0; value < (side ? 0 : form.values); value++) {
     const held = registers.map(it => it.first);
@@ -123,7 +123,7 @@ function longestOf({registers, nodes, root}, isOf) {
   });
 }
 
-// How many paths there are from the first state to one without a step: of each state where its steps go, and where the next one's begin.
+// How many paths there are from the first state to one without a step: of each state the targets of its steps, and where the next begin.
 function countPaths(to, ends) {
   const counts = new Float64Array(ends.count).fill(-1), stack = [0];
   while (stack.length) {
@@ -141,12 +141,12 @@ function countPaths(to, ends) {
   return counts[0];
 }
 
-// Explores a construction, up to so many writes, and reads of each reader. The answer has the strongest class that no history missed
+// Explores a construction, up to a number of writes, and of reads of each reader. The answer has the strongest class that no history missed
 // (`best`, or null); of each class that was missed a shortest history (`found`: how many `steps`, and its `events`); how many states there
 // were, whether these are all (`isWhole`), and how many histories, or null if not all of them were explored. As far as it was explored,
 // `longest` has of a write and of a read the accesses of one with the most of them, `accesses` how many these are, and `registers` of each
-// register its name, its kind and how many values it takes. `tell` is called with how many states there are, from time to time.
-export function explored(construction, bounds = {}, tell = () => {}) {
+// register its name, its kind and how many values it takes. `report` is called with the number of states from time to time.
+export function explored(construction, bounds = {}, report = () => {}) {
   const {writes, reads, milliseconds, all, ...most} = {...BOUNDS, ...bounds}, began = performance.now();
   for (const count of [writes, reads])
     if (!(Number.isInteger(count) && count >= 0 && count <= MOST_OPERATIONS)) throw new Wrong("a bound is a whole number");
@@ -156,7 +156,7 @@ export function explored(construction, bounds = {}, tell = () => {}) {
     held: registers.map(it => it.first), writing: registers.map(() => -1), audit: begunAt(form.first, form.readers),
     sides: sides.map((_, side) => ({left: side ? reads : writes, node: -1, memory: firstMemory(side), answers: -1})),
   };
-  // Of each state from which it came, by which step; and where its steps go, with where those of the next one begin.
+  // Of each state the one from which it came, and by which step; and the targets of its steps, with the place where the next begin.
   const kept = new States(registers.length, sides.length), parents = new Numbers(Int32Array), taken = new Numbers(Int16Array),
         to = new Numbers(Uint32Array), ends = new Numbers(Uint32Array);
   const found = CLASSES.map(() => null);
@@ -191,7 +191,7 @@ export function explored(construction, bounds = {}, tell = () => {}) {
       isWhole = false;
       break;
     }
-    if (at % LOOKED === 0) tell(kept.count);
+    if (at % LOOKED === 0) report(kept.count);
     const state = kept.at(at);
     sides.flatMap((_, side) => stepsFrom(state, side)).forEach((step, number) => {
       for (const [place] of CLASSES.entries()) {
@@ -221,7 +221,7 @@ export function explored(construction, bounds = {}, tell = () => {}) {
 // The recording of a history, as docs/FORMATS.md has it.
 export function recordingOf({first, values}, events) {
   const word = it =>
-    Number.isInteger(it) && it >= 0 ? it : values; // what is no number of the format stands as the least number that is no value
+    Number.isInteger(it) && it >= 0 ? it : values; // what is no number of the format becomes the least number that is no value
   const lines = events.filter(it => it.register === undefined).map(({side, does, value}) =>
     does === "got" ? `${side} got ${word(value)}` : does === "write" ? `${side} write ${value}` : `${side} ${does}`);
   return [`register ${first} ${values}`, ...lines, ""].join("\n");

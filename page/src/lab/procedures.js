@@ -67,7 +67,7 @@ export function proceduresOf(construction) {
     return remembered.get(text);
   };
 
-  // One operation up to where it stands after these answers.
+  // One operation up to the point that it reaches after these answers.
   const replay = (side, value, memory, answers) => {
     const my = JSON.parse(memories[memory]), run = side ? form.read(my, side) : form.write(value, my);
     if (typeof run?.next !== "function")

@@ -1,4 +1,4 @@
-// The states of a search: what the registers hold, where each side stands, and what the audit keeps. They are kept as numbers of 16 bits
+// The states of a search: what the registers hold, how far each side is, and what the audit keeps. They are kept as numbers of 16 bits
 // in one array that grows, with a table by which each is found again, so that a million of them have room. A state is {held, writing,
 // sides, audit}: of each register the code of what it holds, and of what is being written to it, or -1; of each side {left, node, memory,
 // answers}: how many operations it still makes, the access that is under way or due, or -1, what it remembers, and if an access is under
@@ -71,7 +71,7 @@ export class States {
     return id ? this.ends.all[id - 1] : 0;
   }
 
-  // Where a state stands in the table, or would stand, by its numbers from one place to another.
+  // The place of a state in the table, or the free one for it, by its numbers from one place to another.
   placeOf(from, to) {
     const {numbers: {all}, ends, table} = this, mask = table.length - 1;
     let sum = 0x811c9dc5;

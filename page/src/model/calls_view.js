@@ -11,8 +11,8 @@ const ROUND = 250; // lines before and after the cursor of which an order is sou
 const MOST_ASKED = 20000; // lines of a recording of which a report is asked for at each step
 
 export function callsView(module) {
-  // Where the operations of recorded calls take effect, round a line in a long recording, and from which place on; and nothing if no order
-  // is found.
+  // The places at which the operations of recorded calls take effect, around a line in a long recording, and from which place on; nothing
+  // if no order is found.
   function orderRound({text, lines, line: fault}, line) {
     const isShort = lines.count <= MOST_CALLED, near = Math.min(line, fault || lines.count),
       start = isShort ? 1 : startBefore(text, lines, near - ROUND);

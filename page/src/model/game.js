@@ -1,5 +1,5 @@
-// Playing a script by hand: what each side does next, which rule is broken, and what is to be reached. What a side does, what a read may
-// answer and what is found of the calls, the module says.
+// Playing a script by hand: what each side does next, which rule is broken, and what is to be reached. The module says what a side does,
+// what a read may answer, and what is found of the calls.
 
 // What a player may be after, by the words with which the audit of the calls says that it has come; and what is missing as long as it has
 // not.
@@ -14,14 +14,14 @@ export const GOALS = [
     words: /was not inside/,
     lacks: calls => tookSome(calls) ? "each item that was taken was inside" : "no item was taken yet"
   },
-  {name: "be told Empty with an item inside", words: /^empty, but item/, lacks: calls => lacksEnd(calls, "empty", "Empty")},
-  {name: "be told Closed with an item inside", words: /^closed, but item/, lacks: calls => lacksEnd(calls, "closed", "Closed")},
+  {name: "get Empty with an item inside", words: /^empty, but item/, lacks: calls => lacksEnd(calls, "empty", "Empty")},
+  {name: "get Closed with an item inside", words: /^closed, but item/, lacks: calls => lacksEnd(calls, "closed", "Closed")},
 ];
 
 const takesEnded = (calls, reply) => calls.filter(it => it.side === "C" && it.reply === reply);
 const tookSome = calls => takesEnded(calls, "item").length > 0;
 const lacksEnd = (calls, reply, words) =>
-  takesEnded(calls, reply).length ? `each ${words} was right: no item had to be inside` : `no take was told ${words} yet`;
+  takesEnded(calls, reply).length ? `each ${words} was right: no item had to be inside` : `no take returned ${words} yet`;
 
 // The rules of the ring, by the names of the rings that break one.
 export const RULES = {
@@ -38,7 +38,7 @@ export const HARMLESS = "clears-upwards";
 // Whether what is found of the calls reaches this goal.
 export const isReached = (goal, found) => Boolean(found?.cause && GOALS.find(it => it.name === goal)?.words.test(found.cause));
 
-// What is missing of a goal that is not reached, by what is found of the calls that were told so far.
+// What is missing of a goal that is not reached, by what is found of the calls so far.
 export function missingOf(goal, found, calls, wrong) {
   if (wrong === "") return "the ring keeps all rules: leave one out";
   if (wrong === HARMLESS) return "no play without this rule reaches it: a scan may give a count between two others, whose items are stored";

@@ -1,5 +1,5 @@
-// Hints beside a fault of recorded calls, where a habit explains it. Each is another way to write the recording, and is told only where the
-// module, asked about the recording so written, finds no fault or one further on.
+// Hints beside a fault of recorded calls, if a habit explains it. Each is another way to write the recording, and is given only if the
+// module, asked about the recording so written, finds no fault or a later one.
 
 import { capacityIn, isUnderWay, itemsOf, lineIn, wantedAt } from "../text/recorded_lines.js";
 
@@ -21,7 +21,7 @@ function withWords(text, lines, old, words, isMeant) {
   return parts.join("") + text.slice(from);
 }
 
-// What the words of a fault say that a queue holds: `full` where it said that it is full with no more inside, or `most`, as many as were
+// What the words of a fault say that a queue holds: `full` if it reported full with no more than that inside, or `most`, as many as were
 // inside.
 function heldBy(cause) {
   const [, full] = /^full, but at most (\d+) inside/.exec(cause) ?? [],
@@ -40,9 +40,9 @@ function heldBy(cause) {
 // A first line that fits better, from what the fault says, and again from what the next one says.
 function headHints(ask, text, found) {
   const {full, most} = capacityIn(text),
-    told = full === Infinity ? "no bound was"
-    : most === full                     ? `${most} were`
-                             : `${full} to ${most} were`;
+    stated = full === Infinity ? "and its first line has no bound"
+    : most === full                     ? `not the ${most} of its first line`
+                             : `not the ${full} to ${most} of its first line`;
   const held = heldBy(found.cause);
   if (!held) return [];
   let count = held.full ?? held.most, one = ask(withHead(text, [count]));
@@ -50,14 +50,14 @@ function headHints(ask, text, found) {
     count = next.most;
     one = ask(withHead(text, [count]));
   }
-  if (one && count > 0n) return [{words: `It held ${count} where ${told} told: try queue ${count}.`, label: `queue ${count}`, ...one}];
+  if (one && count > 0n) return [{words: `It held ${count}, ${stated}: try queue ${count}.`, label: `queue ${count}`, ...one}];
   if (most === Infinity) return [];
   let low = held.full ?? BigInt(full), high = held.most ?? BigInt(most);
   for (let tried = 0; tried < MOST_TRIED && low < high; tried++) {
     const it = ask(withHead(text, [low, high]), false), next = it?.found.line ? heldBy(it.found.cause) : null;
     if (it && !it.found.line)
       return [{
-        words: `It may say that it is full with ${low} inside, and holds ${high}: queue ${low} ${high} allows that.`,
+        words: `It may report full with ${low} inside, and holds ${high}: queue ${low} ${high} allows that.`,
         label: `queue ${low} ${high}`,
         ...it
       }];
@@ -107,7 +107,7 @@ function turnHints(ask, text, lines, {cause, line}) {
             : [];
 }
 
-// The hints on this fault: {words, label, text, found}, where `found` is what the module finds of the `text` as the hint has it.
+// The hints on this fault: {words, label, text, found}; `found` is what the module finds of the `text` as the hint has it.
 export function habitsFor(module, text, lines, found) {
   const ask = (changed, isLater = true) => {
     const it = module.calls(changed);

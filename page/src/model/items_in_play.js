@@ -1,9 +1,9 @@
-// What is inside at a moment of a play: what the bits hold, by what the module says of each event, and the items, by where the operations
-// take effect.
+// What is inside at a moment of a play: what the bits hold, by what the module says of each event, and the items, by the places at which
+// the operations take effect.
 
 const MOST_SHOWN = 12; // bits of a count, or cells, that are shown; of more those that hold a 1, or that are being written
 
-// What each bit holds behind these events, and what is being written to it: of a bit without an event what it holds from the start.
+// What each bit holds after these events, and what is being written to it: a bit without an event holds what it held at the start.
 function bitsBehind(events) {
   const bits = new Map();
   for (const {bit, act, value, held} of events) {
@@ -13,20 +13,20 @@ function bitsBehind(events) {
   return (bit, first) => ({held: first, ...bits.get(bit)});
 }
 
-// The items inside behind so many events, by the operations of an order; null where there is none.
+// The items inside after this number of events, by the operations of an order; null if there is none.
 export function itemsInside(order, count) {
   if (!order.length) return null;
   const items = [];
   for (const {does, item, at} of order) {
-    if (at > count - 1) break; // (one that comes behind the last event is not yet)
+    if (at > count - 1) break; // (one that comes after the last event is not yet)
     if (does === "in") items.push(item);
     if (does === "out") items.shift();
   }
   return items;
 }
 
-// The counts that a scan of these bits may give while no event comes: it goes up to the first one that answers 1, a bit that is being
-// written may answer 0 or 1, and each other one answers what it holds. `null` stands for a scan that finds no 1.
+// The counts that a scan of these bits may give while no event comes: it goes up to the first one that answers 1; a bit that is being
+// written may answer 0 or 1, and each other one answers what it holds. `null` is a scan that finds no 1.
 export function scansOf(bits) {
   const found = [];
   for (const [index, {held, isOpen}] of bits.entries()) {
@@ -36,8 +36,8 @@ export function scansOf(bits) {
   return [...found, null];
 }
 
-// What stands in a row of the panel: {name, title, parts}, each part {words, isNow, isOpen}: whether the last event made it so, and whether
-// it is being written; and of a count its `scans`.
+// A row of the panel: {name, title, parts}, each part {words, isNow, isOpen}: whether the last event made it so, and whether it is being
+// written; and of a count its `scans`.
 export function rowsInside({shape, events, roundAt = shape.modulus}, order) {
   const bitAt = bitsBehind(events), last = events.at(-1), rows = [];
   const part = (bit, first, words = it => it) => {

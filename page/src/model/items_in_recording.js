@@ -12,8 +12,8 @@ export function countsAt(lines, line, most) {
 
 export const rangeWords = ({low, high}) => low === high ? String(low) : `${low} to ${high}`;
 
-// The items inside at a line, the next one first: {all, items}, where `all` is how many there may be, and each item is {item, isPerhaps}.
-// One that the take under way may have, or the put under way may not have put yet, is perhaps inside.
+// The items inside at a line, the next one first: {all, items}; `all` is how many there may be, and each item is {item, isPerhaps}. One
+// that the take under way may have, or that the put under way may not have put yet, is perhaps inside.
 function itemsAt(text, lines, line) {
   const [put, take] = ["P", "C"].map(side => isUnderWay(text, lines, side, line)), first = lines.taken[line], past = lines.stored[line];
   const sure = first + (take ? wantedAt(text, lines, take) : 0), offered = put && !lines.closedAt ? itemsOf(text, lines, put) : [];
@@ -25,7 +25,7 @@ function itemsAt(text, lines, line) {
   return {all, items};
 }
 
-// The rows of the panel that tell it, as inside.js has them, at a line before the one at fault.
+// The rows of the panel for them, as items_in_play.js has them, at a line before the one at fault.
 export function rowsAtLine(text, lines, line) {
   const {most} = capacityIn(text), {all, items} = itemsAt(text, lines, line), more = all - items.length;
   const parts = items.map(({item, isPerhaps}) => ({words: item, isOpen: isPerhaps}));

@@ -80,7 +80,7 @@ export function judgedFound(module, given) {
     if (differs) return none(`The explorer and the proved audit differ on the history that is “not ${name}”: ${differs}.`);
     misses.push({class: name, ...history, verdict, why: missOf(verdict, name)});
   }
-  // a history of a weaker class is told once; of one reader that reader alone is not told apart
+  // a history of a weaker class is shown once; with one reader, `atomic by reader` is not shown apart
   const own = misses.filter(it => found.readers > 1 || it.class !== "atomic by reader"),
     isTold = (it, place) => own.slice(0, place).some(other => other.recording === it.recording);
   const best = Math.min(CLASSES.length - 1, ...misses.flatMap(it => [rankOf(it.class) - 1, rankOf(it.verdict.class)]));

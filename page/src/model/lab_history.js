@@ -29,7 +29,7 @@ export function historyOf({values, first}, events) {
         Object.assign(operation, {end: step, answer: isValue ? value : "no value"});
         open.delete(side);
       }
-      // what is no value stands as the least number that is none
+      // what is no value becomes the least number that is none
       const said = does === "got" && (value === null || value < 0) ? values : value;
       lines.push([side, does, said].filter(it => it !== undefined).join(" "));
       lineSteps.push(step);

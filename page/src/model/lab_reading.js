@@ -22,9 +22,9 @@ function boundIn(text) {
 export const boundOf = ({text, bound, exercise}) =>
   exercise ? {writes: exercise.needs.writes, reads: exercise.needs.reads} : bound ?? boundIn(text);
 
-// A reader over the module and an asker (core/lab_asker.js). `tell` is called when there is something new, `meanwhile` with words on what
+// A reader over the module and an asker (core/lab_asker.js). `show` is called when there is something new, `meanwhile` with words on what
 // is under way. The answer has `read`, of a state, and `stop`.
-export function labReaderOf({module, asker, tell, meanwhile}) {
+export function labReaderOf({module, asker, show, meanwhile}) {
   const kept = new Map(); // by its text and bound
   let timer = 0, last = null, under = ""; // what was found last; the key of what is under way
 
@@ -52,7 +52,7 @@ export function labReaderOf({module, asker, tell, meanwhile}) {
       const it = judged ? {text, bound, seconds, ...judged, misses: judged.misses ?? [], met} : {...refusedBy(answer), text, bound};
       if (!answer.late) keep(key, it);
       if (judged && !judged.differs) last = it;
-      tell(it);
+      show(it);
     }, states => meanwhile(`exploring .. ${states.toLocaleString("en")} states, ${((performance.now() - began) / 1000).toFixed(1)} s`));
   }
 

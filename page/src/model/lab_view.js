@@ -17,7 +17,7 @@ export function countWords(count) {
   return count < 10 ** 6 ? count.toLocaleString("en") : count.toExponential(1).replace(/e\+?(\d+)/, " × 10^$1");
 }
 
-// The words of the bound, without which no class is told.
+// The words of the bound, without which no class is shown.
 export function boundWords({bound: {writes, reads}, readers, states, isWhole, histories, misses, seconds}) {
   const each = readers > 1 ? ` of each of ${readers} readers` : "", many = plural(states, "state");
   const upTo = `up to ${plural(writes, "write")} and ${plural(reads, "read")}${each}`;

@@ -21,7 +21,7 @@ export function momentsOf(reportAt, {letters, report}) {
     if (after.full > before.full) moments.push({letter: high, words: "P finds it full"});
     if (taken.length) moments.push({letter: high, words: `C has taken ${taken.join(" ")}`});
     if (after.empty > before.empty) moments.push({letter: high, words: "C finds it empty"});
-    if (after.told && !before.told) moments.push({letter: high, words: "C is told: closed"});
+    if (after.told && !before.told) moments.push({letter: high, words: "C gets Closed"});
   };
   if (letters <= LISTED_LETTERS) look(0, reportAt(0), letters, report);
   return moments;

@@ -9,8 +9,8 @@ export const rankOf = name => CLASSES.indexOf(name); // -1 of none
 export const missOf = ({misses}, name) => misses.find(it => it.class === name)
   ?? misses.filter(it => rankOf(it.class) < rankOf(name)).at(-1) ?? misses.find(it => rankOf(it.class) > rankOf(name)) ?? null;
 
-// The lines that contradict a read at fault: those where the earlier reads ended, and where their writes begin, or where the last write
-// ended.
+// The lines that contradict a read at fault: those that ended the earlier reads, and those that began their writes, or that which ended
+// the last write.
 export const linesAgainst = ({reads, since}) =>
   [...new Set([since, ...reads.flatMap(it => [it.written, it.line])])].filter(line => line > 1);
 

@@ -5,7 +5,7 @@ import { callsUntil } from "../text/calls.js";
 import { orStopped } from "../core/module.js";
 import { placeOf } from "../text/refused_places.js";
 
-// Where the lesson beside the text stands in the list of all, or -1.
+// The place of the lesson beside the text in the list of all, or -1.
 export const lessonAt = ({lessons}, {mode, lesson}) => lessons.findIndex(it => it.mode === mode && it.name === lesson);
 
 // A step of the course, with the title of its lesson.
@@ -19,8 +19,8 @@ function sideOfKey(events, calls) {
   return !isOpen(last) && isOpen(other) ? other : last;
 }
 
-// What is shown: `it` has the words, as much as is `shown` of the `most` there is, where the text `opens`; `drawing` what the picture is
-// made of, null if the text is refused, or not read yet, and then `place` is where; `nexts` is what each side of a play does next, and
+// What is shown: `it` has the words, how much is `shown` of the `most` there is, and the place at which the text `opens`; `drawing` is what
+// the picture is made of, or null if the text is refused, at `place`, or not read yet; `nexts` is what each side of a play does next, and
 // `calls` its calls so far.
 export function momentOf(state, read, views, examples) {
   const view = views[state.mode], isRead = !read.refused && !read.pending, whole = isRead && view.chosen ? view.chosen(read, state) : read;

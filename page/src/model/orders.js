@@ -1,5 +1,5 @@
-// An order of the operations of calls: where each takes effect. It is sought here; whether the operations of a queue can come so, one after
-// the other, the module tells.
+// An order of the operations of calls: the place at which each takes effect. It is sought here; the module decides whether the operations
+// of a queue can come in that order.
 
 import { WORDS } from "../core/words.js";
 
@@ -10,10 +10,10 @@ export const DOES = {in: 17, "no room": 18, "found closed": 19, close: 20, out: 
 const endNumbers = ({side, reply, items, offered = items}) =>
   side === "C" ? items : reply === "some" || reply === "stored" && items.length < offered.length ? [items.length] : [];
 
-// The marks of the history of these calls, at a queue that holds so many at most: {marks, items, numbers} in the numbers of the module, and
-// the `effects` among them, {at, side, does, item, call}, each at its place between two events. A call is {side, kind, begin, end, reply,
-// items, offered, wanted}; those of a side stand in their order. An operation waits for the end of its call, but where one of the other
-// side needs it before; what a call did not find, it did not find when it began. That gives an order wherever there is one.
+// The marks of the history of these calls, at a queue that holds at most `most` items: {marks, items, numbers} in the module's numbers,
+// and the `effects` among them, {at, side, does, item, call}, each at its place between two events. A call is {side, kind, begin, end,
+// reply, items, offered, wanted}; those of a side are in their order. An operation waits for the end of its call unless one of the other
+// side needs it before; what a call did not find, it did not find when it began. That gives an order whenever there is one.
 export function orderOf(calls, most) {
   const marks = [], numbers = [], items = [], effects = [], open = {P: null, C: null};
   let inside = 0, isClosed = false;
@@ -22,7 +22,7 @@ export function orderOf(calls, most) {
     marks.push([DOES[does], value, count]);
     effects.push({at, side, does, item: does === "in" || does === "out" ? value : null, call: open[side].call});
   };
-  // The next item of a side's call goes in or out, and before it one of the other side's, where that is needed.
+  // The next item of a side's call goes in or out, and before it one of the other side's, if that is needed.
   const pass = (side, at) => {
     const it = open[side], isIn = side === "P";
     if (!it || it.passed === it.call.items.length) return false;
@@ -62,21 +62,21 @@ export function orderOf(calls, most) {
   return {marks, numbers, items, effects};
 }
 
-// Where the operations of calls take effect, at a queue that may say from `full` items on that it is full and holds `most`, as the module
-// says by its `order`; none where it does not. Those of calls that only stand for what came before (records.js) are left out.
+// The places at which the operations of calls take effect, at a queue that may report full from `full` items on and holds `most`, as the
+// module confirms by its `order`; none if it does not. Those of calls that only replace what came before (recorded_lines.js) are left out.
 export function effectsOf(calls, holds, order) {
   const it = orderOf(calls, Number(holds.most));
   return calls.length && order(it, holds) === it.marks.length ? it.effects.filter(({call}) => !call.isBefore) : [];
 }
 
-// The same of the calls of a run of a ring of this shape. A trace does not tell what a put offered that stored nothing, nor how many items
-// a take wanted that has fewer; and a take under way may have taken what is next.
+// The same of the calls of a run of a ring of this shape. A trace does not show what a put offered that stored nothing, nor how many items
+// a take asked for that has fewer; and a take under way may have taken what is next.
 export function effectsOfRun(calls, {capacity, take_batch}, order) {
   const itemsOf = call => call.reply ? call.items : call.begun ?? [], of = side => calls.filter(it => it.side === side).flatMap(itemsOf);
   const taken = of("C").length, next = of("P").slice(taken, taken + take_batch);
-  const told = calls.map(call => {
+  const completed = calls.map(call => {
     const items = call.side === "C" && !call.reply && next.length ? next : itemsOf(call);
     return {...call, items, offered: items.length ? items : [0], wanted: Math.max(1, items.length)};
   });
-  return effectsOf(told, {full: capacity, most: capacity}, order);
+  return effectsOf(completed, {full: capacity, most: capacity}, order);
 }

@@ -1,8 +1,8 @@
-// The calls of a play as recorded calls, for their verdict: what was put, taken and told, in the order of the events.
+// The calls of a play as recorded calls, for their verdict: what was put, taken and answered, in the order of the events.
 
-// What a ring that is nearly right tells of its calls, each begin and end with the place of its event: {place, side, kind, reply, number,
-// items}. `playAt` has of the first letters of the play how many events and tellings there are, and `all` has those of all; a letter makes
-// one of each at most.
+// The starts and ends of the calls of a wrong ring, each with the place of its event: {place, side, kind, reply, number, items}. `playAt`
+// has the number of events and of these (`told`) after the first letters of the play, and `all` has those of all; a letter makes at most
+// one of each.
 export function tellingsOf(playAt, all) {
   const tellings = [];
   const look = (low, before, high, after) => {
@@ -17,7 +17,7 @@ export function tellingsOf(playAt, all) {
   return tellings;
 }
 
-// The calls that these tell of a script, as callsOf in calls.js has those of the right ring; `offered` are the items of a put.
+// The calls of a script by these, as callsOf in calls.js has those of the right ring; `offered` are the items of a put.
 export function callsTold(tellings, {items, batch}) {
   const calls = [], open = {P: null, C: null}, passed = {P: 0, C: 0};
   for (const {side, kind, reply, number, items: taken, place} of tellings) {
@@ -42,7 +42,7 @@ export function repliesOf(calls, numbers) {
     full: () => "P finds it full",
     item: it => `C has taken ${it.items.join(" ")}`,
     empty: () => "C finds it empty",
-    closed: it => it.side === "C" ? "C is told: closed" : "P has closed"
+    closed: it => it.side === "C" ? "C gets Closed" : "P has closed"
   };
   return calls.filter(it => it.reply).sort((a, b) => a.end - b.end).map(it => ({letter: numbers[it.end], words: words[it.reply](it)}));
 }

@@ -5,9 +5,9 @@ import { orStopped } from "../core/module.js";
 const LONG = 300000; // characters of recorded calls, or of a script, from which on the worker reads them
 const TICK = 100; // milliseconds between words on what is under way
 
-// A reader. `ask` asks the worker (core/asker.js), `views` are the kinds of text, and `tell` is called when there is something new. The
-// answer has `read`, which returns the whole of a text, or what is `pending` of it; `stop`, and `end`, which tells nothing.
-export function readerOf({asker, views, tell}) {
+// A reader. `ask` asks the worker (core/asker.js), `views` are the kinds of text, and `show` is called when there is something new. The
+// answer has `read`, which returns the whole of a text, or what is `pending` of it; `stop`, and `end`, which shows nothing.
+export function readerOf({asker, views, show}) {
   let timer = 0, under = null; // what the worker reads
 
   const end = () => {
@@ -24,10 +24,10 @@ export function readerOf({asker, views, tell}) {
     const isAsked = asker.ask(text, "read", {mode}, answer => {
       if (under !== mine) return;
       end();
-      tell(views[mode].fromWorker(answer, text));
+      show(views[mode].fromWorker(answer, text));
     });
     if (!isAsked) return null;
-    timer = setInterval(() => tell(pendingOf(text, began)), TICK);
+    timer = setInterval(() => show(pendingOf(text, began)), TICK);
     return pendingOf(text, began);
   };
 
@@ -42,7 +42,7 @@ export function readerOf({asker, views, tell}) {
       if (!under) return;
       asker.stop();
       end();
-      tell({refused: "stopped before it was read to its end", line: 0});
+      show({refused: "stopped before it was read to its end", line: 0});
     },
   };
 }

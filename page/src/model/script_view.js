@@ -11,8 +11,8 @@ import { firstLetters, readScript } from "../text/script.js";
 const countOf = ({report, count}) => report?.events ?? count;
 const flickersOf = ({events}) => events.filter(it => it.act === "got" && it.overlapped).length;
 
-// What is found of the calls of a play, told of letters in place of lines: the words, the places of the event at fault and of the one that
-// contradicts it, and what was found; nothing if no call is told.
+// What is found of the calls of a play, by letters in place of lines: the words, the places of the event at fault and of the one that
+// contradicts it, and what was found; nothing if there is no call.
 function callsFound(module, {calls, shape, numbers}, count) {
   if (!calls.length) return null;
   const {text, places} = recordingOf(calls, shape.capacity, count), {words, cause, line, against} = module.calls(text);
@@ -29,7 +29,7 @@ function callsFound(module, {calls, shape, numbers}, count) {
 const ROWS = [
   ["put", report => report.put.join(" "), "the items of puts whose count write has begun"],
   ["taken", report => report.taken.join(" "), "the items of takes that have ended"],
-  ["told", report => report.told ? "yes" : "no", "whether a take was told that the ring is closed"],
+  ["told", report => report.told ? "yes" : "no", "whether a take returned Closed"],
   ["full", report => report.full, "puts that found the ring full"],
   ["empty", report => report.empty, "takes that found the ring empty"],
   ["events", report => report.events, "of the history"],

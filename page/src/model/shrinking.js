@@ -1,6 +1,6 @@
-// A small recording with the fault of a larger one, sought as record/shrink seeks it: items are left out, each where it was put and where
-// it was taken, and calls that passed none, and calls that overlapped are told one after the other; a step stands only where the module
-// tells a fault of the same words, numbers aside, in the line that was at fault, which is then the last one.
+// A small recording with the fault of a larger one, sought as record/shrink seeks it: items are left out, each from its put and its take,
+// and calls that passed none; and calls that overlapped come one after the other. A step is kept only if the module finds a fault of the
+// same words, numbers aside, in the line that was at fault, which is then the last one.
 
 import { itemsOf, lineIn, wantedAt } from "../text/recorded_lines.js";
 
@@ -17,7 +17,7 @@ const lineOfOther = number => Math.floor((-number - 1) / PLACES);
 const passedOf = it => it.kind === "put" ? it.numbers.slice(0, it.stored) : it.numbers;
 const allOf = it => it.own === null ? it.numbers : [...it.numbers, it.own];
 
-// What is left of a call where these numbers are kept: its lines {line, words}. Unless it is whole a take wants as few as it can for the
+// What is left of a call if these numbers are kept: its lines {line, words}. Unless it is whole, a take asks for as few as it can for the
 // same answer.
 function linesLeft(call, kept, isWhole) {
   const items = call.items.filter((_, i) => kept.has(call.numbers[i])), {side, kind, answer} = call;
@@ -154,9 +154,9 @@ function* guesses(history, words, fault) {
   }
 }
 
-// The smallest recording that is found with the fault that is `found` of this one before `isOver`: {text, words, isWhole}; `tell` hears of
-// each smaller one.
-export function shrunk(module, text, lines, found, isOver, tell) {
+// The smallest recording that is found with the fault that is `found` of this one before `isOver`: {text, words, isWhole}; `show` is called
+// with each smaller one.
+export function shrunk(module, text, lines, found, isOver, show) {
   const head = lineIn(text, lines, 1), fault = found.line, words = withoutNumbers(found.cause),
     whole = text.slice(0, lines.starts[fault + 1]);
   let best = null, isSpent = false;
@@ -171,7 +171,7 @@ export function shrunk(module, text, lines, found, isOver, tell) {
     const it = module.calls(textOf(left));
     if (it.line !== left.length + 1 || withoutNumbers(it.cause) !== words) return false;
     best = {left, found: it};
-    tell(left.length + 1);
+    show(left.length + 1);
     return true;
   };
   if (words === "out of turn") {
@@ -195,7 +195,7 @@ export function shrunk(module, text, lines, found, isOver, tell) {
     }
   }
 
-  // Calls that overlap, the last one first: the end right behind the begin, else the begin right before the end.
+  // Calls that overlap, the last one first: the end right after the start, else the start right before the end.
   function tellApart() {
     const begins = {}, calls = [];
     for (const it of best.left) {

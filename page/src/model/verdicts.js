@@ -21,7 +21,7 @@ export function whyOf({events, place, kind, why, since}) {
     : `${side} has no access open that this could end`;
 }
 
-// What was due in place of an event that is not of its side's program, behind some that are.
+// What was due in place of an event that is not of its side's program, after some that are.
 export function dueOf({events, programs: {isRun, kind, place, due}}) {
   if (isRun || kind !== "not of the program" || place === 0) return "";
   const {side} = events[place], groups = new Map();
@@ -32,12 +32,12 @@ export function dueOf({events, programs: {isRun, kind, place, due}}) {
                       : `in line ${place + 2} nothing was due of ${side}: it has made its last call`;
 }
 
-// From which line on there are no calls of the ring, where a trace shows some and stops being of the programs.
+// From which line on there are no calls of the ring, if a trace shows some and then leaves the programs.
 export function uncalledOf({calls}, broken) {
-  return calls.length && broken !== null ? `behind line ${broken + 1} the accesses are of no calls of the ring` : "";
+  return calls.length && broken !== null ? `after line ${broken + 1} the accesses belong to no calls of the ring` : "";
 }
 
-// Where a picture shows that a trace stops being of the programs: behind some events that are, and where the bits have no fault.
+// The place at which a picture shows that a trace leaves the programs: after some events that follow them, if the bits have no fault.
 export const breakOf = ({place, programs}) =>
   programs && !programs.isRun && programs.kind === "not of the program" && programs.place > 0 && programs.place !== place ? programs.place
                                                                                                                           : null;

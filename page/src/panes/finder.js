@@ -6,7 +6,7 @@ import { endOfCall, lineNaming } from "../text/recorded_lines.js";
 
 
 
-// The lines that speak against the one at fault: first that which the module tells, then others that its words name.
+// The lines that contradict the one at fault: first the one that the module gives, then others that its words name.
 const linesAgainst =
   ({against, cause}) => [...new Set([against, ...[...cause.matchAll(/line (\d+)/g)].map(([, line]) => Number(line))])].filter(Boolean);
 
@@ -35,7 +35,7 @@ export function finderOf(stepToLine) {
   };
   const seek = by => {
     const item = $("item").value.trim(), line = whole && /^\d+$/.test(item) ? lineNaming(whole.text, whole.lines, item, cursor, by) : 0;
-    $("sought").textContent = line || item === "" ? "" : by > 0 ? "no line behind names it" : "no line before names it";
+    $("sought").textContent = line || item === "" ? "" : by > 0 ? "no later line names it" : "no earlier line names it";
     goTo(line);
   };
   const focus = id => {

@@ -12,10 +12,10 @@ export function clockWords(seconds) {
   return seconds < 3600 ? `${Number(minutes)}:${rest}` : `${Number(hours)}:${minutes}:${rest}`;
 }
 
-// The clock of a lecture, which `tell` shows each second. It runs from the first step that is shown.
-function clockOf(tell) {
+// The clock of a lecture, which `say` shows each second. It runs from the first step that is shown.
+function clockOf(say) {
   let began = Number(sessionStorage.getItem(CLOCK)) || null, isRunning = false;
-  const tick = () => tell(clockWords(Math.max(0, Date.now() - began) / 1000));
+  const tick = () => say(clockWords(Math.max(0, Date.now() - began) / 1000));
   const start = () => {
     began = Date.now();
     sessionStorage.setItem(CLOCK, began);
@@ -59,7 +59,7 @@ function notesWindow() {
       return true;
     },
     show: shown => other && !other.closed && fill(shown),
-    tell: words => time && (time.textContent = words),
+    say: words => time && (time.textContent = words),
   };
 }
 
@@ -80,7 +80,7 @@ export function lecturePane(acts, {lessons, course}, titled) {
   let state = null, shown = null, boardFor = null;
   const clock = clockOf(words => {
     $("clock").textContent = words;
-    notes.tell(words);
+    notes.say(words);
   });
 
   // The picture alone, in large letters, on the whole screen if the browser lets it; and back. A browser leaves the whole screen by Esc.

@@ -13,10 +13,10 @@ function titleOf({isFolded, mode}, {it, isRefused, step}) {
   return [it.words, mode !== "script" ? it.ring?.words : it.found?.cause && it.found.words].filter(Boolean).join(", ");
 }
 
-// The pane. `acts` has `stop`, which ends what the worker reads; `tell` has new words on that.
+// The pane. `acts` has `stop`, which ends what the worker reads; `say` shows new words on that.
 export function verdictPane(acts) {
   $("stop").onclick = acts.stop;
-  return {render: renderVerdict, tell: words => set("bits", words)};
+  return {render: renderVerdict, say: words => set("bits", words)};
 }
 
 function renderVerdict(state, now) {

@@ -1,12 +1,12 @@
-// The calls of both sides, by what the module tells of each moment of a history.
+// The calls of both sides, by what the module reports of each moment of a history.
 
-export const MOST_CALLED = 600; // events of a history whose calls are told
+export const MOST_CALLED = 600; // events of a history whose calls are shown
 
 // The calls of the first events, as many as are of the programs: {side, kind, begin, end, reply, items, count}, from the place of the first
-// own event to that of the last, or to Infinity with no reply where it has not ended; `count` items are put, or taken, up to and with it. A
-// call of the producer begins where it may close, and ends where it may close again. One of the consumer begins with a scan, but for the
-// second scan of a take, behind its read of the close bit as 1; it ends with the items that it takes, where it is told that the ring is
-// closed, or where a scan may begin again.
+// own event to that of the last, or to Infinity with no reply if it has not ended; `count` items are put, or taken, up to and with it. A
+// call of the producer begins when it may close, and ends when it may close again. One of the consumer begins with a scan that is not the
+// second scan of a take, after its read of the close bit as 1; it ends with the items that it takes, when it returns Closed, or when a
+// scan may begin again.
 export function callsOf(events, {found, put, taken}) {
   const calls = [], open = {P: null, C: null}, last = {P: null, C: null};
   const begin = (side, kind, place) =>
@@ -41,7 +41,7 @@ export function callsOf(events, {found, put, taken}) {
   return calls;
 }
 
-// The calls of a beginning, of so many events, of a history with these calls.
+// The calls of the first `count` events of a history with these calls.
 export function callsUntil(calls, count) {
   return calls.filter(it => it.begin < count).map(it => it.end < count ? it : {...it, end: Infinity, reply: "", items: [], count: null});
 }

@@ -9,7 +9,7 @@ const MOST_BYTES = 4000000, MOST_RECORDED = 64000000; // of a file that is opene
 
 const megabytes = size => `${(size / 1000000).toFixed(1)} MB`;
 
-// The encoding that the first bytes of a file tell: those of UTF-16 have a mark, or a zero for each letter.
+// The encoding that the first bytes of a file show: UTF-16 has a mark, or a zero for each letter.
 function encodingOf(bytes) {
   const [first, second] = bytes;
   if (first === 0xff && second === 0xfe || second === 0 && first !== 0) return "utf-16le";

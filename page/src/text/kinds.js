@@ -17,7 +17,7 @@ export const LOOKED_AT = 20000; // characters in which the first line is sought 
 export const KIND_WORDS = {trace: "a trace", script: "a script", calls: "recorded calls", register: "a recorded register",
   lab: "a construction of a register", exercise: "an exercise", log: "a log of another test"};
 
-// What kind of text it is, or "" where no line tells.
+// What kind of text it is, or "" if no line shows it.
 export function kindOf(text) {
   const front = text.slice(0, LOOKED_AT).replace(/^\uFEFF/, ""), [, first] = /^\s*\[\s*(\{[^{}]*\})/.exec(front) ?? [];
   if (first && isLog(first.replace(/\s+/g, " "))) return "log";
@@ -33,8 +33,8 @@ export function kindOf(text) {
   return "";
 }
 
-// The first line with which a recording without one is lawful, where one is, as record/head has it for many: never full where no call says
-// so, and else the least number that was surely inside; what the queue holds in truth its author knows.
+// The first line with which a recording without one is lawful, if there is one, as record/head finds it: never full if no call reports it,
+// and else the least number that was surely inside. Only the author knows what the queue really holds.
 function headFor(body, module) {
   const {report} = module.calls(`${ANY_QUEUE}\n${body}`);
   if (!report || report.full === "0") return "queue";
@@ -58,7 +58,7 @@ export function mended(text, module) {
   text = kept.length ? `${kept.join("\n")}\n` : "";
   if (LINES_OF.calls.test(text) && !/^(?:cut )?queue\b/.test(text)) {
     const head = headFor(text, module);
-    causes.push(`has no first line that tells its queue: "${head}" is put there, and what the queue holds is for you to say`);
+    causes.push(`has no first line that describes its queue: "${head}" is put there; only you know what the queue holds`);
     text = `${head}\n${text}`;
   }
   return {causes, text};

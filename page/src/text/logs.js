@@ -7,7 +7,7 @@ export const ANY_QUEUE = "queue 0 18446744073709551615"; // full at any time, an
 const BEGINS_OF = {enqueue: ["P", "put"], dequeue: ["C", "take"], close: ["P", "close"]};
 const ENDS_OF = {enqueue: {ok: "P stored", fail: "P full"}, dequeue: {ok: "C item", fail: "C empty"}, close: {ok: "P closed"}};
 
-// The words at the top of an EDN map, by their keys; what stands in brackets is told as one.
+// The words at the top of an EDN map, by their keys; what is in brackets counts as one.
 function ednOf(line) {
   const words = [];
   let depth = 0;
@@ -19,8 +19,7 @@ function ednOf(line) {
   return Object.fromEntries(Array.from({length: words.length >> 1}, (_, i) => [words[2 * i], words[2 * i + 1]]));
 }
 
-// The operation that a line tells: {process, type, f, value}, or null where it is no line of a log. It may have a tag before it, and stand
-// in a list.
+// The operation of a line: {process, type, f, value}, or null if it is no line of a log. It may have a tag before it, and be in a list.
 function operationIn(line) {
   line = line.replace(/^\s*#[\w.]+(?=\{)/, "").replace(/\}\s*[\]),]+\s*$/, "}");
   let it;
@@ -49,7 +48,7 @@ export function inLines(log) {
 
 export const isLog = line => /^\s*[[(]?\s*(?:#[\w.]+)?\{/.test(line) && operationIn(line.replace(/^\s*[[(]\s*(?=[{#])/, "")) !== null;
 
-// The calls that a log tells, as recorded calls: {text}, or {refused}, why not.
+// The calls of a log, as recorded calls: {text}, or {refused}, why not.
 export function logRecording(log) {
   const lines = [], open = new Map(), processes = {}, refused = (number, words) => ({refused: `line ${number} ${words}`});
   let isEverFull = false;

@@ -1,7 +1,7 @@
 // The text of recorded calls: its lines, the calls that they begin and end, what is counted of them, and the rows of its report. Whether a
 // text is a recording, whether its history is linearizable, and what speaks against a line, the module says.
 
-export const MANY = 2 ** 31 - 1; // a number that stands for itself and for all larger ones
+export const MANY = 2 ** 31 - 1; // a number that means itself and all larger ones
 
 // Whether a line begins a call; and whether it ends one that passed items (stored, some, item). By its letters, since there may be millions
 // of lines.
@@ -14,7 +14,7 @@ function isPassing(text, at) {
   return letter === 105 || letter === 115 && (next === 116 || next === 111);
 }
 
-// The number that stands here, MANY at most.
+// The number that is here, MANY at most.
 function numberAt(text, at) {
   let number = 0;
   for (let code = text.charCodeAt(at); code >= 48 && code <= 57; code = text.charCodeAt(++at))
@@ -22,14 +22,14 @@ function numberAt(text, at) {
   return number;
 }
 
-// How many numbers a line has, from its word on: a space stands before each.
+// How many numbers a line has, from its word on: a space is before each.
 function numbersIn(text, from, to) {
   let count = 0;
   for (let at = from; at < to; at++) if (text.charCodeAt(at) === 32) count++;
   return count;
 }
 
-// How many digits the longest number of a text has, of so many at most.
+// How many digits the longest number of a text has, up to `most`.
 export function longestIn(text, most) {
   let longest = 0, here = 0;
   for (let at = 0; at < text.length && longest < most; at++) {
@@ -41,7 +41,7 @@ export function longestIn(text, most) {
 }
 export const MOST_DIGITS = 20; // of a number below 2^64
 
-// Where the lines of a text begin, counted from 1, and behind the last one its end; and how many there are.
+// Where the lines of a text begin, counted from 1, and after the last one its end; and how many there are.
 export function startsOf(text) {
   const next = at => text.indexOf("\n", at) + 1 || text.length;
   let count = 0;
@@ -93,13 +93,13 @@ export function isUnderWay(text, lines, side, line) {
   return last && isBegin(text, lines.starts[last]) ? last : 0;
 }
 
-// The line at which the next call ends behind this one, or, `by` -1, the last one before it; this line where there is none.
+// The line at which the next call ends after this one, or, with `by` -1, the last one before it; this line if there is none.
 export function endOfCall({mates, count}, line, by) {
   for (let at = line + by; at > 1 && at <= count; at += by) if (mates[at] && mates[at] < at) return at;
   return line;
 }
 
-// The items of a line that puts some, or takes some; how many a take wants.
+// The items of a line that puts some, or takes some; how many a take asks for.
 export const itemsOf = (text, lines, line) => lineIn(text, lines, line).split(" ").slice(2);
 export const wantedAt = (text, {starts}, line) => text[starts[line] + 6] === " " ? numberAt(text, starts[line] + 7) : 1;
 
@@ -114,7 +114,7 @@ export function itemNumbered(text, lines, number) {
   return itemsOf(text, lines, lines.mates[line])[number - lines.stored[line - 1]];
 }
 
-// The next line behind this one that names an item, or, `by` -1, the last one before it; 0 where there is none.
+// The next line after this one that names an item, or, with `by` -1, the last one before it; 0 if there is none.
 export function lineNaming(text, {starts, count}, item, line, by) {
   const words = ` ${item}`, names = /^(?:P put|C item|C some) /;
   let at = by > 0 ? starts[Math.min(line + 1, count + 1)] : starts[line] - 1;
@@ -142,7 +142,7 @@ function lineFrom(starts, count, begin) {
 export const lineIn = (text, {starts}, line) => text.slice(starts[line], starts[line + 1]).replace(/\n$/, "");
 
 // The call that begins in this line: {side, kind, begin, end, reply, items, offered, wanted, asks, says}. The places `begin` and `end` are
-// 0 for line 2, and `end` is Infinity where no line ends it; `asks` and `says` are the words of its two lines.
+// 0 for line 2, and `end` is Infinity if no line ends it; `asks` and `says` are the words of its two lines.
 function callAt(text, lines, line) {
   const [side, ...asks] = lineIn(text, lines, line).split(" "), [kind, ...given] = asks, end = lines.mates[line];
   const [, ...says] = end ? lineIn(text, lines, end).split(" ") : [], [reply = "", ...got] = says;
@@ -164,7 +164,7 @@ export function callsWithin(text, lines, first, last) {
 }
 
 // The calls of a recording as far as `until`, a place, for an order of their operations: one that has not ended there may have put all
-// that it offers, or have taken what is next. Those behind the line `start`, at which no call is under way, come behind calls that put what
+// that it offers, or have taken what is next. Those after the line `start`, at which no call is under way, come after calls that put what
 // is inside there.
 export function callsFor(text, lines, until, start = 1) {
   const those = callsWithin(text, lines, start + 1, Math.min(lines.count, until + 1)).filter(it => it.begin < until);
@@ -174,7 +174,7 @@ export function callsFor(text, lines, until, start = 1) {
   return all.map(it => it.kind === "take" && it.end === Infinity ? {...it, items: next.slice(0, Number(it.wanted))} : it);
 }
 
-// Calls that leave the queue as it is at this line: a put of the items inside, and a close where one has ended.
+// Calls that leave the queue as it is at this line: a put of the items inside, and a close if one has ended.
 function callsBefore(text, lines, start) {
   const count = lines.stored[start] - lines.taken[start],
     items = Array.from({length: count}, (_, i) => itemNumbered(text, lines, lines.taken[start] + i));
@@ -194,14 +194,14 @@ function callsBefore(text, lines, start) {
 
 const FARTHEST = 1500, MOST_BEFORE = 1000; // lines from a stretch to its start; items inside there
 
-// A line before this one at which no call is under way and few items are inside, or 0 where there is none near.
+// A line before this one at which no call is under way and few items are inside, or 0 if there is none near.
 export function startBefore(text, lines, line) {
   const isQuiet = at => ["P", "C"].every(side => !isUnderWay(text, lines, side, at)) && lines.stored[at] - lines.taken[at] <= MOST_BEFORE;
   for (let at = Math.max(1, line), last = Math.max(1, line - FARTHEST); at >= last; at--) if (isQuiet(at)) return at;
   return 0;
 }
 
-// Where a queue of this first line, behind its word `cut` where it has that, may say that it is full, and how many items it holds at most.
+// From how many items on a queue of this first line, with its word `cut` or without, may report full, and how many it holds at most.
 export function capacityIn(text) {
   const [, ...given] = text.slice(0, text.indexOf("\n")).replace(/^cut /, "").split(" "), full = given[0] ?? Infinity,
     most = given.at(-1) ?? Infinity;
@@ -215,15 +215,15 @@ export function lineWords(text, lines, line) {
   return mate < line ? `${words}, the end of the call of line ${mate}` : words;
 }
 
-// What is said of a recording whose first line tells so, beside its verdict.
+// What is said of a recording whose first line has that word, beside its verdict.
 export const CUT = "cut: later calls are missing";
 
-// The report on a recording, as the command prints it: [name, value, what it counts]; `isCut` where later calls are missing.
+// The report on a recording, as the command prints it: [name, value, what it counts]; `isCut` if later calls are missing.
 export const reportRows = ({calls, stored, taken, full, empty, nothing, told, surely, perhaps, overlapped, open},
   isCut) => [["calls", calls, "calls that have begun"], ["stored", stored, "items, by puts that have ended"],
   ["taken", taken, "items, by takes that have ended"], ["full", full, "puts that ended full, short or stored in part for want of room"],
   ["empty", empty, "takes that ended empty or short"], ["nothing", nothing, "calls that ended with nothing"],
-  ["told", told ? "yes" : "no", "whether a take was told that the queue is closed"],
-  ["inside", `${surely} ${perhaps}`, "at some moment surely so many items were inside; never can more have been"],
+  ["told", told ? "yes" : "no", "whether a take returned Closed"],
+  ["inside", `${surely} ${perhaps}`, "the most items surely inside at some moment, and the most that can have been"],
   ["overlapped", overlapped, "calls that overlapped one of the other side"], ["open", open, "calls under way at the end"],
-  ...isCut ? [["cut", "yes", "calls behind the last line are missing: a log was full"]] : []];
+  ...isCut ? [["cut", "yes", "calls after the last line are missing: a log was full"]] : []];

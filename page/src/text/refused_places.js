@@ -1,4 +1,4 @@
-// Where in a text stands what is refused: the module's words and numbers, looked up in the text that was read.
+// The place in a text of what is refused: the module's words and numbers, looked up in the text that was read.
 
 const STRING = /"(?:[^"\\\u0000-\u001f]|\\(?:["\\/bfnrt]|u[0-9a-fA-F]{4}))*"/.source;
 const OTHERS = /-?(?:0|[1-9]\d*)(?:\.\d+)?(?:[eE][+-]?\d+)?|true|false|null/.source;
@@ -19,7 +19,7 @@ const NEXT = {
 
 const MOST_TOKENS = 1000000; // of JSON that are looked at
 
-// The first place where a text stops being JSON, and what was to come there; null where that is far behind its begin.
+// The first place at which a text stops being JSON, and what was expected there; null if that is far from its start.
 export function jsonStop(text) {
   const open = [];
   let due = "value", at = 0, tokens = 0;
@@ -47,7 +47,7 @@ export function jsonStop(text) {
   }
 }
 
-// The stretch of a line, counted from 1; of the end of the text where it has no such line.
+// The stretch of a line, counted from 1; of the end of the text if it has no such line.
 function lineAt(text, line) {
   let from = 0;
   for (let before = 1; before < line; before++) from = text.indexOf("\n", from) + 1 || text.length;
@@ -62,11 +62,11 @@ const LINES = {
     further: ": S read BIT, S got BIT V, S write BIT V, S wrote BIT; or its bit is not in the shape"
   },
   register: {
-    first: "register FIRST or register FIRST VALUES, or one of these behind cut",
+    first: "register FIRST or register FIRST VALUES, or one of these after cut",
     further: ": W write V, W wrote, Ri read, Ri got V, with numbers below 2^64 that begin with no 0; or it writes no value of the register"
   },
   calls: {
-    first: "queue B, queue A B or queue, or one of these behind cut",
+    first: "queue B, queue A B or queue, or one of these after cut",
     further: " the lines of recorded calls, with numbers below 2^64 that begin with no 0"
   }
 };
@@ -85,13 +85,13 @@ function causeIn(mode, text, line) {
   return `line ${line} ${cause}`;
 }
 
-// The stretch of a field of a script's text: its value where that is a number, a word, a list or a text of no escapes.
+// The stretch of a field of a script's text: its value if that is a number, a word, a list or a text without escapes.
 function fieldIn(text, name) {
   const it = new RegExp(`"${name}"\\s*:\\s*(?:"[^"]*"|\\[[^\\]]*\\]|[^,}\\s]+)`).exec(text);
   return it && {from: it.index, to: it.index + it[0].length, value: it.index + it[0].length - it[0].replace(/^"\w+"\s*:\s*/, "").length};
 }
 
-// Where what is refused stands: {from, to, cause}, or null where no place can be told.
+// The place of what is refused: {from, to, cause}, or null if it has none.
 export function placeOf(mode, text, {refused, line}) {
   if (mode === "lab") return line ? {...lineAt(text, line), cause: ""} : null;
   if (mode !== "script") return line ? {...lineAt(text, line), cause: causeIn(mode, text, line)} : null;

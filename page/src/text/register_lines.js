@@ -4,8 +4,8 @@
 import { MOST_DIGITS, longestIn, startsOf } from "./recorded_lines.js";
 
 // The operations of a recording, as far as each event is in its turn: {side, isWrite, value, answer, begin, end}, from the place of the
-// line where one begins to that where it ends, or to Infinity; a place is the number of a line, less 2. `strays` are the places of ends
-// without a begin, and of begins while one is under way.
+// line that begins one to that which ends it, or to Infinity; a place is the number of a line, less 2. `strays` are the places of ends
+// without a start, and of starts while one is under way.
 export function operationsIn(text) {
   const lines = text.split("\n"), operations = [], open = new Map(), strays = [];
   for (let place = 0; place + 2 < lines.length; place++) {

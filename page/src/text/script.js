@@ -1,6 +1,5 @@
 // The text of a script, read by JSON.parse. The fields and the words of what is refused are those of docs/FORMATS.md, but for the field
-// `wrong`, which the page alone has: the name of the ring that plays it, where that is nearly right. What a script's numbers, schedule and
-// oracle have to be is asked of the module.
+// `wrong`, which the page alone has: the name of the wrong ring that plays it. The module checks a script's numbers, schedule and oracle.
 
 import { MISSES } from "../core/words.js";
 
@@ -33,7 +32,7 @@ function numbered(_, it, read) {
 export function readScript(text) {
   let script;
   try {
-    JSON.parse(text); // (a text that is none is told in a tenth of the time)
+    JSON.parse(text); // (a text that is no JSON is found out in a tenth of the time)
     script = JSON.parse(text, numbered);
   } catch (error) {
     return {refused: error instanceof RangeError ? "script is nested deeper than any script" : "script is not JSON"};
@@ -43,12 +42,12 @@ export function readScript(text) {
   script = {...MAY_LACK, ...script};
   for (const name in FIELDS) if (!Object.hasOwn(script, name)) return {refused: `field ${name} is missing`};
   for (const name in FIELDS) if (!FIELDS[name](script[name])) return {refused: `field ${name} has the wrong kind`};
-  // From 2^53 on a number of JavaScript may stand for several whole numbers.
+  // From 2^53 on a number of JavaScript may mean several whole numbers.
   const large = script.items.findIndex(it => !Number.isSafeInteger(it));
-  if (large >= 0) return {refused: `item ${large} is not below 2^53: this page does not tell such numbers exactly`};
+  if (large >= 0) return {refused: `item ${large} is not below 2^53: this page cannot represent such numbers exactly`};
   for (const name of ["capacity", "modulus", "width", "takes", "batch", "take_batch"])
     if (!Number.isSafeInteger(script[name]))
-      return {refused: `field ${name} is not below 2^53: this page does not tell such numbers exactly`};
+      return {refused: `field ${name} is not below 2^53: this page cannot represent such numbers exactly`};
   if (script.wrong && !MISSES.includes(script.wrong))
     return {refused: `field wrong names no ring that is nearly right: these are ${MISSES.join(", ")}`};
   return {script};
@@ -63,7 +62,7 @@ export function laidOut(text) {
   return refused ? text : withLines(JSON.parse(text), script);
 }
 
-// The text of a script with these fields in place of its own; one that is empty is left out where it may lack.
+// The text of a script with these fields in place of its own; an empty one is left out if it is optional.
 export function withFields(text, fields) {
   const {script} = readScript(text), given = {...JSON.parse(text), ...fields};
   for (const name in MAY_LACK) if (given[name] === MAY_LACK[name]) delete given[name];
