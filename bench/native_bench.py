@@ -73,7 +73,7 @@ def middle(times):
 def proved(folder, env):
     print("| Capacity, modulus, batch, take batch | `run` | From C | Ratio |\n|---|---|---|---|")
     for shape in SHAPES:
-        command = [f"{folder}/rings", "proved", *map(str, shape), str(COUNT)]
+        command = [f"{folder}/rings", "several" if max(shape[2:]) > 1 else "proved", *map(str, shape), str(COUNT)]
         pairs = [(by_run(shape, env), through(command, env)) for _ in range(RUNS)]
         run, native = zip(*pairs)
         print(f"| {', '.join(map(str, shape))} | {middle(run)} | {middle(native)} | {statistics.median(native) / statistics.median(run):.2f} |", flush=True)

@@ -1,6 +1,6 @@
 /* rings.c: for bench/native_bench.py: what an item costs through the proved ring in C, and through usual rings.
  *
- *   rings RING CAPACITY MODULUS BATCH TAKE_BATCH ITEMS    RING is proved, seq_cst, cached or boost
+ *   rings RING CAPACITY MODULUS BATCH TAKE_BATCH ITEMS    RING is proved (one item a call), several (batches), seq_cst, cached or boost
  *
  * Two threads pass the items 1, 2, ..; a side that finds the ring full or empty rests as `lamport_ring run` does, and yields at each 256th
  * call. It prints how many nanoseconds all items took; status 1 for a wrong item. A usual ring ignores MODULUS, and passes items one by one. */
@@ -25,17 +25,24 @@ static struct {
     _Alignas(128) ring_taker taker;
 } ends;
 
-/* Stores the first of these items, as many as there is room for, and returns how many. */
 static size_t proved_put(const uint64_t *row, size_t many) {
-    size_t stored = 0;
-    if (batch == 1) return ring_put(&ends.putter, *row) == RING_DONE;
-    return ring_put_all(&ends.putter, row, many, &stored) == RING_DONE ? stored : 0;
+    (void)many;
+    return ring_put(&ends.putter, *row) == RING_DONE;
 }
 
 static size_t proved_take(uint64_t *row, size_t most) {
-    size_t taken = 0;
-    if (take_batch == 1) return ring_take(&ends.taker, row) == RING_DONE;
-    return ring_take_all(&ends.taker, row, most, &taken) == RING_DONE ? taken : 0;
+    (void)most;
+    return ring_take(&ends.taker, row) == RING_DONE;
+}
+
+static size_t several_put(const uint64_t *row, size_t many) {
+    size_t stored;
+    return ring_put_all(&ends.putter, row, many, &stored) == RING_DONE ? stored : 0;
+}
+
+static size_t several_take(uint64_t *row, size_t most) {
+    size_t found;
+    return ring_take_all(&ends.taker, row, most, &found) == RING_DONE ? found : 0;
 }
 
 /* ---- usual rings: each index on cache lines of its own; the capacity is a power of two */
@@ -113,7 +120,7 @@ static void rest(uint64_t times) {
     else for (size_t i = 0; i < 4 * capacity; i++) __builtin_ia32_pause();
 }
 
-static inline void put_items(put_call *put) {
+static inline __attribute__((always_inline)) void put_items(put_call *put) {
     uint64_t calls = 0, times = 0;
     size_t next = 0;
     while (next < items) {
@@ -126,7 +133,7 @@ static inline void put_items(put_call *put) {
     }
 }
 
-static inline void take_items(take_call *take) {
+static inline __attribute__((always_inline)) void take_items(take_call *take) {
     uint64_t calls = 0, times = 0;
     size_t next = 0;
     while (next < items) {
@@ -146,6 +153,7 @@ static inline void take_items(take_call *take) {
     }                                             \
     static void name##_takes(void) { take_items(name##_take); }
 SIDES(proved)
+SIDES(several)
 SIDES(seq_cst)
 SIDES(cached)
 #ifdef WITH_BOOST
@@ -158,6 +166,7 @@ static const struct {
     void (*takes)(void);
 } rings[] = {
     { "proved", proved_puts, proved_takes },
+    { "several", several_puts, several_takes },
     { "seq_cst", seq_cst_puts, seq_cst_takes },
     { "cached", cached_puts, cached_takes },
 #ifdef WITH_BOOST
@@ -172,7 +181,8 @@ static double now(void) {
 }
 
 static int open_ring(const char *name, size_t modulus) {
-    if (strcmp(name, "proved") == 0) return ring_open(&ends.putter, &ends.taker, capacity, modulus, 64, batch, take_batch) == RING_OPENED;
+    if (strcmp(name, "proved") == 0 || strcmp(name, "several") == 0)
+        return ring_open(&ends.putter, &ends.taker, capacity, modulus, 64, batch, take_batch) == RING_OPENED;
 #ifdef WITH_BOOST
     if (strcmp(name, "boost") == 0) return boost_open(capacity);
 #endif
@@ -205,6 +215,6 @@ int main(int words, char **word) {
             return 0;
         }
     }
-    fprintf(stderr, "usage: rings proved|seq_cst|cached|boost CAPACITY MODULUS BATCH TAKE_BATCH ITEMS\n");
+    fprintf(stderr, "usage: rings proved|several|seq_cst|cached|boost CAPACITY MODULUS BATCH TAKE_BATCH ITEMS\n");
     return 2;
 }

@@ -2,6 +2,7 @@
 //! own.
 #![tactic(auto)]
 
+mod padding;
 mod putters;
 mod rings;
 mod takers;

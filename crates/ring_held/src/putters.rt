@@ -8,6 +8,7 @@ ghost use Rattle.ring_ends.specs.Ends.{HasClosed, HasPut, HasPutAll};
 ghost use Rattle.ring_ends.specs.Meetings.{ClosesAre};
 ghost use Rattle.ring_ends.specs.Stored.{StoresMore, item_stored, number_stored};
 
+use crate::padding::Padding;
 use bits_core::Shape;
 use ring_core::{BatchReply, PutReply};
 use ring_ends::{CounterRing, PutEnd, RestingPutter};
@@ -19,10 +20,13 @@ use std::sync::Arc;
 /// to a thread of its own; the ring's memory is given back once both ends are gone. To a contract it is an end, as a
 /// [`CounterPutter`](ring_ends::CounterPutter) is, and its calls are those of [`PutEnd`].
 #[derive(Drop)]
+#[repr(C)]
 pub struct HeldPutter<A: Allocator> {
+    pub(crate) before: Padding,
     pub(crate) ring: Arc<CounterRing<A>, A>,
     // (`None` only while a call is under way)
     pub(crate) end: Option<RestingPutter>,
+    pub(crate) after: Padding,
 }
 
 impl<A: Allocator> Model for HeldPutter<A> {

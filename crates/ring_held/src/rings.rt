@@ -6,6 +6,7 @@ ghost use Rattle.ring_seats.specs.Steppers.{StandsAs};
 ghost use Rattle.ring_ends.specs.Meetings.{ClosesAre, KeepsEnd, Meets, TellsAre};
 ghost use Rattle.ring_held.specs.Held.{FreshEnds, TakesAreAll, TakesArePrefix};
 
+use crate::padding::Padding;
 use crate::putters::HeldPutter;
 use crate::takers::HeldTaker;
 use bits_core::Shape;
@@ -31,12 +32,16 @@ pub fn hold<A: Allocator + Copy>(
     let theirs = Arc::try_clone(&ring)?;
     Ok((
         HeldPutter {
+            before: Padding::new(),
             ring,
             end: Some(putter),
+            after: Padding::new(),
         },
         HeldTaker {
+            before: Padding::new(),
             ring: theirs,
             end: Some(taker),
+            after: Padding::new(),
         },
     ))
 }
@@ -55,10 +60,11 @@ pub fn meet<A: Allocator>(
     ensures linearizable { EachReadingIsLinearizable putter.ring.shape result.0.known }
     ensures lawful { StandsAs P result.0 × StandsAs C result.1 }
 {
-    let HeldPutter { ring, end: p } = putter;
+    let HeldPutter { ring, end: p, .. } = putter;
     let HeldTaker {
         ring: theirs,
         end: c,
+        ..
     } = taker;
     let (Some(p), Some(c)) = (p, c) else {
         unreachable!();
@@ -66,10 +72,17 @@ pub fn meet<A: Allocator>(
     let (p, c) = CounterRing::meet(p.at(&ring), c.at(&theirs));
     let (p, c) = (p.rest(), c.rest());
     (
-        HeldPutter { ring, end: Some(p) },
+        HeldPutter {
+            before: Padding::new(),
+            ring,
+            end: Some(p),
+            after: Padding::new(),
+        },
         HeldTaker {
+            before: Padding::new(),
             ring: theirs,
             end: Some(c),
+            after: Padding::new(),
         },
     )
 }
@@ -89,7 +102,7 @@ pub fn finish<A: Allocator>(putter: HeldPutter<A>, taker: HeldTaker<A>) -> Finis
 {
     ring_law();
     whole_calls_count();
-    let HeldPutter { ring, end: p } = putter;
+    let HeldPutter { ring, end: p, .. } = putter;
     let HeldTaker { end: c, .. } = taker;
     let (Some(p), Some(c)) = (p, c) else {
         unreachable!();

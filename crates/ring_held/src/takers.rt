@@ -8,6 +8,7 @@ ghost use Rattle.ring_ends.specs.Ends.{HasTaken, HasTakenAll, number_brought};
 ghost use Rattle.ring_ends.specs.Meetings.{TellsAre};
 ghost use Rattle.ring_ends.specs.Stored.{TakesMore};
 
+use crate::padding::Padding;
 use bits_core::Shape;
 use ring_core::{TakeBatchReply, TakeReply};
 use ring_ends::{CounterRing, RestingTaker, TakeEnd};
@@ -18,10 +19,13 @@ use std::sync::Arc;
 /// The consumer's end of a counter ring, which owns the ring together with the other end, as a
 /// [`HeldPutter`](crate::HeldPutter) does. Its calls are those of [`TakeEnd`].
 #[derive(Drop)]
+#[repr(C)]
 pub struct HeldTaker<A: Allocator> {
+    pub(crate) before: Padding,
     pub(crate) ring: Arc<CounterRing<A>, A>,
     // (`None` only while a call is under way)
     pub(crate) end: Option<RestingTaker>,
+    pub(crate) after: Padding,
 }
 
 impl<A: Allocator> Model for HeldTaker<A> {

@@ -8,6 +8,7 @@ pub mod by_hand;
 pub mod calls;
 pub mod findings;
 pub mod hearings;
+pub mod held_ends;
 pub mod oracles;
 pub mod packed;
 pub mod plays;

@@ -9,6 +9,7 @@ use std::rt::HostRuntime;
 use std::test::Fail;
 use std::thread::Threads;
 use uses::batches::put_batch;
+use uses::held_ends::deliver;
 use uses::oracles::pass_flickering;
 use uses::packed::{Reading, pass_places, pass_readings};
 use uses::relays::pass_on;
@@ -42,6 +43,27 @@ fn threads_of_ones_own_pass_all(rt: HostRuntime) -> Result<(), Fail> {
     let passed = passed(&rt, shape, &items, 1_000_000_000)?;
     assert!(rt; passed.stored == 7 && passed.told && passed.counts == (7, 7));
     assert_eq!(rt; passed.taken.as_slice(), items.as_slice());
+    Ok(())
+}
+
+#[test]
+fn held_ends_deliver_all(rt: HostRuntime) -> Result<(), Fail> {
+    let shape = Shape::with_batch(4, 8, 16, 3)?;
+    let items = [5, 7, 5, 65_535, 1, 2, 3];
+    assert!(rt; shape.fits_all(&items));
+    let delivered = deliver(&rt, rt.alloc(), shape, &items, 1_000_000_000)?;
+    assert!(rt; delivered.stored == 7 && delivered.told);
+    assert_eq!(rt; delivered.taken.as_slice(), items.as_slice());
+    Ok(())
+}
+
+#[test]
+fn held_ends_with_no_call_deliver_nothing(rt: HostRuntime) -> Result<(), Fail> {
+    let shape = Shape::new(1, 3, 1)?;
+    let items = [1, 0];
+    assert!(rt; shape.fits_all(&items));
+    let delivered = deliver(&rt, rt.alloc(), shape, &items, 0)?;
+    assert!(rt; delivered.stored == 0 && delivered.taken.is_empty() && !delivered.told);
     Ok(())
 }
 
