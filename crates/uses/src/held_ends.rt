@@ -86,7 +86,17 @@ pub fn deliver<R: Threads, A: Allocator + Copy + Send + Sync>(
         end: taker,
         taken: Vec::new(alloc),
     };
-    let ((putter, stored), sink) = join(rt, || source.run(calls), || sink.run(calls));
+    let ((putter, stored), sink) = join(
+        rt,
+        || -> (HeldPutter<A>, usize)
+            requires { (source.end.list ≡ []) × AllFit source.end.ring.shape source.items.now }
+            ensures { IsSameEnd source.entry.end result.0 × HasStored result.0 (take result.1 source.entry.items.now) }
+        { source.run(calls) },
+        || -> Result<Sink<A>, RunFault>
+            requires { (sink.taken.items ≡ []) × (sink.end.list ≡ []) }
+            ensures { IfOk result (λ r. IsSameEnd sink.end r.end × HasTook r.end r.taken.items) }
+        { sink.run(calls) },
+    );
     let Sink { end, taken } = sink?;
     let told = finish(putter, end).told();
     Ok(Delivered {
