@@ -1,4 +1,4 @@
--- How what an event may do changes by one event at the end.
+-- How what an event may do changes with one more event at the end.
 use Rattle.std.proofs.Common.{◌≡◌, ℕ, suc, Bool, true, false, ◌||◌, not, cond, Option, Some, None, List, [], ◌∷◌, ◌++◌, refl, ap, sym, ◌∙◌, arith, append-nil}
 use Rattle.std.proofs.lemmas.Bool.Decides.{nat_tests}
 use Rattle.std.specs.Prelude.{slice_get, is_some, if◌then◌else◌, option_and_then, unwrap_or}
@@ -53,7 +53,7 @@ AllByDoer-each (x ∷ h) each = (each 0 x refl, AllByDoer-each h (λ p e at. eac
 pub AllByDoer-lawful : (shape : Shape) (h : List Event) → EachMayFollow shape h → AllByDoer h
 AllByDoer-lawful shape h lawful = AllByDoer-each h (λ p e at. (lawful.each p e at).right_side.by_doer)
 
--- what begins a write of a bit is by its writer
+-- an event that begins a write of a bit is by its writer
 not_written : (b c : Bit) (s : Side) (a : Act) → s ≡ doer c a → same_side (writer b) s ≡ false → value_written b (begun_access c a) ≡ None
 not_written b c s ReadBegin by not_by = refl
 not_written b c s (ReadEnd v) by not_by = refl
@@ -93,12 +93,12 @@ writes_begun-parts b (x ∷ h) by =
           ] refl
     ] refl
 
--- the last of some values, where one more may follow
+-- the last of some values, with perhaps one more
 pub last_value-maybe : (v : Bool) (ws : List Bool) (o : Option Bool) → last_value v (ws ++ option_to_list o) ≡ unwrap_or o (last_value v ws)
 last_value-maybe v ws None = ap (last_value v) (append-nil ws)
 last_value-maybe v ws (Some w) = last_value-push v ws w
 
--- what the writes that began leave is what the bit holds, or what is being written to it
+-- the last value of the writes that began is what the bit holds, or what is being written to it
 pub last_begun : (b : Bit) (h : List Event) → AllByDoer h → last_value (first_value b) (writes_begun b h) ≡ unwrap_or (open_write b h) (held b h)
 last_begun b h by = ap (last_value (first_value b)) (writes_begun-parts b h by) ∙ last_value-maybe (first_value b) (writes_ended b h) (open_write b h)
 
@@ -107,17 +107,17 @@ pub open_write-push : (b : Bit) (h : List Event) (e : Event) → open_write b (h
 open_write-push b h e = ap (value_written b) (open_access-push (writer b) h e) ∙
     elim (is_by (writer b) e) as (λ t. value_written b (cond t (begun_by e) (open_access (writer b) h)) ≡ cond t (write_of b e) (open_write b h)) [ true ↦ refl | false ↦ refl ]
 
--- what a bit holds changes where its writer has an event, to what was being written
+-- what a bit holds changes when its writer has an event, to what was being written
 pub held-push : (b : Bit) (h : List Event) (e : Event) → AllByDoer h → held b (h ++ e ∷ []) ≡ (if is_by (writer b) e then unwrap_or (open_write b h) (held b h) else held b h)
 held-push b h e by = ap (last_value (first_value b)) (writes_ended-push b h e) ∙
     elim (is_by (writer b) e) as (λ t. last_value (first_value b) (cond t (writes_begun b h) (writes_ended b h)) ≡ cond t (unwrap_or (open_write b h) (held b h)) (held b h)) [ true ↦ last_begun b h by | false ↦ refl ]
 
--- what it held where a side's last access began
+-- what it held when a side's last access began
 pub held_at_begin-push : (s : Side) (b : Bit) (h : List Event) (e : Event) → held_at_begin s b (h ++ e ∷ []) ≡ (if is_by s e then held b h else held_at_begin s b h)
 held_at_begin-push s b h e = ap (held b) (before_last-push s h e) ∙
     elim (is_by s e) as (λ t. held b (cond t h (before_last s h)) ≡ cond t (held b h) (held_at_begin s b h)) [ true ↦ refl | false ↦ refl ]
 
--- whether a write overlaps a side's last access: at its begin, where one is open, and from then on, where one begins
+-- whether a write overlaps a side's last access: at its start if one is open, and from then on once one begins
 not_empty-maybe : {A : Type 0} (ws : List A) (o : Option A) → not (is_empty (ws ++ option_to_list o)) ≡ (not (is_empty ws) || is_some o)
 not_empty-maybe [] None = refl
 not_empty-maybe [] (Some v) = refl

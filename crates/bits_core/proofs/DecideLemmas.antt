@@ -1,4 +1,4 @@
--- Whether a write of a bit overlaps an access: decided by a search of the places.
+-- Whether a write of a bit overlaps an access: decided by a search over the places.
 use Rattle.std.proofs.Common.{◌≡◌, ◌⊎◌, ℕ, zero, suc, ◌<◌, Bool, true, false, Some, None, List, length, inl, inr, refl, ap, sym, subst, ◌∙◌, arith}
 use Rattle.std.specs.Prelude.{slice_get}
 use Rattle.std.proofs.lemmas.Bool.{cases_lt, false≢true}

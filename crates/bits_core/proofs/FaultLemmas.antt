@@ -21,7 +21,7 @@ use Rattle.bits_core.proofs.Places.{slice_get-take, slice_get-from_take}
 use Rattle.bits_core.proofs.OverlapLemmas.{IsByDoers, IsByDoers-below}
 use Rattle.bits_core.proofs.LawfulLemmas.{same_event, IsByDoers-steps, IsLawfulEvent-from, IsLawfulEvent-to, IsLawful-from, IsLawful-to, TakesTurn-from, TakesTurn-to, AnswersSafely-to}
 
--- a fault, in the two forms
+-- the two forms of a fault
 pub IsFault-from : (shape : Shape) (h : List Event) (place : ℕ) (e : Event) (kind : Kind) → IsByDoers h place → slice_get h place ≡ Some e → IsFaultAfter shape (take place h) e kind → IsFault shape h place e kind
 IsFault-from shape h place e WrongSide sides at fault = fault
 IsFault-from shape h place e OutOfTurn sides at fault = (fault.0, λ turn. fault.1 (TakesTurn-to h place sides e.side e.bit e.act at turn))
@@ -39,7 +39,7 @@ not_IsLawfulEvent shape h place e NotProgram fault f = fault
 pub not_IsLawful : (shape : Shape) (h : List Event) (place : ℕ) (kind : Kind) → IsFirstFault shape h place kind → ¬ IsLawful shape h
 not_IsLawful shape h place kind fault lawful = not_IsLawfulEvent shape h place fault.event kind fault.fault (lawful.each place fault.event fault.at_place)
 
--- what the audit finds at a place, all events before which may follow those before them
+-- what the audit finds at a place, if each event before it may follow those before that
 pub IsFirstFault-at : (shape : Shape) (h : List Event) (i : ℕ) (d : Event) (kind : Kind) → i < length h → EachMayFollow shape (take i h) → IsFaultAfter shape (take i h) (get_or h i d) kind → IsFirstFault shape h i kind
 IsFirstFault-at shape h i d kind within steps fault =
     let sides : IsByDoers h i = IsByDoers-steps shape h i steps in
@@ -95,7 +95,7 @@ one_verdict shape h (Fault p k) (Fault q l) a b =
 
 -- ---- up to a fault, and with it
 
--- what was taken of what was taken further
+-- a prefix of a prefix
 before_it : (h : List Event) (q p : ℕ) → q ≤ p → take q (take p h) ≡ take q h
 before_it h q p l = take-take q p h l
 
@@ -124,7 +124,7 @@ not_MayFollow shape past e OutOfTurn fault follows = fault.1 follows.in_turn
 not_MayFollow shape past e NotPermitted fault follows = fault.2 follows.permitted
 not_MayFollow shape past e NotProgram fault follows = fault
 
--- a reason that is none only of an event that may follow tells why the one at fault may not
+-- a reason that is none only of an event that may follow says why the one at fault may not
 pub HasReason-at : (shape : Shape) (h : List Event) (place : ℕ) (d : Event) (kind : Kind) (why : Option Reason) → place < length h → IsFaultAfter shape (take place h) (get_or h place d) kind →
     (why ≡ None → MayFollow shape (take place h) (get_or h place d)) →
     IfSome why (λ reason. (¬ MayFollow shape (take place h) (get_or h place d)) × IsReasonBehind shape (take place h) (get_or h place d) reason) →

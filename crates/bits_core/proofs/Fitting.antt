@@ -1,4 +1,4 @@
--- Each item of a list fits where all of them do.
+-- Each item of a list fits if all of them do.
 use Rattle.std.proofs.Common.{ℕ, ◌^◌, ◌<◌, ◌↔◌, List, [], ◌∷◌, zero, suc, take, drop}
 use Rattle.std.specs.Prelude.{All}
 use Rattle.std.proofs.lemmas.List.Elements.{All-nil, All-cons, All-head, All-tail}
@@ -16,7 +16,7 @@ all_of_each shape (item ∷ items) each = (All-head (λ v. v < 2 ^ width_of shap
 pub all_fit : (shape : Shape) (items : List ℕ) → All (λ item. item < 2 ^ width_of shape) items ↔ AllFit shape items
 all_fit shape items = (all_of_each shape items, each_fits shape items)
 
--- and so does each item of a part
+-- likewise for each item of a part
 pub AllFit-take : (shape : Shape) (n : ℕ) (xs : List ℕ) → AllFit shape xs → AllFit shape (take n xs)
 AllFit-take shape zero xs fit = tt
 AllFit-take shape (suc n) [] fit = tt

@@ -46,7 +46,7 @@ flicker_is_by_interval shape h lawful place = (
       ∙ (overlap_is_by_interval shape h lawful r.side r.bit r.start place r.answer r.read).0 r.overlap,
 )
 
--- the read that ends next is overlapped by its intervals, where it is by the events so far
+-- the read that ends next is overlapped by its intervals, if it is by the events so far
 pub ends_overlapped : (shape : Shape) (h : List Event) (s : Side) (b : Bit) (asked v : Bool) → IsLawful shape h → open_access s h ≡ Some (Read b)
     → v ≡ (if is_overlapped s b h then asked else held_at_begin s b h)
     → (is_overlapped s b h ≡ true) ↔ EndsOverlappedRead (h ++ record { side = s; bit = b; act = ReadEnd v } ∷ []) (length h)

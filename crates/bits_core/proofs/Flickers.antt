@@ -1,4 +1,4 @@
--- How many reads ended that a write overlapped, and what a memory keeps.
+-- How many reads that a write overlapped have ended, and what a memory keeps.
 use Rattle.std.proofs.Common.{◌≡◌, ℕ, zero, suc, ◌+◌, ◌<◌, ◌≤◌, Bool, true, false, Option, Some, List, [], ◌∷◌, ◌++◌, length, refl, ap, ap₂, sym, subst, ◌∙◌, add-zero, length-append, arith}
 use Rattle.std.specs.Prelude.{◌&&◌, slice_get, if◌then◌else◌}
 use Rattle.std.specs.Option.{option_map_or}
@@ -30,7 +30,7 @@ count_below-le (suc n) f =
     let before : count_below n f ≤ n = count_below-le n f in
     elim (f n) as (λ t. count_below n f + (if t then 1 else 0) ≤ suc n) [ true ↦ omega arith | false ↦ omega arith ]
 
--- an event more at the end changes no place before it
+-- one more event at the end changes no place before it
 pub slice_get-front : (h : List Event) (e : Event) (p : ℕ) → p < length h → slice_get (h ++ e ∷ []) p ≡ slice_get h p
 slice_get-front [] e p below = absurd (omega arith)
 slice_get-front (x ∷ h) e zero below = refl
@@ -59,14 +59,14 @@ IsRecord-push shape h n e kept follows = record {
   counted = ap (λ (c : ℕ). c + (if is_flicker h e then 1 else 0)) kept.counted ∙ sym (flicker_count-push h e);
 }
 
--- an event that ends no read leaves the number
+-- an event that ends no read leaves the number unchanged
 pub IsRecord-quiet : (shape : Shape) (h : List Event) (n : ℕ) (e : Event) → IsRecord shape h n → MayFollow shape h e → ends_read e.act ≡ false → IsRecord shape (h ++ e ∷ []) n
 IsRecord-quiet shape h n e kept follows quiet =
     let none : is_flicker h e ≡ false = ap (λ (t : Bool). t && is_overlapped e.side e.bit h) quiet in
     let same : n + (if is_flicker h e then 1 else 0) ≡ n = ap (λ (t : Bool). n + (if t then 1 else 0)) none ∙ add-zero n in
     subst (λ (k : ℕ). IsRecord shape (h ++ e ∷ []) k) same (IsRecord-push shape h n e kept follows)
 
--- the end of a read may follow with what it is answered
+-- the end of a read may follow with the answer that it gets
 pub MayFollow-answer : (shape : Shape) (h : List Event) (s : Side) (b : Bit) (asked v : Bool) → IsLawful shape h → open_access s h ≡ Some (Read b)
     → v ≡ (if is_overlapped s b h then asked else held_at_begin s b h) → MayFollow shape h (record { side = s; bit = b; act = ReadEnd v })
 MayFollow-answer shape h s b asked v lawful still answer =

@@ -1,4 +1,4 @@
--- How each word on histories changes by one event at the end.
+-- How each function of histories changes with one more event at the end.
 use Rattle.std.proofs.Common.{◌≡◌, ℕ, Bool, true, false, ◌||◌, cond, Option, Some, None, List, [], ◌∷◌, ◌++◌, ◌+◌, ◌-◌, length, take, drop, length-drop, refl, ap, sym, ◌∙◌}
 use Rattle.std.specs.Prelude.{option_and_then, is_some, if◌then◌else◌, slice_get}
 use Rattle.std.proofs.lemmas.Option.{slice_get_within, get_or_from_slice_get}
@@ -14,7 +14,7 @@ use Rattle.bits_core.specs.declared.events.Event.{Event}
 use Rattle.bits_core.specs.Bits.{writer, is_by, begun_by, write_of}
 use Rattle.bits_core.specs.History.{has_event, last_event, before_last, after_last, open_access, writes_begun, writes_ended, last_value, IsLastPlace}
 
--- a side has an event in two lists where it has one in either
+-- a side has an event in two lists together if it has one in either
 pub has_event-append : (s : Side) (xs ys : List Event) → has_event s (xs ++ ys) ≡ (has_event s xs || has_event s ys)
 has_event-append s [] ys = refl
 has_event-append s (x ∷ xs) ys =
@@ -39,7 +39,7 @@ has_event-not s (x ∷ h) e by =
       | false ↦ has_event-not s h e by
     ]
 
--- where the side's last event stands
+-- the place of the side's last event
 pub before_last-at : (s : Side) (xs : List Event) (e : Event) (ys : List Event) → is_by s e ≡ true → has_event s ys ≡ false → before_last s (xs ++ e ∷ ys) ≡ xs
 before_last-at s [] e ys by none = rw none refl
 before_last-at s (x ∷ xs) e ys by none = rw (has_event-at s xs e ys by) (ap (λ t. x ∷ t) (before_last-at s xs e ys by none))
@@ -52,7 +52,7 @@ pub last_event-at : (s : Side) (xs : List Event) (e : Event) (ys : List Event) �
 last_event-at s [] e ys by none = rw (none, by) refl
 last_event-at s (x ∷ xs) e ys by none = rw (has_event-at s xs e ys by) (last_event-at s xs e ys by none)
 
--- an event of the other side leaves them
+-- an event of the other side leaves them unchanged
 pub before_last-not : (s : Side) (h : List Event) (e : Event) → is_by s e ≡ false → before_last s (h ++ e ∷ []) ≡ before_last s h
 before_last-not s [] e by = refl
 before_last-not s (x ∷ h) e by = rw (has_event-not s h e by, before_last-not s h e by) refl
@@ -105,7 +105,7 @@ pub writes_ended-push : (b : Bit) (h : List Event) (e : Event) → writes_ended 
 writes_ended-push b h e = rw (before_last-push (writer b) h e)
     (elim (is_by (writer b) e) as (λ v. writes_begun b (cond v h (before_last (writer b) h)) ≡ cond v (writes_begun b h) (writes_ended b h)) [ true ↦ refl | false ↦ refl ])
 
--- a list is what stands before a place, the event there, and what stands after it
+-- a list is the events before a place, the event there, and those after it
 pub split_at : (h : List Event) (p : ℕ) (e : Event) → slice_get h p ≡ Some e → h ≡ take p h ++ e ∷ drop (p + 1) h
 split_at h p e at =
     sym (take-append-drop p h) ∙ ap (λ t. take p h ++ t) (drop_more h p e (slice_get_within h p e at) ∙ ap (λ x. x ∷ drop (p + 1) h) (get_or_from_slice_get h p e e at))
@@ -129,7 +129,7 @@ pub before_last-none : (s : Side) (h : List Event) → has_event s h ≡ false �
 before_last-none s [] none = refl
 before_last-none s (x ∷ h) none = let q = or_parts (is_by s x) (has_event s h) none in rw q.1 refl
 
--- the last of some values
+-- the last value with one more
 pub last_value-push : (v : Bool) (ws : List Bool) (w : Bool) → last_value v (ws ++ w ∷ []) ≡ w
 last_value-push v [] w = refl
 last_value-push v (x ∷ ws) w = last_value-push x ws w

@@ -1,4 +1,4 @@
--- Accesses by their places, against what the events before a place say.
+-- Accesses by their places, and by the events before a place.
 use Rattle.std.proofs.Common.{◌≡◌, ℕ, zero, suc, Bool, true, false, ◌||◌, not, inl, inr, Option, Some, None, List, [], ◌∷◌, ◌+◌, ◌-◌, ◌<◌, ◌≤◌, length, take, drop, refl, ap, sym, subst, ◌∙◌, arith, length-drop}
 use Rattle.std.specs.Prelude.{slice_get, option_and_then, if◌then◌else◌, ◌==◌}
 use Rattle.std.specs.List.{cons_option}
@@ -20,7 +20,7 @@ use Rattle.bits_core.proofs.Histories.{last_event-place, last_event-none}
 use Rattle.bits_core.proofs.Changes.{same_side-same, same_bit-true}
 use Rattle.bits_core.proofs.Places.{slice_get-take, slice_get-from_take}
 
--- a side has no event among the first n where its first is at n or later
+-- a side has no event among the first n if its first is at n or later
 pub first_place-none : (s : Side) (xs : List Event) (n : ℕ) → has_event s (take n xs) ≡ false → n ≤ length xs → n ≤ first_place s xs
 first_place-none s xs zero none within = omega arith
 first_place-none s [] (suc n) none within = absurd (omega arith)
@@ -44,7 +44,7 @@ same_side-true P C e = cc
 same_side-true C P e = cc
 same_side-true C C e = refl
 
--- an access ends at a place or later where its side has no event in between
+-- an access ends at a place or later if its side has no event in between
 pub none_between : (s : Side) (h : List Event) (start place : ℕ) → start < place → place ≤ length h → has_event s (drop (start + 1) (take place h)) ≡ false → place ≤ end_of s h start
 none_between s h start place below within none =
     let m : ℕ = place - (start + 1) in
@@ -100,7 +100,7 @@ IsOpenAt-from h s access place within still =
           (r.0, end_of s h r.0, record { event = r.1.event; at_start = at.0; by_side = same_side-true s r.1.event.side r.1.by_side; begins = begins; ends = refl }, at.1, none_between s h r.0 place at.1 within r.1.none_after)
     ] refl
 
--- what begins a write of a bit
+-- an event that begins a write of a bit
 pub same_bit-same : (b : Bit) → same_bit b b ≡ true
 same_bit-same (S i) = eq-eqb i i refl
 same_bit-same (R i) = eq-eqb i i refl
@@ -125,7 +125,7 @@ begins_write b c (ReadEnd w) v e = cc
 begins_write b c (WriteBegin w) v e = let bits : c ≡ b = cc in ap writer bits
 begins_write b c WriteEnd v e = cc
 
--- a write that began stands at a place
+-- a write that began is at a place
 pub record IsWriteAt (b : Bit) (k : List Event) : Type 0 where
   pub place : ℕ
   pub event : Event

@@ -1,5 +1,5 @@
--- The laws of src/laws.rt as lemmas, each under its name, and more that only proofs ask for, whose statements are in Statements: what
--- proofs cite, here and in the crates above.
+-- The laws of src/laws.rt as lemmas, each under its name, and more that only proofs need, whose statements are in Statements: cited
+-- by proofs, here and in the crates above.
 pub use Rattle.bits_core.proofs.LawProofs.{empty_is_lawful, beginning_is_lawful, lawful_by_one_more, open_is_by_interval, held_is_by_interval, overlap_is_by_interval, held_changes}
 pub use Rattle.bits_core.proofs.Histories.{open_access-push as open_changes, before_last-push as before_last_changes}
 pub use Rattle.bits_core.proofs.Changes.{open_write-push as open_write_changes, held_at_begin-push as held_at_begin_changes, is_overlapped-push as overlap_changes}

@@ -1,4 +1,4 @@
--- The laws, put together.
+-- The laws, proved.
 use Rattle.std.proofs.Common.{[], ◌∷◌, ◌++◌, length, take, ap, sym, subst, ◌∙◌, arith}
 use Rattle.std.proofs.Math.Seq.{take-length}
 use Rattle.bits_core.specs.History.{open_access, held}

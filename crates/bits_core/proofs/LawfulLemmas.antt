@@ -26,7 +26,7 @@ use Rattle.bits_core.proofs.HeldLemmas.{IsHeld-held, IsHeld-same}
 pub same_event : (h : List Event) (p : ℕ) (e f : Event) → slice_get h p ≡ Some e → slice_get h p ≡ Some f → e ≡ f
 same_event h p e f x y = let k : Some e ≡ Some f = sym x ∙ y in cc
 
--- an access that is open at a place where its side has an event ends there
+-- an access that is open at a place if its side has an event there ends there
 pub ends_at : (h : List Event) (s : Side) (start place : ℕ) (e : Event) → start < place → place ≤ end_of s h start → slice_get h place ≡ Some e → is_by s e ≡ true → place ≡ end_of s h start
 ends_at h s start place e below reach at by =
     elim (cases_lt place (end_of s h start)) [
@@ -119,7 +119,7 @@ IsLawfulEvent-to shape h place e sides at f = record {
   permitted = AnswersSafely-to h place sides e.side e.bit e.act at f.in_turn f.permitted;
 }
 
--- the two forms of a lawful history are one
+-- the two forms of a lawful history agree
 pub IsLawful-from : (shape : Shape) (h : List Event) → EachMayFollow shape h → IsLawful shape h
 IsLawful-from shape h steps = record {
   each = λ place e at.

@@ -1,4 +1,4 @@
--- The accesses that a side made, against those of the history.
+-- The accesses that a side made, and those of the history.
 use Rattle.std.proofs.Common.{◌≡◌, ℕ, zero, suc, ◌+◌, ◌*◌, ◌<◌, true, Some, None, List, [], ◌∷◌, ◌++◌, length, refl, ap, sym, subst, ◌∙◌, arith, take_at}
 use Rattle.std.specs.Prelude.{slice_get}
 use Rattle.std.proofs.lemmas.Option.{none-some}
@@ -36,7 +36,7 @@ end_get s [] n x at = absurd (none-some x at)
 end_get s (y ∷ made) zero x at = let same : y ≡ x = cc in ap (λ z. Some (end_event s z)) same
 end_get s (y ∷ made) (suc n) x at = let next : 2 * suc n ≡ suc (suc (2 * n)) = omega arith in rw next (end_get s made n x at)
 
--- an event that begins an access is the begin of one that was made
+-- an event that begins an access is the start of one that was made
 record IsBegun (made : List Made) (i : ℕ) (access : Access) : Type 0 where
   number : ℕ
   made_access : Made
@@ -63,7 +63,7 @@ own_get s h made follows i e at within =
     let there : slice_get (subhistory s h ++ follows.0) i ≡ Some e = ap (λ l. slice_get l i) follows.1 ∙ at in
     subst (λ l. slice_get l i ≡ Some e) (take_at (subhistory s h) follows.0 (length (subhistory s h)) refl) (slice_get-take (subhistory s h ++ follows.0) (length (subhistory s h)) i e there within)
 
--- an access of the history whose begin is that of an access that was made ends with its end
+-- an access of the history that starts with an access that was made ends with its end
 made_at : (s : Side) (h : List Event) (made : List Made) → IsPrefix (subhistory s h) (events_of s made) → (n : ℕ) (x : Made) → slice_get made n ≡ Some x
     → (start stop : ℕ) → IsAccess h s (access_of x) start stop → IsPlaceOf s h (2 * n) start → IsMadeAt s h n x start stop
 made_at s h made follows n x at start stop a p = record {

@@ -1,4 +1,4 @@
--- Marks, kept up event by event.
+-- Marks, maintained event by event.
 use Rattle.std.proofs.Common.{◌≡◌, ◌≢◌, ℕ, zero, suc, ◌+◌, ◌*◌, ◌<◌, ◌≤◌, ◌||◌, Bool, true, false, not, cond, Option, Some, None, List, [], ◌∷◌, ◌++◌, length, get_or, take, refl, ap, sym, subst, ◌∙◌, arith}
 use Rattle.std.proofs.Math.ListN.{set}
 use Rattle.std.specs.Prelude.{if◌then◌else◌, is_some, unwrap_or}
@@ -58,7 +58,7 @@ place-within (R i) room = omega arith
 place-within X room = omega arith
 place-within (Cell j i) room = omega arith
 
--- two bits stand in two places
+-- two bits are at two places
 places-apart : (b c : Bit) → IsInTable b → IsInTable c → same_bit b c ≡ false → table_place b ≢ table_place c
 places-apart (S i) (S j) p q apart = λ e. grind (arith, nat_tests)
 places-apart (S i) (R j) p q apart = λ e. omega arith
@@ -115,7 +115,7 @@ AreMarks-empty values size first shape = record {
   ];
 }
 
--- ---- a read that no write overlaps: what its bit held where it began, it holds still
+-- ---- a read that no write overlaps: its bit still holds what it held when the read began
 
 not_other : (s t : Side) → same_side s t ≡ not (same_side (other s) t)
 not_other P P = refl
@@ -162,7 +162,7 @@ quiet_holds shape b h lawful none =
     let d : Event = record { side = P; bit = b; act = ReadBegin } in
     (subst (λ t. Quiet b t) (take-length h) (quiet-take shape b h d (IsLawful-to shape h lawful) (length h) (omega arith)) none).1
 
--- so the marks have what an open read has to answer
+-- so the marks know what an open read has to answer
 pub settled-is : (shape : Shape) (h : List Event) (s : Side) (b : Bit) (marks : Marks) → AreMarks shape h marks → open_access s h ≡ Some (Read b) → IsInTable b
     → (if (side_mark s marks).overlapped then None else Some (get_or marks.values (table_place b) false)) ≡ settled s b h
 settled-is shape h s b marks are reads room =
@@ -177,7 +177,7 @@ settled-is shape h s b marks are reads room =
       | false ↦ λ e. ap Some (value e)
     ] refl
 
--- what a read answers, by what it has to answer and what an oracle is asked
+-- the answer of a read, by what it has to answer and what an oracle is asked
 pub overlapped-is : (s : Side) (b : Bit) (h : List Event) (due : Option Bool) (none : Bool) → due ≡ settled s b h → is_some due ≡ not none → none ≡ is_overlapped s b h
 overlapped-is s b h due none is some =
     same none (is_overlapped s b h) (sym some ∙ ap is_some is ∙ elim (is_overlapped s b h) as (λ t. is_some (if t then None else Some (held_at_begin s b h)) ≡ not t) [ true ↦ refl | false ↦ refl ])
@@ -192,7 +192,7 @@ pub answer-is : (s : Side) (b : Bit) (h : List Event) (due : Option Bool) (asked
 answer-is s b h due asked is =
     ap (λ o. unwrap_or o asked) is ∙ elim (is_overlapped s b h) as (λ t. unwrap_or (if t then None else Some (held_at_begin s b h)) asked ≡ (if t then asked else held_at_begin s b h)) [ true ↦ refl | false ↦ refl ]
 
--- ---- one event more
+-- ---- one more event
 
 both : (t : Bool) (v : Bool) → cond t v v ≡ v
 both true v = refl
@@ -218,7 +218,7 @@ act_ends o s c (WriteBegin x) b v by fits = no_write o s c b v (ap (value_writte
 act_ends o s c WriteEnd b v by fits =
     subst (λ (o : Option Access). cond (same_side (writer b) s) (unwrap_or (value_written b o) v) v ≡ cond (same_bit b c) (unwrap_or (value_ended WriteEnd o) v) v) (sym fits.1) (write_ends s c b fits.0 v by)
 
--- what a bit holds changes where the write of it ends that is open
+-- what a bit holds changes when the open write of it ends
 held-ends : (shape : Shape) (h : List Event) (s : Side) (c : Bit) (a : Act) (b : Bit) → IsLawful shape h → s ≡ doer c a → FitsOpen c a (open_access s h)
     → held b (h ++ record { side = s; bit = c; act = a } ∷ []) ≡ (if same_bit b c then unwrap_or (value_ended a (open_access s h)) (held b h) else held b h)
 held-ends shape h s c a b lawful by fits =
@@ -255,7 +255,7 @@ mark-beside s h e mark before other is opened overlapped = record {
       ∙ sym (is_overlapped-push s b h e ∙ ap (λ t. cond t (is_some (open_write b h)) (is_overlapped s b h || is_some (write_of b e))) other);
 }
 
--- what is kept of an event
+-- what is recorded of an event
 pub record HasRecorded (before : Marks) (e : Event) (marks : Marks) : Type 0 where
   pub seats_are : length marks.sides ≡ 2
   pub values_are : marks.values ≡ with_value before.values e.bit (value_ended e.act (side_mark e.side before).opened)
@@ -309,7 +309,7 @@ module _ (shape : Shape) (h : List Event) (e : Event) (before marks : Marks) (ar
     sides = λ t. each_mark e.side t own_mark other_mark;
   }
 
--- ---- what each act leaves
+-- ---- what each act changes
 
 with_mark-own : (marks : Marks) (s : Side) (mark : SideMark) → length marks.sides ≡ 2 → side_mark s (with_mark marks s mark) ≡ mark
 with_mark-own marks P mark seats = get_or-set_same marks.sides 0 mark idle (omega (arith, seats))

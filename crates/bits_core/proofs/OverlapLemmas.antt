@@ -28,7 +28,7 @@ open_write-from h b place v o = value_written-to b (open_access (writer b) (take
 pub open_write-at : (h : List Event) (b : Bit) (place : ℕ) (v : Bool) → place ≤ length h → open_write b (take place h) ≡ Some v → IsOpenAt h (writer b) (Write b v) place
 open_write-at h b place v within e = IsOpenAt-from h (writer b) (Write b v) place within (value_written-from b (open_access (writer b) (take place h)) v e)
 
--- overlap of an access that begins at start, looked at just before the place stop
+-- overlap of an access that begins at start, as seen just before the place stop
 module _ (h : List Event) (s : Side) (b : Bit) (start stop : ℕ) (last : IsLastPlace s (take stop h) start) where
   pub overlap_below : start < stop
   overlap_below = (slice_get-from_take h stop start last.event last.at_place).1

@@ -1,4 +1,4 @@
--- A side's own events in a history, and the places where they stand.
+-- A side's own events in a history, and the places of these.
 use Rattle.std.proofs.Common.{◌≡◌, ◌⊎◌, inl, inr, ℕ, zero, suc, ◌+◌, ◌<◌, ◌≤◌, Bool, true, false, cond, Some, List, [], ◌∷◌, ◌++◌, length, take, drop, refl, ap, sym, ◌∙◌, arith, append-nil}
 use Rattle.std.specs.Prelude.{slice_get, if◌then◌else◌}
 use Rattle.std.proofs.lemmas.List.Elements.{filter-append}
@@ -10,7 +10,7 @@ use Rattle.bits_core.specs.Made.{subhistory, clock, place_of, IsPlaceOf}
 use Rattle.bits_core.specs.Laws.{SubhistoryChanges}
 use Rattle.bits_core.proofs.Statements.{SubhistoryHasPlace, SubhistoryHasOnePlace, ClockCountsPlaces}
 
--- by a test, with what it gave
+-- case analysis of a test, keeping its result
 pub by_case : {G : Type 0} → (b : Bool) → (b ≡ true → G) → (b ≡ false → G) → G
 by_case true if_true if_false = if_true refl
 by_case false if_true if_false = if_false refl
@@ -24,7 +24,7 @@ subhistory_changes s h e =
 pub subhistory-append : (s : Side) (h more : List Event) → subhistory s (h ++ more) ≡ subhistory s h ++ subhistory s more
 subhistory-append s h more = filter-append (is_by s) h more
 
--- the own events behind a first event, and the clock
+-- the own events after a first event, and the clock
 pub own-yes : (s : Side) (e : Event) (h : List Event) → is_by s e ≡ true → subhistory s (e ∷ h) ≡ e ∷ subhistory s h
 own-yes s e h by = rw by refl
 
@@ -47,7 +47,7 @@ clock_rises s (e ∷ h) (suc a) (suc b) le =
     (λ by. omega (arith, clock-yes s e h a by, clock-yes s e h b by, clock_rises s h a b (omega arith)))
     (λ by. omega (arith, clock-no s e h a by, clock-no s e h b by, clock_rises s h a b (omega arith)))
 
--- a place among the events behind a first one
+-- a place among the events after a first one
 behind_own : (s : Side) (e : Event) (h : List Event) (i place : ℕ) → is_by s e ≡ true → IsPlaceOf s h i place → IsPlaceOf s (e ∷ h) (suc i) (suc place)
 behind_own s e h i place by p = record {
   at_place = p.at_place ∙ ap (λ l. slice_get l (suc i)) (sym (own-yes s e h by));
@@ -96,7 +96,7 @@ subhistory_has_one_place s h i place p =
     split : (a b : ℕ) → (a ≤ b) ⊎ (b < a)
     split a b = grind arith
 
--- the next own event stands at the side's first place behind
+-- the next own event is at the side's first place after it
 place-first : (s : Side) (h : List Event) → place_of s h 0 ≡ first_place s h
 place-first s [] = refl
 place-first s (e ∷ h) = ap (λ (n : ℕ). if is_by s e then 0 else suc n) (place-first s h)
@@ -135,7 +135,7 @@ own_at s (x ∷ h) (suc place) e at by =
       tick = clock-no s x h (suc place) q ∙ r.tick ∙ ap suc (sym (clock-no s x h place q));
     })
 
--- an own event stands before a place exactly where its number is below the clock there
+-- an own event comes before a place exactly if its number is below the clock there
 pub clock_counts_places : ClockCountsPlaces
 clock_counts_places s h i place within =
     let q : IsPlaceOf s h i (place_of s h i) = subhistory_has_place s h i within in (

@@ -1,4 +1,4 @@
--- What is open, by one event after another: from a side's own events, after whole accesses, and while nothing overlaps.
+-- What is open, event by event: from a side's own events, after complete accesses, and while nothing overlaps.
 use Rattle.std.proofs.Common.{◌≡◌, Bool, true, false, ◌||◌, Option, Some, None, List, [], ◌∷◌, ◌++◌, refl, ap, sym, subst, ◌∙◌, append-nil, append_assoc}
 use Rattle.std.specs.Prelude.{is_some, unwrap_or, if◌then◌else◌}
 use Rattle.std.proofs.lemmas.Bool.{or_parts, false≢true}
@@ -19,7 +19,7 @@ use Rattle.bits_core.proofs.LawProofs.{lawful_by_one_more, held_changes}
 use Rattle.bits_core.proofs.OwnEvents.{by_case, subhistory_changes}
 use Rattle.bits_core.proofs.MadeLemmas.{end_begins_none as begun_end}
 
--- by one event more
+-- by one more event
 grow : (Q : List Event → Type 0) → ((h : List Event) (e : Event) → Q h → Q (h ++ e ∷ [])) → (h more : List Event) → Q h → Q (h ++ more)
 grow Q step h [] q = subst Q (sym (append-nil h)) q
 grow Q step h (e ∷ more) q = subst Q (append_assoc h (e ∷ []) more) (grow Q step (h ++ e ∷ []) more (step h e q))
@@ -41,7 +41,7 @@ open_from_own s = by_events (λ h. open_access s h ≡ open_access s (subhistory
     (open_access-push s h e ∙ pick (is_by s e) false (begun_by e) (open_access s h) by) ∙ was ∙
     sym (ap (open_access s) (subhistory_changes s h e ∙ pick (is_by s e) false (subhistory s h ++ e ∷ []) (subhistory s h) by))))
 
--- whole accesses
+-- complete accesses
 pub by_end : (s : Side) (x : Made) → is_by s (end_event s x) ≡ true
 by_end s (Read b v) = same_side-same s
 by_end s (Write b v) = same_side-same s

@@ -1,4 +1,4 @@
--- Where the elements of a list stand, in parts of it and in what it is part of.
+-- Positions of a list's elements, in parts of the list and in lists that it is part of.
 use Rattle.std.proofs.Common.{◌≡◌, ℕ, zero, suc, ◌⊎◌, inl, inr, Some, List, [], ◌∷◌, ◌++◌, ◌+◌, ◌<◌, length, take, drop, refl, ap, sym, ◌∙◌, arith, ◌≤◌, length-append}
 use Rattle.std.specs.Prelude.{slice_get}
 use Rattle.std.proofs.lemmas.Option.{none-some}
@@ -10,7 +10,7 @@ slice_get-append [] ys p e at = cc
 slice_get-append (x ∷ xs) ys zero e at = at
 slice_get-append (x ∷ xs) ys (suc p) e at = slice_get-append xs ys p e at
 
--- places of what stands after it
+-- places after it
 pub slice_get-behind : {A : Type 0} (xs ys : List A) (i : ℕ) → slice_get (xs ++ ys) (length xs + i) ≡ slice_get ys i
 slice_get-behind [] ys i = let e : 0 + i ≡ i = omega arith in ap (slice_get ys) e
 slice_get-behind (x ∷ xs) ys i = let e : suc (length xs) + i ≡ suc (length xs + i) = omega arith in ap (slice_get (x ∷ (xs ++ ys))) e ∙ slice_get-behind xs ys i
@@ -26,7 +26,7 @@ slice_get-push_cases (x ∷ xs) e zero f at = inl at
 slice_get-push_cases (x ∷ xs) e (suc p) f at =
     elim (slice_get-push_cases xs e p f at) [ inl q ↦ inl q | inr q ↦ inr (ap suc q.0, q.1) ]
 
--- a beginning is no longer than the whole
+-- a prefix is no longer than the whole
 pub prefix_no_longer : {A : Type 0} (xs ys : List A) → IsPrefix xs ys → length xs ≤ length ys
 prefix_no_longer xs ys (rest, e) = omega (arith, ap length e, length-append xs rest)
 
@@ -44,7 +44,7 @@ slice_get-from_take (x ∷ h) zero p e at = absurd (none-some e at)
 slice_get-from_take (x ∷ h) (suc q) zero e at = (at, omega arith)
 slice_get-from_take (x ∷ h) (suc q) (suc p) e at = let r = slice_get-from_take h q p e at in (r.0, omega (arith, r.1))
 
--- places of what stands after a place
+-- places after a place
 pub slice_get-drop : {A : Type 0} (n : ℕ) (k : List A) (p : ℕ) → slice_get (drop n k) p ≡ slice_get k (n + p)
 slice_get-drop zero k p = let e : 0 + p ≡ p = omega arith in sym (ap (slice_get k) e)
 slice_get-drop (suc n) [] p = refl

@@ -28,7 +28,7 @@ ends_read past s b (ReadEnd v) fits not_so = fits
 ends_read past s b (WriteBegin v) fits not_so = absurd (not_so tt)
 ends_read past s b WriteEnd fits not_so = absurd (not_so tt)
 
--- what a read has to answer that no write overlaps
+-- what a read has to answer if no write overlaps it
 settled_by : (overlapped : Bool) (v w : Bool) → Some v ≡ cond overlapped None (Some w) → v ≡ w
 settled_by true v w is = cc
 settled_by false v w is = cc

@@ -1,4 +1,4 @@
--- What is seen at each event so far, by one event more.
+-- What is seen at each event so far, with one more event.
 use Rattle.std.proofs.Common.{◌≡◌, ◌≢◌, ℕ, zero, suc, ◌+◌, ◌<◌, ◌≤◌, Some, List, [], ◌∷◌, take, refl, ap, sym, subst, ◌∙◌, arith, inl, inr}
 use Rattle.std.proofs.Math.ListN.{set}
 use Rattle.std.specs.Prelude.{slice_get}
@@ -9,13 +9,13 @@ use Rattle.bits_core.specs.declared.events.Event.{Event}
 use Rattle.bits_core.specs.declared.audits.Seen.{Seen}
 use Rattle.bits_core.specs.Seen.{AreSeen, IsSeen}
 
--- an item that was set is the one that stands there
+-- an item that was set is the one that is there
 set_here : {X : Type 0} (xs : List X) (i : ℕ) (y z : X) → slice_get (set xs i y) i ≡ Some z → y ≡ z
 set_here [] i y z e = absurd (none-some z e)
 set_here (x ∷ xs) zero y z e = same_Some y z e
 set_here (x ∷ xs) (suc i) y z e = set_here xs i y z e
 
--- and the others are as they were
+-- and the others are unchanged
 set_elsewhere : {X : Type 0} (xs : List X) (i j : ℕ) (y : X) → j ≢ i → slice_get (set xs i y) j ≡ slice_get xs j
 set_elsewhere [] i j y apart = refl
 set_elsewhere (x ∷ xs) zero zero y apart = absurd (apart refl)

@@ -1,4 +1,4 @@
--- Shapes of the same numbers, and what numbers are: those of a shape, or refused for one cause.
+-- Shapes of the same numbers, and that five numbers either make a shape or are refused for one reason.
 use Rattle.std.proofs.Common.{◌≡◌, ◌⊎◌, ℕ, ◌+◌, ◌<◌, ◌≤◌, inl, inr, refl, arith}
 use Rattle.std.specs.Coded.{le_prop}
 use Rattle.std.proofs.lemmas.Bool.{cases_lt}
@@ -8,7 +8,7 @@ use Rattle.bits_core.specs.declared.faults.ShapeFault.{ShapeFault}
 use Rattle.bits_core.specs.declared.faults.ShapeFault.TheVariants.{Capacity, Modulus, Width, Batch, TakeBatch, ModulusOfBatches}
 use Rattle.bits_core.specs.Shape.{AreBatchSizes, HasBatches, IsModulusForBoth, IsRefusedBatches, batch_of, capacity_of, modulus_of, take_batch_of, width_of}
 
--- shapes of the same numbers are one
+-- shapes of the same numbers are equal
 pub same_shape : (s t : Shape) → s.capacity ≡ t.capacity → s.modulus ≡ t.modulus → s.width ≡ t.width → s.batch ≡ t.batch → s.take_batch ≡ t.take_batch → s ≡ t
 same_shape s t c m w b h = λ i. record {
   capacity = c i;
@@ -29,7 +29,7 @@ same_shape s t c m w b h = λ i. record {
   small_take_batch = is_prop→PathP (λ j. h j ≤ c j) (λ j. le_prop) s.small_take_batch t.small_take_batch i;
 }
 
--- the numbers of a shape are not refused, and others for one cause
+-- the numbers of a shape are not refused, and numbers are refused for one reason only
 pub not_refused : (s : Shape) (fault : ShapeFault) → ¬ IsRefusedBatches (capacity_of s) (modulus_of s) (width_of s) (batch_of s) (take_batch_of s) fault
 not_refused s Capacity refused = refused (s.has_cells, s.few_cells)
 not_refused s Batch refused = refused.1 (s.has_batch, s.small_batch)
@@ -85,11 +85,11 @@ in_range low n high = elim (cases_lt low n) [
   | inr small ↦ inr (λ r. omega (arith, small, r.0))
 ]
 
--- five numbers are those of a shape, or refused
+-- five numbers make a shape, or refused
 abbrev pub ShapeTold : ℕ → ℕ → ℕ → ℕ → ℕ → Type 0
 ShapeTold c m w g h = ((shape : Shape) × HasBatches c m w g h shape) ⊎ ((fault : ShapeFault) × IsRefusedBatches c m w g h fault)
 
--- a modulus that is out of its range is reported by the name that the take batch has for it
+-- a modulus that is out of its range is reported under the name that depends on the take batch
 bad_modulus : (c m w g h : ℕ) → AreBatchSizes c g h → ¬ IsModulusForBoth c g h m → ShapeTold c m w g h
 bad_modulus c m w g h sizes out = elim (cases_lt 1 h) [
   | inl over ↦ inr (ModulusOfBatches, (sizes, over, out))

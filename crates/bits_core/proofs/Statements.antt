@@ -1,4 +1,4 @@
--- What proofs above say of a history with one event more, and of the places of a side's own events.
+-- What proofs above say of a history with one more event, and of the places of a side's own events.
 use Rattle.std.specs.Prelude.{◌≡◌, ℕ, ◌*◌, ◌<◌, ◌↔◌, false, Some, None, List, [], ◌∷◌, ◌++◌, length, take, slice_get, if◌then◌else◌, unwrap_or}
 use Rattle.bits_core.specs.declared.events.Side.{Side}
 use Rattle.bits_core.specs.declared.events.Bit.{Bit}
@@ -13,14 +13,14 @@ use Rattle.bits_core.specs.Intervals.{IsAccess}
 use Rattle.bits_core.specs.Lawful.{IsLawful}
 use Rattle.bits_core.specs.Made.{Made, access_of, events_of, IsPrefix, subhistory, clock, place_of, IsPlaceOf, IsMadeAt}
 
--- how what the events so far say changes by one event
+-- how what the events so far say changes with one more event
 abbrev pub OpenWriteChanges : Type 0
 OpenWriteChanges = (b : Bit) (h : List Event) (e : Event) → open_write b (h ++ e ∷ []) ≡ (if is_by (writer b) e then write_of b e else open_write b h)
 
 abbrev pub HeldChanges : Type 0
 HeldChanges = (shape : Shape) (b : Bit) (h : List Event) (e : Event) → IsLawful shape h → held b (h ++ e ∷ []) ≡ (if is_by (writer b) e then unwrap_or (open_write b h) (held b h) else held b h)
 
--- an event that may not follow the events before it, which are lawful, is the first fault
+-- an event that may not follow the events before it, if these are lawful, is the first fault
 abbrev pub FaultIsFirst : Type 0
 FaultIsFirst = (shape : Shape) (h : List Event) (place : ℕ) (e : Event) (kind : Kind) → slice_get h place ≡ Some e → IsLawful shape (take place h) → IsFaultAfter shape (take place h) e kind →
     IsFirstFault shape h place kind
@@ -33,11 +33,11 @@ SubhistoryHasPlace = (s : Side) (h : List Event) (i : ℕ) → i < length (subhi
 abbrev pub SubhistoryHasOnePlace : Type 0
 SubhistoryHasOnePlace = (s : Side) (h : List Event) (i place : ℕ) → IsPlaceOf s h i place → place ≡ place_of s h i
 
--- an own event stands before a place exactly where its number is below the clock there
+-- an own event comes before a place exactly if its number is below the clock there
 abbrev pub ClockCountsPlaces : Type 0
 ClockCountsPlaces = (s : Side) (h : List Event) (i place : ℕ) → i < length (subhistory s h) → (place_of s h i < place) ↔ (i < clock s h place)
 
--- where a side's events are a beginning of the events of accesses that were made, each of these that began is an access of the history
+-- if a side's events are a prefix of the events of accesses that were made, each of these that began is an access of the history
 abbrev pub MadeIsAccess : Type 0
 MadeIsAccess =
     (s : Side) (h : List Event) (made : List Made) → IsPrefix (subhistory s h) (events_of s made) →
@@ -51,12 +51,12 @@ AccessIsMade =
     (access : Access) (start stop : ℕ) → IsAccess h s access start stop →
     (n : ℕ) × (x : Made) × (slice_get made n ≡ Some x) × (access_of x ≡ access) × IsMadeAt s h n x start stop
 
--- what stands before a side's last event, by one event more
+-- the events before a side's last event, with one more event
 abbrev pub BeforeLastChanges : Type 0
 BeforeLastChanges = (s : Side) (h : List Event) (e : Event) → before_last s (h ++ e ∷ []) ≡ (if is_by s e then h else before_last s h)
 
 -- while no write of a bit overlaps its reader's last access, no write of it is open, none was where the access began, and it
--- holds what it held there
+-- holds what it held then
 abbrev pub QuietIsHeld : Type 0
 QuietIsHeld =
     (shape : Shape) (h : List Event) (s : Side) (b : Bit) → IsLawful shape h → s ≡ reader b → is_overlapped s b h ≡ false →

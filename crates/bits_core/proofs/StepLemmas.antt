@@ -1,4 +1,4 @@
--- One event more, and beginnings, of a history whose every event may follow those before it.
+-- One more event, and prefixes, of a history each of whose events may follow those before it.
 use Rattle.std.proofs.Common.{◌≡◌, ℕ, inl, inr, List, [], ◌∷◌, ◌++◌, ◌≤◌, length, take, drop, refl, sym, subst, arith}
 use Rattle.std.proofs.lemmas.Option.{none-some, slice_get_within}
 use Rattle.std.proofs.lemmas.List.{take-append-le, take-append-drop, take_at}
@@ -11,7 +11,7 @@ use Rattle.bits_core.proofs.Places.{slice_get-append, slice_get-last, slice_get-
 pub EachMayFollow-empty : (shape : Shape) → EachMayFollow shape []
 EachMayFollow-empty shape = record { each = λ p e at. absurd (none-some e at) }
 
--- a beginning of a lawful history is lawful
+-- a prefix of a lawful history is lawful
 pub EachMayFollow-append : (shape : Shape) (h g : List Event) → EachMayFollow shape (h ++ g) → EachMayFollow shape h
 EachMayFollow-append shape h g lawful = record {
   each = λ p e at.
@@ -22,7 +22,7 @@ EachMayFollow-append shape h g lawful = record {
 pub EachMayFollow-take : (shape : Shape) (h : List Event) (n : ℕ) → EachMayFollow shape h → EachMayFollow shape (take n h)
 EachMayFollow-take shape h n lawful = EachMayFollow-append shape (take n h) (drop n h) (subst (λ t. EachMayFollow shape t) (sym (take-append-drop n h)) lawful)
 
--- one event more
+-- a history with one more event
 pub EachMayFollow-push : (shape : Shape) (h : List Event) (e : Event) → EachMayFollow shape h → MayFollow shape h e → EachMayFollow shape (h ++ e ∷ [])
 EachMayFollow-push shape h e lawful follows = record {
   each = λ p f at.

@@ -1,4 +1,4 @@
--- A tape begins again at its end.
+-- A tape starts again at its end.
 use Rattle.std.proofs.Common.{◌≡◌, ℕ, ◌+◌, ◌<◌, Bool, true, false, List, [], ◌∷◌, length, refl, ap, sym, ◌∙◌, arith}
 use Rattle.std.specs.Prelude.{◌==◌, if◌then◌else◌, slice_index_or}
 use Rattle.std.proofs.lemmas.Bool.{eqb-true}
@@ -9,7 +9,7 @@ turn_again : (answers : List Bool) (i : ℕ) → turn answers (length answers + 
 turn_again [] i = refl
 turn_again (a ∷ answers) i = ap (λ (k : ℕ). slice_index_or (a ∷ answers) k false) (add-mod_left (length (a ∷ answers)) i)
 
--- the place of the next answer stands for where the tape is
+-- the place of the next answer represents the tape's position
 pub turn_from : (answers : List Bool) (place next i : ℕ) → next ≡ (if place == length answers then 0 else place) → turn answers (next + i) ≡ turn answers (place + i)
 turn_from answers place next i is =
     elim (place == length answers) as (λ t. (place == length answers) ≡ t → next ≡ (if t then 0 else place) → turn answers (next + i) ≡ turn answers (place + i)) [

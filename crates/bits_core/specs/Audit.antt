@@ -1,4 +1,4 @@
--- What an audit of the bits says.
+-- What an audit of the bits reports.
 use Rattle.std.specs.Prelude.{◌≡◌, ℕ, ◌<◌, Some, List, slice_get}
 use Rattle.bits_core.specs.declared.events.Event.{Event}
 use Rattle.bits_core.specs.declared.faults.Kind.{Kind}
@@ -24,7 +24,7 @@ pub record IsFirstFault (shape : Shape) (h : List Event) (place : ℕ) (kind : K
   pub fault : IsFault shape h place event kind
   pub least : (p : ℕ) (e : Event) → p < place → slice_get h p ≡ Some e → IsLawfulEvent shape h p e
 
--- what an audit of the bits may say of a history
+-- what an audit of the bits may report of a history
 abbrev pub IsVerdict : Shape → List Event → Verdict → Type 0
 IsVerdict shape h Lawful = IsLawful shape h
 IsVerdict shape h (Fault place kind) = IsFirstFault shape h place kind

@@ -1,4 +1,4 @@
--- The laws that the layers above stand on.
+-- The laws that the layers above use.
 use Rattle.std.specs.Prelude.{◌≡◌, ℕ, suc, ◌≤◌, ◌⊎◌, ◌↔◌, Bool, true, Some, None, List, [], ◌∷◌, ◌++◌, length, take, if◌then◌else◌}
 use Rattle.bits_core.specs.declared.events.Side.{Side}
 use Rattle.bits_core.specs.declared.events.Bit.{Bit}
@@ -20,25 +20,27 @@ use Rattle.bits_core.specs.Made.{Made, events_of, subhistory}
 abbrev pub EmptyIsLawful : Type 0
 EmptyIsLawful = (shape : Shape) → IsLawful shape []
 
--- a beginning of a lawful history is lawful
+-- a prefix of a lawful history is lawful
 abbrev pub BeginningIsLawful : Type 0
 BeginningIsLawful = (shape : Shape) (h later : List Event) → IsLawful shape (h ++ later) → IsLawful shape h
 
--- one event more
+-- a history with one more event
 abbrev pub LawfulByOneMore : Type 0
 LawfulByOneMore = (shape : Shape) (h : List Event) (e : Event) → IsLawful shape (h ++ e ∷ []) ↔ (IsLawful shape h × MayFollow shape h e)
 
--- what the events so far say, is what the intervals say
+-- what is defined by the events so far agrees with what is defined by intervals: the open access
 abbrev pub OpenIsByInterval : Type 0
 OpenIsByInterval = (h : List Event) (s : Side) (access : Access) → (open_access s h ≡ Some access) ↔ IsOpenAt h s access (length h)
 
+-- what a bit holds: by the events so far as by intervals
 abbrev pub HeldIsByInterval : Type 0
 HeldIsByInterval = (shape : Shape) (h : List Event) → IsLawful shape h → (b : Bit) (place : ℕ) → place ≤ length h → (v : Bool) → IsHeld h b place v ↔ (v ≡ held b (take place h))
 
+-- whether a write overlaps an open read: by the events so far as by intervals
 abbrev pub OverlapIsByInterval : Type 0
 OverlapIsByInterval = (shape : Shape) (h : List Event) → IsLawful shape h → (s : Side) (b : Bit) (start stop : ℕ) (v : Bool) → IsRead h s b start stop v → HasOverlap h b start stop ↔ (is_overlapped s b (take stop h) ≡ true)
 
--- how they change by one event
+-- how the open access changes with one more event
 abbrev pub OpenChanges : Type 0
 OpenChanges = (s : Side) (h : List Event) (e : Event) → open_access s (h ++ e ∷ []) ≡ (if is_by s e then begun_by e else open_access s h)
 
@@ -46,7 +48,7 @@ OpenChanges = (s : Side) (h : List Event) (e : Event) → open_access s (h ++ e 
 abbrev pub OneVerdict : Type 0
 OneVerdict = (shape : Shape) (h : List Event) (v w : Verdict) → IsVerdict shape h v → IsVerdict shape h w → v ≡ w
 
--- the events before the first fault are lawful, and with it they are not
+-- the events before the first fault are lawful, and with it not
 abbrev pub FaultBreaks : Type 0
 FaultBreaks = (shape : Shape) (h : List Event) (place : ℕ) (kind : Kind) → IsFirstFault shape h place kind → IsLawful shape (take place h) × (IsLawful shape (take (suc place) h) → ⊥)
 
@@ -58,7 +60,7 @@ OverlapIsDecidable = (h : List Event) (b : Bit) (start stop : ℕ) → HasOverla
 abbrev pub FlickerIsByInterval : Type 0
 FlickerIsByInterval = (shape : Shape) (h : List Event) → IsLawful shape h → (place : ℕ) → (is_flicker_at h place ≡ true) ↔ EndsOverlappedRead h place
 
--- a side's own events, by one event more
+-- a side's own events with one more event
 abbrev pub SubhistoryChanges : Type 0
 SubhistoryChanges = (s : Side) (h : List Event) (e : Event) → subhistory s (h ++ e ∷ []) ≡ (if is_by s e then subhistory s h ++ e ∷ [] else subhistory s h)
 
@@ -66,6 +68,6 @@ SubhistoryChanges = (s : Side) (h : List Event) (e : Event) → subhistory s (h 
 abbrev pub OpenFromOwn : Type 0
 OpenFromOwn = (s : Side) (h : List Event) → open_access s h ≡ open_access s (subhistory s h)
 
--- whole accesses, one after the other, leave none open
+-- complete accesses, one after the other, leave none open
 abbrev pub MadeLeaveNoneOpen : Type 0
 MadeLeaveNoneOpen = (s : Side) (made : List Made) → open_access s (events_of s made) ≡ None

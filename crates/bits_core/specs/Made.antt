@@ -14,21 +14,22 @@ pub data Made : Type 0 where
   Read : Bit → Bool → Made
   Write : Bit → Bool → Made
 
--- the access, without what it was answered
+-- the access, without its answer
 abbrev pub access_of : Made → Access
 access_of (Read b v) = access.Read b
 access_of (Write b v) = access.Write b v
 
--- the access once it was made and answered so; the answer to a write says nothing
+-- the access as made with this answer; for a write the answer is ignored
 abbrev pub answered : Access → Bool → Made
 answered (access.Read b) v = Read b v
 answered (access.Write b w) v = Write b w
 
--- the two events of an access that a side made
+-- the first event of an access that a side made
 abbrev pub begin_event : Side → Made → Event
 begin_event s (Read b v) = record { side = s; bit = b; act = ReadBegin }
 begin_event s (Write b v) = record { side = s; bit = b; act = WriteBegin v }
 
+-- its last event
 abbrev pub end_event : Side → Made → Event
 end_event s (Read b v) = record { side = s; bit = b; act = ReadEnd v }
 end_event s (Write b v) = record { side = s; bit = b; act = WriteEnd }
@@ -43,7 +44,7 @@ abbrev pub events_of : Side → List Made → List Event
 events_of s [] = []
 events_of s (x ∷ made) = begin_event s x ∷ end_event s x ∷ events_of s made
 
--- xs is a beginning of ys
+-- xs is a prefix of ys
 abbrev pub IsPrefix : {A : Type 0} → List A → List A → Type 0
 IsPrefix {A = A} xs ys = (rest : List A) × (xs ++ rest ≡ ys)
 
@@ -51,7 +52,7 @@ IsPrefix {A = A} xs ys = (rest : List A) × (xs ++ rest ≡ ys)
 abbrev pub subhistory : Side → List Event → List Event
 subhistory s h = filter (is_by s) h
 
--- how many events of the side stand before a place
+-- how many events of the side come before a place
 abbrev pub clock : Side → List Event → ℕ → ℕ
 clock s h place = length (subhistory s (take place h))
 
@@ -61,13 +62,13 @@ place_of s [] i = 0
 place_of s (e ∷ h) zero = (if is_by s e then 0 else suc (place_of s h 0))
 place_of s (e ∷ h) (suc i) = (if is_by s e then suc (place_of s h i) else suc (place_of s h (suc i)))
 
--- the own event number i stands at the place, behind i others
+-- the own event number i is at the place, after i others
 pub record IsPlaceOf (s : Side) (h : List Event) (i place : ℕ) : Type 0 where
   pub at_place : slice_get h place ≡ slice_get (subhistory s h) i
   pub before : clock s h place ≡ i
   pub past : clock s h (suc place) ≡ suc i
 
--- access number n of those that the side made: where it stands in the history, and its end if it has ended
+-- access number n of those that the side made: its place in the history, and its end if it has ended
 pub record IsMadeAt (s : Side) (h : List Event) (n : ℕ) (x : Made) (start stop : ℕ) : Type 0 where
   pub access : IsAccess h s (access_of x) start stop
   pub start_is : IsPlaceOf s h (2 * n) start

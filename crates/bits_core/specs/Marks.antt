@@ -1,4 +1,4 @@
--- What marks say of the history that they were kept of. Cited by private functions alone.
+-- What marks say of the history that they were kept of. Cited by private functions only.
 use Rattle.std.specs.Prelude.{◌≡◌, ℕ, ◌+◌, ◌*◌, ◌<◌, ◌||◌, Bool, false, Option, Some, None, List, length, slice_index_or, slice_set, if◌then◌else◌}
 use Rattle.bits_core.specs.declared.events.Side.{Side}
 use Rattle.bits_core.specs.declared.events.Side.TheVariants.{P, C}
@@ -24,30 +24,32 @@ IsInTable (R i) = i < 256
 IsInTable X = Unit {0}
 IsInTable (Cell j i) = (j < 64) × (i < 64)
 
--- where a bit's value stands in it
+-- the position of a bit's value in it
 abbrev pub table_place : Bit → ℕ
 table_place (S i) = i
 table_place (R i) = 256 + i
 table_place X = 512
 table_place (Cell j i) = 513 + 64 * j + i
 
--- the table with a value written to a bit, where there is one
+-- the table with a value written to a bit, if there is one
 abbrev pub with_value : List Bool → Bit → Option Bool → List Bool
 with_value values b None = values
 with_value values b (Some v) = slice_set values (table_place b) v
 
--- where a side's mark stands
+-- the index of a side's mark
 abbrev pub seat_of : Side → ℕ
 seat_of P = 0
 seat_of C = 1
 
+-- the mark of a side with nothing open
 abbrev pub idle : SideMark
 idle = record { opened = None; overlapped = false }
 
+-- the mark of a side
 abbrev pub side_mark : Side → Marks → SideMark
 side_mark s marks = slice_index_or marks.sides (seat_of s) idle
 
--- the marks with another one of a side
+-- the marks with another mark of one side
 abbrev pub with_mark : Marks → Side → SideMark → Marks
 with_mark marks s mark = record marks { sides = slice_set marks.sides (seat_of s) mark }
 
@@ -56,7 +58,7 @@ abbrev pub is_read_of : Bit → Option Access → Bool
 is_read_of b (Some (Read c)) = same_bit c b
 is_read_of b _ = false
 
--- a side's mark where the other side begins a write of the bit
+-- a side's mark after the other side begins a write of the bit
 abbrev pub beside : SideMark → Bit → SideMark
 beside mark b = record { opened = mark.opened; overlapped = mark.overlapped || is_read_of b mark.opened }
 
@@ -65,11 +67,11 @@ abbrev pub value_ended : Act → Option Access → Option Bool
 value_ended WriteEnd (Some (Write b v)) = Some v
 value_ended _ _ = None
 
--- what a side's open read has to answer, where a write does not let it answer anything
+-- what a side's open read has to answer, unless a write overlaps it
 abbrev pub settled : Side → Bit → List Event → Option Bool
 settled s b h = (if is_overlapped s b h then None else Some (held_at_begin s b h))
 
--- a mark says what its side has open and, where that is a read, whether a write overlaps it
+-- a mark says what its side has open and, if that is a read, whether a write overlaps it
 pub record IsMark (s : Side) (h : List Event) (mark : SideMark) : Type 0 where
   pub opened_is : mark.opened ≡ open_access s h
   pub overlapped_is : (b : Bit) → mark.opened ≡ Some (Read b) → mark.overlapped ≡ is_overlapped s b h

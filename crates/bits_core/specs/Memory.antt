@@ -1,4 +1,4 @@
--- What a memory of safe bits is seen as, and what its calls do to it.
+-- The model of a memory of safe bits, and what its calls do to it.
 use Rattle.std.specs.Prelude.{◌≡◌, ℕ, zero, suc, ◌+◌, ◌&&◌, Bool, true, false, if◌then◌else◌, List, [], ◌∷◌, ◌++◌, length, take, slice_get}
 use Rattle.std.specs.Option.{option_map_or}
 use Rattle.bits_core.specs.declared.events.Side.{Side}
@@ -13,7 +13,7 @@ use Rattle.bits_core.specs.Lawful.{IsLawful}
 use Rattle.bits_core.specs.Open.{bit_of}
 
 -- a memory: its shape, the history of the accesses to it, how many of its answers were asked of an oracle, and for how many events
--- in all there is room at least
+-- in all it surely has room
 pub record MemoryState : Type 0 where
   pub shape : Shape
   pub events : List Event
@@ -24,13 +24,13 @@ pub record MemoryState : Type 0 where
 abbrev pub unused : Shape → ℕ → MemoryState
 unused shape room = record { shape = shape; events = []; flickers = 0; room = room }
 
--- one event more
+-- a history with one more event
 abbrev pub with_event : MemoryState → Side → Bit → Act → MemoryState
 with_event m s b a = record m { events = m.events ++ record { side = s; bit = b; act = a } ∷ [] }
 
 -- ---- the open read of a side
 
--- the bit that the side has an access open of
+-- the bit of the side's open access
 abbrev pub open_bit : Side → List Event → Bit
 open_bit s h = bit_of (open_access s h)
 
@@ -38,11 +38,11 @@ open_bit s h = bit_of (open_access s h)
 abbrev pub is_read_overlapped : Side → List Event → Bool
 is_read_overlapped s h = is_overlapped s (open_bit s h) h
 
--- what the bit of the open read held where the read began
+-- what the bit of the open read held when the read began
 abbrev pub held_for_read : Side → List Event → Bool
 held_for_read s h = held_at_begin s (open_bit s h) h
 
--- the side's open read ends with this answer
+-- the memory after the side's open read has ended with this answer
 abbrev pub with_answer : MemoryState → Side → Bool → MemoryState
 with_answer m s v = record {
   shape = m.shape;
@@ -53,6 +53,7 @@ with_answer m s v = record {
 
 -- ---- overlapped reads
 
+-- whether an act ends a read
 abbrev pub ends_read : Act → Bool
 ends_read ReadBegin = false
 ends_read (ReadEnd v) = true
@@ -63,11 +64,11 @@ ends_read WriteEnd = false
 abbrev pub is_flicker : List Event → Event → Bool
 is_flicker past e = ends_read e.act && is_overlapped e.side e.bit past
 
--- whether such an event stands at a place
+-- whether such an event is at a place
 abbrev pub is_flicker_at : List Event → ℕ → Bool
 is_flicker_at h place = option_map_or (is_flicker (take place h)) (slice_get h place) false
 
--- how many of the first n places pass a test
+-- how many of the first n places satisfy a test
 abbrev pub count_below : ℕ → (ℕ → Bool) → ℕ
 count_below zero test = 0
 count_below (suc n) test = count_below n test + (if test n then 1 else 0)

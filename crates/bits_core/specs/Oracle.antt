@@ -3,7 +3,7 @@ use Rattle.std.specs.Prelude.{ℕ, ◌+◌, ◌%◌, ◌==◌, Bool, false, not,
 use Rattle.bits_core.specs.declared.oracles.Flip.{Flip}
 use Rattle.bits_core.specs.declared.oracles.Tape.{Tape}
 
--- the answers in turn, from the first again after the last, and 0 always where there are none
+-- the answers in turn, starting again after the last; always 0 if there are none
 abbrev pub turn : List Bool → ℕ → Bool
 turn answers i = slice_index_or answers (i % length answers) false
 

@@ -1,4 +1,4 @@
--- Why an event may not follow the events before it, said so that it can be looked up there.
+-- Why an event may not follow the events before it, in terms that can be looked up there.
 use Rattle.std.specs.Prelude.{◌≡◌, ◌≢◌, ℕ, ◌+◌, Bool, true, false, Option, Some, None, List, drop, slice_get, take}
 use Rattle.std.specs.List.{list_any}
 use Rattle.bits_core.specs.declared.audits.Verdict.{Verdict}
@@ -24,14 +24,14 @@ ends_write_by b c _ = false
 abbrev pub ends_write : Bit → Event → Bool
 ends_write b e = ends_write_by b e.bit e.act
 
--- the last end of a write of the bit stands at the place
+-- the last end of a write of the bit is at the place
 pub record IsLastWritten (b : Bit) (h : List Event) (place : ℕ) : Type 0 where
   pub event : Event
   pub at_place : slice_get h place ≡ Some event
   pub ends : ends_write b event ≡ true
   pub none_after : list_any (ends_write b) (drop (place + 1) h) ≡ false
 
--- the bit holds the value since the last end of a write of it, or, where there is none, since the start
+-- the bit holds the value since the last end of a write of it, or, if there is none, since the start
 abbrev pub IsHeldSince : Bit → List Event → Bool → Option ℕ → Type 0
 IsHeldSince b h v None = (v ≡ held b h) × (list_any (ends_write b) h ≡ false)
 IsHeldSince b h v (Some place) = (v ≡ held b h) × IsLastWritten b h place
@@ -46,7 +46,7 @@ IsReasonBehind shape past e NothingOpen = IsByRightSide shape e × (¬ IsInTurn 
 IsReasonBehind shape past e (Held value since begun) =
     IsByRightSide shape e × IsInTurn past e × (¬ IsPermitted past e) × IsLastPlace e.side past begun × IsHeldSince e.bit (take begun past) value since
 
--- why the event at fault may not follow those before it; none of a lawful history
+-- why the event at fault may not follow those before it; no reason if the history is lawful
 abbrev pub HasReason : Shape → List Event → Verdict → Option Reason → Type 0
 HasReason shape h Lawful why = why ≡ None
 HasReason shape h (Fault place kind) why =

@@ -21,13 +21,13 @@ is_clash _ _ = false
 abbrev pub clashes : List Event → Bool
 clashes h = is_clash (open_access P h) (open_access C h)
 
--- this is seen at the event after the events before it
+-- this is seen at the event, given the events before it
 pub record IsSeen (past : List Event) (e : Event) (seen : Seen) : Type 0 where
   pub held_is : seen.held ≡ held e.bit (past ++ e ∷ [])
   pub overlapped_is : seen.overlapped ≡ is_flicker past e
   pub clashes_is : seen.clashes ≡ clashes (past ++ e ∷ [])
 
--- how many events stand before the one at fault, or at all
+-- how many events come before the one at fault, or in all if none is
 abbrev pub sound_count : List Event → Verdict → ℕ
 sound_count h Lawful = length h
 sound_count h (Fault place kind) = place

@@ -8,19 +8,23 @@ use Rattle.bits_core.specs.declared.events.Bit.{Bit}
 use Rattle.bits_core.specs.declared.events.Bit.TheVariants.{S, R, X, Cell}
 use Rattle.bits_core.specs.Bits.{doer}
 
--- the numbers of a shape
+-- the capacity of a shape
 abbrev pub capacity_of : Shape → ℕ
 capacity_of shape = shape.capacity
 
+-- its modulus
 abbrev pub modulus_of : Shape → ℕ
 modulus_of shape = shape.modulus
 
+-- its width
 abbrev pub width_of : Shape → ℕ
 width_of shape = shape.width
 
+-- its batch
 abbrev pub batch_of : Shape → ℕ
 batch_of shape = shape.batch
 
+-- its take batch
 abbrev pub take_batch_of : Shape → ℕ
 take_batch_of shape = shape.take_batch
 
@@ -48,10 +52,11 @@ pub record HasBatches (capacity modulus width batch take_batch : ℕ) (shape : S
   pub batch_is : batch_of shape ≡ batch
   pub take_batch_is : take_batch_of shape ≡ take_batch
 
--- the range of each number
+-- a capacity in range
 abbrev pub IsCapacity : ℕ → Type 0
 IsCapacity capacity = (0 < capacity) × (capacity ≤ 64)
 
+-- a modulus in range for a capacity, with both batches 1
 abbrev pub IsModulus : ℕ → ℕ → Type 0
 IsModulus capacity modulus = (capacity + 2 ≤ modulus) × (modulus ≤ 256)
 
@@ -59,17 +64,19 @@ IsModulus capacity modulus = (capacity + 2 ≤ modulus) × (modulus ≤ 256)
 abbrev pub IsWidth : ℕ → Type 0
 IsWidth width = (0 < width) × (width ≤ 64)
 
+-- a batch in range for a capacity
 abbrev pub IsBatchSize : ℕ → ℕ → Type 0
 IsBatchSize capacity batch = (0 < batch) × (batch ≤ capacity)
 
+-- a modulus in range for a capacity and one batch
 abbrev pub IsModulusFor : ℕ → ℕ → ℕ → Type 0
 IsModulusFor capacity batch modulus = (capacity + batch < modulus) × (modulus ≤ 256)
 
--- with both batches
+-- a modulus in range for a capacity, a batch and a take batch
 abbrev pub IsModulusForBoth : ℕ → ℕ → ℕ → ℕ → Type 0
 IsModulusForBoth capacity batch take_batch modulus = IsModulusFor capacity batch modulus × IsModulusFor capacity take_batch modulus
 
--- the fault names the first of the three numbers that is out of its range
+-- the fault names the first of the three numbers that is out of range
 abbrev pub IsRefused : ℕ → ℕ → ℕ → ShapeFault → Type 0
 IsRefused capacity modulus width Capacity = ¬ IsCapacity capacity
 IsRefused capacity modulus width Modulus = IsCapacity capacity × ¬ IsModulus capacity modulus
@@ -78,7 +85,7 @@ IsRefused capacity modulus width Batch = ⊥
 IsRefused capacity modulus width TakeBatch = ⊥
 IsRefused capacity modulus width ModulusOfBatches = ⊥
 
--- the same of four, where the batch comes before the modulus
+-- the same of four numbers, the batch before the modulus
 abbrev pub IsRefusedBatch : ℕ → ℕ → ℕ → ℕ → ShapeFault → Type 0
 IsRefusedBatch capacity modulus width batch Capacity = ¬ IsCapacity capacity
 IsRefusedBatch capacity modulus width batch Batch = IsCapacity capacity × ¬ IsBatchSize capacity batch
@@ -92,7 +99,7 @@ IsRefusedBatch capacity modulus width batch ModulusOfBatches = ⊥
 abbrev pub AreBatchSizes : ℕ → ℕ → ℕ → Type 0
 AreBatchSizes capacity batch take_batch = IsCapacity capacity × IsBatchSize capacity batch × IsBatchSize capacity take_batch
 
--- the same of five, where the batches come before the modulus, whose fault has a name of its own where the take batch is over 1
+-- the same of five numbers, the batches before the modulus; if the take batch is over 1 the fault of the modulus is `ModulusOfBatches`
 abbrev pub IsRefusedBatches : ℕ → ℕ → ℕ → ℕ → ℕ → ShapeFault → Type 0
 IsRefusedBatches capacity modulus width batch take_batch Capacity = ¬ IsCapacity capacity
 IsRefusedBatches capacity modulus width batch take_batch Batch = IsCapacity capacity × ¬ IsBatchSize capacity batch
@@ -104,14 +111,14 @@ IsRefusedBatches capacity modulus width batch take_batch ModulusOfBatches =
 IsRefusedBatches capacity modulus width batch take_batch Width =
     AreBatchSizes capacity batch take_batch × IsModulusForBoth capacity batch take_batch modulus × ¬ IsWidth width
 
--- whether a bit is one of the shape's
+-- whether a bit is in the shape
 abbrev pub belongs : Shape → Bit → Bool
 belongs shape (S i) = nat_lt i (modulus_of shape)
 belongs shape (R i) = nat_lt i (modulus_of shape)
 belongs shape X = true
 belongs shape (Cell j i) = nat_lt j (capacity_of shape) && nat_lt i (width_of shape)
 
--- each event is one of a bit of the shape
+-- each event is of a bit of the shape
 abbrev pub AreOfShape : Shape → List Event → Type 0
 AreOfShape shape events = All (λ e. belongs shape e.bit ≡ true) events
 

@@ -18,7 +18,7 @@ use crate::marks::Marks;
 use crate::reasons::{Reason, reason_by};
 use crate::shapes::Shape;
 
-/// What an audit tells of a history.
+/// What an audit of a history reports.
 ///
 /// In use: `uses::audits::is_lawful`.
 #[derive(Clone, Copy, PartialEq, Eq, Debug)]
@@ -29,14 +29,14 @@ pub enum Verdict {
     Fault { place: usize, kind: Kind },
 }
 
-/// What an event of a lawful history finds and leaves.
+/// What is seen at an event of a lawful history.
 ///
 /// For example, at `C got s0 0` during a write of s0 it is `overlapped`. In use: the page, which draws what was
 /// seen.
 #[derive(Clone, Copy, PartialEq, Eq, Debug)]
 pub struct Seen {
     /// What the event's bit holds just after the event: the value of the last write of it that
-    /// ended, or else its first value.
+    /// ended, or if none has, its first value.
     pub held: bool,
     /// The event ends a read that a write of its bit overlapped, so any answer was permitted.
     pub overlapped: bool,
@@ -75,7 +75,7 @@ fn fits_open(bit: Bit, act: Act, opened: Option<Access>) -> bool
     }
 }
 
-// Whether the event is in turn.
+// Whether the event is in turn: it begins an access while none is open, or ends the open one.
 pub fn is_in_turn(marks: &Marks, event: Event) -> bool
     ensures { (shape : Shape) (past : List Event) → AreMarks shape past marks.now → IsTrue result ↔
         IsInTurn past event }
@@ -83,7 +83,7 @@ pub fn is_in_turn(marks: &Marks, event: Event) -> bool
     fits_open(event.bit, event.act, marks.open_access(event.side))
 }
 
-// Whether the answer is permitted, where the event is a read's end and in turn.
+// Whether the answer is permitted, if the event ends a read in turn.
 pub fn is_permitted(marks: &Marks, event: Event) -> bool
     requires { IsInTable event.bit }
     ensures { (shape : Shape) (past : List Event) → AreMarks shape past marks.now → IsInTurn past event →
@@ -116,10 +116,10 @@ pub fn fault_of(shape: &Shape, marks: &Marks, event: Event) -> Option<Kind>
     None
 }
 
-/// The audit of [`audit_bits`], of events that come one by one. It takes no memory, however many they are.
+/// The audit of [`audit_bits`], of events fed one by one. It takes no memory, whatever their number.
 ///
-/// For example, a new one of the shape `1 3 1` hears `P write s1 1`, and refuses `C got s1 0` behind it as
-/// `OutOfTurn`: C has no read open.
+/// For example, a new one of the shape `1 3 1` accepts `P write s1 1`, and after it refuses `C got s1 0`
+/// as `OutOfTurn`: C has no read open.
 #[derive(Drop)]
 pub struct BitAuditor {
     shape: Shape,
@@ -130,7 +130,7 @@ impl BitAuditor {
     ghost use Rattle.std.specs.Prelude.{None, IfNone, IfSome};
     ghost use Rattle.bits_core.specs.Auditors.{HeardEvents};
 
-    /// An auditor of this shape, which heard no event.
+    /// An auditor of this shape, which has been fed no event.
     pub fn new(shape: &Shape) -> BitAuditor
         ensures { HeardEvents result shape.now [] }
     {
@@ -140,11 +140,10 @@ impl BitAuditor {
         }
     }
 
-    /// Hears the next event. `None` tells that it may follow the events heard so far, so that they are a lawful history with it
-    /// too. Otherwise the first kind of fault that applies to it is told, and the auditor is unchanged, as though it had not
-    /// heard it.
+    /// Feeds it the next event. `None` says that it may follow the events accepted so far, so that together they are a lawful
+    /// history. Otherwise the first kind of fault that applies to it is returned, and the auditor is unchanged.
     pub fn feed(&mut self, event: Event) -> Option<Kind>
-        // It is accepted exactly where it may follow.
+        // It is accepted exactly if it may follow.
         ensures accepts { (shape : Shape) (past : List Event) → HeardEvents self.old shape past → (result ≡ None) ↔
             MayFollow shape past event }
         ensures kind { (shape : Shape) (past : List Event) → HeardEvents self.old shape past →
@@ -163,13 +162,12 @@ impl BitAuditor {
     }
 }
 
-/// Whether the events are a lawful history of safe bits of the shape (Lamport, 1986), and where
-/// they are not, the first event at fault and the first kind that applies to it.
+/// Whether the events are a lawful history of safe bits of the shape (Lamport, 1986), and if not,
+/// the first event at fault and the first kind that applies to it.
 ///
-/// A read that a write of its bit overlaps may answer anything, also where the write does not
-/// change the bit; any other read answers the value that the bit held where the read began. An
-/// access may be open at the end. It goes through the events once, takes no memory, and serves a
-/// slice of any length.
+/// A read that a write of its bit overlaps may answer anything, even if the write does not change
+/// the bit; any other read answers the value that the bit held when the read began. An access may
+/// be open at the end. One pass over a slice of any length, with no memory taken.
 ///
 /// In use: `uses::audits::is_lawful`.
 pub fn audit_bits(shape: &Shape, events: &[Event]) -> Verdict
@@ -198,7 +196,7 @@ fn ends_overlapped(marks: &Marks, event: Event) -> bool
     }
 }
 
-// Goes on to the history with an event more, which may follow, and tells what is seen there.
+// Records one more event, which may follow, and returns what is seen there.
 fn see(marks: &mut Marks, event: Event) -> Seen
     requires { IsInTable event.bit }
     ensures marks { (shape : Shape) (past : List Event) → AreMarks shape past marks.old → MayFollow shape past event →
@@ -215,7 +213,7 @@ fn see(marks: &mut Marks, event: Event) -> Seen
     }
 }
 
-// Tells what is seen at the place, where there is room for it.
+// Stores what is seen at this place, if there is room for it.
 fn tell(seen: &mut [Seen], place: usize, found: Seen)
     ensures { seen.new ≡ slice_set seen.old place found }
 {
@@ -224,11 +222,11 @@ fn tell(seen: &mut [Seen], place: usize, found: Seen)
     }
 }
 
-/// The audit of [`audit_bits`], which also tells why the event at fault may not follow those before it, and what is seen at
-/// each event before it, or at each event where none is at fault: in the order of the events, for as many as there is room
-/// for. The rest of the room stays as it was. It takes no memory.
+/// The audit of [`audit_bits`], which also returns why the event at fault may not follow those before it, and what is seen
+/// at each event before it (at each event, if none is at fault), in order, for as many as there is room for. The rest of
+/// the room is unchanged. It takes no memory.
 ///
-/// In use: the page, which has room for so many events and no allocator.
+/// In use: the page, which has a buffer of fixed size and no allocator.
 pub fn audit_bits_into(
     shape: &Shape,
     events: &[Event],

@@ -79,7 +79,7 @@ pub enum Act {
     WriteEnd,
 }
 
-/// The begin or the end of one access to one bit by one side.
+/// The start or the end of one access to one bit by one side.
 ///
 /// For example, `C got s1 0` in a trace is `Event { side: Side::C, bit: Bit::S(1), act: Act::ReadEnd(false) }`.
 #[derive(Clone, Copy, PartialEq, Eq, Debug)]

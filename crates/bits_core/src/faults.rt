@@ -1,11 +1,11 @@
-//! Why numbers are no shape, what is wrong with an event, and why a memory made no event.
+//! Why numbers make no shape, what is wrong with an event, and why a memory made no event.
 ghost use Rattle.std.specs.Prelude.{◌≡◌, Some, codes};
 
 use std::alloc::{AllocError, AllocFailed};
 use std::error::Error;
 use std::fmt;
 
-/// Why numbers are no shape.
+/// Why numbers make no shape.
 ///
 /// For example, `Shape::new(1, 2, 1)` is refused by `ShapeFault::Modulus`: with one cell a count needs three
 /// values.
@@ -16,7 +16,7 @@ pub enum ShapeFault {
     Width,
     Batch,
     TakeBatch,
-    /// The modulus, where the take batch is over 1.
+    /// The modulus, if the take batch is over 1.
     ModulusOfBatches,
 }
 
@@ -53,19 +53,19 @@ impl ShapeFault {
     }
 }
 
-/// What is wrong with an event. Where more than one kind applies, the first is told.
+/// What is wrong with an event. If several kinds apply, the first is reported.
 ///
-/// For example, it is printed as `not permitted`. In use: `uses::audits::is_lawful`, whose audit tells it.
+/// For example, it is printed as `not permitted`. In use: `uses::audits::is_lawful`, whose audit reports it.
 #[derive(Clone, Copy, PartialEq, Eq, Debug)]
 pub enum Kind {
     /// The bit is not in the shape, or the side is not its reader or writer, as this act needs.
     WrongSide = 1,
-    /// A begin while the side has an access open, or an end where it has no access of this bit and
+    /// A start while the side has an access open, or an end where it has no access of this bit and
     /// kind open.
     OutOfTurn,
     /// A read's answer that a safe bit may not give.
     NotPermitted,
-    /// Not the next event of its side's program. An audit of the bits alone never tells it.
+    /// Not the next event of its side's program. An audit of the bits alone never reports it.
     NotProgram,
 }
 
@@ -96,7 +96,7 @@ impl fmt::Display for Kind {
     }
 }
 
-/// Why a memory made no event.
+/// Why a memory added no event.
 ///
 /// In use: `uses::by_hand::step_producer`.
 #[derive(Clone, Copy, PartialEq, Eq, Debug)]

@@ -1,14 +1,14 @@
-//! The laws of histories that the layers above stand on. Each is the contract of a function that does
-//! nothing: a body that calls it has the statement at hand in its proof.
+//! The laws of histories that the layers above use. Each is the contract of a function that does
+//! nothing: a body calls it to have the statement in its proof.
 //!
-//! - Of a history with one event more: `lawful_by_one_more`, `open_changes`, `subhistory_changes`. For who keeps something event by
-//!   event, as `uses::by_hand` does.
-//! - Of intervals: `open_is_by_interval`, `held_is_by_interval`, `overlap_is_by_interval`, `flicker_is_by_interval`. For who
-//!   states something of a history and not of its working words.
-//! - Of a side's own events and accesses: `open_from_own`, `made_leave_none_open`. For who has a machine that makes them.
-//! - Of verdicts: `one_verdict`, `fault_breaks`. For who reads a verdict.
+//! - Of a history with one more event: `lawful_by_one_more`, `open_changes`, `subhistory_changes`. For code that maintains
+//!   something event by event, as `uses::by_hand` does.
+//! - Of intervals: `open_is_by_interval`, `held_is_by_interval`, `overlap_is_by_interval`, `flicker_is_by_interval`. For
+//!   statements about a history that do not mention the functions that a proof computes with.
+//! - Of a side's own events and accesses: `open_from_own`, `made_leave_none_open`. For code with a machine that makes them.
+//! - Of verdicts: `one_verdict`, `fault_breaks`. For code that reads a verdict.
 //!
-//! Proofs cite the lemmas behind them, which `proofs/LawLemmas.antt` has under these names, with some that only proofs ask for.
+//! Proofs cite the lemmas of the same names, which `proofs/LawLemmas.antt` has, with some that only proofs need.
 ghost use Rattle.bits_core.specs.Laws.{BeginningIsLawful, EmptyIsLawful, FaultBreaks, FlickerIsByInterval, HeldIsByInterval, LawfulByOneMore, MadeLeaveNoneOpen, OneVerdict, OpenChanges, OpenFromOwn, OpenIsByInterval, OverlapIsByInterval, OverlapIsDecidable, SubhistoryChanges};
 
 /// The history with no event is lawful.
@@ -16,12 +16,12 @@ pub fn empty_is_lawful()
     ensures { EmptyIsLawful }
 {}
 
-/// A beginning of a lawful history is lawful.
+/// A prefix of a lawful history is lawful.
 pub fn beginning_is_lawful()
     ensures { BeginningIsLawful }
 {}
 
-/// A history is lawful with one event more where it is lawful and the event may follow it.
+/// A history with one more event is lawful if it is lawful without it and the event may follow.
 pub fn lawful_by_one_more()
     ensures { LawfulByOneMore }
 {}
@@ -41,7 +41,7 @@ pub fn overlap_is_by_interval()
     ensures { OverlapIsByInterval }
 {}
 
-/// How the open access of a side changes by one event.
+/// How the open access of a side changes with one more event.
 pub fn open_changes()
     ensures { OpenChanges }
 {}
@@ -56,7 +56,7 @@ pub fn one_verdict()
     ensures { OneVerdict }
 {}
 
-/// The events before the first fault of a history are lawful, and with it they are not.
+/// The events before the first fault of a history are lawful; with it they are not.
 pub fn fault_breaks()
     ensures { FaultBreaks }
 {}
@@ -66,7 +66,7 @@ pub fn flicker_is_by_interval()
     ensures { FlickerIsByInterval }
 {}
 
-/// How a side's own events change by one event.
+/// How a side's own events change with one more event.
 pub fn subhistory_changes()
     ensures { SubhistoryChanges }
 {}
@@ -76,7 +76,7 @@ pub fn open_from_own()
     ensures { OpenFromOwn }
 {}
 
-/// Whole accesses leave none open.
+/// Complete accesses leave none open.
 pub fn made_leave_none_open()
     ensures { MadeLeaveNoneOpen }
 {}

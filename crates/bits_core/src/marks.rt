@@ -1,4 +1,4 @@
-//! What the events of a history so far leave behind, kept up event by event.
+//! What the events of a history so far leave, kept up event by event.
 ghost use Rattle.std.specs.Prelude.{◌≡◌, ℕ, ◌+◌, ◌<◌, ◌||◌, Bool, false, List, [], ◌∷◌, ◌++◌, Some, length, is_some, slice_index_or};
 ghost use Rattle.bits_core.specs.declared.events.Bit.{Bit};
 ghost use Rattle.bits_core.specs.declared.events.Event.{Event};
@@ -23,9 +23,9 @@ pub(crate) struct SideMark {
 }
 
 /// What is kept of a history so far: the value of each bit, and a mark of each side. The value that
-/// is being written to a bit stands in the mark of its writer.
+/// is being written to a bit is in the mark of its writer.
 ///
-/// They tell in a moment what may follow, and take no memory.
+/// From them it is decided in constant time what may follow. They take no memory.
 #[derive(Drop)]
 pub(crate) struct Marks {
     values: [bool; BIT_COUNT],
@@ -38,7 +38,7 @@ const IDLE: SideMark = SideMark {
     overlapped: false,
 };
 
-// Where the value of a bit stands in the table.
+// The position of a bit's value in the table.
 fn place(bit: Bit) -> usize
     requires { IsInTable bit }
     ensures at { result ≡ table_place bit }
@@ -71,7 +71,7 @@ fn first_values() -> [bool; BIT_COUNT]
     values
 }
 
-// Gives the bit a value, where there is one.
+// Gives the bit a value, if there is one.
 fn write_value(values: &mut [bool; BIT_COUNT], bit: Bit, value: Option<bool>)
     requires { IsInTable bit }
     ensures { values.new ≡ with_value values.old bit value }
@@ -82,7 +82,7 @@ fn write_value(values: &mut [bool; BIT_COUNT], bit: Bit, value: Option<bool>)
     }
 }
 
-// Whether the two bits are one.
+// Whether the two bits are the same.
 pub fn same_bit(a: Bit, b: Bit) -> bool
     ensures { result ≡ same_bit a b }
 {
@@ -137,7 +137,7 @@ fn is_clash(a: Option<Access>, b: Option<Access>) -> bool
 }
 
 impl SideMark {
-    // The mark where the other side begins a write of the bit.
+    // The mark after the other side begins a write of the bit.
     fn beside(self, bit: Bit) -> SideMark
         ensures { result ≡ beside self bit }
     {
@@ -148,7 +148,7 @@ impl SideMark {
     }
 }
 
-// The place of a side's mark.
+// The index of a side's mark.
 fn seat(side: Side) -> usize
     ensures at { result ≡ seat_of side }
     ensures within { result < 2 }
@@ -193,8 +193,8 @@ impl Marks {
         self.of(side).opened
     }
 
-    /// What the side's open read of the bit has to answer: what the bit held where the read began,
-    /// or nothing where a write overlaps it, since then it may answer anything.
+    /// What the side's open read of the bit has to answer: what the bit held when the read began,
+    /// or `None` if a write overlaps the read, since then it may answer anything.
     pub fn settled(&self, side: Side, bit: Bit) -> Option<bool>
         requires { IsInTable bit }
         ensures { (shape : Shape) (past : List Event) → AreMarks shape past self.now →
@@ -207,7 +207,7 @@ impl Marks {
         }
     }
 
-    /// What the bit holds: the value of the last write of it that ended, or else its first value.
+    /// What the bit holds: the value of the last write of it that ended, or if none has, its first value.
     pub fn held(&self, bit: Bit) -> bool
         requires { IsInTable bit }
         ensures { (shape : Shape) (past : List Event) → AreMarks shape past self.now → result ≡ held bit past }
@@ -222,7 +222,7 @@ impl Marks {
         is_clash(self.open_access(Side::P), self.open_access(Side::C))
     }
 
-    /// Goes on to the history with an event more, which may follow.
+    /// Records one more event, which may follow.
     pub fn record(&mut self, event: Event)
         requires { IsInTable event.bit }
         ensures { (shape : Shape) (past : List Event) → AreMarks shape past self.old → MayFollow shape past event →

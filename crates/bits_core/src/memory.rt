@@ -20,10 +20,10 @@ use std::marker::Model;
 
 /// The safe bits of a shape, with the recorded history of the accesses to them (Lamport, 1986).
 ///
-/// Two sides begin and end reads and writes. A read that a write of its bit overlaps answers
-/// whatever an oracle says; any other read answers the value that the bit held where the read
-/// began. Each history that a memory makes is lawful. What a bit holds and every overlap it knows from
-/// marks, which it keeps up event by event. The history is kept in a store of the caller's choice.
+/// Two sides begin and end reads and writes. A read that a write of its bit overlaps returns whatever
+/// an oracle says; any other read returns the value that the bit held when it began. Each history that
+/// a memory makes is lawful. The value of each bit and every overlap are known from marks, which are
+/// updated with each event. The history is kept in a store that the caller chooses.
 ///
 /// In use: `uses::by_hand::put_by_hand`.
 #[derive(Drop)]
@@ -65,7 +65,7 @@ impl<S: Store<Event>> fmt::Debug for Memory<S> {
 }
 
 impl<A: Allocator> Memory<Vec<Event, A>> {
-    /// A memory with no event yet. It takes memory from this allocator, and none at first.
+    /// A memory with no event yet. It takes memory from this allocator, none of it at first.
     pub fn new(alloc: A, shape: Shape) -> Memory<Vec<Event, A>>
         ensures { result ≡ unused shape 0 }
     {
@@ -118,7 +118,7 @@ impl<S: Store<Event>> Memory<S> {
         events
     }
 
-    /// The access that the side has open. It is of a bit of the shape, by the side that may.
+    /// The access that the side has open. It is of a bit of the shape, and the side is its reader or writer.
     pub fn pending(&self, side: Side) -> Option<Access>
         ensures access { result ≡ open_access side self.now.events }
         ensures right { IfSome result (IsOpenRight self.now.shape side) }
@@ -126,7 +126,7 @@ impl<S: Store<Event>> Memory<S> {
         self.marks.open_access(side)
     }
 
-    /// How many reads have ended that a write overlapped: so many answers were asked of oracles.
+    /// How many reads that a write overlapped have ended, which is how many answers were asked of oracles.
     pub fn flickers(&self) -> u64
         ensures value { result ≡ self.now.flickers }
         ensures counted { result ≡ flicker_count self.now.events }
@@ -151,7 +151,7 @@ impl<S: Store<Event>> Memory<S> {
 
     /// Begins a read of a bit of the shape by its reader, which has no access open.
     ///
-    /// `OutOfMemory` leaves all as it was.
+    /// `OutOfMemory` leaves everything unchanged.
     pub fn begin_read(&mut self, side: Side, bit: Bit) -> Result<(), MemoryFault>
         requires in_shape { belongs self.old.shape bit ≡ true }
         requires by_reader { side ≡ reader bit }
@@ -164,9 +164,9 @@ impl<S: Store<Event>> Memory<S> {
     }
 
     /// Begins a write of a value to a bit of the shape by its writer, which has no access open. The
-    /// bit holds the value once the write has ended.
+    /// bit holds the value when the write has ended.
     ///
-    /// `OutOfMemory` leaves all as it was.
+    /// `OutOfMemory` leaves everything unchanged.
     pub fn begin_write(&mut self, side: Side, bit: Bit, value: bool) -> Result<(), MemoryFault>
         requires in_shape { belongs self.old.shape bit ≡ true }
         requires by_writer { side ≡ writer bit }
@@ -180,7 +180,7 @@ impl<S: Store<Event>> Memory<S> {
 
     /// Ends the write that the side has open.
     ///
-    /// `OutOfMemory` leaves all as it was, and the write open.
+    /// `OutOfMemory` leaves everything unchanged, and the write open.
     pub fn end_write(&mut self, side: Side) -> Result<(), MemoryFault>
         requires open { IsWriting (open_access side self.old.events) }
         ensures ok { OnOk result (self.new ≡ with_event self.old side (open_bit side self.old.events) Act.WriteEnd) }
@@ -193,11 +193,12 @@ impl<S: Store<Event>> Memory<S> {
         }
     }
 
-    /// Ends the read that the side has open, and gives its answer.
+    /// Ends the read that the side has open, and returns its answer.
     ///
-    /// Where a write of the bit overlapped the read, the oracle is asked once and its answer given.
-    /// Else the answer is the value that the bit held where the read began, and the oracle is left
-    /// alone. `OutOfMemory` leaves all as it was, the read open and the oracle not asked.
+    /// If a write of the bit overlapped the read, the oracle is asked once and its answer returned.
+    /// Otherwise the answer is the value that the bit held when the read began, and the oracle is
+    /// not asked. `OutOfMemory` leaves everything unchanged, the read open and the oracle not
+    /// asked.
     pub fn end_read<O: Oracle>(&mut self, side: Side, oracle: &mut O) -> Result<bool, MemoryFault>
         requires open { IsReading (open_access side self.old.events) }
         ensures ok { IfOk result (λ v. self.new ≡ with_answer self.old side v) }
@@ -206,7 +207,7 @@ impl<S: Store<Event>> Memory<S> {
         ensures asked { OnOk result (is_read_overlapped side self.old.events ≡ true → (i : ℕ) →
             O.answers oracle.new i ≡ O.answers oracle.old (i + 1)) }
         ensures not_asked { is_read_overlapped side self.old.events ≡ false → oracle.new ≡ oracle.old }
-        // It was overlapped where the read that ends here is, by the intervals of the history.
+        // It was overlapped exactly if the read that ends here was, by the intervals of the history.
         ensures overlap { OnOk result ((is_read_overlapped side self.old.events ≡ true) ↔
             EndsOverlappedRead self.new.events (length self.old.events)) }
         ensures err { OnErr result ((self.new ≡ self.old) × (oracle.new ≡ oracle.old)) }
@@ -233,14 +234,14 @@ impl<S: Store<Event>> Memory<S> {
     }
 }
 
-// How many events there are; so they are fewer than a count can tell.
+// The number of events, which is therefore less than a `usize` can hold.
 fn event_count<S: Store<Event>>(events: &S) -> usize
     ensures { result ≡ length (S.items events.now) }
 {
     events.as_slice().len()
 }
 
-// What a read answers: what is settled, and without that what the oracle says.
+// The answer of a read: the settled one, or if there is none, the oracle's.
 fn read_answer<O: Oracle>(settled: Option<bool>, oracle: &mut O) -> bool
     ensures value { result ≡ unwrap_or settled (O.answers oracle.old 0) }
     ensures asked { settled ≡ None → (i : ℕ) → O.answers oracle.new i ≡ O.answers oracle.old (i + 1) }

@@ -10,13 +10,13 @@ pub trait Oracle {
     /// Answer number i from now.
     ghost answers: { Self → ℕ → Bool };
 
-    /// Gives answer number 0. Each later answer moves down by one.
+    /// Returns answer number 0. Each later answer moves down by one.
     fn answer(&mut self) -> bool
         ensures now { result ≡ answers self.old 0 }
         ensures later { (i : ℕ) → answers self.new i ≡ answers self.old (i + 1) };
 }
 
-/// Always gives the same answer.
+/// Always returns the same answer.
 ///
 /// For example, `Always(true)` has each overlapped read answer 1.
 #[derive(Clone, Copy, PartialEq, Eq, Debug)]
@@ -30,7 +30,7 @@ impl Oracle for Always {
     }
 }
 
-/// Gives 0, 1, 0, 1 and so on.
+/// Returns 0, 1, 0, 1 and so on.
 ///
 /// In use: `uses::steps` and the tests of `test_uses`.
 #[derive(Clone, Copy, PartialEq, Eq, Debug)]
@@ -41,7 +41,7 @@ pub struct Flip {
 impl Flip {
     ghost use Rattle.bits_core.specs.Oracle.{flip_answer};
 
-    /// Gives 0 first.
+    /// Starts with 0.
     pub fn new() -> Flip
         ensures { (i : ℕ) → flip_answer result i ≡ (if i % 2 == 0 then false else true) }
     {
@@ -50,7 +50,7 @@ impl Flip {
 }
 
 impl Default for Flip {
-    /// Gives 0 first, as [`Flip::new`].
+    /// Starts with 0, as [`Flip::new`].
     fn default() -> Flip {
         Flip::new()
     }
@@ -68,10 +68,10 @@ impl Oracle for Flip {
     }
 }
 
-/// Gives the answers of a list in turn, and begins again at its end. Without an answer in its list
-/// it gives 0 always.
+/// Returns the answers of a list in turn, and starts again after the last. If the list is empty it
+/// always returns 0.
 ///
-/// For example, a tape of the answers 0 and 1 gives 0, 1, 0, 1, as `Flip` does.
+/// For example, a tape of the answers 0 and 1 returns 0, 1, 0, 1, as `Flip` does.
 #[derive(Clone, Copy, Debug)]
 pub struct Tape<'a> {
     answers: &'a [bool],
@@ -82,7 +82,7 @@ pub struct Tape<'a> {
 impl<'a> Tape<'a> {
     ghost use Rattle.bits_core.specs.Oracle.{tape_answer, turn};
 
-    /// A tape of these answers, at its first.
+    /// A tape of these answers, at the first of them.
     pub fn new(answers: &'a [bool]) -> Tape<'a>
         ensures { (i : ℕ) → tape_answer result i ≡ turn answers.entry.now i }
     {

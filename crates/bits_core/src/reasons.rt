@@ -15,8 +15,8 @@ use crate::shapes::Shape;
 
 /// Why an event may not follow the events before it. Places are counted from 0.
 ///
-/// For example, `Held { value: true, since: None, begun: 0 }` where the first event began a read of s0, which holds
-/// 1 from the start, and the next says that it answered 0.
+/// For example, `Held { value: true, since: None, begun: 0 }` if the first event began a read of s0, which holds 1
+/// from the start, and the next ends it with the answer 0.
 #[derive(Clone, Copy, PartialEq, Eq, Debug)]
 pub enum Reason {
     /// The bit is not in the shape.
@@ -30,8 +30,8 @@ pub enum Reason {
     },
     /// The side has no access open.
     NothingOpen,
-    /// No write overlapped the read, which began at the place `begun`. There the bit held `value`, since the place
-    /// `since`, where the last write of it ended, or from the start.
+    /// No write overlapped the read, which began at the place `begun`. At that place the bit held `value`, since
+    /// the place `since` at which the last write of it ended, or from the start.
     Held {
         value: bool,
         since: Option<usize>,
@@ -61,7 +61,7 @@ fn ends_write(bit: Bit, event: Event) -> bool
     }
 }
 
-// The place where the last write of the bit ended that did so.
+// The place at which a write of the bit ended last.
 fn last_written(events: &[Event], bit: Bit) -> Option<usize>
     ensures { MatchOption result (list_any (ends_write bit) events.now ≡ false) (IsLastWritten bit events.now) }
 {
@@ -73,7 +73,7 @@ fn last_written(events: &[Event], bit: Bit) -> Option<usize>
     None
 }
 
-// The marks of these events, where they are lawful.
+// The marks of these events, if they are lawful.
 fn marks_of(shape: &Shape, events: &[Event]) -> Option<Marks>
     ensures { MatchOption result (¬ IsLawful shape.now events.now) (AreMarks shape.now events.now) }
 {
@@ -153,11 +153,11 @@ pub fn reason_by(shape: &Shape, marks: &Marks, past: &[Event], event: Event) -> 
     answer_reason(shape, marks, past, event)
 }
 
-/// Why the event may not follow these, said so that it can be looked up in them. `None` where it may follow, or where
-/// these are not lawful.
+/// Why the event may not follow these, in terms that can be looked up in them. `None` if it may follow, or if these
+/// are not lawful.
 ///
-/// Where an audit tells a fault at a place, other than `NotProgram`, the events before that place are to be passed, and
-/// the event there. It goes over them at most twice and takes no memory.
+/// If an audit reports a fault at a place, other than `NotProgram`, pass the events before that place, and the event
+/// there. It goes over them at most twice and takes no memory.
 ///
 /// In use: `lamport_ring audit --why`, which prints it.
 pub fn reason_behind(shape: &Shape, past: &[Event], event: Event) -> Option<Reason>

@@ -5,10 +5,11 @@ use crate::events::Bit;
 use crate::faults::ShapeFault;
 
 /// How many cells a ring has, the modulus of its two counts, how many binary digits an item has, and how many
-/// items one count write of the producer and one of the consumer may count: its batch and its take batch.
+/// items one count write of the producer and one of the consumer may count at most: its batch and its take
+/// batch.
 ///
-/// The counts run modulo a number above the capacity and the larger batch together, so that a count that is
-/// read while it is being written can still be told from all others that may be read then.
+/// The counts run modulo a number greater than the capacity and the larger batch together, so that a count
+/// read while it is being written can still be distinguished from all others that may be read then.
 ///
 /// In use: `uses::two_threads::pass_through`.
 #[derive(Clone, Copy, PartialEq, Eq, Debug)]
@@ -35,8 +36,8 @@ impl Shape {
     ghost use Rattle.bits_core.specs.Shape.{AllFit, HasNumbers, HasBatch, HasBatches, IsRefused, IsRefusedBatch, IsRefusedBatches, batch_of, belongs, capacity_of, modulus_of, take_batch_of, width_of};
 
     /// The shape of these numbers, whose count writes count one item each: a capacity from 1 to 64, a modulus from
-    /// the capacity + 2 to 256, and a width from 1 to 64. Else the first of the three that is out of its range, in
-    /// this order.
+    /// the capacity + 2 to 256, and a width from 1 to 64. Otherwise the first of the three that is out of range,
+    /// in this order.
     pub fn new(capacity: u64, modulus: u64, width: u64) -> Result<Shape, ShapeFault>
         ensures { MatchResult result (HasNumbers capacity modulus width) (IsRefused capacity modulus width) }
     {
@@ -44,8 +45,8 @@ impl Shape {
     }
 
     /// The shape of these numbers, whose consumer counts one item each: a capacity from 1 to 64, a batch from 1 to
-    /// the capacity, a modulus from the capacity + the batch + 1 to 256, and a width from 1 to 64. Else the first
-    /// of the four that is out of its range, in this order.
+    /// the capacity, a modulus from the capacity + the batch + 1 to 256, and a width from 1 to 64. Otherwise the
+    /// first of the four that is out of range, in this order.
     pub fn with_batch(
         capacity: u64,
         modulus: u64,
@@ -59,9 +60,9 @@ impl Shape {
     }
 
     /// The shape of these numbers: a capacity from 1 to 64, a batch and a take batch from 1 to the capacity, a
-    /// modulus from the capacity + the larger batch + 1 to 256, and a width from 1 to 64. Else the first of the five
-    /// that is out of its range, in this order; of the modulus this is told in the words of `ModulusOfBatches` where
-    /// the take batch is over 1.
+    /// modulus from the capacity + the larger batch + 1 to 256, and a width from 1 to 64. Otherwise the first of the
+    /// five that is out of range, in this order; for the modulus that is `ModulusOfBatches` if the take batch is
+    /// over 1.
     pub fn with_batches(
         capacity: u64,
         modulus: u64,
@@ -127,7 +128,7 @@ impl Shape {
         self.width
     }
 
-    /// How many items one count write of the producer may count, from 1 to the capacity.
+    /// How many items one count write of the producer may count at most, from 1 to the capacity.
     pub fn batch(&self) -> u64
         ensures value { result ≡ batch_of self.now }
         ensures some { 0 < result }
@@ -136,7 +137,7 @@ impl Shape {
         self.batch
     }
 
-    /// How many items one count write of the consumer may count, from 1 to the capacity.
+    /// How many items one count write of the consumer may count at most, from 1 to the capacity.
     pub fn take_batch(&self) -> u64
         ensures value { result ≡ take_batch_of self.now }
         ensures some { 0 < result }

@@ -3,7 +3,7 @@ use Rattle.bits_core.specs.Marks.{AreMarks}
 use Rattle.bits_core.specs.Seen.{AreSeen}
 use Rattle.bits_core.proofs.audits.audit_bits_into.Given as goal
 
--- the marks are those of the events so far, and what was seen there is told
+-- the marks are those of the events so far, and what was seen there is stored
 abbrev pub invariant-loop-place : goal.invariant-loop-place
 invariant-loop-place l = record {
   marks : AreMarks l.shape (take l.place l.events) l.marks;

@@ -33,7 +33,7 @@ permitted past s b (WriteBegin v) none = tt
 permitted past s b (ReadEnd v) none = absurd (none v refl)
 permitted past s b WriteEnd none = tt
 
--- found by search without these two lines too; with them a mutant is refused at once
+-- the search finds these goals without these two lines too; with them a mutant is refused at once
 pub returns-in-None : goal.returns-in-None
 returns-in-None c = search rules
 

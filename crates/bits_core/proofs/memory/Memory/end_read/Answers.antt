@@ -36,14 +36,14 @@ same_state shape events flickers room = cc
 abbrev before : (g : Over) → After-read_answer-answer g → List Event
 before g c = g.S.Store.items c.self.inside.events
 
--- the read that ends is the side's open access
+-- the read that ends here is the side's open access
 still : (g : Over) (c : After-read_answer-answer g) → open_access c.args.side (before g c) ≡ Some (Read c.in-Some-Read.bit)
 still g c = ap (λ r. open_access c.args.side r.events) c.self.view_is ∙ sym c.in-Some-Read.ensures.access ∙ ap Some c.in-Some-Read.field-0-is
 
 its_bit : (g : Over) (c : After-read_answer-answer g) → open_bit c.args.side (before g c) ≡ c.in-Some-Read.bit
 its_bit g c = ap bit_of (still g c)
 
--- nothing is settled where a write overlapped it, and else what the bit held
+-- nothing is settled if a write overlapped it; otherwise what the bit held
 due : (g : Over) (c : After-read_answer-answer g) → c.settled-settled.result ≡ (if is_overlapped c.args.side c.in-Some-Read.bit (before g c) then None else Some (held_at_begin c.args.side c.in-Some-Read.bit (before g c)))
 due g c = c.settled-settled.ensures c.self.inside.shape (before g c) c.self.invariant.1 (still g c)
 
