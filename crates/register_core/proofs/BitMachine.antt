@@ -12,7 +12,7 @@ writes-more : (v : Bool) (values : List Bool) (w : Bool) → logical_writes v (v
 writes-more v [] w = append-nil (logical_write v w)
 writes-more v (u ∷ values) w = ap (λ l. logical_write v u ++ l) (writes-more u values w) ∙ sym (append_assoc (logical_write v u) (logical_writes u values) (logical_write (last_value u values) w))
 
--- nothing is due where the bit holds what was asked for
+-- nothing is due if the bit holds what was requested
 idle : (b : Bit) (held wanted : Bool) → first_write_to b (logical_write held wanted) ≡ None → writes_to b (logical_write held wanted) ≡ []
 idle b true true due = refl
 idle b true false due = absurd (cc)

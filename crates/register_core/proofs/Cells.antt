@@ -31,7 +31,7 @@ cell_numbers j = record { of_bit = λ i. ap (λ t. cond t (Some i) None) (eq-eqb
 abbrev pub clear_bits : ℕ → Bool
 clear_bits i = false
 
--- a digit of the cell holds what the writes that ended leave in it
+-- a digit of the cell holds the value that the ended writes leave in it
 pub held_digit : (j i : ℕ) (past : List Event) → held (Cell j i) past ≡ bits_after clear_bits (cell_writes j (before_last P past)) i
 held_digit j i past = row_after (Cell j) (number_in_cell j) (cell_numbers j) i (before_last P past) clear_bits
 

@@ -1,4 +1,4 @@
--- Each bit write of a unary write changes its bit, so a safe bit that is written so is regular.
+-- Each bit write of a unary write changes its bit, so a safe bit written in this way is regular.
 use Rattle.std.proofs.Common.{◌≡◌, ℕ, zero, suc, ◌≤◌, Bool, not, List, [], ◌∷◌, ◌++◌, take, slice_get, Some, refl, sym, ap, arith, ◌∙◌, ◌⊎◌, inl, inr}
 use Rattle.register_core.specs.Row.{RowWrite, first_bits, bits_with, bits_after}
 use Rattle.register_core.specs.Unary.{unary_phrase, unary_writes, row_writes}

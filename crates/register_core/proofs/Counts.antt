@@ -41,7 +41,7 @@ count_write-to s = write_to-to (row_bit s) (number_in_count s) (count_numbers s)
 pub count_write-its : (s : Side) → BeginsWrites (count_write s) s
 count_write-its s e w is = (row_bit s w.bit, w.value, write_to-from (row_bit s) (number_in_count s) (count_numbers s) e w is, row_writer s w.bit)
 
--- a bit of the count holds what the writes that ended leave in it
+-- a bit of the count holds the value that the ended writes leave in it
 pub held_count : (s : Side) (i : ℕ) (past : List Event) → held (row_bit s i) past ≡ bits_after first_bits (count_ended s past) i
 held_count P i past = row_after (row_bit P) (number_in_count P) (count_numbers P) i (before_last P past) first_bits
 held_count C i past = row_after (row_bit C) (number_in_count C) (count_numbers C) i (before_last C past) first_bits

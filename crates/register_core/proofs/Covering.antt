@@ -1,11 +1,11 @@
--- A scan, read by read: what each answer says of the unary writes.
+-- A scan, read by read: what each answer says about the unary writes.
 use Rattle.std.proofs.Common.{◌≡◌, ℕ, zero, suc, ◌+◌, ◌-◌, ◌<◌, ◌≤◌, Bool, true, false, not, List, sym, ap, subst, arith, zero-le, le_trans, ◌∙◌, ◌⊎◌, inl, inr}
 use Rattle.std.proofs.lemmas.Bool.{cases_lt}
 use Rattle.register_core.proofs.WriterMoments.{Windows}
 use Rattle.register_core.specs.Unary.{UnaryWrite, numbered_value, ended, begun_writes}
 use Rattle.register_core.proofs.Moments.{differs, is_or_not, Chain, bits_of, Chain-changes, Chain-rest, begun-mono, ended-begun}
 
--- a moment from t on and before j at which f turns from x
+-- a moment from t on and before j at which f changes from x
 record Turn (f : ℕ → Bool) (x : Bool) (t j : ℕ) : Type 0 where
   moment : ℕ
   after : t ≤ moment
@@ -36,8 +36,8 @@ turn f x t j fits old new =
     subst (λ k. Turn f x t k) e (turn_from f x t (j - t) old (ap f e ∙ new))
 
 module _ (us : List UnaryWrite) (bits : ℕ → Bool) (v : ℕ) (chain : Chain v bits us) where
-  -- before the read of bit i: at a moment that is over, the bits from i on stood for the value of a write that is
-  -- not overwritten and has begun
+  -- before the read of bit i: at a past moment the bits from i on showed the value of a write that has begun and
+  -- is not overwritten
   pub record Covers (least i from till : ℕ) : Type 0 where
     pub moment : ℕ
     pub number : ℕ
@@ -149,7 +149,7 @@ module _ (us : List UnaryWrite) (bits : ℕ → Bool) (v : ℕ) (chain : Chain v
         has_value = omega (arith, old.reaches);
       }
 
-  -- each read has an answer of its bit at a moment of its window
+  -- each read returns what its bit held at a moment of its window
   abbrev pub Reads : (from till : ℕ → ℕ) → ℕ → Bool → Type 0
   Reads from till i answer = (t : ℕ) × (from i ≤ t) × (t ≤ till i) × (bits_of bits us t i ≡ answer)
 

@@ -22,7 +22,7 @@ bit_here (suc n) v fits =
     let half : (v + 2 ^ suc n) / 2 ≡ v / 2 + 2 ^ n = omega (arith, pow-succ' 2 n) in
     bit_at-suc (v + 2 ^ suc n) n ∙ ap (λ k. bit_at k n) half ∙ bit_here n (v / 2) (omega (arith, pow-succ' 2 n))
 
--- fewer digits are a beginning
+-- fewer digits are a prefix
 more : {A : Type 0} (xs ys : List A) (x : A) → IsPrefix xs ys → IsPrefix xs (ys ++ x ∷ [])
 more xs ys x (rest, e) = (rest ++ x ∷ [], sym (append_assoc xs rest (x ∷ [])) ∙ ap (λ l. l ++ x ∷ []) e)
 
@@ -47,14 +47,14 @@ pub length-reads : (cell item n : ℕ) → length (digit_reads cell item n) ≡ 
 length-reads cell item zero = refl
 length-reads cell item (suc n) = omega (arith, length-append (digit_reads cell item n) (Read (Cell cell n) (digit n item) ∷ []), length-reads cell item n)
 
--- the reads answer these digits alone
+-- the reads return only these digits
 reads_same : (cell n a b : ℕ) → ((i : ℕ) → i < n → digit i a ≡ digit i b) → digit_reads cell a n ≡ digit_reads cell b n
 reads_same cell zero a b same = refl
 reads_same cell (suc n) a b same =
     ap (λ l. l ++ Read (Cell cell n) (digit n a) ∷ []) (reads_same cell n a b (λ i l. same i (omega arith)))
     ∙ ap (λ v. digit_reads cell b n ++ Read (Cell cell n) v ∷ []) (same n (omega arith))
 
--- one digit more, of 1 or of 0
+-- one more digit, of 1 or of 0
 pub reads_one : (cell n v : ℕ) → v < 2 ^ n → digit_reads cell (v + 2 ^ n) (suc n) ≡ digit_reads cell v n ++ Read (Cell cell n) true ∷ []
 reads_one cell n v fits =
     ap (λ l. l ++ Read (Cell cell n) (digit n (v + 2 ^ n)) ∷ []) (reads_same cell n (v + 2 ^ n) v (λ i l. ap (λ k. k == 1) (bit_below n v i fits l)))

@@ -28,7 +28,7 @@ unary_phrase-clear bits v e = ap (λ b. cond b [] (record { bit = v; value = tru
 pub unary_phrase-set : (bits : ℕ → Bool) (v : ℕ) → bits v ≡ true → unary_phrase bits v ≡ clearing bits v
 unary_phrase-set bits v e = ap (λ b. cond b [] (record { bit = v; value = true } ∷ []) ++ clearing bits v) e
 
--- Where the value's bit is set, what is due is found below the place.
+-- If the value's bit is set, what is due is found below the place.
 pub due-below : {modulus : ℕ} {memory : List Bool} {value place : ℕ} →
     IsClearDownTo modulus memory value place → bit_in memory value ≡ true →
     unary_phrase (bit_in memory) value ≡ clearing (bit_in memory) place

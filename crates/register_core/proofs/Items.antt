@@ -23,7 +23,7 @@ same_low (suc zero) zero l m e = absurd (cc)
 same_low (suc (suc x)) y l m e = absurd (omega arith)
 same_low x (suc (suc y)) l m e = absurd (omega arith)
 
--- items of a width are told apart by their digits
+-- items of a width are distinguished by their digits
 pub same_item : (width a b : ℕ) → a < 2 ^ width → b < 2 ^ width → ((i : ℕ) → i < width → digit i a ≡ digit i b) → a ≡ b
 same_item zero a b l m same = omega arith
 same_item (suc width) a b l m same =
@@ -33,7 +33,7 @@ same_item (suc width) a b l m same =
     let low : a % 2 ≡ b % 2 = same_low (a % 2) (b % 2) (omega arith) (omega arith) lowest in
     omega arith
 
--- ---- how many writes, and which
+-- ---- how many writes there are, and which
 
 pub length-digit_writes : (item n : ℕ) → length (digit_writes item n) ≡ n
 length-digit_writes item zero = refl

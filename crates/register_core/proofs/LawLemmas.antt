@@ -1,4 +1,4 @@
--- The laws of src/laws.rt as lemmas, each under its name, and each clause of one that has several as LAW_CLAUSE: what proofs cite,
+-- The laws of src/laws.rt as lemmas, each under its name, and each clause of a law with several as LAW_CLAUSE: cited by proofs,
 -- here and in the crates above.
 use Rattle.register_core.proofs.Items.{same_item}
 use Rattle.register_core.specs.Word.{DigitsTellItems}

@@ -8,7 +8,7 @@ use Rattle.register_core.specs.Unary.{UnaryWrite, unary_phrase, unary_writes, ro
 use Rattle.register_core.proofs.Rows.{bits_after-append}
 use Rattle.register_core.proofs.Phrase.{Shows, Allowed, Run, phrase-run}
 
--- unary writes that each have a bit write, over bits that stand for v
+-- unary writes that each have a bit write, over bits that show v
 abbrev pub Chain : ℕ → (ℕ → Bool) → List UnaryWrite → Type 0
 Chain v bits [] = Shows v bits
 Chain v bits (u ∷ us) =
@@ -47,7 +47,7 @@ row_writes-numbered (u ∷ us) = numbered_writes u.value u.writes us (row_writes
 abbrev pub bits_of : (ℕ → Bool) → List UnaryWrite → ℕ → ℕ → Bool
 bits_of bits us t = bits_after bits (take t (row_writes us))
 
--- what a write that changed bit i from x was
+-- the facts about a write that changed bit i from x
 pub record Changes (v : ℕ) (bits : ℕ → Bool) (i : ℕ) (x : Bool) : Type 0 where
   pub write : RowWrite
   pub place : i ≡ write.bit
@@ -164,7 +164,7 @@ pub ended-none :
     (u : UnaryWrite) (us : List UnaryWrite) (t : ℕ) → leb (length u.writes) t ≡ false → ended (u ∷ us) t ≡ 0
 ended-none u us t e = ap (λ b. cond b (suc (ended us (t - length u.writes))) 0) e
 
--- a moment at which the row stands for the value of the last write that had ended before moment a
+-- a moment at which the row shows the value of the last write that had ended before moment a
 pub record Rest (v : ℕ) (bits : ℕ → Bool) (us : List UnaryWrite) (a : ℕ) : Type 0 where
   pub moment : ℕ
   pub in_time : moment ≤ a

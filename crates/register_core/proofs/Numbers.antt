@@ -1,4 +1,4 @@
--- What the events of a history begin, by its number: how many others began before it.
+-- What the events of a history begin, numbered by how many others began before it.
 use Rattle.std.proofs.Common.{◌≡◌, ℕ, zero, suc, ◌+◌, ◌<◌, ◌≤◌, true, false, cond, ◌||◌, List, [], ◌∷◌, ◌++◌, length, take, drop, Option, Some, None, filter_map, slice_get, refl, sym, ap, arith, ◌∙◌, inl, inr, append_assoc, length-append, take-append-drop, take_at}
 use Rattle.std.specs.List.{cons_option}
 use Rattle.std.proofs.lemmas.Bool.{cases_lt}
@@ -38,7 +38,7 @@ some_within s (x ∷ xs) (suc n) l fits =
       | false ↦ λ l. some_within s xs n (omega arith) (omega arith)
     ] l
 
--- where an access ends, in a history with one event more in front
+-- where an access ends, in a history with one more event in front
 end_of-suc : (s : Side) (x : Event) (h : List Event) (p : ℕ) → end_of s (x ∷ h) (suc p) ≡ suc (end_of s h p)
 end_of-suc s x h p =
     let e : suc p + 1 ≡ suc (p + 1) = omega arith in
@@ -47,7 +47,7 @@ end_of-suc s x h p =
 
 -- ---- numbers
 
--- number n of what began before place q
+-- number n of those that began before place q
 pub record IsNumbered {W : Type 0} (begins : Event → Option W) (h : List Event) (q n : ℕ) : Type 0 where
   pub place : ℕ
   pub event : Event
@@ -57,7 +57,7 @@ pub record IsNumbered {W : Type 0} (begins : Event → Option W) (h : List Event
   pub begins_it : begins event ≡ Some what
   pub number : length (filter_map begins (take place h)) ≡ n
 
--- number n of what ended before place q
+-- number n of those that ended before place q
 pub record HasEnded {W : Type 0} (begins : Event → Option W) (s : Side) (h : List Event) (q n : ℕ) : Type 0 where
   pub numbered : IsNumbered begins h q n
   pub ended : end_of s h numbered.place < q
@@ -79,7 +79,7 @@ module _ {W : Type 0} (begins : Event → Option W) where
   abbrev pub ended : Side → List Event → ℕ → ℕ
   ended s h p = length (filter_map begins (before_last s (take p h)))
 
-  -- what an event begins stands at its number
+  -- what an event begins is at its number
   pub begun_at : (h : List Event) (p : ℕ) (e : Event) (w : W) → slice_get h p ≡ Some e → begins e ≡ Some w →
       (slice_get (filter_map begins h) (begun h p) ≡ Some w) × (begun h (suc p) ≡ suc (begun h p))
   begun_at [] p e w at b = absurd (cc)
@@ -136,7 +136,7 @@ module _ {W : Type 0} (begins : Event → Option W) where
           let r = ih k (omega arith) in
           behind x h q k (suc k) r (ap (λ o. length (cons_option o (filter_map begins (take r.place h)))) e ∙ ap suc r.number)
 
-  -- what ended before a place, of what has no end before it, began before that
+  -- if the access at p has no end before q, at most as many ended before q as began before p
   pub ended_le : (s : Side) (h : List Event) (p q : ℕ) → q ≤ end_of s h p → ended s h q ≤ begun h p
   ended_le s h p zero l = omega arith
   ended_le s [] p (suc q) l = omega arith
@@ -150,7 +150,7 @@ module _ {W : Type 0} (begins : Event → Option W) where
         | false ↦ omega arith
       ]
 
-  -- and what has its end before it is among what ended
+  -- and an access that has its end before q is among those that ended
   pub ended_more : (s : Side) (h : List Event) (p q : ℕ) (e : Event) (w : W) → slice_get h p ≡ Some e → begins e ≡ Some w → end_of s h p < q → q ≤ length h → begun h p < ended s h q
   ended_more s h p zero e w at b l fits = absurd (omega arith)
   ended_more s [] p (suc q) e w at b l fits = absurd (omega arith)
@@ -168,7 +168,7 @@ module _ {W : Type 0} (begins : Event → Option W) where
   pub ended_le_begun : (s : Side) (h : List Event) (p : ℕ) → ended s h p ≤ begun h p
   ended_le_begun s h p = ended_le s h p p (omega arith)
 
-  -- what ended is the first part of what began
+  -- those that ended are a prefix of those that began
   pub take-ended : (s : Side) (h : List Event) (p : ℕ) → take (ended s h p) (filter_map begins h) ≡ filter_map begins (before_last s (take p h))
   take-ended s h p =
       let k : List Event = before_last s (take p h) in
@@ -187,7 +187,7 @@ module _ {W : Type 0} (begins : Event → Option W) where
         ended = elim (cases_lt (end_of s h r.place) q) [ inl m ↦ m | inr m ↦ absurd (omega (arith, ended_le s h r.place q m, r.number)) ];
       }
 
-  -- later places have more that ended
+  -- at later places at least as many have ended
   pub ended_rises : (s : Side) (h : List Event) (p q : ℕ) → p ≤ q → q ≤ length h → ended s h p ≤ ended s h q
   ended_rises s h p q l fits = rises (ended s h p) refl
     where
@@ -197,7 +197,7 @@ module _ {W : Type 0} (begins : Event → Option W) where
           let r = has_ended s h p n (omega arith) in
           omega (arith, ended_more s h r.numbered.place q r.numbered.event r.numbered.what r.numbered.at_place r.numbered.begins_it (omega (arith, r.ended)) fits, r.numbered.number)
 
-  -- all that began have ended where each has its end before the place
+  -- all that began have ended if each has its end before the place
   pub all_ended : (s : Side) (h : List Event) (p : ℕ) → p ≤ length h → ((q : ℕ) (e : Event) (w : W) → q < p → slice_get h q ≡ Some e → begins e ≡ Some w → end_of s h q < p) → ended s h p ≡ begun h p
   all_ended s h p fits each = reach (begun h p) refl
     where

@@ -1,16 +1,16 @@
--- The bit writes of one unary write: what each finds, and what they leave.
+-- The bit writes of one unary write: the bits that each finds, and the bits that they leave.
 use Rattle.std.proofs.Common.{◌≡◌, ℕ, zero, suc, ◌<◌, ◌≤◌, Bool, true, false, not, cond, List, [], ◌∷◌, ◌++◌, refl, sym, ap, arith, zero-le, ◌∙◌, ◌⊎◌, inl, inr, eq-or-lt_of_le}
 use Rattle.register_core.specs.Row.{RowWrite, bits_with}
 use Rattle.register_core.specs.Unary.{clearing, unary_phrase}
 use Rattle.register_core.proofs.Rows.{other_bit, same_bit}
 
--- the bits stand for the value v
+-- the bits show the value v
 pub record Shows (v : ℕ) (bits : ℕ → Bool) : Type 0 where
   pub below : (k : ℕ) → k < v → bits k ≡ false
   pub here : bits v ≡ true
 
 -- a write that a unary write of v may make over these bits: it sets bit v, or it clears a bit below v
--- where bit v is set and all between are clear
+-- if bit v is set and all between are clear
 pub record Allowed (v : ℕ) (bits : ℕ → Bool) (w : RowWrite) : Type 0 where
   pub changes : bits w.bit ≡ not w.value
   pub sets : w.value ≡ true → w.bit ≡ v
@@ -18,12 +18,12 @@ pub record Allowed (v : ℕ) (bits : ℕ → Bool) (w : RowWrite) : Type 0 where
   pub between : w.value ≡ false → (k : ℕ) → w.bit < k → k < v → bits k ≡ false
   pub is_set : w.value ≡ false → bits v ≡ true
 
--- each write is allowed, and after all of them the bits stand for v
+-- each write is allowed, and after all of them the bits show v
 abbrev pub Run : ℕ → (ℕ → Bool) → List RowWrite → Type 0
 Run v bits [] = Shows v bits
 Run v bits (w ∷ writes) = Allowed v bits w × Run v (bits_with bits w) writes
 
--- the writes below place j over the bits that were remembered clear what is left there
+-- the writes below place j over the bits that were remembered clear the bits still set there
 abbrev ClearsFrom : ℕ → ℕ → (ℕ → Bool) → Type 0
 ClearsFrom j v old =
     (bits : ℕ → Bool) → ((k : ℕ) → k < j → bits k ≡ old k) → ((k : ℕ) → j ≤ k → k < v → bits k ≡ false) →

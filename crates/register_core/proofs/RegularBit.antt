@@ -39,7 +39,7 @@ one_of_two false true true apart = inr refl
 one_of_two false true false apart = inl refl
 
 module _ (shape : Shape) (h : List Event) (lawful : IsLawful shape h) (b : Bit) (values : List Bool) (writes : WritesLogically b h values) (s : Side) (start stop : ℕ) (v : Bool) (read : IsRead h s b start stop v) where
-  -- how many writes of the bit had ended where the read began
+  -- how many writes of the bit had ended when the read began
   abbrev had_ended : ℕ
   had_ended = ended (write_of b) (writer b) h start
 
@@ -54,13 +54,13 @@ module _ (shape : Shape) (h : List Event) (lawful : IsLawful shape h) (b : Bit) 
   number_at : (x : Bool) (start' stop' : ℕ) → IsWrite h b x start' stop' → begun (write_of b) h (suc start') ≡ suc (begun (write_of b) h start')
   number_at x start' stop' a = (begun_at (write_of b) h start' a.event x a.at_start (write_of-to b a.event x a.begins)).1
 
-  -- where a write overlaps the read, more began before its end than had ended before its begin
+  -- if a write overlaps the read, more began before its end than had ended before its start
   more_begun : HasOverlap h b start stop → had_ended < begun (write_of b) h stop
   more_begun o =
       let before : o.start' < stop = begins_before h s b start stop v read (writer b) (Write b o.value) o.start' o.stop' o.write o.overlap.0 in
       omega (arith, overlapping_number o.value o.start' o.stop' (o.write, o.overlap), number_at o.value o.start' o.stop' o.write, begun_rises (write_of b) h (suc o.start') stop (omega arith))
 
-  -- the first write that had not ended where the read began
+  -- the first write that had not ended when the read began
   module _ (r : IsNumbered (write_of b) h stop had_ended) where
     begins : begun_by r.event ≡ Some (Write b r.what)
     begins = write_of-from b r.event r.what r.begins_it
@@ -89,14 +89,14 @@ module _ (shape : Shape) (h : List Event) (lawful : IsLawful shape h) (b : Bit) 
     place_within : r.place < length h
     place_within = slice_get_within h r.place r.event r.at_place
 
-    -- those that began before it had ended where it begins
+    -- those that began before it had ended when it begins
     all_before : ended (write_of b) (writer b) h r.place ≡ had_ended
     all_before =
         all_ended (write_of b) (writer b) h r.place (omega (arith, place_within))
         (each_ended (write_of b) (writer b) (λ e x is. (b, x, write_of-from b e x is, refl)) shape h lawful r.place r.event r.what r.at_place r.begins_it)
         ∙ r.number
 
-    -- so what the bit holds there is what those that had ended where the read began left
+    -- so the bit then holds what the writes ended when the read began left
     held_there : held b (take r.place h) ≡ last_value (first_value b) (take had_ended (writes_begun b h))
     held_there =
         ap (last_value (first_value b))

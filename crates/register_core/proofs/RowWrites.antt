@@ -78,7 +78,7 @@ module _ (row : ℕ → Bit) (number : Bit → Option ℕ) (numbers : HasNumbers
 
   -- ---- what the writes leave in each bit
 
-  -- a bit of the row is told by its number
+  -- a bit of the row is identified by its number
   other_row : (i : ℕ) (b : Bit) → number b ≡ None → same_bit (row i) b ≡ false
   other_row i b e =
       false_from_ne_true (same_bit (row i) b) (λ same. none-some i (sym e ∙ ap number (sym (same_bit-true (row i) b same)) ∙ numbers.of_bit i))

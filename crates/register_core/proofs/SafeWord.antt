@@ -30,7 +30,7 @@ record BegunWord (width j : ℕ) (h : List Event) (q n : ℕ) : Type 0 where
   pub word : IsWordWrite width j h n start stop
 
 module _ (shape : Shape) (h : List Event) (lawful : IsLawful shape h) (width j : ℕ) where
-  -- what stands at a number is the digit write of that number
+  -- the item at a number is the digit write of that number
   digit_write : (q n : ℕ) (r : IsNumbered (cell_write j) h q n) → IsDigitWrite j h n r.place (end_of P h r.place)
   digit_write q n r =
       let begins : begun_by r.event ≡ Some (Write (Cell j r.what.bit) r.what.value) = cell_write-from j r.event r.what r.begins_it in
@@ -46,14 +46,14 @@ module _ (shape : Shape) (h : List Event) (lawful : IsLawful shape h) (width j :
   digit_write_ended n start stop q d l fits =
       omega (arith, ended_more (cell_write j) P h start q d.write.event (record { bit = d.number; value = d.value }) d.write.at_start (cell_write-to j d.number d.value d.write.event d.write.begins) (omega (arith, d.write.ends)) fits, d.behind)
 
-  -- where a word write has ended, so have all its digit writes
+  -- if a word write has ended, so have all its digit writes
   word_write_ended : (n start stop q : ℕ) → IsWordWrite width j h n start stop → stop < q → q ≤ length h → n * width + width ≤ ended (cell_write j) P h q
   word_write_ended n start stop q w l fits = elim w.last [
     | inl d ↦ omega (arith, digit_write_ended (n * width + (width - 1)) d.0 stop q d.1 l fits)
     | inr cut ↦ absurd (omega (arith, cut.1))
   ]
 
-  -- where its first digit write has begun, so has a word write
+  -- if its first digit write has begun, so has a word write
   word_write_begun : (q n : ℕ) → n * width < begun (cell_write j) h q → BegunWord width j h q n
   word_write_begun q n l =
       let r = numbered (cell_write j) h q (n * width) l in
@@ -76,7 +76,7 @@ module _ (shape : Shape) (h : List Event) (lawful : IsLawful shape h) (width j :
       ]
 
 module _ (shape : Shape) (h : List Event) (lawful : IsLawful shape h) (width j : ℕ) (wide : 0 < width) (items : List ℕ) (fit : All (λ v. v < 2 ^ width) items) (writes : WritesWords width j h items) (count : ℕ) (some_read : 0 < count) (few_read : count ≤ width) (start stop : ℕ → ℕ) (answer : ℕ → Bool) (read : ReadsDigits j h count start stop answer) (place : ℕ) (read_end : IsReadEnd width h count stop place) (quiet : (n start' stop' : ℕ) → IsWordWrite width j h n start' stop' → ¬ Overlap (start 0) place start' stop') where
-  -- how many digit writes had ended where the word read began, and how many had begun where it ended
+  -- how many digit writes had ended when the word read began, and how many had begun when it ended
   abbrev had_ended : ℕ
   had_ended = ended (cell_write j) P h (start 0)
 
@@ -141,11 +141,11 @@ module _ (shape : Shape) (h : List Event) (lawful : IsLawful shape h) (width j :
 
   -- n words had ended, and no other digit write had begun
   module _ (n : ℕ) (all_ended : had_ended ≡ n * width) (all_begun : had_begun ≡ n * width) where
-    -- so many items were written
+    -- at least n items were written
     fits : n ≤ length items
     fits = le_of_mul-le-mul_right (omega (arith, writes_le, begun_least (cell_write j) h place)) wide
 
-    -- the same holds at each digit read
+    -- the same at each digit read
     ended_there : (i : ℕ) → i < count → (ended (cell_write j) P h (start i) ≡ n * width) × (begun (cell_write j) h (stop i) ≤ n * width)
     ended_there i l =
         let r = within i l in
@@ -163,7 +163,7 @@ module _ (shape : Shape) (h : List Event) (lawful : IsLawful shape h) (width j :
         let at = begun_at (cell_write j) h o.start' o.write.event (record { bit = i; value = o.value }) o.write.at_start (cell_write-to j i o.value o.write.event o.write.begins) in
         omega (arith, r.0, r.1, old, at.1, begun_rises (cell_write j) h (suc o.start') (stop i) (omega arith))
 
-    -- what had ended where a digit read began is the first n words
+    -- the writes ended when a digit read began are those of the first n words
     first_words : (i : ℕ) → i < count → cell_writes j (before_last P (take (start i) h)) ≡ word_writes width (take n items)
     first_words i l =
         let r = ended_there i l in
@@ -193,7 +193,7 @@ module _ (shape : Shape) (h : List Event) (lawful : IsLawful shape h) (width j :
       | inr k ↦ absurd (omega (arith, word_write_ended shape h lawful width j m s t (start 0) w l start_within, mul-le-mul_right width k))
     ]
 
-  -- the digits are those of the item that was written last, or there is none
+  -- the digits are those of the item last written, if there is one
   abbrev Told : Type 0
   Told =
       ((item : ℕ) × IsLastWord width j h items (start 0) item × ((i : ℕ) → i < count → answer i ≡ digit i item))
@@ -241,7 +241,7 @@ pub digits-are_safe : DigitsAreSafe
 digits-are_safe shape h lawful width j wide items fit writes count some_read few_read start stop answer read place read_end quiet =
     safe_digits shape h lawful width j wide items fit writes count some_read few_read start stop answer read place read_end quiet
 
--- a word read that has ended is one of all digits, and its item is told by them
+-- a word read that has ended is one of all digits, and they determine its item
 pub word-is_safe : WordIsSafe
 word-is_safe shape h lawful width j wide items fit writes start stop item read quiet =
     elim (digits-are_safe shape h lawful width j wide items fit writes width wide (omega arith) start stop (λ i. digit i item)

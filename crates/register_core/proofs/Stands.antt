@@ -32,7 +32,7 @@ first_is j v x more rest e =
     let behind : more ≡ rest = cc in
     (ap (λ (w : RowWrite). w.bit) first, sym (ap (λ (w : RowWrite). w.value) first), behind)
 
--- What the first of the writes that clear below a place is, and what is left then.
+-- The first of the writes that clear below a place, and what is left then.
 record ClearsFirst (bits : ℕ → Bool) (j : ℕ) (x : RowWrite) (rest : List RowWrite) : Type 0 where
   below : x.bit < j
   clears : x.value ≡ false
@@ -122,7 +122,7 @@ new_bits (suc k) =
 pub stands-new : (side : Side) (modulus : ℕ) → UnaryStands (new_row side modulus) [] []
 stands-new side modulus = record { writes = []; made_is = refl; within = omega arith; remembered = new_bits; goes_on = refl }
 
--- nothing is due where no access is
+-- nothing is due if no access is left
 pub idle : (row : ℕ → Bit) (writes : List RowWrite) → first_access row writes ≡ None → writes ≡ []
 idle row [] none = refl
 idle row (x ∷ writes) none = absurd (cc)
@@ -144,7 +144,7 @@ stands-write w v fits none values made s =
           ap (λ f. s.writes ++ unary_phrase f v) (sym bits);
     }
 
--- one write more, as an access
+-- one more write, as an access
 one_more : (row : ℕ → Bit) (writes : List RowWrite) (x : RowWrite) → writes_in row (writes ++ x ∷ []) ≡ writes_in row writes ++ Write (row x.bit) x.value ∷ []
 one_more row writes x = map-append (λ (w : RowWrite). Write (row w.bit) w.value) writes (x ∷ [])
 
@@ -171,7 +171,7 @@ stands-fed w values made x rest e s =
     } in
     subst (λ ws. UnaryStands (row_with w ws) values (made ++ Write (row_bit w.side x.bit) x.value ∷ [])) (sym e) fed_state
 
--- the first of the writes that are due goes on with the writes of the values
+-- the first of the writes that are due continues with the writes of the values
 next-list : (row : ℕ → Bit) (writes due : List RowWrite) → IsNext (writes_in row (writes ++ due)) (writes_in row writes) (first_access row due)
 next-list row writes [] = sym (ap (writes_in row) (append-nil writes))
 next-list row writes (x ∷ due) = (Write (row x.bit) x.value, writes_in row due, refl, map-append (λ (w : RowWrite). Write (row w.bit) w.value) writes (x ∷ due))

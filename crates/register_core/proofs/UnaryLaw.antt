@@ -24,7 +24,7 @@ use Rattle.bits_core.proofs.LawLemmas.{held_is_by_interval}
 
 -- reads of the bits below the last that answer 0, and a read of the last bit
 module _ (shape : Shape) (h : List Event) (lawful : IsLawful shape h) (s : Side) (values : List ℕ) (writes : WritesUnary s h values) (last : ℕ) (start stop : ℕ → ℕ) (zeros : ReadsZeros s h last start stop) (answer : Bool) (final : IsRead h (other s) (row_bit s last) (start last) (stop last) answer) where
-  -- how many writes of the count had ended where the read of a bit begins, and how many had begun where it ends
+  -- how many writes of the count had ended when the read of a bit begins, and how many had begun when it ends
   abbrev from : ℕ → ℕ
   from i = ended (count_write s) s h (start i)
 
@@ -79,7 +79,7 @@ module _ (shape : Shape) (h : List Event) (lawful : IsLawful shape h) (s : Side)
       ∙ take-append-le (from i) (count_begun s h) writes.0 (omega (arith, ended_le_begun (count_write s) s h (start i), begun_least (count_write s) h (start i)))
       ∙ take-ended (count_write s) s h (start i)
 
-  -- the read answers what the bit held where it begins
+  -- the read returns what the bit held when it began
   held_there : (i : ℕ) (v : Bool) → start i ≤ length h → IsHeld h (row_bit s i) (start i) v → SafelyAnswered (writes_of values) from till i v
   held_there i v fits is =
       let e : bits_after first_bits (take (from i) (writes_of values)) i ≡ v =

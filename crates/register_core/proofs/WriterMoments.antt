@@ -7,15 +7,15 @@ use Rattle.register_core.specs.Unary.{writes_of, numbered_of, numbered_value, en
 abbrev pub bits_at : List RowWrite → ℕ → ℕ → Bool
 bits_at writes t = bits_after first_bits (take t writes)
 
--- Reads of bits 0 to last, one after the other: `from i` writes of the row had ended where the read of bit i begins, and
--- `till i` had begun where it ends. The writer has at most one write open.
+-- Reads of bits 0 to last, one after the other: `from i` writes of the row had ended when the read of bit i begins, and
+-- `till i` had begun when it ends. The writer has at most one write open.
 pub record Windows (last : ℕ) (from till : ℕ → ℕ) : Type 0 where
   pub from_rises : (i : ℕ) → i < last → from i ≤ from (suc i)
   pub till_rises : (i : ℕ) → i < last → till i ≤ till (suc i)
   pub one_open : (i : ℕ) → i < last → till i ≤ suc (from (suc i))
   pub in_order : (i : ℕ) → i ≤ last → from i ≤ till i
 
--- the read of bit i gives what the bit held at a moment of its window
+-- the read of bit i returns what the bit held at a moment of its window
 abbrev pub Answered : List RowWrite → (ℕ → ℕ) → (ℕ → ℕ) → ℕ → Bool → Type 0
 Answered writes from till i answer = (t : ℕ) × (from i ≤ t) × (t ≤ till i) × (bits_at writes t i ≡ answer)
 
@@ -23,8 +23,8 @@ Answered writes from till i answer = (t : ℕ) × (from i ≤ t) × (t ≤ till 
 abbrev pub WritesBit : List RowWrite → ℕ → ℕ → Type 0
 WritesBit writes t i = (w : RowWrite) × (slice_get writes t ≡ Some w) × (w.bit ≡ i)
 
--- the read of bit i gives what the bit held where the read begins, or anything where a write of the bit overlaps it: one
--- that had not ended where the read begins and had begun where it ends
+-- the read of bit i returns what the bit held when the read begins, or anything if a write of the bit overlaps it: one
+-- that had not ended when the read begins and had begun when it ends
 abbrev pub SafelyAnswered : List RowWrite → (ℕ → ℕ) → (ℕ → ℕ) → ℕ → Bool → Type 0
 SafelyAnswered writes from till i answer =
     (bits_at writes (from i) i ≡ answer) ⊎ ((t : ℕ) × (from i ≤ t) × (t < till i) × WritesBit writes t i)
@@ -34,22 +34,22 @@ pub record ScannedTo (writes : List RowWrite) (from till : ℕ → ℕ) (c : ℕ
   pub windows : Windows c from till
   pub below : (i : ℕ) → i < c → Answered writes from till i false
 
--- a value of a numbered write, with its number from those that had ended at moment a to those that had begun at moment b
+-- a value of a numbered write, whose number is at least the number ended at moment a and at most the number begun at moment b
 pub record WrittenBetween (values : List ℕ) (a b c : ℕ) : Type 0 where
   pub number : ℕ
   pub not_overwritten : ended (numbered_of values) a ≤ number
   pub has_begun : number ≤ begun_writes (numbered_of values) b
   pub has_value : numbered_value 0 (numbered_of values) number ≡ c
 
--- a scan gives the value of a write whose number lies from those that had ended where it began to those that had begun
--- where it ended
+-- a scan returns the value of a write whose number is at least the number of writes ended when it began and at most
+-- the number begun when it ended
 abbrev pub MomentsAreRegular : Type 0
 MomentsAreRegular =
     (values : List ℕ) (c : ℕ) (from till : ℕ → ℕ) →
     ScannedTo (writes_of values) from till c → Answered (writes_of values) from till c true →
     WrittenBetween values (from 0) (till c) c
 
--- where no value whose write has begun is above the last bit's number, a scan that read 0 in all bits below the last does
+-- if no value whose write has begun is above the last bit's number, a scan that read 0 in all bits below the last does
 -- not read 0 in it
 abbrev pub MomentsHaveOne : Type 0
 MomentsHaveOne =
@@ -57,7 +57,7 @@ MomentsHaveOne =
     ((n : ℕ) → n ≤ begun_writes (numbered_of values) (till last) → numbered_value 0 (numbered_of values) n ≤ last) →
     ScannedTo (writes_of values) from till last → ¬ Answered (writes_of values) from till last false
 
--- each bit write of a unary write changes its bit, so a read gives what its bit held at a moment of its window
+-- each bit write of a unary write changes its bit, so a read returns what its bit held at a moment of its window
 abbrev pub BitsAreRegular : Type 0
 BitsAreRegular =
     (values : List ℕ) (from till : ℕ → ℕ) (i : ℕ) (answer : Bool) → from i ≤ till i →

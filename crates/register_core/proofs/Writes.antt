@@ -1,4 +1,4 @@
--- What begins a write of a bit, and where it stands to a read.
+-- The events that begin a write of a bit, and their order with a read.
 use Rattle.std.proofs.Common.{◌≡◌, ℕ, ◌<◌, Bool, List, Option, Some, None, slice_get, if◌then◌else◌, sym, ap, arith, ◌∙◌, inl, inr}
 use Rattle.std.proofs.lemmas.Bool.{cases_lt}
 use Rattle.std.proofs.lemmas.Option.{none-some}
@@ -34,7 +34,7 @@ none_open h place s b (ReadEnd v) access begins turn = absurd (none-some access 
 none_open h place s b (WriteBegin v) access begins turn = turn
 none_open h place s b WriteEnd access begins turn = absurd (none-some access begins)
 
--- a side has no access open where it begins one
+-- a side has no access open when it begins one
 pub begins_alone : (shape : Shape) (h : List Event) → IsLawful shape h → (place : ℕ) (e : Event) → slice_get h place ≡ Some e → (access : Access) → begun_by e ≡ Some access → (other : Access) → ¬ IsOpenAt h e.side other place
 begins_alone shape h lawful place e at access begins = none_open h place e.side e.bit e.act access begins (lawful.each place e at).in_turn
 

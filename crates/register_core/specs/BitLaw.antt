@@ -10,7 +10,7 @@ use Rattle.bits_core.specs.Intervals.{IsRead, IsWrite, IsHeld, HasOverlap, Overl
 use Rattle.bits_core.specs.Lawful.{IsLawful}
 use Rattle.bits_core.specs.Made.{IsPrefix}
 
--- a logical write of the second value over the first is one write where they differ, and none where they do not
+-- a logical write of the second value over the first is one write if they differ, otherwise none
 abbrev pub logical_write : Bool → Bool → List Bool
 logical_write true true = []
 logical_write true false = false ∷ []
@@ -22,7 +22,7 @@ abbrev pub logical_writes : Bool → List Bool → List Bool
 logical_writes v [] = []
 logical_writes v (w ∷ values) = logical_write v w ++ logical_writes w values
 
--- the writes of the bit that began are a beginning of logical writes of these values, one after the other
+-- the writes of the bit that began are a prefix of logical writes of these values, one after the other
 abbrev pub WritesLogically : Bit → List Event → List Bool → Type 0
 WritesLogically b h values = IsPrefix (writes_begun b h) (logical_writes (first_value b) values)
 
@@ -36,8 +36,8 @@ IsFirstOverlapping h b start stop first =
     ((v : Bool) × (stop' : ℕ) × IsOverlapping h b start stop v first stop') ×
     ((v : Bool) (start' stop' : ℕ) → IsOverlapping h b start stop v start' stop' → first ≤ start')
 
--- A regular bit answers the value that it held before the first write that overlaps the read, or one that an overlapping
--- write writes; where none overlaps, the value held.
+-- A regular bit returns the value that it held before the first write that overlaps the read, or a value that an
+-- overlapping write writes; if none overlaps, the value held.
 pub record IsRegularAnswer (h : List Event) (b : Bit) (start stop : ℕ) (v : Bool) : Type 0 where
   pub overlapped : HasOverlap h b start stop → (((first : ℕ) × IsFirstOverlapping h b start stop first × IsHeld h b first v) ⊎ ((start' : ℕ) × (stop' : ℕ) × IsOverlapping h b start stop v start' stop'))
   pub alone : ¬ HasOverlap h b start stop → IsHeld h b start v

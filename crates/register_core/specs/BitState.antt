@@ -7,13 +7,13 @@ use Rattle.bits_core.specs.History.{last_value}
 use Rattle.bits_core.specs.Made.{Made, Write}
 use Rattle.register_core.specs.BitLaw.{logical_write, logical_writes}
 
--- the bit, the value that it holds, and the value last asked for
+-- the bit, the value that it holds, and the value last requested
 pub record BitState : Type 0 where
   pub bit : Bit
   pub held : Bool
   pub wanted : Bool
 
--- a bit of this value, for which no other was asked
+-- a bit of this value, with no other requested
 abbrev pub new_bit : Bit → Bool → BitState
 new_bit bit first = record { bit = bit; held = first; wanted = first }
 
@@ -34,8 +34,8 @@ due_change w = first_write_to w.bit (logical_write w.held w.wanted)
 abbrev pub bit_writes : Bit → Bool → List Bool → List Made
 bit_writes b first values = writes_to b (logical_writes first values)
 
--- The writer of a bit of this first value stands after the accesses, where these values were asked for: with what is due
--- the accesses are the logical writes of the values.
+-- The writer of a bit of this first value stands after the accesses, if these values were requested: the accesses, with
+-- those still due, are the logical writes of the values.
 pub record BitStands (w : BitState) (first : Bool) (values : List Bool) (made : List Made) : Type 0 where
   pub asked : last_value first values ≡ w.wanted
   pub goes_on : bit_writes w.bit first values ≡ made ++ writes_to w.bit (logical_write w.held w.wanted)

@@ -1,4 +1,4 @@
--- The word reads and scans of a side, where the accesses that it made are known.
+-- The word reads and scans of a side, if the accesses that it made are known.
 use Rattle.std.specs.Prelude.{◌≡◌, ℕ, suc, ◌+◌, ◌*◌, ◌^◌, ◌<◌, List, ◌++◌, length}
 use Rattle.bits_core.specs.declared.events.Side.{Side}
 use Rattle.bits_core.specs.declared.events.Side.TheVariants.{C}
@@ -10,14 +10,15 @@ use Rattle.register_core.specs.WordLaw.{IsWordRead}
 use Rattle.register_core.specs.ScanState.{zero_reads, scan_phrase, row_read_by}
 use Rattle.register_core.specs.UnaryLaw.{ReadsZeros, IsScan}
 
--- where access number n + i of a side begins and ends
+-- where access number n + i of a side begins
 abbrev pub begin_place : Side → List Event → ℕ → ℕ → ℕ
 begin_place s h n i = place_of s h (2 * (n + i))
 
+-- where access number n + i of a side ends
 abbrev pub end_place : Side → List Event → ℕ → ℕ → ℕ
 end_place s h n i = place_of s h (suc (2 * (n + i)))
 
--- Where a side's own events are a beginning of the events of accesses, a scan among these that has ended is a scan of the
+-- If a side's own events are a prefix of the events of accesses, a scan among these that has ended is a scan of the
 -- history.
 abbrev pub ScansAreMade : Type 0
 ScansAreMade =
@@ -26,7 +27,7 @@ ScansAreMade =
     suc (2 * (length before + c)) < length (subhistory s h) →
     IsScan (other s) h c (begin_place s h (length before)) (end_place s h (length before))
 
--- And so are reads of 0 with which a scan begins.
+-- Likewise reads of 0 with which a scan begins.
 abbrev pub ZerosAreMade : Type 0
 ZerosAreMade =
     (s : Side) (h : List Event) (made : List Made) → IsPrefix (subhistory s h) (events_of s made) →

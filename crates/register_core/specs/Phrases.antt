@@ -24,7 +24,7 @@ abbrev pub row_bit : Side → ℕ → Bit
 row_bit P i = S i
 row_bit C i = R i
 
--- the bits at first: bit 0 is set and the others are clear
+-- the first bits: bit 0 is set and the others are clear
 abbrev pub first_bits : ℕ → Bool
 first_bits i = nat_eq i 0
 
@@ -37,7 +37,7 @@ abbrev pub bits_after : (ℕ → Bool) → List RowWrite → ℕ → Bool
 bits_after bits [] = bits
 bits_after bits (w ∷ writes) = bits_after (bits_with bits w) writes
 
--- ---- a word: a cell's bits, one for each binary digit of an item, the lowest being number 0
+-- ---- a word: a cell's bits, one for each binary digit of an item, number 0 being the lowest
 
 -- digit i of an item
 abbrev pub digit : ℕ → ℕ → Bool
@@ -52,12 +52,12 @@ digit_writes item (suc n) = digit_writes item n ++ record { bit = n; value = dig
 abbrev pub word_write : ℕ → ℕ → ℕ → List Made
 word_write width cell item = writes_in (Cell cell) (digit_writes item width)
 
--- reads of the first n digits of a cell that answer the item's
+-- reads of the first n digits of a cell that return the item's
 abbrev pub digit_reads : ℕ → ℕ → ℕ → List Made
 digit_reads cell item zero = []
 digit_reads cell item (suc n) = digit_reads cell item n ++ Read (Cell cell n) (digit n item) ∷ []
 
--- the accesses of a word read of a cell that gives an item
+-- the accesses of a word read of a cell that returns an item
 abbrev pub word_read : ℕ → ℕ → ℕ → List Made
 word_read width cell item = digit_reads cell item width
 
@@ -68,7 +68,7 @@ abbrev pub clearing : (ℕ → Bool) → ℕ → List RowWrite
 clearing bits zero = []
 clearing bits (suc j) = cond (bits j) (record { bit = j; value = false } ∷ clearing bits j) (clearing bits j)
 
--- a write of 1 to the bit, where it is clear
+-- a write of 1 to the bit, if it is clear
 abbrev pub setting : (ℕ → Bool) → ℕ → List RowWrite
 setting bits v = cond (bits v) [] (record { bit = v; value = true } ∷ [])
 
@@ -76,12 +76,12 @@ setting bits v = cond (bits v) [] (record { bit = v; value = true } ∷ [])
 abbrev pub unary_phrase : (ℕ → Bool) → ℕ → List RowWrite
 unary_phrase bits v = setting bits v ++ clearing bits v
 
--- reads of the first n bits of a row that all answer 0
+-- reads of the first n bits of a row that all return 0
 abbrev pub zero_reads : (ℕ → Bit) → ℕ → List Made
 zero_reads row zero = []
 zero_reads row (suc n) = zero_reads row n ++ Read (row n) false ∷ []
 
--- the accesses of a scan of a row whose value is c: bits 0 to c - 1 answer 0, and then bit c answers 1
+-- the accesses of a scan of a row whose value is c: bits 0 to c - 1 return 0, and then bit c returns 1
 abbrev pub scan_phrase : (ℕ → Bit) → ℕ → List Made
 scan_phrase row c = zero_reads row c ++ Read (row c) true ∷ []
 

@@ -22,7 +22,7 @@ new_scan side modulus = record { side = side; modulus = modulus; zeros = 0; foun
 abbrev pub reads_made : ScanState → List Made
 reads_made s = (if s.found then scan_phrase (row_read_by s.side) s.zeros else zero_reads (row_read_by s.side) s.zeros)
 
--- the scan stands after these accesses
+-- the machine stands after these accesses
 pub record ScanStands (s : ScanState) (made : List Made) : Type 0 where
   pub below : s.zeros < s.modulus
   pub made_is : made ≡ reads_made s
@@ -35,11 +35,11 @@ due_scan s = (if s.found then None else Some (begins.Read (row_read_by s.side s.
 abbrev pub LastIsDue : ScanState → Type 0
 LastIsDue s = (s.found ≡ false) × (suc s.zeros ≡ s.modulus)
 
--- the scan once the due bit was read so
+-- the scan after the due bit was read with this answer
 abbrev pub scan_read : ScanState → Bool → ScanState
 scan_read s answer = (if answer then record s { found = true } else record s { zeros = suc s.zeros })
 
--- the accesses are a scan of the row that gives this value
+-- the accesses are a scan of the row that returns this value
 abbrev pub IsScanOf : (ℕ → Bit) → ℕ → List Made → ℕ → Type 0
 IsScanOf row modulus made c = (c < modulus) × (made ≡ scan_phrase row c)
 
@@ -47,13 +47,13 @@ IsScanOf row modulus made c = (c < modulus) × (made ≡ scan_phrase row c)
 abbrev pub BeginsScan : (ℕ → Bit) → ℕ → List Made → Type 0
 BeginsScan row modulus made = (c : ℕ) × (c < modulus) × IsPrefix made (scan_phrase row c)
 
--- Once these accesses of a scan were made, this one is next, and a scan goes on whatever it answers, but for a 0 of the
--- last bit; there is none where they are a whole scan.
+-- Once these accesses of a scan were made, this one is next, and a scan continues whatever it returns, except for a 0
+-- of the last bit; there is none if they are a whole scan.
 abbrev pub IsNextScan : (ℕ → Bit) → ℕ → List Made → Option Access → Type 0
 IsNextScan row modulus made None = (c : ℕ) × IsScanOf row modulus made c
 IsNextScan row modulus made (Some access) = (answer : Bool) → (suc (length made) ≡ modulus → answer ≡ true) → BeginsScan row modulus (made ++ answered access answer ∷ [])
 
--- the value once the scan is over, and none while every bit was read as 0
+-- the value once the scan is over, none while every bit was read as 0
 abbrev pub IsValueRead : (ℕ → Bit) → ℕ → List Made → Option ℕ → Type 0
 IsValueRead row modulus made None = (n : ℕ) × (n < modulus) × (made ≡ zero_reads row n)
 IsValueRead row modulus made (Some c) = IsScanOf row modulus made c

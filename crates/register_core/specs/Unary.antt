@@ -1,5 +1,5 @@
--- Unary writes: which bit writes one is made of, how those that have one are numbered, and how many of them have ended
--- or begun after some bit writes of the row.
+-- Unary writes: the bit writes of each, how those with at least one are numbered, and how many of them have ended or
+-- begun after some bit writes of the row.
 use Rattle.std.specs.Prelude.{ℕ, zero, suc, ◌-◌, Bool, true, false, cond, List, [], ◌∷◌, ◌++◌, length, nat_le, filter}
 use Rattle.bits_core.specs.declared.events.Side.{Side}
 use Rattle.bits_core.specs.Made.{Made}
@@ -43,7 +43,7 @@ having_writes us = filter (λ u. has_write u.writes) us
 abbrev pub numbered_of : List ℕ → List UnaryWrite
 numbered_of values = having_writes (unary_writes first_bits values)
 
--- the value of write number n: number 0 is the first value, and the others count from 1
+-- the value of write number n: number 0 is the first value, the writes are numbered from 1
 abbrev pub numbered_value : ℕ → List UnaryWrite → ℕ → ℕ
 numbered_value first us zero = first
 numbered_value first [] (suc n) = first

@@ -29,25 +29,27 @@ number_in_count C (Cell j i) = None
 abbrev pub count_write : Side → Event → Option RowWrite
 count_write s e = row_write (number_in_count s e.bit) e.act
 
--- the writes to the bits of a side's count that began, in order, and those of them that ended
+-- the writes to the bits of a side's count that began, in order
 abbrev pub count_begun : Side → List Event → List RowWrite
 count_begun s h = filter_map (count_write s) h
 
+-- those of these writes that ended
 abbrev pub count_ended : Side → List Event → List RowWrite
 count_ended s h = count_begun s (before_last s h)
 
--- the writes to the side's count are a beginning of those of unary writes of these values, one after the other
+-- the writes to the side's count are a prefix of those of unary writes of these values, one after the other
 abbrev pub WritesUnary : Side → List Event → List ℕ → Type 0
 WritesUnary s h values = IsPrefix (count_begun s h) (writes_of values)
 
--- how many of the numbered unary writes had all their accesses ended before a place, and how many had begun
+-- how many of the numbered unary writes had all their accesses ended before a place
 abbrev pub ended_before : Side → List Event → List ℕ → ℕ → ℕ
 ended_before s h values place = ended (numbered_of values) (length (count_ended s (take place h)))
 
+-- how many of the numbered unary writes had begun before a place
 abbrev pub begun_before : Side → List Event → List ℕ → ℕ → ℕ
 begun_before s h values place = begun_writes (numbered_of values) (length (count_begun s (take place h)))
 
--- reads of the first n bits of the count that a side writes, one after the other, that all answered 0, and the place where
+-- reads of the first n bits of the count that a side writes, one after the other, that all returned 0, and the place where
 -- the next read begins
 pub record ReadsZeros (s : Side) (h : List Event) (n : ℕ) (start stop : ℕ → ℕ) : Type 0 where
   pub in_turn : (i : ℕ) → i < n → stop i < start (suc i)
@@ -58,16 +60,16 @@ pub record IsScan (s : Side) (h : List Event) (c : ℕ) (start stop : ℕ → �
   pub zeros : ReadsZeros s h c start stop
   pub one : IsRead h (other s) (row_bit s c) (start c) (stop c) true
 
--- the value is that of a numbered write, or the first value as number 0, with its number from those that had ended before
--- one place to those that had begun before another
+-- the value is that of a numbered write, or the first value as number 0, whose number is at least the number ended before
+-- one place and at most the number begun before another
 pub record IsRegularValue (s : Side) (h : List Event) (values : List ℕ) (first last c : ℕ) : Type 0 where
   pub number : ℕ
   pub not_overwritten : ended_before s h values first ≤ number
   pub has_begun : number ≤ begun_before s h values last
   pub has_value : numbered_value 0 (numbered_of values) number ≡ c
 
--- A unary register is regular: a scan gives the value of a write whose number lies from those that had ended where it began
--- to those that had begun where it ended.
+-- A unary register is regular: a scan returns the value of a write whose number is at least the number of writes ended when
+-- it began and at most the number begun when it ended.
 abbrev pub UnaryIsRegular : Type 0
 UnaryIsRegular =
     (shape : Shape) (h : List Event) → IsLawful shape h →
@@ -79,7 +81,7 @@ UnaryIsRegular =
 abbrev pub BegunStayWithin : Side → List Event → List ℕ → ℕ → ℕ → Type 0
 BegunStayWithin s h values place bound = (n : ℕ) → n ≤ begun_before s h values place → numbered_value 0 (numbered_of values) n ≤ bound
 
--- Where no value whose write has begun is above the last bit's number, a scan that read 0 in all bits below the last does not
+-- If no value whose write has begun is above the last bit's number, a scan that read 0 in all bits below the last does not
 -- read 0 in it.
 abbrev pub UnaryHasOne : Type 0
 UnaryHasOne =
@@ -89,6 +91,6 @@ UnaryHasOne =
     ReadsZeros s h last start stop →
     ¬ IsRead h (other s) (row_bit s last) (start last) (stop last) false
 
--- where no value of the list is above a bound, no value of a numbered write is
+-- if no value of the list is above a bound, no value of a numbered write is
 abbrev pub NumberedStayWithin : Type 0
 NumberedStayWithin = (values : List ℕ) (bound : ℕ) → All (λ v. v ≤ bound) values → (n : ℕ) → numbered_value 0 (numbered_of values) n ≤ bound

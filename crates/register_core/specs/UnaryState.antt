@@ -8,14 +8,14 @@ use Rattle.bits_core.specs.Made.{Made}
 use Rattle.register_core.specs.Row.{RowWrite, row_bit, first_bits, bits_after, writes_in}
 use Rattle.register_core.specs.Unary.{unary_phrase, writes_of}
 
--- the row's side, the modulus, the bits, and the value last asked for
+-- the row's side, the modulus, the bits, and the value last requested
 pub record UnaryState : Type 0 where
   pub side : Side
   pub modulus : ℕ
   pub bits : List Bool
   pub value : ℕ
 
--- bit i of a list of bits, which is clear past its end
+-- bit i of a list of bits, clear past its end
 abbrev pub bit_in : List Bool → ℕ → Bool
 bit_in bits i = slice_index_or bits i false
 
@@ -23,7 +23,7 @@ bit_in bits i = slice_index_or bits i false
 abbrev pub new_row : Side → ℕ → UnaryState
 new_row side modulus = record { side = side; modulus = modulus; bits = slice_set (replicate 256 false) 0 true; value = 0 }
 
--- the bit writes that are left of the value's unary write
+-- the bit writes that remain of the value's unary write
 abbrev pub due_writes : UnaryState → List RowWrite
 due_writes w = unary_phrase (bit_in w.bits) w.value
 
@@ -53,8 +53,8 @@ pub record IsClearDownTo (modulus : ℕ) (bits : List Bool) (value place : ℕ) 
   pub clear : (k : ℕ) → place ≤ k → k < value → bit_in bits k ≡ false
   pub set : (k : ℕ) → place ≡ suc k → bit_in bits k ≡ true
 
--- The writer stands after the accesses, where these values were asked for, each once the one before it was written: it
--- remembers the bits that its writes left, and with what is due the writes are the unary writes of the values.
+-- The writer stands after the accesses, if these values were requested, each once the one before it was written: it
+-- remembers the bits that its writes left, and the writes, with those still due, are the unary writes of the values.
 pub record UnaryStands (w : UnaryState) (values : List ℕ) (made : List Made) : Type 0 where
   pub writes : List RowWrite
   pub made_is : made ≡ writes_in (row_bit w.side) writes

@@ -26,7 +26,7 @@ cell_write j e = row_write (number_in_cell j e.bit) e.act
 abbrev pub cell_writes : ℕ → List Event → List RowWrite
 cell_writes j h = filter_map (cell_write j) h
 
--- the writes to the digits of the cell are a beginning of those of word writes of these items, one after the other
+-- the writes to the digits of the cell are a prefix of those of word writes of these items, one after the other
 abbrev pub WritesWords : ℕ → ℕ → List Event → List ℕ → Type 0
 WritesWords width j h items = IsPrefix (cell_writes j h) (word_writes width items)
 
@@ -37,29 +37,29 @@ pub record IsDigitWrite (j : ℕ) (h : List Event) (n start stop : ℕ) : Type 0
   pub write : IsWrite h (Cell j number) value start stop
   pub behind : length (cell_writes j (take start h)) ≡ n
 
--- where a word write ends: where its last digit write ends, or past the end of the history where that has not begun
+-- where a word write ends: where its last digit write ends, or past the end of the history if that has not begun
 abbrev pub IsWordEnd : ℕ → List Event → ℕ → ℕ → Type 0
 IsWordEnd j h last stop = ((start : ℕ) × IsDigitWrite j h last start stop) ⊎ ((length (cell_writes j h) ≤ last) × (stop ≡ length h))
 
--- word write number n of the cell, counted from 0, from the begin of its first digit write to the end of its last
+-- word write number n of the cell, counted from 0, from the start of its first digit write to the end of its last
 pub record IsWordWrite (width j : ℕ) (h : List Event) (n start stop : ℕ) : Type 0 where
   pub first_stop : ℕ
   pub first : IsDigitWrite j h (n * width) start first_stop
   pub last : IsWordEnd j h (n * width + (width - 1)) stop
 
--- reads of the digits of the cell, one after the other, that answer those of the item
+-- reads of the digits of the cell, one after the other, that return those of the item
 pub record IsWordRead (width j : ℕ) (h : List Event) (start stop : ℕ → ℕ) (item : ℕ) : Type 0 where
   pub in_turn : (i : ℕ) → suc i < width → stop i < start (suc i)
   pub each : (i : ℕ) → i < width → IsRead h C (Cell j i) (start i) (stop i) (digit i item)
   pub fits : item < 2 ^ width
 
--- reads of the first so many digits of the cell, one after the other, with their answers: a word read, or one that has not ended
+-- reads of the first `count` digits of the cell, one after the other, with their answers: a word read, or one that has not ended
 pub record ReadsDigits (j : ℕ) (h : List Event) (count : ℕ) (start stop : ℕ → ℕ) (answer : ℕ → Bool) : Type 0 where
   pub in_turn : (i : ℕ) → suc i < count → stop i < start (suc i)
   pub each : (i : ℕ) → i < count → IsRead h C (Cell j i) (start i) (stop i) (answer i)
 
--- where a word read of which so many digits were read ends: where its last digit's read ends, or past the end of the history
--- where that has not ended
+-- where a word read ends of which `count` digits were read: where its last digit's read ends, or past the end of the history
+-- if that has not ended
 abbrev pub IsReadEnd : ℕ → List Event → ℕ → (ℕ → ℕ) → ℕ → Type 0
 IsReadEnd width h count stop place = ((count ≡ width) × (place ≡ stop (width - 1))) ⊎ ((count < width) × (place ≡ length h))
 
@@ -77,8 +77,8 @@ pub record IsLastWord (width j : ℕ) (h : List Event) (items : List ℕ) (place
 abbrev pub NoWordEnded : ℕ → ℕ → List Event → ℕ → Type 0
 NoWordEnded width j h place = (n start stop : ℕ) → IsWordWrite width j h n start stop → ¬ (stop < place)
 
--- A word read that no word write of its cell overlaps gives the item of the last word write that ended before it, and 0
--- where there is none.
+-- A word read that no word write of its cell overlaps returns the item of the last word write that ended before it, or
+-- 0 if there is none.
 abbrev pub WordIsSafe : Type 0
 WordIsSafe =
     (shape : Shape) (h : List Event) → IsLawful shape h →
@@ -87,8 +87,8 @@ WordIsSafe =
     ((n start' stop' : ℕ) → IsWordWrite width j h n start' stop' → ¬ Overlap (start 0) (stop (width - 1)) start' stop') →
     IsLastWord width j h items (start 0) item ⊎ (NoWordEnded width j h (start 0) × (item ≡ 0))
 
--- So do the digits that a word read has read so far, where it has not ended: no word write overlaps its interval, which runs
--- past the end of the history.
+-- The same for the digits that a word read has read so far, if it has not ended: no word write overlaps its interval, which
+-- runs past the end of the history.
 abbrev pub DigitsAreSafe : Type 0
 DigitsAreSafe =
     (shape : Shape) (h : List Event) → IsLawful shape h →

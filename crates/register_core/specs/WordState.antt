@@ -33,7 +33,7 @@ pub record ReaderState : Type 0 where
 abbrev pub due_read : ReaderState → Option Access
 due_read r = (if nat_lt r.read r.width then Some (Read (Cell r.cell r.read)) else None)
 
--- the reader once the due read was answered so
+-- the reader after the due read returned this answer
 abbrev pub read_digit : ReaderState → Bool → ReaderState
 read_digit r answer = record r { read = suc r.read; value = (if answer then r.value + 2 ^ r.read else r.value) }
 
@@ -42,7 +42,7 @@ pub record ReaderStands (r : ReaderState) (made : List Made) : Type 0 where
   pub fits : r.value < 2 ^ r.read
   pub made_is : made ≡ digit_reads r.cell r.value r.read
 
--- the accesses are a word read of the cell that gives the item
+-- the accesses are a word read of the cell that returns the item
 abbrev pub IsReadOf : ℕ → ℕ → List Made → ℕ → Type 0
 IsReadOf width cell made item = (item < 2 ^ width) × (made ≡ word_read width cell item)
 
@@ -50,13 +50,13 @@ IsReadOf width cell made item = (item < 2 ^ width) × (made ≡ word_read width 
 abbrev pub BeginsRead : ℕ → ℕ → List Made → Type 0
 BeginsRead width cell made = (item : ℕ) × (item < 2 ^ width) × IsPrefix made (word_read width cell item)
 
--- Once these accesses of a word read were made, this one is next, and a word read goes on whatever it answers; there is
--- none where they are a whole word read.
+-- Once these accesses of a word read were made, this one is next, and a word read continues whatever it returns; there
+-- is none if they are a whole word read.
 abbrev pub IsNextRead : ℕ → ℕ → List Made → Option Access → Type 0
 IsNextRead width cell made None = (item : ℕ) × IsReadOf width cell made item
 IsNextRead width cell made (Some access) = (answer : Bool) → BeginsRead width cell (made ++ answered access answer ∷ [])
 
--- the item once the word read is over, and none before
+-- the item once the word read is over, none before
 abbrev pub IsItemRead : ℕ → ℕ → List Made → Option ℕ → Type 0
 IsItemRead width cell made None = length made < width
 IsItemRead width cell made (Some item) = IsReadOf width cell made item

@@ -7,7 +7,7 @@ use bits_core::{Access, Bit};
 use std::alloc::AllocError;
 use std::marker::Model;
 
-/// Writes values to a bit: one write where the value changes, and none where it does not. It remembers the bit.
+/// Writes values to a bit: one write if the value changes, otherwise none. It remembers the bit.
 ///
 /// In use: `ring_core::Producer` closes with one, the bit `X`.
 #[derive(Debug, Drop)]
@@ -27,7 +27,7 @@ impl Model for BitWriter {
     ghost invariant = { λ w. Unit {0} };
 }
 
-// By hand, as a derived one clones each field, which costs the proof ten times as much.
+// Written by hand: a derived one clones each field, which makes the proof ten times as expensive.
 impl Clone for BitWriter {
     ghost is_clone = { λ x y. y ≡ x };
 
@@ -63,7 +63,7 @@ impl BitWriter {
         self.wanted = value;
     }
 
-    /// The write that is due, and none where the bit holds the value asked for.
+    /// The write that is due, or `None` if the bit holds the value requested.
     pub fn next(&self) -> Option<Access>
         ensures due { result ≡ due_change self.now }
         ensures stands { (first : Bool) (values : List Bool) (made : List Made) → BitStands self.now first values made →
@@ -76,7 +76,7 @@ impl BitWriter {
         }
     }
 
-    /// The due write was made. What it was answered is ignored.
+    /// Records that the due write was made. Its answer is ignored.
     pub fn feed(&mut self, answer: bool)
         requires { due_change self.old ≢ None }
         ensures state { self.new ≡ record self.old { held = self.old.wanted } }

@@ -1,6 +1,6 @@
-//! What reads of registers can answer in a lawful history, whatever overlapped safe bits answer. Each law is the contract of a
-//! function that does nothing: a body that calls it has the statement at hand in its proof. For who builds something else than
-//! a ring from a word, a bit or a unary count.
+//! What reads of registers can return in a lawful history, whatever overlapped safe bits return. Each law is the contract of a
+//! function that does nothing: a body calls it to have the statement in its proof. For code that builds something other than a
+//! ring from a word, a bit or a unary count.
 ghost use Rattle.register_core.specs.BitLaw.{BitIsRegular};
 ghost use Rattle.register_core.specs.MadeWrites.{CellWritesAreMade, CountWritesAreMade, BitWritesAreMade, WordsWrite, CountsWrite, PartsWrite, BitsWrite};
 ghost use Rattle.register_core.specs.MadeReads.{ScansAreMade, ZerosAreMade, WordReadsAreMade};
@@ -13,46 +13,46 @@ pub fn bit_is_regular()
     ensures { BitIsRegular }
 {}
 
-/// Where the writes to a cell are word writes one after the other, a word read that none of them overlaps
-/// gives the item of the last that ended before it, and 0 where there is none.
+/// If the writes to a cell are word writes one after the other, a word read that none of them overlaps
+/// returns the item of the last that ended before it, or 0 if there is none.
 pub fn word_is_safe()
     ensures { WordIsSafe }
 {}
 
-/// The same of the digits that a word read has read so far, where no word write overlaps its interval, which runs past
+/// The same for the digits that a word read has read so far, if no word write overlaps its interval, which runs past
 /// the end of the history while it has not ended.
 pub fn digits_are_safe()
     ensures { DigitsAreSafe }
 {}
 
-/// Where the writes to a count are unary writes of any values one after the other, a scan of it gives the
-/// value of a write whose number lies from those that had ended where it began to those that had begun
-/// where it ended.
+/// If the writes to a count are unary writes of any values one after the other, a scan of it returns the
+/// value of a write whose number is at least the number of writes ended when it began and at most the
+/// number begun when it ended.
 pub fn unary_is_regular()
     ensures { UnaryIsRegular }
 {}
 
-/// Where, moreover, no value whose write had begun where the scan ended is above the last bit's number, a scan
+/// If, moreover, no value whose write had begun when the scan ended is above the last bit's number, a scan
 /// that read 0 in all bits below the last does not read 0 in it.
 pub fn unary_has_one()
     ensures { UnaryHasOne }
 {}
 
-/// Where no value of a list is above a bound, no value of a numbered write of the list is.
+/// If no value of a list is above a bound, no value of a numbered write of the list is.
 pub fn numbered_stay_within()
     ensures { NumberedStayWithin }
 {}
 
-/// Where a side's own events are a beginning of the events of accesses, its writes to the digits of a
-/// cell, to its count and to a bit are a beginning of those among the accesses.
+/// If a side's own events are a prefix of the events of accesses, its writes to the digits of a cell,
+/// to its count and to a bit are a prefix of those among the accesses.
 pub fn writes_are_made()
     ensures cells { CellWritesAreMade }
     ensures counts { CountWritesAreMade }
     ensures bits { BitWritesAreMade }
 {}
 
-/// The accesses of word writes, unary writes and logical writes have these writes and no others; those of
-/// two lists, one after the other, have those of the one and then of the other.
+/// The accesses of word writes, unary writes and logical writes are these writes and no others; two lists
+/// of accesses, one after the other, have the writes of the first and then those of the second.
 pub fn phrases_write()
     ensures words { WordsWrite }
     ensures counts { CountsWrite }
@@ -60,15 +60,15 @@ pub fn phrases_write()
     ensures parts { PartsWrite }
 {}
 
-/// Where a side's own events are a beginning of the events of accesses, the scans and the word reads among
-/// these that have ended are scans and word reads of the history.
+/// If a side's own events are a prefix of the events of accesses, the scans and the word reads among these
+/// that have ended are scans and word reads of the history.
 pub fn reads_are_made()
     ensures scans { ScansAreMade }
     ensures zeros { ZerosAreMade }
     ensures words { WordReadsAreMade }
 {}
 
-/// Items of a width are told apart by their digits.
+/// Items of a width are distinguished by their digits.
 pub fn digits_tell_items()
     ensures { DigitsTellItems }
 {}

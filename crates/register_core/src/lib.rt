@@ -1,6 +1,6 @@
-//! Registers of safe bits: the machines of their writers and readers, and the laws of what the reads can answer.
+//! Registers of safe bits: the machines of their writers and readers, and the laws of what their reads can return.
 //!
-//! A machine tells the access that is due and is fed its answer; it never touches memory itself.
+//! A machine yields the access that is due and is fed its answer; it never touches memory itself.
 #![tactic(auto)]
 
 mod bits;

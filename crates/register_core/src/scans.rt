@@ -6,15 +6,15 @@ ghost use Rattle.bits_core.specs.Made.{Made, answered};
 use bits_core::{Access, Bit, Shape, Side};
 use std::marker::Model;
 
-/// Reads the bits of the other side's count from number 0 upwards, until one answers 1.
+/// Reads the bits of the other side's count from number 0 upwards, until one returns 1.
 ///
-/// For example, with s0 clear and s1 set it reads s0, then s1, and gives 1. In use: each put and take of
-/// `ring_core` begins with one.
+/// For example, with s0 clear and s1 set it reads s0, then s1, and returns 1. In use: each put and take
+/// of `ring_core` starts with one.
 #[derive(Clone, Copy, Debug)]
 pub struct UnaryScan {
     modulus: u64,
     zeros: u64,
-    // beside one another, for a scan is copied in each call, and the gaps between its fields with it
+    // next to each other: a scan is copied in each call, and padding between its fields would be copied too
     side: Side,
     found: bool,
 }
@@ -49,7 +49,7 @@ impl UnaryScan {
         }
     }
 
-    /// A scan by a side, so many of whose bits were read as 0; these are fewer than the modulus.
+    /// A scan by a side after this many bits were read as 0, which is less than the modulus.
     #[inline(always)]
     pub fn at(shape: &Shape, side: Side, zeros: u64) -> Self
         requires { zeros < modulus_of shape.now }
@@ -71,7 +71,7 @@ impl UnaryScan {
         self.zeros
     }
 
-    /// The bit read that is due, and none once one answered 1.
+    /// The bit read that is due, or `None` once one returned 1.
     #[inline(always)]
     pub fn next(&self) -> Option<Access>
         ensures due { result ≡ due_scan self.now }
@@ -88,7 +88,7 @@ impl UnaryScan {
         }
     }
 
-    /// The due read was made and answered so. Where [`expects_one`](Self::expects_one), the answer must be 1.
+    /// Records that the due read was made and returned `answer`. If [`expects_one`](Self::expects_one), that must be 1.
     #[inline(always)]
     pub fn feed(&mut self, answer: bool)
         requires due { due_scan self.old ≢ None }
@@ -104,7 +104,7 @@ impl UnaryScan {
         }
     }
 
-    /// The value, once a bit was read as 1, and none before.
+    /// The value once a bit was read as 1, `None` before.
     #[inline(always)]
     pub fn value(&self) -> Option<u64>
         ensures state { result ≡ (if self.now.found then Some self.now.zeros else None) }
@@ -114,8 +114,8 @@ impl UnaryScan {
         if self.found { Some(self.zeros) } else { None }
     }
 
-    /// Whether the last bit of the count is due. Where the count is written by unary writes of values below
-    /// the modulus it answers 1, as all others answered 0 (law `unary_has_one`).
+    /// Whether the last bit of the count is due. If the count is written by unary writes of values below
+    /// the modulus, this bit returns 1, as all others returned 0 (law `unary_has_one`).
     #[inline(always)]
     pub fn expects_one(&self) -> bool
         ensures { IsTrue result ↔ LastIsDue self.now }

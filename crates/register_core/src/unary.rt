@@ -10,7 +10,7 @@ use bits_core::{Access, Bit, Shape, Side};
 use std::alloc::AllocError;
 use std::marker::Model;
 
-/// Writes values to a side's own count: it sets the value's bit where that is clear, and then clears
+/// Writes values to a side's own count: it sets the value's bit if that is clear, and then clears
 /// the set bits below it, from the highest down. It remembers the bits.
 ///
 /// For example, from 1 to 2 it sets s2 and clears s1. In use: the own count of `ring_core::Producer`.
@@ -34,7 +34,7 @@ impl Model for UnaryWriter {
     ghost invariant = { λ w. IsClearDownTo w.modulus w.bits w.value w.place };
 }
 
-// By hand, as a derived one clones each field, which costs the proof ten times as much.
+// Written by hand: a derived one clones each field, which makes the proof ten times as expensive.
 impl Clone for UnaryWriter {
     ghost is_clone = { λ x y. y ≡ x };
 
@@ -94,7 +94,7 @@ impl UnaryWriter {
         self.place = clear_down(&self.bits, self.value);
     }
 
-    /// The bit write that is due, and none once the value is written.
+    /// The bit write that is due, or `None` once the value is written.
     #[inline(always)]
     pub fn next(&self) -> Option<Access>
         ensures due { result ≡ due_unary self.now }
@@ -110,7 +110,7 @@ impl UnaryWriter {
         }
     }
 
-    /// The due write was made. What it was answered is ignored.
+    /// Records that the due write was made. Its answer is ignored.
     #[inline(always)]
     pub fn feed(&mut self, answer: bool)
         requires { due_unary self.old ≢ None }

@@ -10,7 +10,7 @@ use std::marker::Model;
 
 /// Writes an item to a cell, every digit from number 0 upwards, whether it changes or not.
 ///
-/// For example, of item 5 and three digits it writes 1, 0 and 1. In use: a put of `ring_core::Producer`.
+/// For example, for item 5 in three digits it writes 1, 0 and 1. In use: a put of `ring_core::Producer`.
 #[derive(Clone, Copy, Debug)]
 pub struct WordWriter {
     width: u64,
@@ -51,7 +51,7 @@ impl WordWriter {
         }
     }
 
-    /// The digit write that is due, and none once all were made.
+    /// The digit write that is due, or `None` once all were made.
     #[inline(always)]
     pub fn next(&self) -> Option<Access>
         ensures due { result ≡ due_write self.now }
@@ -74,7 +74,7 @@ impl WordWriter {
         self.written + 1 == self.width
     }
 
-    /// The due write was made. What it was answered is ignored.
+    /// Records that the due write was made. Its answer is ignored.
     #[inline(always)]
     pub fn feed(&mut self, answer: bool)
         requires { due_write self.old ≢ None }
@@ -89,7 +89,7 @@ impl WordWriter {
 
 /// Reads an item from a cell, every digit from number 0 upwards.
 ///
-/// For example, of three digits that answer 1, 0 and 1 it makes 5. In use: a take of `ring_core::Consumer`.
+/// For example, from three digits read as 1, 0 and 1 it returns 5. In use: a take of `ring_core::Consumer`.
 #[derive(Clone, Copy, Debug)]
 pub struct WordReader {
     width: u64,
@@ -129,7 +129,7 @@ impl WordReader {
         }
     }
 
-    /// The digit read that is due, and none once all were made.
+    /// The digit read that is due, or `None` once all were made.
     #[inline(always)]
     pub fn next(&self) -> Option<Access>
         ensures due { result ≡ due_read self.now }
@@ -151,7 +151,7 @@ impl WordReader {
         self.read + 1 == self.width
     }
 
-    /// The due read was made and answered so.
+    /// Records that the due read was made and returned `answer`.
     #[inline(always)]
     pub fn feed(&mut self, answer: bool)
         requires { due_read self.old ≢ None }
@@ -165,7 +165,7 @@ impl WordReader {
         self.read += 1;
     }
 
-    /// The item, once every digit was read, and none before.
+    /// The item once every digit was read, `None` before.
     #[inline(always)]
     pub fn value(&self) -> Option<u64>
         ensures state { result ≡ (if nat_lt self.now.read self.now.width then None else Some self.now.value) }

@@ -1,4 +1,4 @@
--- Where the value's bit is set, the due write clears the bit below the place.
+-- If the value's bit is set, the due write clears the bit below the place.
 use Rattle.std.proofs.Common.{◌≡◌, None, [], ◌<◌, length, arith, subst, sym, ap}
 use Rattle.register_core.specs.Row.{row_bit}
 use Rattle.register_core.specs.UnaryState.{UnaryState, due_writes, due_unary, first_access}

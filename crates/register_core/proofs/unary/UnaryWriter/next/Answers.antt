@@ -1,4 +1,4 @@
--- Where the value's bit is set, the writer clears below the place, or is done.
+-- If the value's bit is set, the writer clears below the place, or is done.
 use Rattle.std.proofs.Common.{Some, None, ap, sym, ◌∙◌}
 use Rattle.register_core.specs.Row.{row_bit}
 use Rattle.register_core.specs.UnaryState.{UnaryState, first_access}
