@@ -1,4 +1,4 @@
--- What the calls count and take is what their spans do.
+-- The calls count and take what their spans do.
 use Rattle.std.proofs.Common.{◌≡◌, ℕ, zero, suc, ◌+◌, ◌-◌, Bool, true, false, nat_lt, nat_le, if◌then◌else◌, List, [], ◌∷◌, ◌++◌, length, refl, ap, ◌∙◌, arith, length-append, ◌≤◌, inl, inr}
 use Rattle.std.proofs.lemmas.Bool.Decides.{nat_tests}
 use Rattle.bits_core.specs.declared.events.Side.TheVariants.{P, C}
@@ -18,7 +18,7 @@ use Rattle.ring_core.proofs.EndedCounts.{stored_ended, taken_begun, take_before_
 use Rattle.ring_core.proofs.CountRow.{past_is}
 use Rattle.ring_core.proofs.OverSpans.CallSpans.{put_phrase-stored, take_phrase-item, take_phrase-after, take_phrase-empty}
 
--- counts where the same test holds, before the same counts
+-- equal counts under the same test, before equal counts
 same_count : (a b : Bool) (n l m : ℕ) → a ≡ b → l ≡ m → (if a then n else 0) + l ≡ (if b then n else 0) + m
 same_count a b n l m e f = cc
 
@@ -37,7 +37,7 @@ stored_ended_is shape c (Full seen ∷ puts) t =
     same_count (nat_le (events_in (put_phrase shape c (Full seen))) t) (nat_le (whole y) t) 0 _ _ (ap (λ k. nat_le k t) long)
     (ap (λ k. stored_ended shape c puts (t - k)) long ∙ stored_ended_is shape c puts (t - whole y))
 
--- a test behind so many
+-- a test after a number
 pub lt-behind : (a b t : ℕ) → nat_lt (a + b) t ≡ nat_lt b (t - a)
 lt-behind a b t = grind (arith, nat_tests)
 
@@ -116,7 +116,7 @@ take_tally shape c (Empty seen ∷ takes) end w =
 
 -- ---- spans that have ended
 
--- what has ended is counted
+-- items of spans that have ended are counted
 pub ended_counts : (xs : List Span) (s n : ℕ) (x : Span) (i : ℕ) → IsSpanAt xs s n x → s + whole x ≤ i → n + counts x.outcome ≤ counts_ended xs i
 ended_counts [] s n x i st l = elim st [ ]
 ended_counts (y ∷ ys) s n x i (inl st) l =

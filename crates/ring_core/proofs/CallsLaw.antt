@@ -44,7 +44,7 @@ interval_at s h i i' e e' start stop p q r = subst (λ m. IsInterval s h m e' st
 scan_some : (s : Side) (seen : ℕ) → 1 ≤ scan_events s seen
 scan_some s seen = omega (arith, length-scan (row_read_by s) seen)
 
--- a span counts no more than any
+-- a span counts no more than the most
 few_at : (most : ℕ) (xs : List Span) → AllProper most xs → (s n : ℕ) (x : Span) → IsSpanAt xs s n x → counts x.outcome ≤ most
 few_at most [] h s n x st = elim st [ ]
 few_at most (y ∷ ys) h s n x (inl st) = omega (arith, h.0.few, ap (λ (z : Span). counts z.outcome) st.2)
@@ -152,7 +152,7 @@ module _ (shape : Shape) (h : List Event) (puts : Puts) (takes : Takes) (run : I
         high = omega (arith, r.high, number_is);
       }
 
-  -- the span of a scan stands behind the items that are counted where it begins
+  -- the span of a scan comes after the items counted when it begins
   behind :
       (s : Side) (most : ℕ) (xs : List Span) → AllProper most xs → (begun : ℕ → ℕ) → ((t : ℕ) → counts_begun xs t ≡ begun t) →
       (start n seen : ℕ) (made : List Made) → start ≡ events_in made → n ≡ begun start → (z : ScanSpan s xs (2 * length made) seen) → IsSpanAt xs start n z.span
@@ -199,7 +199,7 @@ module _ (shape : Shape) (h : List Event) (puts : Puts) (takes : Takes) (run : I
   pub prefix : TakenArePrefix shape h puts takes
   prefix = law.prefix
 
-  -- the word of an item, where it stands among the accesses
+  -- the word of an item, its place among the accesses
   put_word : (before after : List Made) (cell item : ℕ) → put_program shape puts ≡ before ++ (word_write (width_of shape) cell item ++ after) →
       WordSpan P shape 0 (put_spans shape puts) before (word_write (width_of shape) cell item ++ after) cell
   put_word before after cell item program =

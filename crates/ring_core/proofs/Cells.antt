@@ -1,4 +1,4 @@
--- The accesses to the digits of the cells, and what reads of them give.
+-- The accesses to the digits of the cells, and what reads of them return.
 pub mod CellAccesses
 pub mod CellPlaces
 pub mod CellTimes

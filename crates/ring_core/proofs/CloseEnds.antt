@@ -1,4 +1,4 @@
--- Where the close has not ended by the producer's clock, no write of the close bit has ended.
+-- If the close has not ended by the producer's clock, no write of the close bit has ended.
 use Rattle.std.proofs.Common.{◌≡◌, inl, inr, ℕ, zero, suc, ◌+◌, ◌<◌, ◌≤◌, Bool, true, false, if◌then◌else◌, List, [], ◌∷◌, length, take, drop, refl, sym, ap, ◌∙◌, arith}
 use Rattle.bits_core.specs.declared.events.Side.{Side}
 use Rattle.bits_core.specs.declared.events.Side.TheVariants.{P, C}
@@ -25,7 +25,7 @@ first-yes s e h f = ap (λ (b : Bool). if b then 0 else suc (first_place s h)) f
 first-no : (s : Side) (e : Event) (h : List Event) → is_by s e ≡ false → first_place s (e ∷ h) ≡ suc (first_place s h)
 first-no s e h f = ap (λ (b : Bool). if b then 0 else suc (first_place s h)) f
 
--- the side's clock goes on where its first event stands
+-- the side's clock advances at its first event
 abbrev GoesOn : Side → List Event → ℕ → Type 0
 GoesOn s h place = clock s h (suc place) ≡ suc (clock s h place)
 
@@ -38,7 +38,7 @@ goes_on s (e ∷ h) l =
     (let more : first_place s h < length h = omega (arith, l, first-no s e h f) in
     rw (first-no s e h f) (clock-no s e h (suc (first_place s h)) f ∙ goes_on s h more ∙ ap suc (sym (clock-no s e h (first_place s h) f)))))
 
--- and where its first one behind a place does
+-- and at its first event after a place
 goes_on_behind : (s : Side) (h : List Event) (i : ℕ) → i + first_place s (drop i h) < length h → GoesOn s h (i + first_place s (drop i h))
 goes_on_behind s h zero l =
     let none : 0 + first_place s h ≡ first_place s h = omega arith in
@@ -59,7 +59,7 @@ take_all [] (suc i) l = refl
 take_all (x ∷ xs) zero l = absurd (omega (arith, l))
 take_all (x ∷ xs) (suc i) l = ap (λ l. x ∷ l) (take_all xs i (omega (arith, l)))
 
--- an own event stands in the history
+-- an own event is in the history
 pub place_within : (s : Side) (h : List Event) (i place : ℕ) → IsPlaceOf s h i place → place < length h
 place_within s h i place q = elim (at_most_or_above (length h) place) [
   | inr l ↦ l

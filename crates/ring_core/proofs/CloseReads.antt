@@ -1,4 +1,4 @@
--- What reads of the close bit answer: 0 only where the close had not ended before them, 1 only where it had begun.
+-- What reads of the close bit return: 0 only if the close had not ended before them, 1 only if it had begun.
 use Rattle.std.proofs.Common.{◌≡◌, ◌⊎◌, inl, inr, ℕ, zero, suc, ◌+◌, ◌*◌, ◌%◌, ◌<◌, ◌≤◌, Bool, true, false, Some, List, [], ◌∷◌, ◌++◌, length, refl, sym, ap, subst, ◌∙◌, arith, length-append}
 use Rattle.std.specs.Prelude.{slice_get}
 use Rattle.bits_core.specs.declared.events.Side.{Side}
@@ -76,7 +76,7 @@ no_close-puts shape c [] = no_close-nil
 no_close-puts shape c (x ∷ puts) =
     no_close-append (put_phrase shape c x) (put_phrases shape (stored_after shape c x) puts) (no_close-put shape c x) (no_close-puts shape (stored_after shape c x) puts)
 
--- behind a list without one, the only access may be the write
+-- after a list without one, the only access may be the write
 pub only_close : (xs : List Made) → NoClose xs → (closes : Bool) (n : ℕ) (x : Made) (v : Bool) → slice_get (xs ++ close_phrase closes) n ≡ Some x → access_of x ≡ begins.Write X v → (n ≡ length xs) × (v ≡ true) × (closes ≡ true)
 only_close [] none false n x v e f = absurd (cc)
 only_close [] none true zero x v e f = let same : Write X true ≡ x = cc in (refl, (let g : begins.Write X true ≡ begins.Write X v = ap access_of same ∙ f in cc), refl)
@@ -106,7 +106,7 @@ module _ (shape : Shape) (h : List Event) (lawful : IsLawful shape h) (puts : Li
   consumer_clock : Clock (clock C h)
   consumer_clock = clock_c (clock P h) (clock C h) (clocks_of h)
 
-  -- each write of the close bit is the close, which begins behind all puts
+  -- each write of the close bit is the close, which begins after all puts
   close_is : (v : Bool) (start stop : ℕ) → IsWrite h X v start stop → (v ≡ true) × IsPlaceOf P h (2 * length front) start
   close_is v start stop w =
       let (n, x, x_at, x_is, place) = access_is_made P h all follows (begins.Write X v) start stop w in
@@ -119,7 +119,7 @@ module _ (shape : Shape) (h : List Event) (lawful : IsLawful shape h) (puts : Li
       let (is_true, at_start) = close_is v start stop w in
       omega (arith, clock_up (clock P h) producer_clock (suc start) place l, at_start.past)
 
-  -- where the clock has passed the close, it has ended
+  -- if the clock has passed the close, the close has ended
   close_ended : (place : ℕ) → 2 * length front + 2 ≤ clock P h place → clock P h place ≤ length (subhistory P h) → (start : ℕ) × (stop : ℕ) × IsWrite h X true start stop × (stop < place)
   close_ended place l within =
       let longer : 2 * length front + 2 ≤ length (subhistory P h) = omega arith in
@@ -139,7 +139,7 @@ module _ (shape : Shape) (h : List Event) (lawful : IsLawful shape h) (puts : Li
       by_closing true m longer = close_there front
       by_closing false m longer = absurd (omega (arith, length-append front []))
 
-  -- a write of the bit and the end of a read stand at two places
+  -- a write of the bit and the end of a read are at two places
   apart : (v : Bool) (answer : Bool) (start stop last : ℕ) → IsWrite h X v start stop → slice_get h last ≡ Some (record { side = C; bit = X; act = ReadEnd answer }) → (start ≡ last) → ⊥
   apart v answer start stop last w ends e =
       let same : Some w.event ≡ Some (record { side = C; bit = X; act = ReadEnd answer }) = sym w.at_start ∙ ap (slice_get h) e ∙ ends in

@@ -1,4 +1,4 @@
--- Once the consumer was told that the ring is closed, the lists of every longer history are the same.
+-- Once a take has returned Closed, the lists of every longer history are the same.
 use Rattle.std.proofs.Common.{◌≡◌, ℕ, ◌≤◌, List, ◌++◌, length, take, sym, ap, subst, ◌∙◌, arith, append_assoc, length-append}
 use Rattle.std.proofs.Math.Seq.{take-append_seam, take-length}
 use Rattle.std.proofs.lemmas.List.Elements.{filter-append}
@@ -16,14 +16,14 @@ use Rattle.ring_core.specs.RunLaws.{ClosedStays}
 use Rattle.ring_core.proofs.Readings.ItemsRead.{items-are_read}
 use Rattle.ring_core.proofs.Readings.TakenRead.{taken-are_read}
 
--- the own events of a beginning begin those of the whole
+-- the own events of a prefix are a prefix of those of the whole
 own_begins : (s : Side) (h h' : List Event) (program : List Event) → IsPrefix h h' → IsPrefix (subhistory s h') program → IsPrefix (subhistory s h) program
 own_begins s h h' program (later, e) (rest, f) = (
   subhistory s later ++ rest,
   sym (append_assoc (subhistory s h) (subhistory s later) rest) ∙ ap (λ l. l ++ rest) (sym (filter-append (is_by s) h later) ∙ ap (subhistory s) e) ∙ f,
 )
 
--- the clock of the whole at the end of a beginning
+-- the clock of the whole history at the end of a prefix
 clock_there : (s : Side) (h h' : List Event) → IsPrefix h h' → clock s h' (length h) ≡ length (subhistory s h)
 clock_there s h h' (later, e) = ap (λ l. length (subhistory s (take (length h) l))) (sym e) ∙ ap (λ l. length (subhistory s l)) (take-append_seam h later)
 

@@ -38,7 +38,7 @@ keeps_step :
 keeps_step old j rest true bits k above = rest (bits_with bits (set_to_0 j)) k (omega arith) ∙ other_bit bits k j false (omega arith)
 keeps_step old j rest false bits k above = rest bits k (omega arith)
 
--- so they do, whatever was remembered
+-- the writes of a clearing do so, whatever was remembered
 clearing_keeps : (old : ℕ → Bool) (j : ℕ) → KeepsFrom old j
 clearing_keeps old zero bits k above = refl
 clearing_keeps old (suc j) bits k above = keeps_step old j (clearing_keeps old j) (old j) bits k above
@@ -59,7 +59,7 @@ clears_step old j rest true e bits same k (inr below) =
 clears_step old j rest false e bits same k (inl q) = clearing_keeps old j bits k (omega arith) ∙ same k (omega arith) ∙ ap old q ∙ e
 clears_step old j rest false e bits same k (inr below) = rest bits (λ i h. same i (omega arith)) k below
 
--- so they do, where the bits below are those that were remembered
+-- those of a clearing do so, if the bits below are those remembered
 clearing_clears : (old : ℕ → Bool) (j : ℕ) → ClearsBelow old j
 clearing_clears old zero bits same k below = absurd (omega arith)
 clearing_clears old (suc j) bits same k below =
@@ -110,13 +110,13 @@ next_modulo n m some = place (cases_lt (suc (n % m)) m)
         let last : suc (n % m) ≡ m = omega (arith, h, mod_below n m some) in
         inr (suc-mod n m ∙ ap (λ k. k % m) last ∙ mod_self m, last)
 
--- where no bit below the place is set, none is cleared
+-- if no bit below the place is set, none is cleared
 clearing_none : (bits : ℕ → Bool) (v : ℕ) → ((j : ℕ) → j < v → bits j ≡ false) → clearing bits v ≡ []
 clearing_none bits zero clear = refl
 clearing_none bits (suc v) clear =
     ap (λ b. cond b (set_to_0 v ∷ clearing bits v) (clearing bits v)) (clear v (omega arith)) ∙ clearing_none bits v (λ j h. clear j (omega arith))
 
--- where the last bit below the place is the only one that is set, it alone is cleared
+-- if the last bit below the place is the only one set, it alone is cleared
 clearing_one : (bits : ℕ → Bool) (v : ℕ) → bits v ≡ true → ((j : ℕ) → j < v → bits j ≡ false) → clearing bits (suc v) ≡ set_to_0 v ∷ []
 clearing_one bits v set clear =
     ap (λ b. cond b (set_to_0 v ∷ clearing bits v) (clearing bits v)) set ∙ ap (λ l. set_to_0 v ∷ l) (clearing_none bits v clear)
@@ -130,11 +130,11 @@ setting_short v false = omega arith
 length_phrase : (bits : ℕ → Bool) (v : ℕ) → length (unary_phrase bits v) ≡ length (setting bits v) + length (clearing bits v)
 length_phrase bits v = length-append (setting bits v) (clearing bits v)
 
--- a modulus is above 1
+-- a modulus is greater than 1
 some_modulus : (shape : Shape) → 1 < modulus_of shape
 some_modulus shape = omega (arith, shape.room_to_count, shape.has_batch)
 
--- where the number is one more, the one bit that is set is cleared
+-- if the number is one more, the one bit that is set is cleared
 next_clears :
     (shape : Shape) (n : ℕ) → suc n % modulus_of shape ≡ suc (n % modulus_of shape) →
     length (clearing (bits_held shape n) (suc n % modulus_of shape)) ≡ 1
@@ -142,11 +142,11 @@ next_clears shape n more =
     ap (λ v. length (clearing (bits_held shape n) v)) more ∙
     ap length (clearing_one (bits_held shape n) (n % modulus_of shape) (held_sets shape n) (held_clears shape n))
 
--- where the number is 0, nothing is cleared
+-- if the number is 0, nothing is cleared
 last_clears : (shape : Shape) (n : ℕ) → suc n % modulus_of shape ≡ 0 → length (clearing (bits_held shape n) (suc n % modulus_of shape)) ≡ 0
 last_clears shape n last = ap (λ v. length (clearing (bits_held shape n) v)) last
 
--- where the number is 0, the one before it was not, so bit 0 is set anew
+-- if the number is 0, the one before it was not, so bit 0 is set anew
 last_sets :
     (shape : Shape) (n : ℕ) → suc n % modulus_of shape ≡ 0 → suc (n % modulus_of shape) ≡ modulus_of shape →
     length (setting (bits_held shape n) (suc n % modulus_of shape)) ≡ 1
@@ -199,12 +199,12 @@ counted_holds shape (suc n) =
 
 -- ---- a count whose writes count several items
 
--- behind m items more the number is m more
+-- after m more items the number is m greater
 pub past_is : (n : ℕ) (items : List ℕ) → number_past n items ≡ n + length items
 past_is n [] = omega arith
 past_is n (item ∷ items) = omega (arith, past_is (suc n) items)
 
--- a new count is one
+-- a new count is a count
 pub first_is_count : (shape : Shape) → IsCount shape first_count
 first_is_count shape = record { set = held_sets shape 0; clear = held_clears shape 0 }
 
@@ -212,12 +212,12 @@ first_is_count shape = record { set = held_sets shape 0; clear = held_clears sha
 abbrev pub counted_on : Shape → Count → List ℕ → Count
 counted_on shape c items = record { number = number_past c.number items; bits = bits_after c.bits (count_bits shape c items) }
 
--- and so is one after a write
+-- and so is a count after a write
 pub counted_is_count : (shape : Shape) (c : Count) (items : List ℕ) → IsCount shape (counted_on shape c items)
 counted_is_count shape c items =
     record { set = phrase_sets c.bits (number_past c.number items % modulus_of shape); clear = phrase_clears c.bits (number_past c.number items % modulus_of shape) }
 
--- where a bit below the place is set, some are cleared
+-- if a bit below the place is set, some are cleared
 clearing_some : (bits : ℕ → Bool) (v j : ℕ) → bits v ≡ true → v < j → 1 ≤ length (clearing bits j)
 clearing_some bits v zero set l = absurd (omega (arith, l))
 clearing_some bits v (suc j) set l = elim (at_or_below v j l) [
@@ -306,7 +306,7 @@ clearing_short bits (suc v) = go (bits v) (clearing_short bits v)
     go true l = omega (arith, l)
     go false l = omega (arith, l)
 
--- and so many accesses
+-- and as many accesses
 pub step_short : (shape : Shape) (s : Side) (c : Count) (item : ℕ) → IsCount shape c → length (batch_phrase shape s c (item ∷ [])) ≤ 2
 step_short shape s c item is =
     omega (arith, length-map (count_bits shape c (item ∷ [])) (λ w. Write (row_bit s w.bit) w.value), step_bits_short shape c item is)
@@ -345,7 +345,7 @@ values_writes-push shape s values items c held =
     ap (writes_in (row_bit s)) (row_writes-push values v first_bits ∙ ap (λ b. old ++ unary_phrase b v) held) ∙
     map-append (λ (w : RowWrite). Write (row_bit s w.bit) w.value) old (count_bits shape c items)
 
--- a count write does not begin with accesses that no row's bit has
+-- a count write does not begin with accesses of bits of no row
 pub batch_first :
     (shape : Shape) (s : Side) (access : ℕ → ℕ → Bool → Made) → ((i j d : ℕ) (v w : Bool) → Write (row_bit s i) v ≡ access j d w → ⊥) → (c : Count) (items : List ℕ) (behind : List Made) →
     IsCount shape c → 1 ≤ length items → length items < modulus_of shape → NotFirst access (batch_phrase shape s c items ++ behind)

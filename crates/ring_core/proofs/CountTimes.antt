@@ -1,4 +1,4 @@
--- How many count writes of a side have begun and ended after so many of its events, by its accesses and by its spans.
+-- How many count writes of a side have begun and ended after a number of its events, by its accesses and by its spans.
 use Rattle.std.proofs.Common.{◌≡◌, inl, inr, ℕ, zero, suc, ◌+◌, ◌-◌, ◌*◌, ◌%◌, ◌<◌, ◌≤◌, Bool, true, false, cond, nat_lt, nat_le, if◌then◌else◌, Option, Some, None, List, [], ◌∷◌, ◌++◌, length, take, refl, sym, ap, ap₂, ◌∙◌, arith}
 use Rattle.std.specs.List.{cons_option}
 use Rattle.std.proofs.lemmas.Bool.Decides.{nat_tests}
@@ -59,7 +59,7 @@ bits-append s (x ∷ xs) ys (suc i) =
     one None e = e
     one (Some w) e = omega (arith, e)
 
--- and so for accesses, one after the other
+-- and the same for accesses, one after the other
 made-append :
     (s : Side) (xs ys : List Made) (i : ℕ) →
     bit_writes s (events_of s (xs ++ ys)) i ≡ bit_writes s (events_of s xs) i + bit_writes s (events_of s ys) (i - 2 * length xs)
@@ -125,7 +125,7 @@ pub quiet_close : (closes : Bool) → IsQuiet P (close_phrase closes)
 quiet_close true = (refl, tt)
 quiet_close false = tt
 
--- so they begin no bit write
+-- such accesses begin no bit write
 quiet_begun : (s : Side) (xs : List Made) (i : ℕ) → IsQuiet s xs → bit_writes s (events_of s xs) i ≡ 0
 quiet_begun s xs zero q = refl
 quiet_begun s [] (suc i) q = refl
@@ -157,7 +157,7 @@ count_all : (s : Side) (ws : List RowWrite) → count_begun s (events_of s (writ
 count_all s [] = refl
 count_all s (w ∷ ws) = rw (row_begun s w, end_none s (Write (row_bit s w.bit) w.value)) (ap (λ l. w ∷ l) (count_all s ws))
 
--- there are no more of them than bit writes, and all have begun with the last event but one
+-- no more have begun than there are bit writes, and all have begun by the last event but one
 count_some :
     (s : Side) (ws : List RowWrite) (i : ℕ) →
     (bit_writes s (events_of s (writes_in (row_bit s) ws)) i ≤ length ws) ×
@@ -172,7 +172,7 @@ count_some s (w ∷ ws) (suc (suc i)) =
 
 -- ---- the unary writes of looks
 
--- the value that a look's count write writes, where there is one, behind n items
+-- the value that a look's count write writes, if there is one, after n items
 abbrev pub value_of : Shape → ℕ → Outcome → List ℕ
 value_of shape n (Passes items) = number_past n items % modulus_of shape ∷ []
 value_of shape n Stops = []
@@ -236,7 +236,7 @@ numbered_is :
     numbered_of (counted_in shape looks) ≡ writes_from shape first_count looks
 numbered_is most shape looks fits p = all_numbered most shape first_count looks fits (first_is_count shape) p
 
--- the value of unary write number u is what the writes up to it count, modulo the modulus
+-- the value of unary write number u is the number counted by the writes up to it, modulo the modulus
 value_none : (v : ℕ) (u : ℕ) → numbered_value v [] u ≡ v
 value_none v zero = refl
 value_none v (suc u) = refl
@@ -285,7 +285,7 @@ record CountThen (s : Side) (shape : Shape) (c : Count) (items : List ℕ) (afte
       length (count_bits shape c items) ≤ bit_writes s (events_of s (batch_phrase shape s c items ++ after)) i
   size : length (batch_phrase shape s c items) ≡ length (count_bits shape c items)
 
--- the rest, once those of the count write are taken off
+-- the rest, without those of the count write
 tail_is : (t a b n i : ℕ) → t ≡ a + b → a ≤ n → (2 * n ≤ suc i → a ≡ n) → (suc i < 2 * n → b ≡ 0) → t - n ≡ b
 tail_is t a b n i e most all none = elim (at_most_or_above (2 * n) (suc i)) [
   | inl l ↦ omega (arith, e, all l)
@@ -326,14 +326,14 @@ ended_more u us t l = go (length u.writes) (unary.ended us (t - length u.writes)
     go : (n e : ℕ) → n ≤ t → cond (nat_le n t) (suc e) 0 ≡ suc e
     go n e l = grind (arith, nat_tests)
 
--- what the first writes count, where the first of all counts m
+-- what the first writes count, if the first one counts m
 tally_begun :
     (m : ℕ) (ms : List ℕ) (u : UnaryWrite) (us : List UnaryWrite) (t : ℕ) →
     tally (m ∷ ms) (unary.begun_writes (u ∷ us) t) ≤ m + tally ms (unary.begun_writes us (t - length u.writes))
 tally_begun m ms u us zero = omega arith
 tally_begun m ms u us (suc t) = omega arith
 
--- one look: its count write and what follows, behind so many events
+-- one look: its count write and what follows, after a number of events
 begun_step :
     (s : Side) (shape : Shape) (c : Count) (o : Outcome) (ms vs : List ℕ) (after : List Made) (xs : List Span) (place : ℕ) →
     ((i : ℕ) → tally ms (unary.begun_writes (unary_writes (look_bits shape c o) vs) (bit_writes s (events_of s after) i)) ≤ counts_begun xs i) → (i : ℕ) →
@@ -453,14 +453,14 @@ ended_from_look most s shape c (l ∷ looks) behind fits is p i =
 
 -- ---- the count writes of a whole program
 
--- of these no more have begun, after so many events of the side, than of the spans' count writes
+-- of these no more have begun, after any number of the side's events, than of the spans' count writes
 pub count_writes_begun :
     (most : ℕ) (s : Side) (shape : Shape) (looks : List Look) (behind : List Made) → most < modulus_of shape → AllPassing most looks → (i : ℕ) →
     tally (sizes_in looks) (unary.begun_writes (numbered_of (counted_in shape looks)) (bit_writes s (events_of s (look_accesses s shape first_count looks behind)) i)) ≤
     counts_begun (spans s shape first_count looks) i
 count_writes_begun most s shape looks behind fits p i = rw (numbered_is most shape looks fits p) (begun_from_look s shape first_count looks behind i)
 
--- where a count write of the spans has ended, its unary write had begun all its bit writes one event before
+-- if a count write of the spans has ended, all bit writes of its unary write had begun one event before
 pub count_writes_ended :
     (most : ℕ) (s : Side) (shape : Shape) (looks : List Look) (behind : List Made) → most < modulus_of shape → AllPassing most looks → (i : ℕ) →
     counts_ended (spans s shape first_count looks) i ≤

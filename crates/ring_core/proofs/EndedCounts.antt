@@ -14,13 +14,13 @@ taken_by (Item seen items) = length items
 taken_by (ItemAfterClose seen again items) = length items
 taken_by (Empty seen) = 0
 
--- the accesses of a take of items, behind the consumer's count, up to its count write
+-- the accesses of a take of items, starting at this count, up to its count write
 abbrev pub take_before_count : Shape → Count → Take → List Made
 take_before_count shape c (Item seen items) = accesses_before_word (Item seen items) ++ words_read shape c.number items
 take_before_count shape c (ItemAfterClose seen again items) = accesses_before_word (ItemAfterClose seen again items) ++ words_read shape c.number items
 take_before_count shape c (Empty seen) = accesses_before_word (Empty seen)
 
--- how many items the puts store that have ended within the first t events, and how many the takes take whose count write has begun
+-- how many items are stored by the puts that have ended within the first t events
 abbrev pub stored_ended : Shape → Count → List Put → ℕ → ℕ
 stored_ended shape c [] t = 0
 stored_ended shape c (x ∷ puts) t =

@@ -58,7 +58,7 @@ one_take-is : take_program one_cell one_take ≡ Read (S 0) false ∷ Read (S 1)
 unfolding one_cell
 one_take-is = refl
 
--- one item of one digit is taken under one count write
+-- one item of one digit may be taken under one count write
 one_fits : IsTakeBatch one_cell (1 ∷ [])
 unfolding one_cell
 one_fits = record { some = omega arith; few = omega arith; fit = (omega arith, tt) }
@@ -67,12 +67,12 @@ one_take-are : AreTakes one_cell 0 one_take.takes one_take.end
 unfolding one_cell
 one_take-are = (((omega arith, omega arith, omega arith), one_fits), record {})
 
--- the item is put with the begin of its count write, which is event 4 of the producer, and taken with its take's last event
+-- the item is put with the start of its count write, which is event 4 of the producer, and taken with its take's last event
 one_put-item : (items_put one_cell first_count one_put.puts 4 ≡ []) × (items_put one_cell first_count one_put.puts 5 ≡ 1 ∷ []) × (items_taken one_cell first_count one_take.takes 9 ≡ []) × (items_taken one_cell first_count one_take.takes 10 ≡ 1 ∷ [])
 unfolding one_cell
 one_put-item = (refl, refl, refl, refl)
 
--- ---- a count write is open, and then the old count is seen: the first scan gives 1 and the second one 0
+-- ---- a count write is open, and then the old count is seen: the first scan returns 1 and the second one 0
 
 abbrev seen_old : Takes
 seen_old = record { takes = Item 1 (1 ∷ []) ∷ Empty 0 ∷ []; end = Open }
@@ -88,7 +88,7 @@ seen_old-are : AreTakes one_cell 0 seen_old.takes seen_old.end
 unfolding one_cell
 seen_old-are = (((omega arith, omega arith, omega arith), one_fits), ((omega arith, λ (low, high). omega (arith, high)), record {}))
 
--- ---- a second scan finds the item, and the next take is told that the ring is closed
+-- ---- a second scan finds the item, and the next take returns Closed
 
 abbrev pub put_and_close : Puts
 put_and_close = record { puts = Stored 0 (1 ∷ []) ∷ []; closes = true }
@@ -118,7 +118,7 @@ second_scan-are = (
   ((omega arith, λ (low, high). omega (arith, low)), (omega arith, λ (low, high). omega (arith, low))),
 )
 
--- told with the last of its 24 events
+-- Closed is returned with the last of its 24 events
 pub second_scan-told : (IsTold one_cell second_scan 23 → ⊥) × IsTold one_cell second_scan 24
 unfolding one_cell
 second_scan-told = ((λ (tells, all). omega (arith, all)), (record {}, omega arith))
@@ -142,7 +142,7 @@ unfolding three_cells
 three_at_once-are =
     ((omega arith, omega arith, record { some = omega arith; few = omega arith; fit = (omega arith, (omega arith, (omega arith, tt))) }), record {})
 
--- all three items are put with the begin of the one count write, which is event 8 of the producer
+-- all three items are put with the start of the one count write, which is event 8 of the producer
 three_at_once-items :
     (items_put three_cells first_count three_at_once.puts 8 ≡ []) × (items_put three_cells first_count three_at_once.puts 9 ≡ 1 ∷ 0 ∷ 1 ∷ [])
 unfolding three_cells
@@ -182,9 +182,9 @@ wraps-items : (items_put one_cell first_count wraps.puts 26 ≡ 1 ∷ 0 ∷ []) 
 unfolding one_cell
 wraps-items = (refl, refl)
 
--- ---- where the calls stand, and what they store and take there
+-- ---- the positions of the calls, and what they store and take there
 
--- the first put has the producer's events 0 to 7, and the second one 8 to 17; that one has ended once 18 are made
+-- the first put has the producer's events 0 to 7, and the second one 8 to 17; the second has ended once 18 are made
 wraps-first : IsPutAt one_cell wraps (Stored 0 (1 ∷ [])) 0 0 8
 unfolding one_cell
 wraps-first = record { before = []; after = Stored 1 (0 ∷ []) ∷ Stored 2 (1 ∷ []) ∷ []; among = refl; number = refl; starts = refl; stops = refl }
@@ -214,8 +214,8 @@ three_at_once-second =
     has_item (IsPutAt three_cells three_at_once) put_scan put_items 1 (Stored 0 (1 ∷ 0 ∷ 1 ∷ [])) 0 0 12 1 0
     (record { before = []; after = []; among = refl; number = refl; starts = refl; stops = refl }) refl
 
--- a take that scans twice reads its item's word with event 8; the take that is told so begins with event 14, and its second scan
--- with event 20
+-- a take that scans twice reads its item's word from event 8 on; the take that returns Closed begins with event 14, and its
+-- second scan with event 20
 second_scan-item : TakesItem one_cell second_scan 0 1 8 14
 unfolding one_cell
 second_scan-item =

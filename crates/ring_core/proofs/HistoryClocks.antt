@@ -8,7 +8,7 @@ use Rattle.bits_core.specs.Made.{subhistory, clock}
 use Rattle.ring_core.proofs.OverSpans.Clocks.{Clocks}
 pub use Rattle.bits_core.proofs.OwnEvents.{clock-no, clock-yes}
 
--- a side's own events behind a first event, which is its own or not
+-- a side's own events after a first event, which is its own or not
 own-first : (s : Side) (e : Event) (h : List Event) (b : Bool) → is_by s e ≡ b → subhistory s (e ∷ h) ≡ (if b then e ∷ subhistory s h else subhistory s h)
 own-first s e h b by = rw by refl
 
@@ -29,7 +29,7 @@ Ticks h t =
     ((clock P h (suc t) ≡ clock P h t) × (clock C h (suc t) ≡ suc (clock C h t))) ⊎
     ((clock P h (suc t) ≡ clock P h t) × (clock C h (suc t) ≡ clock C h t))
 
--- behind a first event, which counts m for the producer and n for the consumer
+-- after a first event, which counts m for the producer and n for the consumer
 behind_first :
     (e : Event) (h : List Event) (t m n : ℕ) →
     (clock P (e ∷ h) (suc t) ≡ m + clock P h t) → (clock P (e ∷ h) (suc (suc t)) ≡ m + clock P h (suc t)) →

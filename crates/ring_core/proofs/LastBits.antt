@@ -1,4 +1,4 @@
--- A program's reads of the last bit of the other side's count answer 1.
+-- A program's reads of the last bit of the other side's count return 1.
 use Rattle.std.proofs.Common.{◌≡◌, ℕ, zero, suc, ◌%◌, ◌<◌, Bool, true, false, List, [], ◌∷◌, ◌++◌, refl, sym, subst, arith, append_assoc}
 use Rattle.bits_core.specs.declared.events.Side.{Side}
 use Rattle.bits_core.specs.declared.events.Side.TheVariants.{P, C}
@@ -14,7 +14,7 @@ use Rattle.ring_core.specs.Takes.{Take, End, Item, ItemAfterClose, Empty, Open, 
 use Rattle.ring_core.specs.Counts.{Count, first_count, count_bits, batch_phrase}
 use Rattle.ring_core.specs.GoingOn.{LastTakesReadOne}
 
--- where the access reads the last bit of a row, it answers 1
+-- if the access reads the last bit of a row, it returns 1
 abbrev pub OneAtLast : (ℕ → Bit) → ℕ → Made → Type 0
 OneAtLast row modulus x = (i : ℕ) (v : Bool) → x ≡ Read (row i) v → suc i ≡ modulus → v ≡ true
 
@@ -31,7 +31,7 @@ pub one_at : (row : ℕ → Bit) (modulus : ℕ) (made : List Made) (x : Made) (
 one_at row modulus [] x rest (one, p) = one
 one_at row modulus (y ∷ made) x rest (one, p) = one_at row modulus made x rest p
 
--- bits of a row are told apart by their numbers
+-- bits of a row are distinguished by their numbers
 pub same_number : (s : Side) (i j : ℕ) → row_read_by s i ≡ row_read_by s j → i ≡ j
 same_number P i j e = cc
 same_number C i j e = cc

@@ -1,4 +1,4 @@
--- The laws of src/laws.rt as lemmas, each under its name, and each clause of one that has several as LAW_CLAUSE: what proofs cite,
+-- The laws of src/laws.rt as lemmas, each under its name, and each clause of a law with several as LAW_CLAUSE: cited by proofs,
 -- here and in the crates above.
 use Rattle.std.proofs.Common.{arith}
 use Rattle.bits_core.specs.Shape.{capacity_of}

@@ -1,4 +1,4 @@
--- The machines of the two sides, access by access, and the calls that they go on with.
+-- The machines of the two sides, access by access, and the calls that they continue with.
 pub mod Batches
 pub mod ConsumerInvariant
 pub mod ConsumerMoves

@@ -50,7 +50,7 @@ counted_within shape n (l ∷ looks) last e =
     All-append (λ u. u ≤ last) (value_of shape n l.outcome) (values_from shape (look_number n l.outcome) looks) (value_within shape n l.outcome last e)
     (counted_within shape (look_number n l.outcome) looks last e)
 
--- so the last bit is not read as 0 behind all others
+-- so the last bit is not read as 0 after all others
 never_reads :
     (shape : Shape) (h : List Event) → IsLawful shape h → (s : Side) (looks : List Look) (behind : List Made) → IsQuiet s behind →
     IsPrefix (subhistory s h) (events_of s (look_accesses s shape first_count looks behind)) → NeverReadsAll s shape h
@@ -60,7 +60,7 @@ never_reads shape h lawful s looks behind quiet follows last e start stop zeros 
 
 -- ---- the reads of a list of accesses
 
--- what stands behind a list
+-- what comes after a list
 behind_list : (xs ys : List Made) (i n : ℕ) (x : Made) → n ≡ length xs + i → slice_get ys i ≡ Some x → slice_get (xs ++ ys) n ≡ Some x
 behind_list [] ys i n x e at = let same : n ≡ i = omega (arith, e) in ap (slice_get ys) same ∙ at
 behind_list (y ∷ xs) ys i zero x e at = absurd (omega (arith, e))

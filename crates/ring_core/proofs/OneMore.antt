@@ -1,4 +1,4 @@
--- A history whose two sides follow their programs, and one event more.
+-- A history whose two sides follow their programs, and one more event.
 use Rattle.std.proofs.Common.{◌≡◌, List, [], ◌∷◌, ◌++◌, if◌then◌else◌, ap, ◌∙◌, sym, subst}
 use Rattle.bits_core.specs.declared.events.Side.{Side}
 use Rattle.bits_core.specs.declared.events.Side.TheVariants.{P, C}
@@ -10,13 +10,13 @@ use Rattle.ring_core.specs.Takes.{take_program}
 use Rattle.ring_core.specs.RunLaws.{RunsByPut, RunsByTake}
 use Rattle.bits_core.proofs.LawLemmas.{lawful_by_one_more, subhistory_changes}
 
--- a side's own events behind an event of a side, which is that one or the other
+-- a side's own events with one more event, which is of that side or of the other
 pub own_more :
     (s t : Side) (h : List Event) (e : Event) → e.side ≡ t →
     subhistory s (h ++ e ∷ []) ≡ (if same_side s t then subhistory s h ++ e ∷ [] else subhistory s h)
 own_more s t h e by = subhistory_changes s h e ∙ ap (λ (u : Side). if same_side s u then subhistory s h ++ e ∷ [] else subhistory s h) by
 
--- one event more of the producer
+-- one more event of the producer
 pub runs-by_put : RunsByPut
 runs-by_put shape h e puts more takes run by may are events = record {
   lawful = (lawful_by_one_more shape h e).1 (run.lawful, may);
@@ -30,7 +30,7 @@ runs-by_put shape h e puts more takes run by may are events = record {
   };
 }
 
--- one event more of the consumer
+-- one more event of the consumer
 pub runs-by_take : RunsByTake
 runs-by_take shape h e puts takes more run by may are events = record {
   lawful = (lawful_by_one_more shape h e).1 (run.lawful, may);

@@ -1,4 +1,4 @@
--- The law of the ring over spans: where scans and count writes stand among the own events of a side.
+-- The law of the ring over spans: the positions of scans and count writes among a side's own events.
 pub mod CallSpans
 pub mod Clocks
 pub mod Distances

@@ -30,7 +30,7 @@ use Rattle.bits_core.proofs.LawLemmas.{subhistory_has_place}
 own_parts : (s : Side) (h : List Event) (place : ℕ) → subhistory s h ≡ subhistory s (take place h) ++ subhistory s (drop place h)
 own_parts s h place = ap (subhistory s) (sym (take-append-drop place h)) ∙ filter-append (is_by s) (take place h) (drop place h)
 
--- the own events before a place are as many first own events as the clock says there
+-- the own events before a place are the first own events, as many as the clock says there
 own_take : (s : Side) (h : List Event) (place : ℕ) → subhistory s (take place h) ≡ take (clock s h place) (subhistory s h)
 own_take s h place =
     sym (ap (take (length (subhistory s (take place h)))) (own_parts s h place) ∙ take-append_seam (subhistory s (take place h)) (subhistory s (drop place h)))
@@ -99,18 +99,18 @@ own_count s (e ∷ h) d =
     (λ f. rw (own-yes s e h f) (ap (cons_option (count_write s e)) (own_count s h d.1)))
     (λ f. rw (own-no s e h f, other_none s e.side e.bit e.act d.0 f) (own_count s h d.1))
 
--- in a lawful history
+-- the same in a lawful history
 pub count_begun_own : (shape : Shape) (s : Side) (h : List Event) → IsLawful shape h → count_begun s h ≡ count_begun s (subhistory s h)
 count_begun_own shape s h lawful = own_count s h (lawful_doers shape h lawful)
 
--- before a place
+-- and before a place
 pub count_begun_before :
     (shape : Shape) (s : Side) (h : List Event) → IsLawful shape h → (place : ℕ) →
     count_begun s (take place h) ≡ count_begun s (take (clock s h place) (subhistory s h))
 count_begun_before shape s h lawful place =
     own_count s (take place h) (doers_take h place (lawful_doers shape h lawful)) ∙ ap (count_begun s) (own_take s h place)
 
--- ---- the own events but the last
+-- ---- the own events except the last
 
 some_own : (s : Side) (h : List Event) → has_event s h ≡ true → 1 ≤ length (subhistory s h)
 some_own s [] f = absurd (let g : true ≡ false = sym f in cc)
@@ -168,7 +168,7 @@ take-take_less (x ∷ y ∷ xs) (suc (suc n)) l =
     let two : length (take (suc (suc n)) (x ∷ y ∷ xs)) - 1 ≡ suc (length (take (suc n) (y ∷ xs)) - 1) = omega arith in
     ap (λ (k : ℕ). take k (take (suc (suc n)) (x ∷ y ∷ xs))) two ∙ ap (λ (l : List Event). x ∷ l) rest ∙ ap (λ (k : ℕ). take k (x ∷ y ∷ xs)) (sym one)
 
--- the writes of a side's count that had ended before a place are those of its own events there but the last
+-- the writes of a side's count that had ended before a place are those of its own events there except the last
 pub count_ended_before :
     (shape : Shape) (s : Side) (h : List Event) → IsLawful shape h → (place : ℕ) →
     count_ended s (take place h) ≡ count_begun s (take (clock s h place - 1) (subhistory s h))

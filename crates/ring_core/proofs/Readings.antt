@@ -1,4 +1,4 @@
--- Which calls a history can be read as.
+-- The calls that a history can be read as.
 pub mod ByCalls
 pub mod Cuts
 pub mod ItemsRead

@@ -1,4 +1,4 @@
--- The calls of every run, as an auditor next to the two sides would record them.
+-- The calls of every run, as a recorder next to the two sides would record them.
 pub mod RecordedByOne
 pub mod RecordedCalls
 pub mod RecordedExamples

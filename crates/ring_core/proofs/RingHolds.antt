@@ -1,5 +1,5 @@
--- The law of the ring for lawful histories: the rules and the registers of a history make a ring of spans, and its law is read
--- off that of the spans.
+-- The law of the ring for lawful histories: the rules and the registers of a history make a ring of spans, and its law is
+-- derived from that of the spans.
 use Rattle.std.proofs.Common.{◌≡◌, ◌⊎◌, inl, inr, ℕ, suc, ◌+◌, ◌-◌, ◌*◌, ◌<◌, ◌≤◌, Bool, true, false, Some, List, [], ◌∷◌, ◌++◌, length, refl, sym, ap, subst, ◌∙◌, arith, append_assoc, append-nil, length-append}
 use Rattle.std.specs.Prelude.{slice_get}
 use Rattle.std.proofs.Math.Nat.{suc-mul}
@@ -41,7 +41,7 @@ pub there : (xs : List Made) (y : Made) (ys : List Made) → slice_get (xs ++ y 
 there [] y ys = refl
 there (x ∷ xs) y ys = there xs y ys
 
--- what is read behind a scan
+-- what is read after a scan
 abbrev AsksAt : List Made → ℕ → ℕ → Bool → Type 0
 AsksAt program start scan answer = (front : List Made) × (back : List Made) × (program ≡ front ++ Read X answer ∷ back) × (start + scan ≡ 2 * length front)
 
@@ -137,7 +137,7 @@ module _ (shape : Shape) (h : List Event) (puts : Puts) (takes : Takes) (run : I
       (proper_puts shape puts run.puts_follow.are) (proper_takes shape takes run.takes_follow.are)
       ring
 
-  -- ---- the law, in the words of calls
+  -- ---- the law, in terms of calls
 
   is_place : (s : Side) (i place : ℕ) → IsPlaceOf s h i place → IsPlace (clock s h) i place
   is_place s i place q = (q.before, q.past)
@@ -183,12 +183,12 @@ module _ (shape : Shape) (h : List Event) (puts : Puts) (takes : Takes) (run : I
       is_closed false (rest, e) more =
           absurd (omega (arith, more, length-append (subhistory P h) rest, ap length e, length-events P (put_phrases shape first_count puts.puts ++ []), length-append (put_phrases shape first_count puts.puts) []))
 
-  -- the clock where an interval ends
+  -- the clock at the end of an interval
   at_end : (s : Side) (stop e : ℕ) → IsPlaceOf s h e stop ⊎ ((length (subhistory s h) ≤ e) × (stop ≡ length h)) → clock s h stop ≤ e
   at_end s stop e (inl q) = omega (arith, q.before)
   at_end s stop e (inr (few, past)) = omega (arith, few, clock_within s h stop)
 
-  -- an own event stands before the end of an interval that ends with a later one
+  -- an own event comes before the end of an interval that ends with a later one
   by_end : (s : Side) (start stop i e : ℕ) → IsPlaceOf s h i start → IsPlaceOf s h e stop ⊎ ((length (subhistory s h) ≤ e) × (stop ≡ length h)) → stop < start → i ≤ e → ⊥
   by_end s start stop i e q (inl r) l m = absurd (omega (arith, clock_rises s h (suc stop) start l, r.past, q.before, m))
   by_end s start stop i e q (inr (few, past)) l m =

@@ -34,7 +34,7 @@ none-zeros : (s : Side) (n : ℕ) → NoneFirst s (zero_reads (λ i. row_read_by
 none-zeros s zero = tt
 none-zeros s (suc n) = none-append (IsFirst s) (zero_reads (λ i. row_read_by s (suc i)) n) (Read (row_read_by s (suc n)) false ∷ []) (none-zeros s n) (not_next s n false, tt)
 
--- the reads of a scan behind its first
+-- the reads of a scan after its first
 abbrev behind_first : (ℕ → Bit) → ℕ → List Made
 behind_first row zero = []
 behind_first row (suc c) = scan_phrase (λ i. row (suc i)) c

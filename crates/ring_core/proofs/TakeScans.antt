@@ -40,7 +40,7 @@ next_there p calls made due at is stands due_is =
 fresh_there : (p : ConsumerState) → IsAtScan p → IsConsumer p → p.items ≡ []
 fresh_there p at is = ⊎_elim (λ e. (at_stage p Scanning is e).2) (λ e. (at_stage p Rescanning is e).2) at
 
--- a scan without a value goes on
+-- a scan without a value continues
 pub open_keeps :
     (p : ConsumerState) (s : ScanState) (answer : Bool) → IsAtScan p → IsConsumer p → (LastBitIsDue p.shape C (due_take p) → answer ≡ true) →
     s ≡ scan_read p.scan answer → s.found ≡ false → IsConsumer (record p { scan = s })
@@ -50,7 +50,7 @@ open_keeps p s answer at is one fed open_still =
 pub open_on : (p : ConsumerState) (s : ScanState) (answer : Bool) → IsAtScan p → ScanGoesOn p.scan s answer → ConsumerMoves p answer (record p { scan = s })
 open_on p s answer at goes = ⊎_elim (λ e. scan_on p s answer e goes) (λ e. rescan_on p s answer e goes) at
 
--- what is known of a scan once it has given a value: it is one of the producer's count
+-- what is known of a scan once it has a value: it is one of the producer's count
 pub record HasGiven (p : ConsumerState) (s : ScanState) (answer : Bool) (seen : ℕ) : Type 0 where
   pub at : IsAtScan p
   pub fresh : p.items ≡ []
@@ -73,7 +73,7 @@ item_there p s w answer seen most g enough wants all begins shows =
     ⊎_elim (λ e. scan_item p s w answer seen most g.fresh enough wants all e g.goes g.is_scan begins shows)
     (λ e. rescan_item p s w answer seen most g.fresh enough wants all e g.goes g.is_scan begins shows) g.at
 
--- a scan whose due bit was read as 0 goes on
+-- a scan whose due bit was read as 0 continues
 pub zero_keeps :
     (p : ConsumerState) (s : ScanState) → IsAtScan p → IsConsumer p → (LastBitIsDue p.shape C (due_take p) → false ≡ true) → s ≡ scan_read p.scan false →
     IsConsumer (record p { scan = s })
@@ -89,7 +89,7 @@ scan_zeros p calls made e stands scans (not_found, last) =
     let front : List Made = take_phrases p.shape first_count calls.takes in
     (front, p.scan.zeros, last ∙ scans.modulus_is, made_is ∙ ap (λ l. front ++ l) (scan_reads C (modulus_of p.shape) p.scan reads scans scan_stands))
 
--- where the last bit is due, the scan has read 0 in all bits below
+-- if the last bit is due, the scan has read 0 in all bits below
 pub zeros_there :
     (p : ConsumerState) (calls : Takes) (made : List Made) → IsAtScan p → IsConsumer p → ConsumerStands p calls made → LastIsDue p.scan → EndsInZeros p.shape C made
 zeros_there p calls made at is stands last =

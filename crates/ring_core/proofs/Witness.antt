@@ -169,7 +169,7 @@ overlapped = record {
   overlap = (λ l. omega (arith, l), λ l. omega (arith, l));
 }
 
--- the first take has the consumer's events 0 to 3, and the second put the producer's events 8 and 9, behind one item
+-- the first take has the consumer's events 0 to 3, and the second put the producer's events 8 and 9, after one item
 finds_empty : FindsEmpty one_cell events takes
 unfolding one_cell
 finds_empty = (0, 0, 0, 4, record { before = []; after = ItemAfterClose 0 1 (1 ∷ []) ∷ []; among = refl; number = refl; starts = refl; stops = refl }, four)
@@ -194,7 +194,7 @@ some_item : items_put_in one_cell events puts ≢ []
 unfolding one_cell
 some_item none = omega (arith, ap length none)
 
--- the consumer's last take was told that the ring is closed
+-- the consumer's last take returned Closed
 told : ToldIn one_cell events takes
 unfolding one_cell
 told = (record {}, all)

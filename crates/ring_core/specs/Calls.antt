@@ -1,4 +1,4 @@
--- What the machines of both sides are asked and fed, and what holds of the machines that they are made of.
+-- What the machines of both sides have due and are fed, and what holds of the machines that they are made of.
 use Rattle.std.specs.Prelude.{◌≡◌, ◌≢◌, ℕ, suc, ◌+◌, ◌%◌, ◌<◌, false, Option, Some, None, List, ◌++◌}
 use Rattle.bits_core.specs.declared.events.Side.{Side}
 use Rattle.bits_core.specs.declared.events.Access.{Access}
@@ -28,9 +28,10 @@ pub record IsScanning (side : Side) (modulus : ℕ) (s : ScanState) : Type 0 whe
 abbrev pub IsCounted : UnaryState → ℕ → Type 0
 IsCounted row count = (due_unary row ≡ None) × (row.value ≡ count)
 
+-- the same for a write that counts one item
 abbrev pub IsBeingCounted : UnaryState → ℕ → ℕ → Type 0
 IsBeingCounted row modulus count = (due_unary row ≢ None) × (row.value ≡ suc count % modulus)
 
--- the same of a write that counts m items
+-- the same for a write that counts m items
 abbrev pub IsBeingCountedOn : UnaryState → ℕ → ℕ → ℕ → Type 0
 IsBeingCountedOn row modulus count m = (due_unary row ≢ None) × (row.value ≡ (count + m) % modulus)

@@ -1,4 +1,4 @@
--- The consumer's machine beside the accesses that it has made and the calls that these are.
+-- The consumer's machine together with the accesses that it has made and the calls that these are.
 use Rattle.std.specs.Prelude.{◌≡◌, ◌⊎◌, ℕ, ◌≤◌, ◌%◌, Bool, true, false, Option, Some, None, List, [], ◌∷◌, ◌++◌, length}
 use Rattle.bits_core.specs.declared.events.Side.TheVariants.{C}
 use Rattle.bits_core.specs.declared.events.Bit.TheVariants.{X}
@@ -43,56 +43,59 @@ new_consumer shape = record {
   reply = None;
 }
 
--- ---- one call more
+-- ---- one more call
 
--- the count that these takes leave
+-- the count that these takes result in
 abbrev pub count_taken : Shape → Takes → Count
 count_taken shape calls = taken_count shape first_count calls.takes
 
--- the values that takes write to the count, behind k taken items
+-- the values that takes write to the count, after k taken items
 abbrev pub take_values : Shape → ℕ → List Take → List ℕ
 take_values shape k [] = []
 take_values shape k (Item seen items ∷ takes) = number_past k items % modulus_of shape ∷ take_values shape (number_past k items) takes
 take_values shape k (ItemAfterClose seen again items ∷ takes) = number_past k items % modulus_of shape ∷ take_values shape (number_past k items) takes
 take_values shape k (Empty seen ∷ takes) = take_values shape k takes
 
+-- the values that these calls write to the count
 abbrev pub values_taken : Shape → Takes → List ℕ
 values_taken shape calls = take_values shape 0 calls.takes
 
--- the calls of a program, and one take more, or the take that is told the ring is closed
+-- the calls of a program and one more take
 abbrev pub and_take : Takes → Take → Takes
 and_take calls x = record { takes = calls.takes ++ x ∷ []; end = Open }
 
+-- and the take that returns Closed
 abbrev pub and_end : Takes → ℕ → ℕ → Takes
 and_end calls seen again = record { takes = calls.takes; end = Closed seen again }
 
--- behind k taken items, a take of at most so many takes m: all that it wants, or all that the count shows which it read
+-- after k taken items, a take of at most `wanted` takes m: all that it wants, or all that the count `seen` shows
 abbrev pub TakesAll : Shape → ℕ → (wanted seen m : ℕ) → Type 0
 TakesAll shape k wanted seen m = (m ≤ wanted) × ((m ≡ wanted) ⊎ (m ≡ distance (modulus_of shape) seen (k % modulus_of shape)))
 
+-- after k taken items, the take is one of at most `wanted` items
 abbrev pub IsTakeOf : Shape → ℕ → (wanted : ℕ) → Take → Type 0
 IsTakeOf shape k wanted (Item seen items) = TakesAll shape k wanted seen (length items)
 IsTakeOf shape k wanted (ItemAfterClose seen again items) = TakesAll shape k wanted again (length items)
 IsTakeOf shape k wanted (Empty seen) = Unit {0}
 
--- the second calls are a program: the first ones and one take more, of at most so many items
+-- the second calls are a program: the first ones and one more take, of at most `wanted` items
 pub record HasTakeMore (shape : Shape) (wanted : ℕ) (calls more : Takes) : Type 0 where
   pub is_one_more : ((x : Take) × IsTakeOf shape (count_taken shape calls).number wanted x × (more ≡ and_take calls x)) ⊎ ((seen again : ℕ) × (more ≡ and_end calls seen again))
   pub are : AreTakes shape 0 more.takes more.end
   pub not_over : calls.end ≡ Open
 
--- the accesses are those of the calls and a beginning of one take more
+-- the accesses are those of the calls and a prefix of one more take
 abbrev pub BeginsTake : Shape → ℕ → Takes → List Made → Type 0
 BeginsTake shape wanted calls made = (more : Takes) × HasTakeMore shape wanted calls more × IsPrefix made (take_program shape more)
 
--- Behind these calls, with these accesses made, a take goes on with the access: whatever it is answered, but for a 0 of the
--- last bit of the count, the accesses made and it begin those of the calls and of one take more.
+-- After these calls, with these accesses made, a take continues with the access: whatever it returns, except for a 0 of the
+-- last bit of the count, the accesses made followed by it are a prefix of those of the calls and one more take.
 abbrev pub TakeGoesOn : Shape → ℕ → Takes → List Made → Access → Type 0
 TakeGoesOn shape wanted calls made access = (answer : Bool) → (LastBitIsDue shape C (Some access) → answer ≡ true) → BeginsTake shape wanted calls (made ++ answered access answer ∷ [])
 
 -- ---- replies
 
--- what a take of these items is answered: the first of them (no take takes none)
+-- the reply to a take of these items: the first of them (no take takes none)
 abbrev pub items_reply : List ℕ → replies.TakeReply
 items_reply [] = reply.Item 0
 items_reply (item ∷ items) = reply.Item item
@@ -103,31 +106,34 @@ reply_items (reply.Item item) = item ∷ []
 reply_items reply.Empty = []
 reply_items reply.Closed = []
 
--- what a take was answered
+-- the reply of a take
 abbrev pub take_reply_to : Take → replies.TakeReply
 take_reply_to (Item seen items) = items_reply items
 take_reply_to (ItemAfterClose seen again items) = items_reply items
 take_reply_to (Empty seen) = reply.Empty
 
--- what the last of these takes was answered, and the items that it took
+-- the reply of the last of these takes
 abbrev pub last_take_reply : Option replies.TakeReply → List Take → Option replies.TakeReply
 last_take_reply first [] = first
 last_take_reply first (x ∷ takes) = last_take_reply (Some (take_reply_to x)) takes
 
+-- and its items
 abbrev pub last_items : List ℕ → List Take → List ℕ
 last_items first [] = first
 last_items first (x ∷ takes) = last_items (taken_of x) takes
 
+-- the reply of the last take, by the end of the takes
 abbrev pub reply_at_end : End → List Take → Option replies.TakeReply
 reply_at_end Open takes = last_take_reply None takes
 reply_at_end (Closed seen again) takes = Some reply.Closed
 
+-- and its items
 abbrev pub items_at_end : End → List Take → List ℕ
 items_at_end Open takes = last_items [] takes
 items_at_end (Closed seen again) takes = []
 
--- There is no reply before the first take and during one; else it is that of the last take. A take that is begun after one
--- was told that the ring is closed is answered so at once.
+-- There is no reply before the first take and during one; otherwise it is that of the last take. A take that starts after
+-- one returned Closed returns Closed at once.
 abbrev pub IsReplyToTake : Takes → Bool → Option replies.TakeReply → Type 0
 IsReplyToTake calls true answer = answer ≡ None
 IsReplyToTake calls false answer = answer ≡ reply_at_end calls.end calls.takes
@@ -137,18 +143,19 @@ abbrev pub AreItemsOfTake : Takes → Bool → List ℕ → Type 0
 AreItemsOfTake calls true items = Unit {0}
 AreItemsOfTake calls false items = items ≡ items_at_end calls.end calls.takes
 
--- the same by how many items the take took
+-- the same, with the number of items taken
 abbrev pub take_batch_reply : Option replies.TakeReply → List ℕ → Option batch_replies.TakeBatchReply
 take_batch_reply None items = None
 take_batch_reply (Some (reply.Item item)) items = Some (batch_replied.Taken (length items))
 take_batch_reply (Some reply.Empty) items = Some batch_replied.Empty
 take_batch_reply (Some reply.Closed) items = Some batch_replied.Closed
 
+-- There is no such reply before the first take and during one; otherwise it is that of the last take.
 abbrev pub IsBatchReplyToTake : Takes → Bool → Option batch_replies.TakeBatchReply → Type 0
 IsBatchReplyToTake calls true answer = answer ≡ None
 IsBatchReplyToTake calls false answer = answer ≡ take_batch_reply (reply_at_end calls.end calls.takes) (items_at_end calls.end calls.takes)
 
--- whether the last of the takes was told that the ring is closed
+-- whether the last of the takes returned Closed
 abbrev pub ends_closed : End → Bool
 ends_closed Open = false
 ends_closed (Closed seen again) = true
@@ -164,11 +171,12 @@ pub data Finding : Type 0 where
   Once : (seen : ℕ) → Finding
   Twice : (seen again : ℕ) → Finding
 
+-- the accesses of these scans
 abbrev pub finding_phrase : Finding → List Made
 finding_phrase (Once seen) = scan_phrase (row_read_by C) seen
 finding_phrase (Twice seen again) = scan_phrase (row_read_by C) seen ++ Read X true ∷ scan_phrase (row_read_by C) again
 
--- behind k taken items, the last of them shows m items
+-- after k taken items, the last scan shows m items, and the take takes these
 abbrev pub Finds : Shape → ℕ → (wanted : ℕ) → Finding → ℕ → Type 0
 Finds shape k wanted (Once seen) m = SeesItems shape k seen m × TakesAll shape k wanted seen m
 Finds shape k wanted (Twice seen again) m = SeesNone shape k seen × SeesItems shape k again m × TakesAll shape k wanted again m
@@ -177,7 +185,7 @@ Finds shape k wanted (Twice seen again) m = SeesNone shape k seen × SeesItems s
 abbrev pub made_of_take : Shape → ℕ → Finding → List ℕ → List Made
 made_of_take shape k look items = finding_phrase look ++ words_read shape k items
 
--- the accesses made, by the stage: those of the calls, and what was made of the take under way, behind the count of the calls
+-- the accesses made, by the stage: those of the calls, and what was made of the take under way, starting at the count of the calls
 abbrev pub ConsumerMadeAt : Stage → ConsumerState → Takes → List Made → Type 0
 ConsumerMadeAt Idle p calls made = ConsumerRowRests p calls × (made ≡ take_program p.shape calls)
 ConsumerMadeAt Scanning p calls made =
@@ -199,7 +207,7 @@ ConsumerMadeAt Counting p calls made =
     (count_writes C (values_taken p.shape calls) ++ writes) ×
     (made ≡ take_phrases p.shape first_count calls.takes ++ (made_of_take p.shape (count_taken p.shape calls).number look p.items ++ writes))
 
--- a take is under way, so none was told that the ring is closed
+-- if a take is under way, none has returned Closed
 abbrev pub IsOpenForTake : Bool → Takes → Type 0
 IsOpenForTake false calls = Unit {0}
 IsOpenForTake true calls = calls.end ≡ Open
@@ -217,7 +225,7 @@ pub record ConsumerStands (p : ConsumerState) (calls : Takes) (made : List Made)
 
 -- ---- after an access
 
--- the take under way goes on and the calls are the same, or it is over and is one of the calls
+-- the take under way continues and the calls are the same, or it is over and is the last of the calls
 abbrev pub IsAfterTake : Shape → ℕ → Bool → Bool → Takes → Takes → Type 0
 IsAfterTake shape wanted false now calls more = ⊥
 IsAfterTake shape wanted true true calls more = more ≡ calls
@@ -227,11 +235,11 @@ IsAfterTake shape wanted true false calls more = HasTakeMore shape wanted calls 
 abbrev pub ConsumerHasMoved : ConsumerState → ConsumerState → Takes → List Made → Type 0
 ConsumerHasMoved old new calls made = (more : Takes) × ConsumerStands new more made × IsAfterTake old.shape old.wanted (is_taking old) (is_taking new) calls more
 
--- whatever calls the accesses made were of, they are of these yet
+-- whatever calls the accesses made were of, they are still of these
 abbrev pub ConsumerStays : ConsumerState → ConsumerState → Type 0
 ConsumerStays old new = (calls : Takes) (made : List Made) → ConsumerStands old calls made → ConsumerStands new calls made
 
--- the due access was made and answered so
+-- the due access was made with this answer
 abbrev pub ConsumerMoves : ConsumerState → (answer : Bool) → ConsumerState → Type 0
 ConsumerMoves old answer new =
     (calls : Takes) (made : List Made) (access : Access) → ConsumerStands old calls made → due_take old ≡ Some access → ConsumerHasMoved old new calls (made ++ answered access answer ∷ [])

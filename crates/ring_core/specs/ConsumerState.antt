@@ -15,8 +15,8 @@ use Rattle.ring_core.specs.declared.consumers.Stage.{Stage}
 use Rattle.ring_core.specs.declared.consumers.Stage.TheVariants.{Idle, Scanning, Checking, Rescanning, Loading, Counting}
 
 -- the shape, the two counts' remainders by the modulus and by the capacity, the machines of the take under way or of the
--- last one, whether a take was told that the ring is closed, the items that the take under way has read, or the last one
--- took, the most that it was asked for, how many it takes, and what the last take was answered
+-- last one, whether a take has returned Closed, the items that the take under way has read, or the last one took, the
+-- most that was requested, how many it takes, and the reply of the last take
 pub record ConsumerState : Type 0 where
   pub shape : Shape
   pub count : ℕ
@@ -40,13 +40,15 @@ consumer_due_at Rescanning p = due_scan p.scan
 consumer_due_at Loading p = due_read p.word
 consumer_due_at Counting p = due_unary p.row
 
+-- the access that is due
 abbrev pub due_take : ConsumerState → Option Access
 due_take p = consumer_due_at p.stage p
 
--- the second is the first but for its scan, and but for its word
+-- the second is the first, except for its scan
 abbrev pub IsConsumerButScan : ConsumerState → ConsumerState → Type 0
 IsConsumerButScan p q = q ≡ record p { scan = q.scan }
 
+-- the second is the first, except for its word
 abbrev pub IsConsumerButWord : ConsumerState → ConsumerState → Type 0
 IsConsumerButWord p q = q ≡ record p { word = q.word }
 
@@ -59,6 +61,7 @@ takes_at Rescanning = true
 takes_at Loading = true
 takes_at Counting = true
 
+-- whether a take is under way
 abbrev pub is_taking : ConsumerState → Bool
 is_taking p = takes_at p.stage
 
@@ -75,7 +78,7 @@ pub record IsTaking (p : ConsumerState) : Type 0 where
   pub some : 1 ≤ p.wanted
   pub few : p.wanted ≤ take_batch_of p.shape
 
--- the word machine reads the cell behind those read
+-- the word machine reads the cell after those read
 pub record IsLoading (p : ConsumerState) : Type 0 where
   pub width_is : p.word.width ≡ width_of p.shape
   pub cell_is : p.word.cell ≡ (p.cell + length p.items) % capacity_of p.shape
@@ -91,6 +94,7 @@ ConsumerIsAt Loading p =
 ConsumerIsAt Counting p =
     IsBeingCountedOn p.row (modulus_of p.shape) p.count p.most × IsTaking p × (1 ≤ p.most) × (length p.items ≡ p.most) × (p.most ≤ p.wanted)
 
+-- what holds of every consumer: its counts are in range, its row is its own, and its stage's invariant holds
 pub record IsConsumer (p : ConsumerState) : Type 0 where
   pub count_below : p.count < modulus_of p.shape
   pub cell_below : p.cell < capacity_of p.shape

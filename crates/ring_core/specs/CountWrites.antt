@@ -5,7 +5,7 @@ use Rattle.bits_core.specs.declared.shapes.Shape.{Shape}
 use Rattle.ring_core.specs.Counts.{Count, batch_by, IsCount, batch_phrase, first_count}
 use Rattle.ring_core.specs.Puts.{Stored, stored_after}
 
--- the first count shows its number, and so does each behind a put that stores
+-- the first count shows its number, and so does each count after a put that stores
 abbrev pub CountsShowNumbers : Type 0
 CountsShowNumbers = (shape : Shape) → IsCount shape first_count × ((c : Count) (seen : ℕ) (items : List ℕ) → IsCount shape (stored_after shape c (Stored seen items)))
 

@@ -11,7 +11,7 @@ use Rattle.register_core.specs.Phrases.{RowWrite, row_bit, first_bits, bits_afte
 abbrev pub distance : ℕ → ℕ → ℕ → ℕ
 distance modulus a b = (a + (modulus - b)) % modulus
 
--- to a consumer that has taken k items, modulo the modulus, the producer's count c shows one more
+-- to a consumer that has taken k items, modulo the modulus, the producer's count c shows one more item
 abbrev pub ShowsItem : Shape → ℕ → ℕ → Type 0
 ShowsItem shape c k = (0 < distance (modulus_of shape) c k) × (distance (modulus_of shape) c k ≤ capacity_of shape)
 
@@ -19,27 +19,28 @@ ShowsItem shape c k = (0 < distance (modulus_of shape) c k) × (distance (modulu
 abbrev pub LeavesRoom : Shape → ℕ → ℕ → Type 0
 LeavesRoom shape n d = distance (modulus_of shape) n d < capacity_of shape
 
--- and room for m more
+-- it leaves room for m more
 abbrev pub LeavesRoomFor : Shape → ℕ → ℕ → ℕ → Type 0
 LeavesRoomFor shape n d m = distance (modulus_of shape) n d + m ≤ capacity_of shape
 
 -- ---- a count whose writes count several items
 
--- how many items one count write of a side may count
+-- how many items one count write of a side may count at most
 abbrev pub batch_by : Shape → Side → ℕ
 batch_by shape P = batch_of shape
 batch_by shape C = take_batch_of shape
 
--- the number of what comes behind these items, the first of which has number n
+-- the number after these items, the first of which has number n
 abbrev pub number_past : ℕ → List ℕ → ℕ
 number_past n [] = n
 number_past n (item ∷ items) = number_past (suc n) items
 
--- a count as its writer knows it: how many items it has counted, and the bits that its writes left
+-- a count as its writer knows it: how many items it has counted, and the bits that its writes result in
 pub record Count : Type 0 where
   pub number : ℕ
   pub bits : ℕ → Bool
 
+-- the count of a side that has counted nothing
 abbrev pub first_count : Count
 first_count = record { number = 0; bits = first_bits }
 
@@ -47,7 +48,7 @@ first_count = record { number = 0; bits = first_bits }
 abbrev pub count_bits : Shape → Count → List ℕ → List RowWrite
 count_bits shape c items = unary_phrase c.bits (number_past c.number items % modulus_of shape)
 
--- its accesses, by a side
+-- its accesses, made by a side
 abbrev pub batch_phrase : Shape → Side → Count → List ℕ → List Made
 batch_phrase shape s c items = writes_in (row_bit s) (count_bits shape c items)
 
@@ -63,7 +64,7 @@ abbrev pub bits_held : Shape → ℕ → ℕ → Bool
 bits_held shape zero = first_bits
 bits_held shape (suc n) = bits_after (bits_held shape n) (unary_phrase (bits_held shape n) (suc n % modulus_of shape))
 
--- the accesses of the unary write, by a side, of its count after n calls that count
+-- the accesses of the unary write, of a side's count after n calls that count
 abbrev pub count_phrase : Shape → Side → ℕ → List Made
 count_phrase shape s n = writes_in (row_bit s) (unary_phrase (bits_held shape n) (suc n % modulus_of shape))
 

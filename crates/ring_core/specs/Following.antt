@@ -1,4 +1,4 @@
--- From the accesses that a machine has made to the program that its side of a history follows.
+-- From the accesses that a machine has made to the program that its side follows in a history.
 use Rattle.std.specs.Prelude.{List}
 use Rattle.bits_core.specs.declared.events.Side.TheVariants.{P, C}
 use Rattle.bits_core.specs.declared.events.Event.{Event}
@@ -7,13 +7,14 @@ use Rattle.bits_core.specs.Made.{Made, events_of, subhistory, IsPrefix}
 use Rattle.ring_core.specs.Puts.{Puts, put_program, ArePuts, FollowsPuts}
 use Rattle.ring_core.specs.Takes.{Takes, take_program, AreTakes, FollowsTakes}
 
--- Where the own events of a side are a beginning of the events of accesses, and these are a beginning of the accesses of
--- calls, the side makes these calls.
+-- If the own events of a side are a prefix of the events of accesses, and these are a prefix of the accesses of calls,
+-- the side follows these calls.
 abbrev pub PutsAreFollowed : Type 0
 PutsAreFollowed =
     (shape : Shape) (h : List Event) (calls : Puts) (made : List Made) → ArePuts shape 0 calls.puts →
     IsPrefix made (put_program shape calls) → IsPrefix (subhistory P h) (events_of P made) → FollowsPuts shape h calls
 
+-- the same for takes
 abbrev pub TakesAreFollowed : Type 0
 TakesAreFollowed =
     (shape : Shape) (h : List Event) (calls : Takes) (made : List Made) → AreTakes shape 0 calls.takes calls.end →

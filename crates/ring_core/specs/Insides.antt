@@ -1,10 +1,11 @@
--- What the fields of a machine are to a contract.
+-- The model of a machine's fields in contracts.
 use Rattle.std.specs.Prelude.{take}
 use Rattle.ring_core.specs.ConsumerState.{ConsumerState}
 use Rattle.ring_core.specs.ProducerState.{ProducerState}
 use Rattle.ring_core.specs.declared.consumers.Consumer.TheInside as consumer
 use Rattle.ring_core.specs.declared.producers.Producer.TheInside as producer
 
+-- the model of a producer's fields
 abbrev pub producer_view : producer.Inside → ProducerState
 producer_view p = record {
   shape = p.shape;
@@ -22,6 +23,7 @@ producer_view p = record {
   reply = p.reply;
 }
 
+-- the model of a consumer's fields
 abbrev pub consumer_view : consumer.Inside → ConsumerState
 consumer_view p = record {
   shape = p.shape;

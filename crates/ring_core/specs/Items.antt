@@ -1,4 +1,4 @@
--- What was put, taken and told among the first events of the calls of a side.
+-- What was put and taken, and whether a take returned Closed, among the first events of a side's calls.
 use Rattle.std.specs.Prelude.{◌≡◌, ℕ, ◌-◌, ◌*◌, ◌≤◌, nat_lt, nat_le, List, [], ◌∷◌, ◌++◌, length, if◌then◌else◌}
 use Rattle.bits_core.specs.declared.events.Side.TheVariants.{P, C}
 use Rattle.bits_core.specs.declared.events.Event.{Event}
@@ -12,8 +12,8 @@ use Rattle.ring_core.specs.Takes.{Take, Item, ItemAfterClose, Empty, End, Open, 
 abbrev pub events_in : List Made → ℕ
 events_in made = 2 * length made
 
--- What calls give within the first t events of their side: each gives some items within the first of its own events, has the
--- events of a phrase behind a state, and leaves another state.
+-- What calls contribute within the first t events of their side: each contributes some items within its own first events,
+-- has the events of a phrase that depends on a state, and results in another state.
 abbrev pub gathered : {S X : Type 0} → (S → X → ℕ → List ℕ) → (S → X → List Made) → (S → X → S) → S → List X → ℕ → List ℕ
 gathered gives phrase after s [] t = []
 gathered gives phrase after s (x ∷ xs) t = gives s x t ++ gathered gives phrase after (after s x) xs (t - events_in (phrase s x))
@@ -23,7 +23,7 @@ abbrev pub put_begun : Shape → Count → Put → ℕ → List ℕ
 put_begun shape c (Stored seen items) t = (if nat_lt (events_in (accesses_before_count shape c.number seen items)) t then items else [])
 put_begun shape c (Full seen) t = []
 
--- the items of the puts whose count write has begun within the first t events, behind the producer's count
+-- the items of the puts whose count write has begun within the first t events, starting at this count
 abbrev pub items_put : Shape → Count → List Put → ℕ → List ℕ
 items_put shape = gathered (put_begun shape) (put_phrase shape) (stored_after shape)
 
@@ -50,60 +50,65 @@ take_ended shape c (Item seen items) t = (if nat_le (events_in (take_phrase shap
 take_ended shape c (ItemAfterClose seen again items) t = (if nat_le (events_in (take_phrase shape c (ItemAfterClose seen again items))) t then items else [])
 take_ended shape c (Empty seen) t = []
 
--- and once its count write has begun
+-- the items of a take, once its count write has begun
 abbrev pub take_begun : Shape → Count → Take → ℕ → List ℕ
 take_begun shape c (Item seen items) t = (if nat_lt (events_in (accesses_before_word (Item seen items) ++ words_read shape c.number items)) t then items else [])
 take_begun shape c (ItemAfterClose seen again items) t =
     (if nat_lt (events_in (accesses_before_word (ItemAfterClose seen again items) ++ words_read shape c.number items)) t then items else [])
 take_begun shape c (Empty seen) t = []
 
--- the items of the takes that have ended within the first t events, behind the consumer's count
+-- the items of the takes that have ended within the first t events, starting at this count
 abbrev pub items_taken : Shape → Count → List Take → ℕ → List ℕ
 items_taken shape = gathered (take_ended shape) (take_phrase shape) (count_after shape)
 
--- the items of the puts that have ended within the first t events, behind the producer's count
+-- the items of the puts that have ended within the first t events, starting at this count
 abbrev pub items_ended : Shape → Count → List Put → ℕ → List ℕ
 items_ended shape = gathered (λ c x t. if nat_le (events_in (put_phrase shape c x)) t then all_put (x ∷ []) else []) (put_phrase shape) (stored_after shape)
 
--- the items that the count writes count which have begun within a side's first t events, and those of the calls that have ended
+-- how many items are counted by the producer's count writes that have begun within its first t events
 abbrev pub puts_begun : Shape → Puts → ℕ → ℕ
 puts_begun shape calls t = length (items_put shape first_count calls.puts t)
 
+-- and by the puts that have ended
 abbrev pub puts_ended : Shape → Puts → ℕ → ℕ
 puts_ended shape calls t = length (items_ended shape first_count calls.puts t)
 
+-- the same for takes: by the count writes that have begun
 abbrev pub takes_begun : Shape → Takes → ℕ → ℕ
 takes_begun shape calls t = length (gathered (take_begun shape) (take_phrase shape) (count_after shape) first_count calls.takes t)
 
+-- and by the takes that have ended
 abbrev pub takes_ended : Shape → Takes → ℕ → ℕ
 takes_ended shape calls t = length (items_taken shape first_count calls.takes t)
 
--- ---- told
+-- ---- Closed
 
--- whether the last of the takes is one that is told the ring is closed
+-- the last of the takes returns Closed
 abbrev pub Tells : End → Type 0
 Tells Open = ⊥
 Tells (Closed seen again) = Unit {0}
 
--- within the first t events the takes have ended, the last being told that the ring is closed
+-- within the first t events the takes have ended, the last returning Closed
 abbrev pub IsTold : Shape → Takes → ℕ → Type 0
 IsTold shape calls t = Tells calls.end × (events_in (take_program shape calls) ≤ t)
 
--- the items put in a history, the items taken in it, and whether its consumer was told that the ring is closed, by the
--- calls that its sides follow
+-- the items put in a history, by the calls that its producer follows
 abbrev pub items_put_in : Shape → List Event → Puts → List ℕ
 items_put_in shape h calls = items_put shape first_count calls.puts (length (subhistory P h))
 
+-- the items taken in a history, by the calls that its consumer follows
 abbrev pub items_taken_in : Shape → List Event → Takes → List ℕ
 items_taken_in shape h calls = items_taken shape first_count calls.takes (length (subhistory C h))
 
+-- whether a take has returned Closed in a history, by these calls
 abbrev pub ToldIn : Shape → List Event → Takes → Type 0
 ToldIn shape h calls = IsTold shape calls (length (subhistory C h))
 
--- they are the history's own: whichever calls its events are read as, they are the same
+-- the items put are determined by the history: whichever calls its events are read as, they are the same
 abbrev pub ItemsAreRead : Type 0
 ItemsAreRead = (shape : Shape) (h : List Event) (a b : Puts) → FollowsPuts shape h a → FollowsPuts shape h b → items_put_in shape h a ≡ items_put_in shape h b
 
+-- and so are the items taken, and whether a take has returned Closed
 abbrev pub TakenAreRead : Type 0
 TakenAreRead =
     (shape : Shape) (h : List Event) (a b : Takes) → FollowsTakes shape h a → FollowsTakes shape h b →

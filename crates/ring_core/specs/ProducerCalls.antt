@@ -1,4 +1,4 @@
--- The producer's machine beside the accesses that it has made and the calls that these are.
+-- The producer's machine together with the accesses that it has made and the calls that these are.
 use Rattle.std.specs.Prelude.{◌≡◌, ◌⊎◌, ℕ, ◌<◌, ◌%◌, Bool, true, false, Option, Some, None, List, [], ◌∷◌, ◌++◌, length, take}
 use Rattle.bits_core.specs.declared.events.Side.TheVariants.{P}
 use Rattle.bits_core.specs.declared.events.Access.{Access}
@@ -43,56 +43,59 @@ new_producer shape = record {
   reply = None;
 }
 
--- ---- one call more
+-- ---- one more call
 
--- the count that these calls leave
+-- the count that these calls result in
 abbrev pub count_of : Shape → Puts → Count
 count_of shape calls = stored_count shape first_count calls.puts
 
--- the values that they write to it
+-- the values that they write to the count
 abbrev pub values_of : Shape → Puts → List ℕ
 values_of shape calls = put_values shape 0 calls.puts
 
--- the calls of a program, and one put more, or the close
+-- the calls of a program and one more put
 abbrev pub and_put : Puts → puts.Put → Puts
 and_put calls x = record { puts = calls.puts ++ x ∷ []; closes = false }
 
+-- and the close
 abbrev pub and_close : Puts → Puts
 and_close calls = record { puts = calls.puts; closes = true }
 
--- the second calls are a program: the first ones and the call that was begun so
+-- the second calls are a program: the first ones and the call that was started
 abbrev pub HasCallMore : Shape → Call → Puts → Puts → Type 0
 HasCallMore shape (Put items) calls more =
     (x : puts.Put) × IsPutOf shape (count_of shape calls).number items x × (more ≡ and_put calls x) × ArePuts shape 0 more.puts × (calls.closes ≡ false)
 HasCallMore shape Close calls more = (more ≡ and_close calls) × ArePuts shape 0 more.puts × (calls.closes ≡ false)
 
--- the most accesses of a put of these items, and of a call
+-- the most accesses of a put of these items
 abbrev pub longest_of : Shape → List ℕ → ℕ
 longest_of shape [] = longest_put shape
 longest_of shape (item ∷ []) = longest_put shape
 longest_of shape (item ∷ next ∷ items) = longest_batch shape (length (item ∷ next ∷ items))
 
+-- the most accesses of a call
 abbrev pub longest : Shape → Call → ℕ
 longest shape (Put items) = longest_of shape items
 longest shape Close = 1
 
--- the accesses are those of the calls and a beginning of the call that was begun so
+-- the accesses are those of the calls and a prefix of the call that was started
 abbrev pub BeginsCall : Shape → Call → Puts → List Made → Type 0
 BeginsCall shape c calls made = (more : Puts) × HasCallMore shape c calls more × IsPrefix made (put_program shape more)
 
--- Behind these calls, with these accesses made, the call under way goes on with the access: whatever it is answered, but
--- for a 0 of the last bit of the count, the accesses made and it begin those of the calls and of the one under way.
+-- After these calls, with these accesses made, the call under way continues with the access: whatever it returns, except
+-- for a 0 of the last bit of the count, the accesses made followed by it are a prefix of those of the calls and the one
+-- under way.
 abbrev pub PutGoesOn : Shape → Puts → Call → List Made → Access → Type 0
 PutGoesOn shape calls c made access = (answer : Bool) → (LastBitIsDue shape P (Some access) → answer ≡ true) → BeginsCall shape c calls (made ++ answered access answer ∷ [])
 
 -- ---- replies
 
--- what a put was answered
+-- the reply of a put
 abbrev pub put_reply_to : puts.Put → replies.BatchReply
 put_reply_to (Stored seen items) = reply.Stored (length items)
 put_reply_to (Full seen) = reply.Full
 
--- what the last of these puts was answered
+-- the reply of the last of these puts
 abbrev pub last_put_reply : Option replies.BatchReply → List puts.Put → Option replies.BatchReply
 last_put_reply first [] = first
 last_put_reply first (x ∷ puts) = last_put_reply (Some (put_reply_to x)) puts
@@ -102,13 +105,13 @@ abbrev pub IsReplyAtRest : Bool → List puts.Put → Option replies.BatchReply 
 IsReplyAtRest false puts answer = answer ≡ last_put_reply None puts
 IsReplyAtRest true puts answer = (answer ≡ None) ⊎ (answer ≡ Some reply.Closed)
 
--- There is no reply before the first put, during a call, and after a close; else it is that of the last put. A put that
--- is begun after a close is answered at once.
+-- There is no reply before the first put, during a call, and after a close; otherwise it is that of the last put. A put
+-- that starts after a close returns at once.
 abbrev pub IsReplyToCall : Puts → Option Call → Option replies.BatchReply → Type 0
 IsReplyToCall calls (Some c) answer = answer ≡ None
 IsReplyToCall calls None answer = IsReplyAtRest calls.closes calls.puts answer
 
--- whether a close stands among the calls or is under way
+-- whether a close is among the calls or under way
 abbrev pub closes_with : Puts → Option Call → Bool
 closes_with calls None = calls.closes
 closes_with calls (Some (Put items)) = false
@@ -120,14 +123,14 @@ closes_with calls (Some Close) = true
 abbrev pub ProducerRowRests : ProducerState → Puts → Type 0
 ProducerRowRests p calls = UnaryStands p.row (values_of p.shape calls) (count_writes P (values_of p.shape calls))
 
--- the scan of the put under way gave this value, which leaves room for the items that it stores, and for no more of those
--- that it was given
+-- the scan of the put under way returned this value, which leaves room for the items that it stores, and for no more of
+-- those offered
 pub record HasSeen (shape : Shape) (items : List ℕ) (most n seen : ℕ) : Type 0 where
   pub below : seen < modulus_of shape
   pub room : LeavesRoomFor shape (n % modulus_of shape) seen most
   pub kept : take most items ≡ take (room_in shape (n % modulus_of shape) seen) items
 
--- the accesses made, by the stage: those of the calls, and what was made of the one under way, behind the count of the calls
+-- the accesses made, by the stage: those of the calls, and what was made of the one under way, starting at the count of the calls
 abbrev pub ProducerMadeAt : Stage → ProducerState → Puts → List Made → Type 0
 ProducerMadeAt Idle p calls made = ProducerRowRests p calls × (made ≡ put_program p.shape calls)
 ProducerMadeAt Scanning p calls made =
@@ -148,7 +151,7 @@ ProducerMadeAt Counting p calls made =
     (scan_phrase (row_read_by P) seen ++ words_phrase p.shape (count_of p.shape calls).number (take p.most p.items) ++ writes))
 ProducerMadeAt Closing p calls made = ProducerRowRests p calls × (made ≡ put_phrases p.shape first_count calls.puts)
 
--- a call is under way, so no close was made
+-- if a call is under way, no close was made
 abbrev pub IsOpenForCall : Option Call → Puts → Type 0
 IsOpenForCall None calls = Unit {0}
 IsOpenForCall (Some c) calls = calls.closes ≡ false
@@ -165,8 +168,8 @@ pub record ProducerStands (p : ProducerState) (calls : Puts) (made : List Made) 
 
 -- ---- after an access
 
--- The call under way goes on and the calls are the same, or it is over and is one of the calls. After a close there is
--- no reply.
+-- The call under way continues and the calls are the same, or it is over and is the last of the calls. After a close
+-- there is no reply.
 abbrev pub IsAfterCall : Shape → Option Call → Option Call → Puts → Puts → Option replies.BatchReply → Type 0
 IsAfterCall shape None now calls more answer = ⊥
 IsAfterCall shape (Some c) (Some d) calls more answer = (d ≡ c) × (more ≡ calls)
@@ -176,11 +179,11 @@ IsAfterCall shape (Some c) None calls more answer = HasCallMore shape c calls mo
 abbrev pub ProducerHasMoved : ProducerState → ProducerState → Puts → List Made → Type 0
 ProducerHasMoved old new calls made = (more : Puts) × ProducerStands new more made × IsAfterCall old.shape (call_of old) (call_of new) calls more new.reply
 
--- whatever calls the accesses made were of, they are of these yet
+-- whatever calls the accesses made were of, they are still of these
 abbrev pub ProducerStays : ProducerState → ProducerState → Type 0
 ProducerStays old new = (calls : Puts) (made : List Made) → ProducerStands old calls made → ProducerStands new calls made
 
--- the due access was made and answered so
+-- the due access was made with this answer
 abbrev pub ProducerMoves : ProducerState → (answer : Bool) → ProducerState → Type 0
 ProducerMoves old answer new =
     (calls : Puts) (made : List Made) (access : Access) → ProducerStands old calls made → due_put old ≡ Some access → ProducerHasMoved old new calls (made ++ answered access answer ∷ [])

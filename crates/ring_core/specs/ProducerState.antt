@@ -20,7 +20,7 @@ use Rattle.ring_core.specs.declared.producers.Stage.TheVariants.{Idle, Scanning,
 
 -- the shape, the two counts' remainders by the modulus and by the capacity, the machines of the call under way or of the
 -- last one, the items that it was given, how many of them it stores, how many words it has written before the one under way,
--- whether it was given as a batch, and what it was answered
+-- whether it was given as a batch, and its reply
 pub record ProducerState : Type 0 where
   pub shape : Shape
   pub count : ℕ
@@ -44,13 +44,15 @@ producer_due_at Storing p = due_write p.word
 producer_due_at Counting p = due_unary p.row
 producer_due_at Closing p = Some (begins.Write X true)
 
+-- the access that is due
 abbrev pub due_put : ProducerState → Option Access
 due_put p = producer_due_at p.stage p
 
--- the second is the first but for its scan, and but for its word
+-- the second is the first, except for its scan
 abbrev pub IsProducerButScan : ProducerState → ProducerState → Type 0
 IsProducerButScan p q = q ≡ record p { scan = q.scan }
 
+-- the second is the first, except for its word
 abbrev pub IsProducerButWord : ProducerState → ProducerState → Type 0
 IsProducerButWord p q = q ≡ record p { word = q.word }
 
@@ -59,6 +61,7 @@ pub data Call : Type 0 where
   Put : (items : List ℕ) → Call
   Close : Call
 
+-- the call under way at a stage, if any
 abbrev pub call_at : Stage → List ℕ → Option Call
 call_at Idle items = None
 call_at Scanning items = Some (Put items)
@@ -66,6 +69,7 @@ call_at Storing items = Some (Put items)
 call_at Counting items = Some (Put items)
 call_at Closing items = Some Close
 
+-- the call under way, if any
 abbrev pub call_of : ProducerState → Option Call
 call_of p = call_at p.stage p.items
 
@@ -76,14 +80,15 @@ item_reply (Some (Stored m)) = Some one.Stored
 item_reply (Some Full) = Some one.Full
 item_reply (Some Closed) = Some one.Closed
 
--- the reply to the last call, where it was such a put, and where it was one of a batch
+-- the reply to the last call, if it was such a put
 abbrev pub put_reply : ProducerState → Option PutReply
 put_reply p = cond p.batched None (item_reply p.reply)
 
+-- and if it was a put of several items
 abbrev pub batch_reply : ProducerState → Option BatchReply
 batch_reply p = cond p.batched p.reply None
 
--- the word machine writes the item at the index to the cell so far from the producer's
+-- the word machine writes the item at the index to the cell this far after the producer's
 pub record IsWritingWord (p : ProducerState) : Type 0 where
   pub width_is : p.word.width ≡ width_of p.shape
   pub cell_is : p.word.cell ≡ (p.cell + p.index) % capacity_of p.shape
@@ -108,6 +113,7 @@ ProducerIsAt Storing p = IsCounted p.row p.count × IsPutting p × IsKeeping p �
 ProducerIsAt Counting p = IsBeingCountedOn p.row (modulus_of p.shape) p.count p.most × IsPutting p × IsKeeping p
 ProducerIsAt Closing p = IsCounted p.row p.count × (p.closed ≡ true) × (p.reply ≡ None)
 
+-- what holds of every producer: its counts are in range, its row is its own, and its stage's invariant holds
 pub record IsProducer (p : ProducerState) : Type 0 where
   pub count_below : p.count < modulus_of p.shape
   pub cell_below : p.cell < capacity_of p.shape

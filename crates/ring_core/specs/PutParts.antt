@@ -11,13 +11,13 @@ use Rattle.register_core.specs.ScanState.{zero_reads, scan_phrase, row_read_by}
 use Rattle.ring_core.specs.Counts.{LeavesRoom, LeavesRoomFor, number_past, Count, first_count, count_bits}
 use Rattle.ring_core.specs.Puts.{Put, Puts, stored_count, words_phrase, put_phrases, put_program, ArePuts}
 
--- calls of the producer go on so, behind these puts
+-- calls of the producer continue with these accesses, after these puts
 pub record GoesBehind (shape : Shape) (puts : List Put) (rest : List Made) : Type 0 where
   pub calls : Puts
   pub are : ArePuts shape 0 calls.puts
   pub program_is : put_program shape calls ≡ put_phrases shape first_count puts ++ rest
 
--- the count that puts leave
+-- the count that puts result in
 abbrev pub count_behind : Shape → List Put → Count
 count_behind shape puts = stored_count shape first_count puts
 
@@ -25,7 +25,7 @@ count_behind shape puts = stored_count shape first_count puts
 abbrev pub count_access : RowWrite → Made
 count_access w = Write (row_bit P w.bit) w.value
 
--- behind whole puts: a scan begins, or the close
+-- after complete puts: a scan begins, or the close
 abbrev pub ScansOrCloses : Type 0
 ScansOrCloses =
     (shape : Shape) (puts : List Put) (x : Made) (rest : List Made) → ArePuts shape 0 puts → GoesBehind shape puts (x ∷ rest) →
@@ -37,7 +37,7 @@ ScansOn =
     (shape : Shape) (puts : List Put) (zeros : ℕ) (x : Made) (rest : List Made) → ArePuts shape 0 puts →
     GoesBehind shape puts (zero_reads (row_read_by P) (suc zeros) ++ x ∷ rest) → (v : Bool) × (x ≡ Read (row_read_by P (suc zeros)) v)
 
--- behind a scan that found room, and whole words: the next word, where there is room for one more, or the count write
+-- after a scan that found room, and complete words: the next word, if there is room for one more, or the count write
 abbrev pub StoresOrCounts : Type 0
 StoresOrCounts =
     (shape : Shape) (puts : List Put) (seen : ℕ) (items : List ℕ) (x : Made) (rest : List Made) → ArePuts shape 0 puts →

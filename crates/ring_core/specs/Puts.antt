@@ -9,7 +9,7 @@ use Rattle.bits_core.specs.Made.{Made, Write, events_of, subhistory, IsPrefix}
 use Rattle.register_core.specs.Phrases.{bits_after, word_write, scan_phrase, row_read_by}
 use Rattle.ring_core.specs.Counts.{distance, LeavesRoom, LeavesRoomFor, number_past, Count, first_count, count_bits, batch_phrase}
 
--- a put, by the count that it read: it stored some items under one count write, or it found the ring full
+-- a put, with the count that it read: it stored some items under one count write, or it found the ring full
 pub data Put : Type 0 where
   Stored : (seen : ℕ) (items : List ℕ) → Put
   Full : (seen : ℕ) → Put
@@ -29,7 +29,7 @@ abbrev pub number_after : ℕ → Put → ℕ
 number_after n (Stored seen items) = number_past n items
 number_after n (Full seen) = n
 
--- how many are, after these puts
+-- and after these puts
 abbrev pub stored_in : ℕ → List Put → ℕ
 stored_in n [] = n
 stored_in n (x ∷ puts) = stored_in (number_after n x) puts
@@ -39,15 +39,16 @@ abbrev pub put_bits : Shape → Count → Put → ℕ → Bool
 put_bits shape c (Stored seen items) = bits_after c.bits (count_bits shape c items)
 put_bits shape c (Full seen) = c.bits
 
--- the producer's count after this put, and after these
+-- the producer's count after this put
 abbrev pub stored_after : Shape → Count → Put → Count
 stored_after shape c x = record { number = number_after c.number x; bits = put_bits shape c x }
 
+-- and after these puts
 abbrev pub stored_count : Shape → Count → List Put → Count
 stored_count shape c [] = c
 stored_count shape c (x ∷ puts) = stored_count shape (stored_after shape c x) puts
 
--- the values that these puts write to the producer's count, behind n items
+-- the values that these puts write to the producer's count, after n items
 abbrev pub put_values : Shape → ℕ → List Put → List ℕ
 put_values shape n [] = []
 put_values shape n (Stored seen items ∷ puts) = number_past n items % modulus_of shape ∷ put_values shape (number_past n items) puts
@@ -58,15 +59,16 @@ abbrev pub words_phrase : Shape → ℕ → List ℕ → List Made
 words_phrase shape n [] = []
 words_phrase shape n (item ∷ items) = word_write (width_of shape) (n % capacity_of shape) item ++ words_phrase shape (suc n) items
 
--- the accesses of a put that stores, up to its count write: a scan of the consumer's count, and the items' words
+-- the accesses of a put that stores, up to its count write: a scan of the consumer's count, and the words of the items
 abbrev pub accesses_before_count : Shape → ℕ → ℕ → List ℕ → List Made
 accesses_before_count shape n seen items = scan_phrase (row_read_by P) seen ++ words_phrase shape n items
 
--- the accesses of a put, behind the count: where it stores, one write of the producer's count follows
+-- the accesses of a put, starting at this count: if it stores, one write of the producer's count follows
 abbrev pub put_phrase : Shape → Count → Put → List Made
 put_phrase shape c (Stored seen items) = accesses_before_count shape c.number seen items ++ batch_phrase shape P c items
 put_phrase shape c (Full seen) = scan_phrase (row_read_by P) seen
 
+-- the accesses of puts one after the other, starting at this count
 abbrev pub put_phrases : Shape → Count → List Put → List Made
 put_phrases shape c [] = []
 put_phrases shape c (x ∷ puts) = put_phrase shape c x ++ put_phrases shape (stored_after shape c x) puts
@@ -86,11 +88,12 @@ pub record IsBatch (shape : Shape) (items : List ℕ) : Type 0 where
   pub few : length items ≤ batch_of shape
   pub fit : AllFit shape items
 
--- a put stores where the count that it read leaves room for its items, and finds the ring full where that leaves none
+-- a put stores if the count that it read leaves room for its items, and finds the ring full if it leaves none
 abbrev pub IsPut : Shape → ℕ → Put → Type 0
 IsPut shape n (Stored seen items) = (seen < modulus_of shape) × LeavesRoomFor shape (n % modulus_of shape) seen (length items) × IsBatch shape items
 IsPut shape n (Full seen) = (seen < modulus_of shape) × ¬ LeavesRoom shape (n % modulus_of shape) seen
 
+-- each is a put, the first after n items
 abbrev pub ArePuts : Shape → ℕ → List Put → Type 0
 ArePuts shape n [] = Unit {0}
 ArePuts shape n (x ∷ puts) = IsPut shape n x × ArePuts shape (number_after n x) puts
@@ -99,7 +102,7 @@ ArePuts shape n (x ∷ puts) = IsPut shape n x × ArePuts shape (number_after n 
 abbrev pub room_in : Shape → ℕ → ℕ → ℕ
 room_in shape n seen = capacity_of shape - distance (modulus_of shape) n seen
 
--- the put, behind n items, is one of these items: it stored those for which there was room, from the first on, or none
+-- the put, after n items, is a put of these items: it stored those for which there was room, starting with the first, or none
 abbrev pub IsPutOf : Shape → ℕ → List ℕ → Put → Type 0
 IsPutOf shape n items (Stored seen stored) = stored ≡ take (room_in shape (n % modulus_of shape) seen) items
 IsPutOf shape n items (Full seen) = Unit {0}

@@ -1,4 +1,4 @@
--- What an ended scan of the other side's count gives: how many items some first calls of that side count, within a range.
+-- What an ended scan of the other side's count returns: how many items an initial part of that side's calls counts, within a range.
 use Rattle.std.specs.Prelude.{◌≡◌, ℕ, ◌+◌, ◌-◌, ◌≤◌, ◌%◌, List, length}
 use Rattle.bits_core.specs.declared.events.Side.{Side}
 use Rattle.bits_core.specs.declared.events.Side.TheVariants.{P, C}
@@ -13,9 +13,9 @@ use Rattle.ring_core.specs.Takes.{Takes, taken_in, take_program}
 use Rattle.ring_core.specs.Items.{puts_begun, puts_ended, takes_begun, takes_ended}
 use Rattle.ring_core.specs.CallsAt.{IsPartAt, scan_events}
 
--- A scan that a side made from its own event start on, and that gave seen: it stands, modulo the modulus, for the items that the
--- first of the other side's calls counted; not fewer than those of the calls that had ended where the scan began, nor more than those
--- whose count writes had begun where it ended; and a number from least to most.
+-- A scan that a side made from its own event start on, and that returned seen: modulo the modulus, seen is the number of items
+-- counted by the first of the other side's calls; not fewer than those of the calls that had ended when the scan began, nor more than
+-- those whose count writes had begun when it ended; and a number from least to most.
 pub record ReadsCount {X : Type 0}
     (s : Side) (shape : Shape) (h : List Event) (start seen : ℕ) (calls : List X) (items : List X → ℕ) (ended begun : ℕ → ℕ) (least most : ℕ) : Type 0 where
   pub first : ℕ
@@ -30,14 +30,14 @@ pub record ReadsCount {X : Type 0}
   pub low : least ≤ items counted
   pub high : items counted ≤ most
 
--- an ended scan of the producer, behind n items, reads a count from n - capacity - take batch to n
+-- an ended scan of the producer, after n items, reads a count from n - capacity - take batch to n
 abbrev pub PutsAreInRange : Shape → List Event → Puts → Takes → Type 0
 PutsAreInRange shape h puts takes =
     (n start seen : ℕ) → IsPartAt (put_program shape puts) (scan_phrase (row_read_by P) seen) start → start + scan_events P seen ≤ length (subhistory P h) →
     n ≡ puts_begun shape puts start →
     ReadsCount P shape h start seen takes.takes (taken_in 0) (takes_ended shape takes) (takes_begun shape takes) (n - (capacity_of shape + take_batch_of shape)) n
 
--- an ended scan of the consumer, behind k items, reads a count from k - batch to k + capacity
+-- an ended scan of the consumer, after k items, reads a count from k - batch to k + capacity
 abbrev pub TakesAreInRange : Shape → List Event → Puts → Takes → Type 0
 TakesAreInRange shape h puts takes =
     (k start seen : ℕ) → IsPartAt (take_program shape takes) (scan_phrase (row_read_by C) seen) start → start + scan_events C seen ≤ length (subhistory C h) →

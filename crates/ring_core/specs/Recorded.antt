@@ -1,5 +1,5 @@
--- The calls of a history as a recorder next to its two sides would tell them: a call begins with the first of its own events, and ends
--- with the last. They are the calls of a queue, with no bit in sight.
+-- The calls of a history as a recorder next to its two sides would record them: a call begins with the first of its own events, and
+-- ends with the last. They are the calls of a queue, with no bits involved.
 use Rattle.std.specs.Prelude.{ℕ, suc, ◌-◌, ◌<◌, nat_eq, nat_lt, Bool, true, false, List, [], ◌∷◌, ◌++◌, length, if◌then◌else◌}
 use Rattle.queue_calls.specs.Queue.{exactly}
 use Rattle.queue_calls.specs.Calls as calls
@@ -16,26 +16,27 @@ use Rattle.ring_core.specs.Items.{events_in}
 use Rattle.ring_core.specs.RingLaw.{IsRun}
 use Rattle.ring_core.specs.GoingOn.{AreWanted}
 
--- how a put ends, and how a take does
+-- how a put ends
 abbrev pub put_answer : Put → calls.Event
 put_answer (Stored seen items) = PutStored (length items) true
 put_answer (Full seen) = PutFull
 
+-- how a take ends
 abbrev pub take_answer : Take → calls.Event
 take_answer (Item seen items) = TakeItems items true
 take_answer (ItemAfterClose seen again items) = TakeItems items true
 take_answer (Empty seen) = TakeEmpty
 
--- what event number i of a call tells, counted from 0, of a call that has so many
+-- what event number i of a call of `long` events records, counted from 0: the start, the end or nothing
 abbrev pub call_told : (long : ℕ) → (begins ends : calls.Event) → ℕ → List calls.Event
 call_told long begins ends i = (if nat_eq i 0 then begins ∷ [] else if nat_eq (suc i) long then ends ∷ [] else [])
 
--- or, where it comes behind that call, what the calls behind it tell
+-- or, if it comes after that call, what the later calls record
 abbrev pub told_or_behind : (long : ℕ) → (begins ends : calls.Event) → ℕ → List calls.Event → List calls.Event
 told_or_behind long begins ends i behind = (if nat_lt i long then call_told long begins ends i else behind)
 
--- what the producer's own event number i tells, of puts from number j on, each of which is offered items by its number, and of the close
--- behind them
+-- what the producer's own event number i records, of puts from number j on, each of which is offered the items that `offers` has at its
+-- number, and of the close after them
 abbrev pub put_told : Shape → (ℕ → List ℕ) → ℕ → Count → List Put → Bool → ℕ → List calls.Event
 put_told shape offers j c [] false i = []
 put_told shape offers j c [] true i = told_or_behind (events_in (close_phrase true)) CloseBegin CloseEnd i []
@@ -43,7 +44,8 @@ put_told shape offers j c (x ∷ puts) closes i =
     told_or_behind (events_in (put_phrase shape c x)) (PutBegin (offers j)) (put_answer x) i
     (put_told shape offers (suc j) (stored_after shape c x) puts closes (i - events_in (put_phrase shape c x)))
 
--- what the consumer's own event number i tells, of takes from number j on, each of which wants at most so many items by its number
+-- what the consumer's own event number i records, of takes from number j on, each of which wants at most as many items as `wants` has at
+-- its number
 abbrev pub take_told : Shape → (ℕ → ℕ) → ℕ → Count → List Take → End → ℕ → List calls.Event
 take_told shape wants j c [] Open i = []
 take_told shape wants j c [] (Closed seen again) i = told_or_behind (events_in (end_phrase (Closed seen again))) (TakeBegin (wants j)) TakeClosed i []
@@ -56,7 +58,7 @@ abbrev pub by_side : {A : Type 0} → Side → A → A → A
 by_side P put take = put
 by_side C put take = take
 
--- the calls that events tell, behind p events of the producer and c of the consumer
+-- the calls that events record, after p events of the producer and c of the consumer
 abbrev pub calls_told : (put_told take_told : ℕ → List calls.Event) → (p c : ℕ) → List Event → List calls.Event
 calls_told put_told take_told p c [] = []
 calls_told put_told take_told p c (e ∷ h) =
@@ -67,12 +69,12 @@ abbrev pub recorded : Shape → (ℕ → List ℕ) → (ℕ → ℕ) → List Ev
 recorded shape offers wants h puts takes =
     calls_told (put_told shape offers 0 first_count puts.puts puts.closes) (take_told shape wants 0 first_count takes.takes takes.end) 0 0 h
 
--- each of these puts, from number j on and behind n items, is one of the items that it is offered
+-- each of these puts, from number j on and after n items, is a put of the items that it is offered
 abbrev pub AreOffered : Shape → (ℕ → List ℕ) → (j n : ℕ) → List Put → Type 0
 AreOffered shape offers j n [] = Unit {0}
 AreOffered shape offers j n (x ∷ puts) = (0 < length (offers j)) × IsPutOf shape n (offers j) x × AreOffered shape offers (suc j) (number_after n x) puts
 
--- the recorded calls of every run, each take of which wants some items, are linearizable, as those of a queue of the ring's capacity
+-- the recorded calls of every run, each take of which wants some items, are linearizable, as calls of a queue of the ring's capacity
 abbrev pub RecordedIsLinearizable : Type 0
 RecordedIsLinearizable =
     (shape : Shape) (offers : ℕ → List ℕ) (wants : ℕ → ℕ) (h : List Event) (puts : Puts) (takes : Takes) →

@@ -1,5 +1,5 @@
 -- The law of the ring, for every lawful history whose two sides follow their programs. A moment is a place of the history;
--- what stands before it is told by the clocks of the two sides.
+-- the clocks of the two sides say what comes before it.
 use Rattle.std.specs.Prelude.{◌≡◌, ◌⊎◌, ℕ, suc, ◌+◌, ◌-◌, ◌*◌, ◌<◌, ◌≤◌, ◌%◌, Bool, true, Some, List, length, slice_get}
 use Rattle.bits_core.specs.declared.events.Side.{Side}
 use Rattle.bits_core.specs.declared.events.Side.TheVariants.{P, C}
@@ -25,18 +25,18 @@ pub record IsRun (shape : Shape) (h : List Event) (puts : Puts) (takes : Takes) 
   pub puts_follow : FollowsPuts shape h puts
   pub takes_follow : FollowsTakes shape h takes
 
--- from the place of a side's own event i to that of its own event e, or past the end of the history where that one has not come
+-- from the place of a side's own event i to that of its own event e, or past the end of the history if that one has not come
 pub record IsInterval (s : Side) (h : List Event) (i e start stop : ℕ) : Type 0 where
   pub begins : IsPlaceOf s h i start
   pub ends : IsPlaceOf s h e stop ⊎ ((length (subhistory s h) ≤ e) × (stop ≡ length h))
 
--- at every moment no more items are taken than put, and at most as many are put and not taken as the ring has cells
+-- at every moment no more items are taken than put, and those put and not taken are no more than the ring has cells
 abbrev pub IsWithin : Shape → List Event → Puts → Takes → Type 0
 IsWithin shape h puts takes =
     (t : ℕ) → (takes_begun shape takes (clock C h t) ≤ puts_begun shape puts (clock P h t)) ×
     (puts_begun shape puts (clock P h t) ≤ takes_begun shape takes (clock C h t) + capacity_of shape)
 
--- no word write of a cell overlaps a word read of it, each from its first begin to its last end
+-- no word write of a cell overlaps a word read of it, each from its first start to its last end
 abbrev pub WordsAreQuiet : Shape → List Event → Puts → Takes → Type 0
 WordsAreQuiet shape h puts takes =
     (cell item item' word word' : ℕ) → IsPartAt (put_program shape puts) (word_write (width_of shape) cell item) word →
@@ -55,45 +55,45 @@ abbrev pub TakenArePrefix : Shape → List Event → Puts → Takes → Type 0
 TakenArePrefix shape h puts takes =
     (t : ℕ) → IsPrefix (items_taken shape first_count takes.takes (clock C h t)) (items_put shape first_count puts.puts (clock P h t))
 
--- word read i of a take behind k items, once it has ended, also where the count write is still to come, gives item number k + i of those put
+-- word read i of a take after k items, once it has ended, even before the count write, returns item number k + i of those put
 abbrev pub TakesMatchPuts : Shape → List Event → Puts → Takes → Type 0
 TakesMatchPuts shape h puts takes =
     (t k i item start stop : ℕ) (x : Take) → IsTakeAt shape takes x k start stop → slice_get (taken_of x) i ≡ Some item →
     start + events_in (accesses_before_word x) + 2 * (suc i * width_of shape) ≤ clock C h t →
     slice_get (items_put shape first_count puts.puts (clock P h t)) (k + i) ≡ Some item
 
--- where a take that finds the ring empty begins, it is empty and open: no more items were stored by puts that had ended than takes had
--- taken that had ended, and no write of the close bit had ended
+-- when a take that finds the ring empty begins, the ring is empty and open: puts that had ended had stored no more items than takes
+-- that had ended had taken, and no write of the close bit had ended
 abbrev pub EmptyIsFresh : Shape → List Event → Puts → Takes → Type 0
 EmptyIsFresh shape h puts takes =
     (seen k start stop : ℕ) → IsTakeAt shape takes (Empty seen) k start stop → stop ≤ length (subhistory C h) →
     (first : ℕ) × IsPlaceOf C h start first × (puts_ended shape puts (clock P h first) ≤ takes_ended shape takes (clock C h first)) ×
     ((v : Bool) (from to : ℕ) → intervals.IsWrite h X v from to → ¬ (to < first))
 
--- where a put that finds the ring full begins, the items stored before it, less those of takes that had ended, are at least
+-- when a put that finds the ring full begins, the items stored before it, less those of takes that had ended, are at least
 -- the capacity
 abbrev pub FullIsFresh : Shape → List Event → Puts → Takes → Type 0
 FullIsFresh shape h puts takes =
     (seen n start stop : ℕ) → IsPutAt shape puts (Full seen) n start stop → stop ≤ length (subhistory P h) →
     (first : ℕ) × IsPlaceOf P h start first × (takes_ended shape takes (clock C h first) + capacity_of shape ≤ n)
 
--- and where a put begins whose items fill all the room that its scan left, the items stored up to and with it are
+-- and when a put begins whose items fill all the room that its scan left, the same holds of the items stored up to and including it
 abbrev pub FillIsFresh : Shape → List Event → Puts → Takes → Type 0
 FillIsFresh shape h puts takes =
     (seen : ℕ) (items : List ℕ) (n start stop : ℕ) → IsPutAt shape puts (Stored seen items) n start stop → start + scan_events P seen ≤ length (subhistory P h) →
     distance (modulus_of shape) (n % modulus_of shape) seen + length items ≡ capacity_of shape →
     (first : ℕ) × IsPlaceOf P h start first × (takes_ended shape takes (clock C h first) + capacity_of shape ≤ n + length items)
 
--- and where a take begins that takes all the items that its scan showed, no more items were stored by puts that had ended than were
--- taken up to and with it
+-- and when a take begins that takes all the items that its scan showed, puts that had ended had stored no more items than were
+-- taken up to and including it
 abbrev pub DrainIsFresh : Shape → List Event → Puts → Takes → Type 0
 DrainIsFresh shape h puts takes =
     (seen : ℕ) (items : List ℕ) (k start stop : ℕ) → IsTakeAt shape takes (Item seen items) k start stop → start + scan_events C seen ≤ length (subhistory C h) →
     distance (modulus_of shape) seen (k % modulus_of shape) ≡ length items → 1 ≤ length items →
     (first : ℕ) × IsPlaceOf C h start first × (puts_ended shape puts (clock P h first) ≤ k + length items)
 
--- once the consumer was told that the ring is closed, at every later moment all items of the calls were put and taken, and the
--- close has begun, behind all puts
+-- once a take has returned Closed, at every later moment all items of the calls were put and taken, and the close has begun,
+-- after all puts
 abbrev pub ClosedIsTrue : Shape → List Event → Puts → Takes → Type 0
 ClosedIsTrue shape h puts takes =
     (t u : ℕ) → IsTold shape takes (clock C h t) → t ≤ u →
@@ -115,6 +115,6 @@ pub record RingLaw (shape : Shape) (h : List Event) (puts : Puts) (takes : Takes
   pub drain : DrainIsFresh shape h puts takes
   pub closed : ClosedIsTrue shape h puts takes
 
--- every lawful history whose two sides follow their programs is so
+-- the statement holds of every lawful history whose two sides follow their programs
 abbrev pub InEveryRun : (Shape → List Event → Puts → Takes → Type 0) → Type 0
 InEveryRun Holds = (shape : Shape) (h : List Event) (puts : Puts) (takes : Takes) → IsRun shape h puts takes → Holds shape h puts takes

@@ -1,5 +1,5 @@
--- The laws beside the law of the ring, of every run: what stays once the ring was told closed, that a count is never read as
--- all 0, runs with one event more, and that there is a run.
+-- Laws of every run besides the law of the ring: what stays once a take has returned Closed, that a count is never read as
+-- all 0, runs with one more event, and that there is a run.
 use Rattle.std.specs.Prelude.{◌≡◌, ◌≢◌, ℕ, suc, ◌+◌, ◌*◌, ◌<◌, ◌≤◌, Bool, false, List, [], ◌∷◌, ◌++◌, length}
 use Rattle.bits_core.specs.declared.events.Side.{Side}
 use Rattle.bits_core.specs.declared.events.Side.TheVariants.{P, C}
@@ -20,14 +20,14 @@ use Rattle.ring_core.specs.Items.{items_put_in, items_taken_in, ToldIn}
 use Rattle.ring_core.specs.CallsAt.{IsPutAt, IsTakeAt}
 use Rattle.ring_core.specs.RingLaw.{IsRun}
 
--- Once the consumer was told that the ring is closed, in every longer history the lists are the same.
+-- Once a take has returned Closed, the lists are the same in every longer history.
 abbrev pub ClosedStays : Type 0
 ClosedStays =
     (shape : Shape) (h h' : List Event) (puts puts' : Puts) (takes takes' : Takes) → IsRun shape h puts takes → IsRun shape h' puts' takes' →
     IsPrefix h h' → ToldIn shape h takes →
     (items_put_in shape h' puts' ≡ items_put_in shape h puts) × (items_taken_in shape h' takes' ≡ items_taken_in shape h takes)
 
--- no read of the last bit of the count that side s writes answers 0, behind reads of 0 in all bits below, one after the other
+-- no read of the last bit of the count that side s writes returns 0 after reads of 0 in all bits below, one after the other
 abbrev pub NeverReadsAll : Side → Shape → List Event → Type 0
 NeverReadsAll s shape h =
     (last : ℕ) → suc last ≡ modulus_of shape → (start stop : ℕ → ℕ) → ReadsZeros s h last start stop →
@@ -39,33 +39,37 @@ NeverMisses s shape h =
     (made before after : List Made) → IsPrefix (subhistory (other s) h) (events_of (other s) made) →
     made ≡ before ++ (zero_reads (row_bit s) (modulus_of shape) ++ after) → length (subhistory (other s) h) < 2 * (length before + modulus_of shape)
 
+-- a consumer does not read the producer's count as 0 in all bits
 abbrev pub PutsAreSeen : Type 0
 PutsAreSeen = (shape : Shape) (h : List Event) (puts : Puts) → IsLawful shape h → FollowsPuts shape h puts → NeverReadsAll P shape h × NeverMisses P shape h
 
+-- a producer does not read the consumer's count as 0 in all bits
 abbrev pub TakesAreSeen : Type 0
 TakesAreSeen = (shape : Shape) (h : List Event) (takes : Takes) → IsLawful shape h → FollowsTakes shape h takes → NeverReadsAll C shape h × NeverMisses C shape h
 
--- One event more: an event of a side that may follow, and that is one of the program of calls which the side makes, whether
--- these are the calls that were known or others.
+-- One more event: one that may follow, and that belongs to the program of calls of its side, whether these are the calls
+-- known so far or others.
 abbrev pub RunsByPut : Type 0
 RunsByPut =
     (shape : Shape) (h : List Event) (e : Event) (puts more : Puts) (takes : Takes) → IsRun shape h puts takes → e.side ≡ P → MayFollow shape h e →
     ArePuts shape 0 more.puts → IsPrefix (subhistory P h ++ e ∷ []) (events_of P (put_program shape more)) → IsRun shape (h ++ e ∷ []) more takes
 
+-- the same for the consumer
 abbrev pub RunsByTake : Type 0
 RunsByTake =
     (shape : Shape) (h : List Event) (e : Event) (puts : Puts) (takes more : Takes) → IsRun shape h puts takes → e.side ≡ C → MayFollow shape h e →
     AreTakes shape 0 more.takes more.end → IsPrefix (subhistory C h ++ e ∷ []) (events_of C (take_program shape more)) → IsRun shape (h ++ e ∷ []) puts more
 
--- a take that has ended found the ring empty, and a put the ring full
+-- a take that has ended found the ring empty
 abbrev pub FindsEmpty : Shape → List Event → Takes → Type 0
 FindsEmpty shape h takes = (seen : ℕ) × (k : ℕ) × (start : ℕ) × (stop : ℕ) × IsTakeAt shape takes (Empty seen) k start stop × (stop ≤ length (subhistory C h))
 
+-- a put that has ended found the ring full
 abbrev pub FindsFull : Shape → List Event → Puts → Type 0
 FindsFull shape h puts = (seen : ℕ) × (n : ℕ) × (start : ℕ) × (stop : ℕ) × IsPutAt shape puts (Full seen) n start stop × (stop ≤ length (subhistory P h))
 
--- The premises can be met, also where a write overlaps a read that has ended, a take found the ring empty, a put found it full,
--- an item is put and taken, and the consumer is told that the ring is closed.
+-- The premises can be met, even by a history in which a write overlaps a read that has ended, a take found the ring empty, a
+-- put found it full, an item is put and taken, and a take returns Closed.
 abbrev pub HasARun : Type 0
 HasARun =
     (shape : Shape) × (h : List Event) × (puts : Puts) × (takes : Takes) × IsRun shape h puts takes ×

@@ -1,4 +1,4 @@
-//! The parts of a take under way that may go on apart from the consumer: a scan, and a word read; and what its replies are made of.
+//! The parts of a take under way that may proceed separately from the consumer: a scan and a word read; and the makings of its replies.
 ghost use Rattle.std.specs.Prelude.{◌≡◌, ◌≢◌, ℕ, ◌+◌, ◌<◌, true, false, Some, List, [], ◌∷◌, ◌++◌, ◌↔◌, IsTrue, length, suc, take};
 ghost use Rattle.bits_core.specs.declared.events.Bit.TheVariants.{Cell};
 ghost use Rattle.bits_core.specs.declared.events.Side.TheVariants.{C};
@@ -13,9 +13,9 @@ use register_core::{UnaryScan, WordReader};
 use std::marker::Model;
 use std::snapshot::Snapshot;
 
-/// A scan of a take under way, apart from its consumer. To a contract it is that consumer with this scan.
+/// A scan of a take under way, separate from its consumer. To a contract it is that consumer with this scan.
 ///
-/// Its reads stand one behind the other, so a caller makes them in a loop of its own, with no look at how far the
+/// Its reads come one after the other, so a caller makes them in a loop of its own, without checking how far the
 /// take has come.
 ///
 /// In use: a take of `ring_run`, whose scans are loops of loads.
@@ -47,7 +47,7 @@ impl TakeScan {
     ghost use Rattle.bits_core.specs.Shape.{modulus_of};
     ghost use Rattle.ring_core.specs.ConsumerCalls.{ConsumerStands, TakeGoesOn, ConsumerMoves};
 
-    /// The read that is due, as [`Consumer::next`] tells it.
+    /// The read that is due, as [`Consumer::next`] returns it.
     #[inline(always)]
     pub fn next(&self) -> Access
         ensures due { due_take self.now ≡ Some result }
@@ -65,7 +65,7 @@ impl TakeScan {
         }
     }
 
-    /// Whether the last bit of the producer's count is due, as [`Consumer::expects_one`] tells it.
+    /// Whether the last bit of the producer's count is due, as [`Consumer::expects_one`] returns it.
     #[inline(always)]
     pub fn expects_one(&self) -> bool
         ensures due { IsTrue result ↔ LastBitIsDue self.now.shape C (due_take self.now) }
@@ -75,8 +75,8 @@ impl TakeScan {
         self.scan.expects_one()
     }
 
-    /// The due read was made and answered 0. It must not be of the last bit. A 1 is told to the consumer, once it has
-    /// come to where the scan is.
+    /// Records that the due read returned 0. It must not be of the last bit. A 1 is fed to the consumer, once it has
+    /// gone on with this scan.
     #[inline(always)]
     pub fn zero(&mut self)
         requires not_last { LastBitIsDue self.old.shape C (due_take self.old) → false ≡ true }
@@ -87,9 +87,9 @@ impl TakeScan {
     }
 }
 
-/// The word read of a take under way, apart from its consumer. To a contract it is that consumer with this word read.
+/// The word read of a take under way, separate from its consumer. To a contract it is that consumer with this word read.
 ///
-/// Its reads stand one behind the other, so a caller makes them in a loop of its own, with no look at how far the
+/// Its reads come one after the other, so a caller makes them in a loop of its own, without checking how far the
 /// take has come.
 ///
 /// In use: a take of `ring_run`.
@@ -119,7 +119,7 @@ impl TakeWord {
     ghost use Rattle.register_core.specs.WordState.{read_digit};
     ghost use Rattle.ring_core.specs.ConsumerCalls.{ConsumerStands, TakeGoesOn, ConsumerMoves};
 
-    /// The read that is due, as [`Consumer::next`] tells it.
+    /// The read that is due, as [`Consumer::next`] returns it.
     #[inline(always)]
     pub fn next(&self) -> Access
         ensures due { due_take self.now ≡ Some result }
@@ -146,8 +146,8 @@ impl TakeWord {
         self.word.is_last()
     }
 
-    /// The due read was made and answered so. It must not be the word's last, which is told to the consumer, once it has
-    /// come to where the word read is.
+    /// Records that the due read returned `answer`. It must not be the word's last read, which is fed to the consumer,
+    /// once it has gone on with this word read.
     #[inline(always)]
     pub fn feed(&mut self, answer: bool)
         requires not_last { suc self.old.word.read ≢ self.old.word.width }
@@ -158,7 +158,7 @@ impl TakeWord {
     }
 }
 
-// Keeps one item more in place.
+// Keeps one more item, at this index.
 #[inline(always)]
 pub(crate) fn keep_one(kept: &mut [u64; 64], at: usize, item: u64)
     requires room { at < 64 }
@@ -178,7 +178,7 @@ pub(crate) fn is_first_digit(access: Option<Access>) -> bool
     }
 }
 
-// What a take of these items is answered: the first of them. No take takes none.
+// The reply to a take of these items: the first of them. No take takes none.
 #[inline(always)]
 pub(crate) fn item_reply(items: &[u64]) -> TakeReply
     ensures { result ≡ items_reply items.now }
@@ -189,7 +189,7 @@ pub(crate) fn item_reply(items: &[u64]) -> TakeReply
     }
 }
 
-// The answer to a take of these items, by their number.
+// The reply to a take of these items, by their number.
 #[inline(always)]
 pub(crate) fn by_number(reply: TakeReply, items: &[u64]) -> TakeBatchReply
     ensures { Some result ≡ take_batch_reply (Some reply) items.now }

@@ -27,7 +27,7 @@ enum Stage {
     Counting,
 }
 
-/// The side that takes items (Lamport 1977): it tells the accesses of its takes one by one. It takes no memory.
+/// The side that takes items (Lamport 1977): it yields the accesses of its takes one by one. It takes no memory.
 ///
 /// In use: as its counterpart, the producer, is in `uses::by_hand`.
 #[derive(Debug, Drop)]
@@ -60,7 +60,7 @@ impl Model for Consumer {
     ghost invariant = { λ p. IsConsumer (consumer_view p) × (p.taken ≤ 64) × (p.wanted ≤ 64) × (p.most ≤ 64) };
 }
 
-// By hand, as a derived one clones each field, which costs the proof ten times as much.
+// Written by hand: a derived one clones each field, which makes the proof ten times as expensive.
 impl Clone for Consumer {
     ghost is_clone = { λ x y. y ≡ x };
 
@@ -107,7 +107,7 @@ impl Consumer {
         }
     }
 
-    /// Begins a take of one item, as [`take_all`](Self::take_all) of at most one.
+    /// Starts a take of one item, as [`take_all`](Self::take_all) of at most one.
     #[inline(always)]
     pub fn take(&mut self)
         requires { due_take self.old ≡ None }
@@ -119,9 +119,10 @@ impl Consumer {
         self.take_all(1);
     }
 
-    /// Begins a take of at most so many items under one count write, at most the shape's take batch. It takes those that
-    /// the producer's count shows, from the first on. No access may be due. The accesses made stay as they were. Once a
-    /// take was answered `Closed`, each is answered so at once, with no access, and nothing else changes.
+    /// Starts a take of at most `most` items under one count write; `most` is at most the shape's take batch. It takes
+    /// those that the producer's count shows, starting with the first. No access may be due. The accesses made are
+    /// unchanged. Once a take has returned `Closed`, each later one returns it at once, with no access, and nothing else
+    /// changes.
     #[inline(always)]
     pub fn take_all(&mut self, most: u64)
         requires idle { due_take self.old ≡ None }
@@ -143,10 +144,10 @@ impl Consumer {
         }
     }
 
-    /// The access that is due, and none where no take is under way. It is of a bit of the shape, by the side that may,
-    /// so a memory of that shape takes it. Whatever it is answered, but for a 0 where
-    /// [`expects_one`](Self::expects_one), the take goes on with it; a take has at most so many accesses as
-    /// [`calls_are_short`](crate::laws::calls_are_short) says.
+    /// The access that is due, or `None` if no take is under way. It is of a bit of the shape, by the side that may
+    /// make it, so a memory of that shape accepts it. Whatever it returns, except for a 0 when
+    /// [`expects_one`](Self::expects_one), the take continues with it;
+    /// [`calls_are_short`](crate::laws::calls_are_short) bounds the accesses of a take.
     #[inline(always)]
     pub fn next(&self) -> Option<Access>
         ensures due { result ≡ due_take self.now }
@@ -170,9 +171,9 @@ impl Consumer {
         }
     }
 
-    /// The due access was made and answered so; the answer to a write says nothing. Where
-    /// [`expects_one`](Self::expects_one), the answer must be 1. The take wants as many items as before, and once it
-    /// counts them it does so until it is over.
+    /// Records that the due access was made and returned `answer`; for a write it is ignored. When
+    /// [`expects_one`](Self::expects_one), it must be 1. The number of items wanted stays the same, and once the
+    /// take counts its items it does so until it is over.
     #[inline(always)]
     pub fn feed(&mut self, answer: bool)
         requires due { due_take self.old ≢ None }
@@ -237,7 +238,7 @@ impl Consumer {
         }
     }
 
-    /// The same as [`feed`](Self::feed), where a word read is under way.
+    /// The same as [`feed`](Self::feed), while a word read is under way.
     #[inline(always)]
     pub fn feed_word(&mut self, answer: bool)
         requires stage { self.old.stage ≡ Loading }
@@ -262,7 +263,7 @@ impl Consumer {
         }
     }
 
-    /// The same as [`feed`](Self::feed), where the write of the count is under way.
+    /// The same as [`feed`](Self::feed), while the write of the count is under way.
     #[inline(always)]
     pub fn feed_count(&mut self, answer: bool)
         requires stage { self.old.stage ≡ Counting }
@@ -282,8 +283,8 @@ impl Consumer {
         }
     }
 
-    /// The scan of the take under way by itself, the first or the second, where one is: it goes on apart from the
-    /// consumer, which [`go_on_with_scan`](Self::go_on_with_scan) brings to where it then is.
+    /// The scan of the take under way on its own, the first or the second, if there is one: it proceeds
+    /// separately from the consumer, which [`go_on_with_scan`](Self::go_on_with_scan) brings to the same point.
     #[inline(always)]
     pub fn scan(&self) -> Option<TakeScan>
         ensures some { IfSome result (λ s. (s ≡ self.now) × (is_taking self.now ≡ true)) }
@@ -298,8 +299,8 @@ impl Consumer {
         }
     }
 
-    /// The word read under way by itself, where one is: it goes on apart from the consumer, which
-    /// [`go_on_with_word`](Self::go_on_with_word) brings to where it then is.
+    /// The word read under way on its own, if there is one: it proceeds separately from the
+    /// consumer, which [`go_on_with_word`](Self::go_on_with_word) brings to the same point.
     #[inline(always)]
     pub fn word(&self) -> Option<TakeWord>
         ensures some { IfSome result (λ w. (w ≡ self.now) × (self.now.stage ≡ Loading)) }
@@ -336,8 +337,8 @@ impl Consumer {
         }
     }
 
-    /// Has the take under way count the items that it has read, and take no more, as a take of at most so many would. It
-    /// must be between words. Then the first bit write of the count is due; the accesses made stay as they were.
+    /// Makes the take under way count the items that it has read and take no more, as a take of at most that number
+    /// would. It must be between words. Then the first bit write of the count is due; the accesses made are unchanged.
     #[inline(always)]
     pub fn count_now(&mut self)
         requires { IsBetweenWords self.old }
@@ -354,7 +355,7 @@ impl Consumer {
         self.stage = Stage::Counting;
     }
 
-    /// The consumer comes to where its scan is.
+    /// Brings the consumer to the point that its scan has reached.
     #[inline(always)]
     pub fn go_on_with_scan(&mut self, scan: TakeScan)
         requires same { IsConsumerButScan self.old scan }
@@ -364,7 +365,7 @@ impl Consumer {
         self.scan = scan;
     }
 
-    /// The consumer comes to where its word read is.
+    /// Brings the consumer to the point that its word read has reached.
     #[inline(always)]
     pub fn go_on_with_word(&mut self, word: TakeWord)
         requires same { IsConsumerButWord self.old word }
@@ -374,8 +375,8 @@ impl Consumer {
         self.word = word;
     }
 
-    /// What the last take was answered, where it took several items by the first of them: none before the first one
-    /// and during a take.
+    /// The reply of the last take; if it took several items, with the first of them. `None` before the first take
+    /// and during one.
     #[inline(always)]
     pub fn reply(&self) -> Option<TakeReply>
         ensures state { result ≡ self.now.reply }
@@ -385,7 +386,7 @@ impl Consumer {
         self.reply
     }
 
-    /// What the last take was answered, by how many items it took: none before the first one and during a take.
+    /// The reply of the last take, with the number of items it took. `None` before the first take and during one.
     #[inline(always)]
     pub fn batch_reply(&self) -> Option<TakeBatchReply>
         ensures state { result ≡ take_batch_reply self.now.reply self.now.items }
@@ -398,7 +399,7 @@ impl Consumer {
         }
     }
 
-    /// The items that the last take took, in order, and during a take those that it has read so far.
+    /// The items that the last take took, in order, or during a take those read so far.
     #[inline(always)]
     pub fn items(&self) -> &[u64]
         ensures state { result.now ≡ self.now.items }
@@ -408,8 +409,8 @@ impl Consumer {
         &self.items[..self.taken]
     }
 
-    /// Whether the last bit of the producer's count is due. Over a lawful history whose producer follows its
-    /// program it answers 1.
+    /// Whether the last bit of the producer's count is due. In a lawful history whose producer follows its
+    /// program it returns 1.
     #[inline(always)]
     pub fn expects_one(&self) -> bool
         ensures due { IsTrue result ↔ LastBitIsDue self.now.shape C (due_take self.now) }

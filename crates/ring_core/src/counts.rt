@@ -22,7 +22,7 @@ pub fn distance(a: u64, b: u64, modulus: u64) -> u64
 /// capacity ahead of it. Both are below the modulus.
 ///
 /// For example, with one cell and counts modulo 3, the count 0 shows no item to a consumer that has taken 1: it is
-/// two ahead, and so an old one.
+/// two ahead, so it is an old one.
 #[inline(always)]
 pub fn has_item(shape: &Shape, c: u64, k: u64) -> bool
     requires c { c < modulus_of shape.now }
@@ -36,8 +36,7 @@ pub fn has_item(shape: &Shape, c: u64, k: u64) -> bool
 /// Whether the consumer's count `d` leaves room to a producer that has put `n`: it is less than the
 /// capacity ahead of `d`. Both are below the modulus.
 ///
-/// For example, with one cell and counts modulo 3, a producer that has put 1 finds no room where it sees the count
-/// 0.
+/// For example, with one cell and counts modulo 3, a producer that has put 1 finds no room if it sees the count 0.
 #[inline(always)]
 pub fn has_room(shape: &Shape, n: u64, d: u64) -> bool
     requires n { n < modulus_of shape.now }
@@ -47,7 +46,7 @@ pub fn has_room(shape: &Shape, n: u64, d: u64) -> bool
     distance(n, d, shape.modulus()) < shape.capacity()
 }
 
-/// The number that is so many past `n`, modulo the modulus, which is below 1,000: `n` is below it, and `more` no more than it.
+/// `n + more` modulo the modulus, which is below 1,000; `n` is below it, and `more` at most equal to it.
 ///
 /// In use: the count and the cell of each end of a counter ring.
 #[inline(always)]
@@ -59,8 +58,8 @@ pub fn past_in(n: u64, more: u64, modulus: u64) -> u64
     if sum < modulus { sum } else { sum - modulus }
 }
 
-/// How many items a consumer that has taken `k` takes of at most so many, where the producer's count `c` shows some: those
-/// that it shows, or as many as are wanted. Both are below the modulus.
+/// How many items a take of at most `wanted` takes if the producer's count `c` shows some to a consumer that has taken
+/// `k`: those that it shows, or as many as are wanted. Both counts are below the modulus.
 ///
 /// In use: the takes of a counter ring.
 #[inline(always)]

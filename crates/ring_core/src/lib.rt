@@ -1,5 +1,5 @@
-//! The ring: what its two counts show, its producer and its consumer, which tell the accesses of
-//! their calls one by one, and the programs that these accesses follow.
+//! The ring: what its two counts show, the machines of its producer and its consumer, which yield
+//! the accesses of their calls one by one, and the programs that these accesses follow.
 #![tactic(auto)]
 
 mod consumer_parts;

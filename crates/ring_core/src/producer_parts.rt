@@ -1,4 +1,4 @@
-//! The parts of a put under way that may go on apart from the producer: a scan, and a word write.
+//! The parts of a put under way that may proceed separately from the producer: a scan, and a word write.
 ghost use Rattle.std.specs.Prelude.{◌≡◌, ◌≢◌, ◌+◌, ◌<◌, true, false, Some, List, [], ◌∷◌, ◌++◌, ◌↔◌, IsTrue, length, suc};
 ghost use Rattle.bits_core.specs.declared.events.Side.TheVariants.{P};
 ghost use Rattle.bits_core.specs.Made.{Made, answered};
@@ -11,9 +11,9 @@ use register_core::{UnaryScan, WordWriter};
 use std::marker::Model;
 use std::snapshot::Snapshot;
 
-/// The scan of a put under way, apart from its producer. To a contract it is that producer with this scan.
+/// The scan of a put under way, separate from its producer. To a contract it is that producer with this scan.
 ///
-/// Its reads stand one behind the other, so a caller makes them in a loop of its own, with no look at how far the
+/// Its reads come one after the other, so a caller makes them in a loop of its own, without checking how far the
 /// call has come.
 ///
 /// In use: a put of `ring_run`, whose scans are loops of loads.
@@ -42,7 +42,7 @@ impl PutScan {
     ghost use Rattle.ring_core.specs.ProducerState.{Call, due_put, call_of};
     ghost use Rattle.register_core.specs.ScanState.{scan_read};
 
-    /// The read that is due, as [`Producer::next`] tells it.
+    /// The read that is due, as [`Producer::next`] returns it.
     #[inline(always)]
     pub fn next(&self) -> Access
         ensures due { due_put self.now ≡ Some result }
@@ -60,7 +60,7 @@ impl PutScan {
         }
     }
 
-    /// Whether the last bit of the consumer's count is due, as [`Producer::expects_one`] tells it.
+    /// Whether the last bit of the consumer's count is due, as [`Producer::expects_one`] returns it.
     #[inline(always)]
     pub fn expects_one(&self) -> bool
         ensures due { IsTrue result ↔ LastBitIsDue self.now.shape P (due_put self.now) }
@@ -70,8 +70,8 @@ impl PutScan {
         self.scan.expects_one()
     }
 
-    /// The due read was made and answered 0. It must not be of the last bit. A 1 is told to the producer, once it has
-    /// come to where the scan is.
+    /// Records that the due read returned 0. It must not be of the last bit. A 1 is fed to the producer, once it has
+    /// gone on with this scan.
     #[inline(always)]
     pub fn zero(&mut self)
         requires not_last { LastBitIsDue self.old.shape P (due_put self.old) → false ≡ true }
@@ -82,9 +82,9 @@ impl PutScan {
     }
 }
 
-/// The word write of a put under way, apart from its producer. To a contract it is that producer with this word write.
+/// The word write of a put under way, separate from its producer. To a contract it is that producer with this word write.
 ///
-/// Its writes stand one behind the other, so a caller makes them in a loop of its own, with no look at how far the
+/// Its writes come one after the other, so a caller makes them in a loop of its own, without checking how far the
 /// call has come.
 ///
 /// In use: a put of `ring_run`.
@@ -112,7 +112,7 @@ impl PutWord {
     ghost use Rattle.ring_core.specs.ProducerCalls.{ProducerStands, PutGoesOn, ProducerMoves, longest};
     ghost use Rattle.ring_core.specs.ProducerState.{Call, due_put, call_of};
 
-    /// The write that is due, as [`Producer::next`] tells it.
+    /// The write that is due, as [`Producer::next`] returns it.
     #[inline(always)]
     pub fn next(&self) -> Access
         ensures due { due_put self.now ≡ Some result }
@@ -139,8 +139,8 @@ impl PutWord {
         self.word.is_last()
     }
 
-    /// The due write was made. It must not be the word's last, which is told to the producer, once it has come to where
-    /// the word write is. What the write was answered is ignored.
+    /// Records that the due write was made. It must not be the word's last, which is fed to the producer, once it has
+    /// gone on with this word write. The answer is ignored.
     #[inline(always)]
     pub fn feed(&mut self, answer: bool)
         requires not_last { suc self.old.word.written ≢ self.old.word.width }

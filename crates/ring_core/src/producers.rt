@@ -15,7 +15,7 @@ use std::alloc::AllocError;
 use std::marker::Model;
 use std::snapshot::Snapshot;
 
-/// How many of so many items a producer that has put `n` stores, where the consumer's count `d` leaves room.
+/// How many of `offered` items a producer that has put `n` stores, if the consumer's count `d` leaves room.
 #[inline(always)]
 fn fitting(shape: &Shape, n: u64, d: u64, offered: usize) -> usize
     requires below { (n < modulus_of shape.now) × (d < modulus_of shape.now) }
@@ -53,7 +53,7 @@ enum Stage {
     Closing,
 }
 
-/// The side that puts items (Lamport 1977): it tells the accesses of its calls one by one. It takes no memory.
+/// The side that puts items (Lamport 1977): it yields the accesses of its calls one by one. It takes no memory.
 ///
 /// In use: `uses::by_hand::step_producer`.
 #[derive(Debug, Drop)]
@@ -87,7 +87,7 @@ impl Model for Producer {
     ghost invariant = { λ p. IsProducer (producer_view p) × (p.offered ≤ 64) × (p.most ≤ 64) × (p.index ≤ 64) };
 }
 
-// By hand, as a derived one clones each field, which costs the proof ten times as much.
+// Written by hand: a derived one clones each field, which makes the proof ten times as expensive.
 impl Clone for Producer {
     ghost is_clone = { λ x y. y ≡ x };
 
@@ -135,8 +135,8 @@ impl Producer {
         }
     }
 
-    /// Begins a put of an item that fits the shape. No access may be due. The accesses made stay as they were.
-    /// After a close it is answered `Closed` at once, with no access, and nothing else changes.
+    /// Starts a put of an item that fits the shape. No access may be due. The accesses made are unchanged.
+    /// After a close it returns `Closed` at once, with no access, and nothing else changes.
     pub fn put(&mut self, item: u64)
         requires idle { due_put self.old ≡ None }
         requires fits { item < 2 ^ width_of self.old.shape }
@@ -151,9 +151,10 @@ impl Producer {
         self.offer(&[item]);
     }
 
-    /// Begins a put of items under one count write: some items that fit the shape, at most its batch. It stores
-    /// those for which there is room, from the first on. No access may be due. The accesses made stay as they
-    /// were. After a close it is answered `Closed` at once, with no access, and nothing else changes.
+    /// Starts a put of items under one count write: at least one item and at most the shape's batch, all of
+    /// which fit the shape. It stores those for which there is room, starting with the first. No access may be
+    /// due. The accesses made are unchanged. After a close it returns `Closed` at once, with no access, and
+    /// nothing else changes.
     #[inline(always)]
     pub fn put_all(&mut self, items: &[u64])
         requires idle { due_put self.old ≡ None }
@@ -194,8 +195,8 @@ impl Producer {
         }
     }
 
-    /// Begins a close. No access may be due. The accesses made stay as they were. A second close has no access
-    /// and changes nothing but the reply.
+    /// Starts a close. No access may be due. The accesses made are unchanged. A second close has no access and
+    /// changes nothing but the reply.
     pub fn close(&mut self)
         requires { due_put self.old ≡ None }
         ensures shape { self.new.shape ≡ self.old.shape }
@@ -210,10 +211,10 @@ impl Producer {
         }
     }
 
-    /// The access that is due, and none where no call is under way. It is of a bit of the shape, by the side that may,
-    /// so a memory of that shape takes it. Whatever it is answered, but for a 0 where
-    /// [`expects_one`](Self::expects_one), the call under way goes on with it; a call has at most so many accesses as
-    /// [`calls_are_short`](crate::laws::calls_are_short) says.
+    /// The access that is due, or `None` if no call is under way. It is of a bit of the shape, by the side that may
+    /// make it, so a memory of that shape accepts it. Whatever it returns, except for a 0 when
+    /// [`expects_one`](Self::expects_one), the call under way continues with it;
+    /// [`calls_are_short`](crate::laws::calls_are_short) bounds the accesses of a call.
     #[inline(always)]
     pub fn next(&self) -> Option<Access>
         ensures due { result ≡ due_put self.now }
@@ -236,8 +237,8 @@ impl Producer {
         }
     }
 
-    /// The due access was made and answered so; the answer to a write says nothing. Where
-    /// [`expects_one`](Self::expects_one), the answer must be 1.
+    /// Records that the due access was made and returned `answer`; for a write it is ignored. When
+    /// [`expects_one`](Self::expects_one), it must be 1.
     #[inline(always)]
     pub fn feed(&mut self, answer: bool)
         requires due { due_put self.old ≢ None }
@@ -255,7 +256,7 @@ impl Producer {
         }
     }
 
-    /// The same as [`feed`](Self::feed), where a scan is under way.
+    /// The same as [`feed`](Self::feed), while a scan is under way.
     #[inline(always)]
     pub fn feed_scan(&mut self, answer: bool)
         requires stage { self.old.stage ≡ Scanning }
@@ -279,7 +280,7 @@ impl Producer {
         }
     }
 
-    /// The same as [`feed`](Self::feed), where a word write is under way.
+    /// The same as [`feed`](Self::feed), while a word write is under way.
     #[inline(always)]
     pub fn feed_word(&mut self, answer: bool)
         requires stage { self.old.stage ≡ Storing }
@@ -300,7 +301,7 @@ impl Producer {
         }
     }
 
-    /// The same as [`feed`](Self::feed), where the write of the count is under way.
+    /// The same as [`feed`](Self::feed), while the write of the count is under way.
     #[inline(always)]
     pub fn feed_count(&mut self, answer: bool)
         requires stage { self.old.stage ≡ Counting }
@@ -319,8 +320,8 @@ impl Producer {
         }
     }
 
-    /// The scan of the call under way by itself, where one is: it goes on apart from the producer, which
-    /// [`go_on_with_scan`](Self::go_on_with_scan) brings to where it then is.
+    /// The scan of the call under way on its own, if there is one: it proceeds separately from the
+    /// producer, which [`go_on_with_scan`](Self::go_on_with_scan) brings to the same point.
     #[inline(always)]
     pub fn scan(&self) -> Option<PutScan>
         ensures some { IfSome result (λ s. (s ≡ self.now) × (self.now.stage ≡ Scanning)) }
@@ -335,8 +336,8 @@ impl Producer {
         }
     }
 
-    /// The word write under way by itself, where one is: it goes on apart from the producer, which
-    /// [`go_on_with_word`](Self::go_on_with_word) brings to where it then is.
+    /// The word write under way on its own, if there is one: it proceeds separately from the
+    /// producer, which [`go_on_with_word`](Self::go_on_with_word) brings to the same point.
     #[inline(always)]
     pub fn word(&self) -> Option<PutWord>
         ensures some { IfSome result (λ w. (w ≡ self.now) × (self.now.stage ≡ Storing)) }
@@ -362,7 +363,7 @@ impl Producer {
         }
     }
 
-    /// The producer comes to where its scan is.
+    /// Brings the producer to the point that its scan has reached.
     #[inline(always)]
     pub fn go_on_with_scan(&mut self, scan: PutScan)
         requires same { IsProducerButScan self.old scan }
@@ -372,7 +373,7 @@ impl Producer {
         self.scan = scan;
     }
 
-    /// The producer comes to where its word write is.
+    /// Brings the producer to the point that its word write has reached.
     #[inline(always)]
     pub fn go_on_with_word(&mut self, word: PutWord)
         requires same { IsProducerButWord self.old word }
@@ -382,8 +383,8 @@ impl Producer {
         self.word = word;
     }
 
-    /// What the last call was answered, where it was a put: none before the first one, during a call, after a put
-    /// of several items, and after a close.
+    /// The reply of the last call, if it was a put of one item. `None` before the first call, during a call,
+    /// after a put of several items, and after a close.
     #[inline(always)]
     pub fn reply(&self) -> Option<PutReply>
         ensures state { result ≡ put_reply self.now }
@@ -402,7 +403,7 @@ impl Producer {
         }
     }
 
-    /// What the last call was answered, where it was a put of several items: none before the first one, during a
+    /// The reply of the last call, if it was a put of several items. `None` before the first call, during a
     /// call, after a put of one item, and after a close.
     #[inline(always)]
     pub fn batch_reply(&self) -> Option<BatchReply>
@@ -422,8 +423,8 @@ impl Producer {
         self.closed
     }
 
-    /// Whether the last bit of the consumer's count is due. Over a lawful history whose consumer follows its
-    /// program it answers 1.
+    /// Whether the last bit of the consumer's count is due. In a lawful history whose consumer follows its
+    /// program it returns 1.
     #[inline(always)]
     pub fn expects_one(&self) -> bool
         ensures due { IsTrue result ↔ LastBitIsDue self.now.shape P (due_put self.now) }

@@ -1,6 +1,6 @@
-//! What the calls of the two sides are answered.
+//! The replies of the calls of the two sides.
 
-/// What a put was answered.
+/// The reply of a put.
 ///
 /// In use: `uses::by_hand::put_by_hand`.
 #[derive(Clone, Copy, PartialEq, Eq, Debug)]
@@ -13,12 +13,12 @@ pub enum PutReply {
     Closed,
 }
 
-/// What a put of several items was answered.
+/// The reply of a put of several items.
 ///
 /// In use: `uses::batches::put_batch`.
 #[derive(Clone, Copy, PartialEq, Eq, Debug)]
 pub enum BatchReply {
-    /// So many items were stored, from the first on.
+    /// This many items were stored, starting with the first.
     Stored(u64),
     /// The ring was full.
     Full,
@@ -26,7 +26,7 @@ pub enum BatchReply {
     Closed,
 }
 
-/// What a take was answered.
+/// The reply of a take.
 ///
 /// In use: `uses::steps::take_amid_put`.
 #[derive(Clone, Copy, PartialEq, Eq, Debug)]
@@ -39,12 +39,12 @@ pub enum TakeReply {
     Closed,
 }
 
-/// What a take of several items was answered.
+/// The reply of a take of several items.
 ///
-/// In use: the answer of a take of several of a counter ring.
+/// In use: the reply of a take of several of a counter ring.
 #[derive(Clone, Copy, PartialEq, Eq, Debug)]
 pub enum TakeBatchReply {
-    /// So many items were taken, which [`Consumer::items`](crate::Consumer::items) tells.
+    /// This many items were taken; [`Consumer::items`](crate::Consumer::items) returns them.
     Taken(u64),
     /// The ring was empty.
     Empty,

@@ -1,4 +1,4 @@
--- An access to a digit of a cell is one of a word that a call writes or reads, so no two of the two sides overlap.
+-- An access to a digit of a cell is one of a word that a call writes or reads, so accesses of the two sides do not overlap.
 use Rattle.std.proofs.Common.{◌≡◌, ◌⊎◌, inl, inr, ℕ, zero, suc, ◌+◌, ◌-◌, ◌*◌, ◌%◌, ◌<◌, ◌≤◌, Bool, true, false, Option, Some, None, List, [], ◌∷◌, ◌++◌, length, drop, if◌then◌else◌, refl, sym, ap, subst, ◌∙◌, arith, length-append}
 use Rattle.std.specs.Prelude.{slice_get}
 use Rattle.std.proofs.Math.Nat.{suc-mul}
@@ -61,7 +61,7 @@ AtCell made m j = (x : Made) × (slice_get made m ≡ Some x) × (cell_of x ≡ 
 abbrev NoCells : List Made → Type 0
 NoCells made = (m j : ℕ) → AtCell made m j → ⊥
 
--- it is in the one list or in the other
+-- it is in the first list or in the second
 at_parts :
     (xs ys : List Made) (m j : ℕ) → AtCell (xs ++ ys) m j →
     ((m < length xs) × AtCell xs m j) ⊎ ((n : ℕ) × (m ≡ length xs + n) × AtCell ys n j)
@@ -257,7 +257,7 @@ in_reads shape =
     in_words_by shape (words_read shape) (λ n. word_read (width_of shape) (n % capacity_of shape)) (λ n. refl) (λ n item items. refl)
     (λ n item. length-reads (n % capacity_of shape) item (width_of shape)) (λ n item. in_cell_read (n % capacity_of shape) item (width_of shape))
 
--- behind what comes before its words, a take of items has them, and then its count write
+-- after what precedes its words, a take of items has them, and then its count write
 in_items : (shape : Shape) (c : Count) (items : List ℕ) (m j : ℕ) → AtCell (items_phrase shape c items) m j → InWords shape c.number items m j
 in_items shape c items m j at =
     elim (at_parts (words_read shape c.number items) (batch_phrase shape C c items) m j at) [
@@ -290,7 +290,7 @@ none-end (Closed seen again) = none-twice seen again
 
 -- ---- places
 
--- an own event stands no later than a later one
+-- an own event is no later than a later one
 in_order : (s : Side) (h : List Event) (i e a b : ℕ) → i ≤ e → IsPlaceOf s h i a → IsPlaceOf s h e b → a ≤ b
 in_order s h i e a b l p q = elim (at_most_or_above a b) [ inl m ↦ m | inr m ↦ absurd (omega (arith, clock_rises s h (suc b) a m, p.before, q.past, l)) ]
 
@@ -307,7 +307,7 @@ drop_within xs zero l = omega arith
 drop_within [] (suc i) l = absurd (omega (arith, l))
 drop_within (x ∷ xs) (suc i) l = omega (arith, drop_within xs i (omega (arith, l)))
 
--- an access ends at most where the history does
+-- an access ends no later than the history
 ends_within : (h : List Event) (s : Side) (a : Access) (start stop : ℕ) → IsAccess h s a start stop → stop ≤ length h
 ends_within h s a start stop r =
     let some : start < length h = slice_get_within h start r.event r.at_start in

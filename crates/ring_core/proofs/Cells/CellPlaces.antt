@@ -1,4 +1,4 @@
--- Which put an access to a cell belongs to, and where the accesses of a put's word stand.
+-- Which put an access to a cell belongs to, and where the accesses of a put's word are.
 use Rattle.std.proofs.Common.{◌≡◌, inl, inr, ℕ, zero, suc, ◌+◌, ◌-◌, ◌*◌, ◌%◌, ◌<◌, ◌≤◌, Bool, true, cond, nat_eq, Some, List, [], ◌∷◌, ◌++◌, length, refl, sym, ap, subst, ◌∙◌, arith, append_assoc, length-append}
 use Rattle.std.specs.Prelude.{slice_get}
 use Rattle.std.proofs.lemmas.List.{map-append}
@@ -39,7 +39,7 @@ stands_order (y ∷ ys) s n s' n' x x' (inr a) (inr b) l =
     let r = stands_order ys a.0 a.1 b.0 b.1 x x' a.4 b.4 (omega (arith, a.3, b.3, l)) in
     omega (arith, r, a.2, b.2)
 
--- behind a span there are its items too
+-- after a span its items are counted
 pub stands_numbers : (xs : List Span) (s n s' n' : ℕ) (x x' : Span) → IsSpanAt xs s n x → IsSpanAt xs s' n' x' → n < n' → n + counts x.outcome ≤ n'
 stands_numbers [] s n s' n' x x' st st' l = elim st [ ]
 stands_numbers (y ∷ ys) s n s' n' x x' (inl a) (inl b) l = absurd (omega (arith, a.1, b.1, l))
@@ -49,7 +49,7 @@ stands_numbers (y ∷ ys) s n s' n' x x' (inr a) (inr b) l =
     let r = stands_numbers ys a.0 a.1 b.0 b.1 x x' a.4 b.4 (omega (arith, a.3, b.3, l)) in
     omega (arith, r, a.3, b.3)
 
--- two spans that count items behind the same number begin at one place
+-- two spans that count items after the same number begin at one place
 pub stands_same :
     (xs : List Span) (s n s' : ℕ) (x x' : Span) → IsSpanAt xs s n x → 1 ≤ counts x.outcome → IsSpanAt xs s' n x' → 1 ≤ counts x'.outcome → (s ≡ s') × (x ≡ x')
 stands_same [] s n s' x x' st o st' o' = elim st [ ]
@@ -69,7 +69,7 @@ multiple_up a b w l =
     let sum : a + c ≡ b = omega (arith, l) in
     omega (arith, ap (λ k. k * w) sum, add-mul a c w)
 
--- words stand in the order of their items
+-- words come in the order of their items
 pub words_order :
     (w : ℕ) (xs : List Span) (s n i s' n' i' : ℕ) (x x' : Span) → IsSpanAt xs s n x → IsSpanAt xs s' n' x' → i < counts x.outcome → i' < counts x'.outcome →
     x.word ≡ 2 * (counts x.outcome * w) → n + i ≤ n' + i' → s + x.scan + 2 * (i * w) ≤ s' + x'.scan + 2 * (i' * w)
@@ -87,7 +87,7 @@ words_order w xs s n i s' n' i' x x' st st' l l' word o = elim (at_most_or_above
 
 -- ---- from an access to its put
 
--- the put whose word of the cell has its digit d behind so many events
+-- the put whose word of the cell has its digit d after this many events
 pub record CellTime (shape : Shape) (looks : List Look) (c : Count) (j d place : ℕ) : Type 0 where
   pub start : ℕ
   pub number : ℕ
@@ -100,7 +100,7 @@ pub record CellTime (shape : Shape) (looks : List Look) (c : Count) (j d place :
   pub place_is : place ≡ start + put.scan + 2 * (index * width_of shape) + 2 * d
   pub within : d < width_of shape
 
--- an access in a list of one is it
+-- an access in a list of one is that one
 only_one : (y : Made) (before : List Made) (x : Made) (after : List Made) → y ∷ [] ≡ before ++ x ∷ after → (before ≡ []) × (y ≡ x)
 only_one y [] x after e = (refl, cc)
 only_one y (z ∷ []) x after e = absurd (cc)
@@ -109,7 +109,7 @@ only_one y (z ∷ w ∷ before) x after e = absurd (cc)
 length-digits : (c item w : ℕ) → length (writes_in (Cell c) (digit_writes item w)) ≡ w
 length-digits c item w = length-word_write w c item
 
--- an access among the writes of digits is of the digit that so many are before
+-- an access among the writes of digits is of the digit whose number is how many come before it
 digit_of :
     (c item w : ℕ) (before : List Made) (x : Made) (after : List Made) (j d : ℕ) (v : Bool) →
     writes_in (Cell c) (digit_writes item w) ≡ before ++ x ∷ after → access_of x ≡ begins.Write (Cell j d) v → (c ≡ j) × (length before ≡ d) × (d < w)
@@ -182,7 +182,7 @@ part_time shape n (Asks answer) before x after j d v e f =
     let (none, same) = only_one (Read X answer) before x after e in
     absurd (let accesses : access_of (Read X answer) ≡ begins.Write (Cell j d) v = ap access_of same ∙ f in cc)
 
--- no access to a cell stands among accesses that write to none
+-- no access to a cell is among accesses that write to none
 none_behind :
     (behind before : List Made) (x : Made) (after : List Made) (j d : ℕ) (v : Bool) → to_cell j behind ≡ [] →
     behind ≡ before ++ x ∷ after → access_of x ≡ begins.Write (Cell j d) v → ⊥
@@ -260,7 +260,7 @@ pub record WordTime (shape : Shape) (looks : List Look) (behind : List Made) (c 
   pub written : length (to_cell j front) ≡ nth * width_of shape
   pub listed : slice_get (cell_items shape j c.number looks) nth ≡ Some item
 
--- the same among the words of one look
+-- the same within the words of one look
 pub record WordIn (shape : Shape) (n : ℕ) (items : List ℕ) (j index item : ℕ) : Type 0 where
   pub front : List Made
   pub back : List Made
@@ -388,7 +388,7 @@ word_time shape c (l ∷ looks) behind j start number index put item (inr st) e 
       listed = slice_get-behind here (cell_items shape j next.number looks) r.nth ∙ r.listed;
     }
 
--- the write of digit d of the word, behind so many writes to the cell
+-- the write of digit d of the word, after this many writes to the cell
 pub record DigitTime (all : List Made) (j d item place count : ℕ) : Type 0 where
   pub before : List Made
   pub after : List Made
@@ -443,7 +443,7 @@ pub record ReadTime (shape : Shape) (all : List Made) (j item place : ℕ) : Typ
   pub is : all ≡ front ++ (word_read (width_of shape) j item ++ back)
   pub place_is : 2 * length front ≡ place
 
--- a multiple of what is doubled
+-- a multiple of a doubled number
 pub doubled : (i w : ℕ) → i * (2 * w) ≡ 2 * (i * w)
 doubled zero w =
     let none : 0 * (2 * w) ≡ 0 = omega arith in

@@ -1,4 +1,4 @@
--- Where the writes to the digits of a cell stand among the accesses of the producer.
+-- Where the writes to the digits of a cell are among the accesses of the producer.
 use Rattle.std.proofs.Common.{◌≡◌, ◌⊎◌, inl, inr, ℕ, zero, suc, ◌+◌, ◌%◌, ◌^◌, ◌<◌, Bool, true, false, cond, nat_eq, Some, None, List, [], ◌∷◌, ◌++◌, length, refl, sym, ap, ◌∙◌, arith, append_assoc, append-nil, length-append}
 use Rattle.std.specs.Prelude.{All}
 use Rattle.std.proofs.lemmas.Bool.Decides.{nat_tests}
@@ -29,9 +29,9 @@ to_cell j made = made_writes (cell_write j) P made
 pub to_cell-append : (j : ℕ) (xs ys : List Made) → to_cell j (xs ++ ys) ≡ to_cell j xs ++ to_cell j ys
 to_cell-append j xs ys = filter_map-append (λ (x : Made). cell_write j (begin_event P x)) xs ys
 
--- ---- where an access stands in two lists, one after the other
+-- ---- the position of an access in two lists, one after the other
 
--- it stands in the first, or behind it in the second
+-- it is in the first, or after it in the second
 pub where_in :
     (us vs before : List Made) (x : Made) (after : List Made) → us ++ vs ≡ before ++ x ∷ after →
     ((rest : List Made) × (us ≡ before ++ x ∷ rest) × (after ≡ rest ++ vs)) ⊎ ((more : List Made) × (before ≡ us ++ more) × (vs ≡ more ++ x ∷ after))
@@ -51,7 +51,7 @@ where_in (u ∷ us) vs (y ∷ before) x after e =
 abbrev pub NoCell : Made → Type 0
 NoCell x = (j d : ℕ) (v : Bool) → access_of x ≡ begins.Write (Cell j d) v → ⊥
 
--- none of these is one
+-- none of these accesses is such a write
 abbrev pub NoCells : List Made → Type 0
 NoCells [] = Unit {0}
 NoCells (x ∷ xs) = NoCell x × NoCells xs
@@ -64,7 +64,7 @@ no_cells-read : (n : ℕ) → NoCells (zero_reads (row_read_by P) n)
 no_cells-read zero = record {}
 no_cells-read (suc n) = no_cells-append (zero_reads (row_read_by P) n) (Read (R n) false ∷ []) (no_cells-read n) ((λ j d v e. absurd (cc)), record {})
 
--- a scan has none
+-- a scan has no such write
 pub no_cells-scan : (c : ℕ) → NoCells (scan_phrase (row_read_by P) c)
 no_cells-scan c = no_cells-append (zero_reads (row_read_by P) c) (Read (R c) true ∷ []) (no_cells-read c) ((λ j d v e. absurd (cc)), record {})
 
@@ -109,12 +109,12 @@ pub own_cell : (c : ℕ) (writes : List RowWrite) → to_cell c (writes_in (Cell
 own_cell c [] = refl
 own_cell c (w ∷ writes) = rw (own_number c w.bit) (ap (λ l. w ∷ l) (own_cell c writes))
 
--- it has none to another cell
+-- they have none to another cell
 other_cell : (j c : ℕ) (writes : List RowWrite) → (j ≡ c → ⊥) → to_cell j (writes_in (Cell c) writes) ≡ []
 other_cell j c [] h = refl
 other_cell j c (w ∷ writes) h = rw (other_number j c w.bit h) (other_cell j c writes h)
 
--- a write to a digit of the cell is counted where it stands
+-- a write to a digit of the cell is counted at its place
 pub to_cell-there :
     (j : ℕ) (before : List Made) (x : Made) (after : List Made) (d : ℕ) (v : Bool) → access_of x ≡ begins.Write (Cell j d) v →
     length (to_cell j (before ++ x ∷ after)) ≡ length (to_cell j before) + suc (length (to_cell j after))
@@ -132,7 +132,7 @@ abbrev pub stored_to : Shape → ℕ → ℕ → List ℕ → List ℕ
 stored_to shape j n [] = []
 stored_to shape j n (item ∷ items) = cond (nat_eq j (n % capacity_of shape)) (item ∷ []) [] ++ stored_to shape j (suc n) items
 
--- those that are stored to the cell after a scan, behind n items
+-- those that are stored to the cell after a scan, after n items
 abbrev pub items_here : Shape → ℕ → ℕ → Outcome → List ℕ
 items_here shape j n (Passes items) = stored_to shape j n items
 items_here shape j n Stops = []

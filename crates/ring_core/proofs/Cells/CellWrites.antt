@@ -1,4 +1,4 @@
--- The writes to the digits of a cell in a history: they are the producer's, and how many began before a place.
+-- The writes to the digits of a cell in a history: they are the producer's, with how many began before a place.
 use Rattle.std.proofs.Common.{◌≡◌, ℕ, zero, suc, ◌*◌, ◌<◌, Bool, true, false, Option, Some, None, List, [], ◌∷◌, ◌++◌, length, take, drop, refl, sym, ap, ◌∙◌, arith, append_assoc, append-nil, length-append}
 use Rattle.std.specs.Prelude.{slice_get}
 use Rattle.std.specs.List.{cons_option}
@@ -116,7 +116,7 @@ write_counts j (x ∷ h) zero (suc b) e w there is l =
 write_counts j (x ∷ h) (suc a) (suc b) e w there is l =
     more_by_one (cell_write j x) (cell_writes j (take a h)) (cell_writes j (take b h)) (write_counts j h a b e w there is (omega arith))
 
--- and in the end
+-- and at the end of the history
 write_counts_at_end :
     (j : ℕ) (h : List Event) (a : ℕ) (e : Event) (w : RowWrite) → slice_get h a ≡ Some e → cell_write j e ≡ Some w →
     length (cell_writes j (take a h)) < length (cell_writes j h)
@@ -148,6 +148,6 @@ module _ (h : List Event) (j d : ℕ) (v : Bool) (start stop : ℕ) (w : IsWrite
   pub write_is_counted : (b : ℕ) → start < b → length (cell_writes j (take start h)) < length (cell_writes j (take b h))
   write_is_counted b l = write_counts j h start b w.event _ w.at_start is_cell_write l
 
-  -- and than in the end
+  -- and than at the end of the history
   pub write_is_counted_at_end : length (cell_writes j (take start h)) < length (cell_writes j h)
   write_is_counted_at_end = write_counts_at_end j h start w.event _ w.at_start is_cell_write

@@ -16,7 +16,7 @@ use Rattle.ring_core.specs.RingLaw.{IsInterval}
 use Rattle.ring_core.proofs.OverSpans.CallSpans.{put_seen, put_items}
 
 -- Item number j is one of those of a call whose own events end before stop: the digits of the item's word are accessed from the side's
--- own event word on, behind what the call accesses before its words.
+-- own event word on, after what the call accesses before its words.
 pub record HasItem {X : Type 0} (IsAt : X → (n start stop : ℕ) → Type 0) (front : X → List Made) (items : X → List ℕ) (width j item word stop : ℕ) : Type 0 where
   pub call : X
   pub n : ℕ
@@ -27,7 +27,7 @@ pub record HasItem {X : Type 0} (IsAt : X → (n start stop : ℕ) → Type 0) (
   pub number : j ≡ n + index
   pub word_is : word ≡ start + events_in (front call) + 2 * (index * width)
 
--- an item of a call that stands there
+-- an item of a call that is there
 pub has_item :
     {X : Type 0} → (IsAt : X → (n start stop : ℕ) → Type 0) (front : X → List Made) (items : X → List ℕ) (width : ℕ) (x : X) (n start stop index item : ℕ) → IsAt x n start stop →
     slice_get (items x) index ≡ Some item → HasItem IsAt front items width (n + index) item (start + events_in (front x) + 2 * (index * width)) stop
@@ -44,7 +44,7 @@ StoresItem shape calls = HasItem (IsPutAt shape calls) put_scan put_items (width
 abbrev pub TakesItem : Shape → Takes → (k item word stop : ℕ) → Type 0
 TakesItem shape calls = HasItem (IsTakeAt shape calls) accesses_before_word taken_of (width_of shape)
 
--- where two items have the same cell, the word write of the one and the word read of the other do not overlap
+-- if two items have the same cell, the word write of the first and the word read of the second do not overlap
 abbrev pub ItemsAreQuiet : Shape → List Event → Puts → Takes → Type 0
 ItemsAreQuiet shape h puts takes =
     (j item word past : ℕ) → StoresItem shape puts j item word past →

@@ -1,4 +1,4 @@
--- What reads of a cell give: where no put's word write overlaps a take's word read, the item that was written last.
+-- What reads of a cell return: if no put's word write overlaps a take's word read, the item written last.
 use Rattle.std.proofs.Common.{◌≡◌, ◌⊎◌, inl, inr, ℕ, zero, suc, ◌+◌, ◌-◌, ◌*◌, ◌/◌, ◌%◌, ◌^◌, ◌<◌, ◌≤◌, Bool, true, false, Some, List, [], ◌∷◌, ◌++◌, length, take, refl, sym, ap, subst, ◌∙◌, arith}
 use Rattle.std.specs.Prelude.{slice_get}
 use Rattle.std.proofs.lemmas.Nat.{div-mul-add}
@@ -41,13 +41,13 @@ close_to_cell false j = refl
 
 -- ---- lists and numbers
 
--- what stands in the list of an outcome's items is one of them
+-- what is in the list of an outcome's items is one of them
 stored_within : (xs : List ℕ) (i item : ℕ) → slice_get xs i ≡ Some item → i < length xs
 stored_within [] i item e = absurd (cc)
 stored_within (x ∷ xs) zero item e = omega arith
 stored_within (x ∷ xs) (suc i) item e = omega (arith, stored_within xs i item e)
 
--- what stands in a list, with what is before it and after it
+-- an element of a list, with what is before it and after it
 split_at :
     {A : Type 0} → (xs : List A) (n : ℕ) (x : A) → slice_get xs n ≡ Some x →
     (before : List A) × (after : List A) × (xs ≡ before ++ x ∷ after) × (length before ≡ n)
@@ -57,12 +57,12 @@ split_at (y ∷ xs) (suc n) x e =
     let (before, after, is, places) = split_at xs n x e in
     (y ∷ before, after, ap (λ l. y ∷ l) is, omega (arith, places))
 
--- and what stands between the two
+-- and what is between the two
 stands_there : {A : Type 0} → (before : List A) (x : A) (after : List A) → slice_get (before ++ x ∷ after) (length before) ≡ Some x
 stands_there [] x after = refl
 stands_there (y ∷ before) x after = stands_there before x after
 
--- a multiple and less than one more tell both
+-- a multiple plus less than the factor determines both
 same_multiple : (a b w d : ℕ) → d < w → a * w + d ≡ b * w → (a ≡ b) × (d ≡ 0)
 same_multiple a b w d l e =
     let quotients : a ≡ b = sym (div-mul-add a w d l) ∙ ap (λ k. k / w) (omega (arith, e)) ∙ div-mul-add b w 0 (omega (arith, l)) in
@@ -106,7 +106,7 @@ module _ (shape : Shape) (h : List Event) (lawful : IsLawful shape h) (looks loo
     | inr (inr e) ↦ omega (arith, a, b, e)
   ]
 
-  -- the side's clock tells which of its places comes first
+  -- the side's clock says which of its places comes first
   earlier : (t u : ℕ) → clock P h t < clock P h u → t < u
   earlier t u l = elim (at_most_or_above u t) [
     | inl m ↦ absurd (omega (arith, l, clock_up (clock P h) producer_clock u t m))
@@ -285,7 +285,7 @@ module _ (shape : Shape) (h : List Event) (lawful : IsLawful shape h) (looks loo
     abbrev cell : ℕ
     cell = (k + i) % capacity_of shape
 
-    -- where the read begins
+    -- the place where the read begins
     abbrev from : ℕ
     from = s + x.scan + i * (2 * width)
 
@@ -447,7 +447,7 @@ module _ (shape : Shape) (h : List Event) (lawful : IsLawful shape h) (looks loo
         subst (λ l. IsPrefix (cell_writes cell h) l) (looks_to_cell shape cell first_count looks behind (none cell))
         (writes_are_made_cells shape h lawful all follows cell)
 
-    -- it gives the item that was written last
+    -- it returns the item written last
     read_gives : item ≡ written
     read_gives =
         let apart_from_all : (n start stop : ℕ) → IsWordWrite width cell h n start stop → ¬ intervals.Overlap (begins_at 0) (ends_at (width - 1)) start stop =

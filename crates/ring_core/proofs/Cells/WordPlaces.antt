@@ -288,7 +288,7 @@ word_from s shape c (l ∷ looks) tail none before rest cell v e =
           }
     ]
 
--- a word that stands there is that of an item
+-- a word that is there is that of an item
 pub word_there :
     (s : Side) (shape : Shape) (c : Count) (looks : List Look) (tail : List Made) → NoneAre (IsFirst s) tail → (before after : List Made) (cell item : ℕ) →
     look_accesses s shape c looks tail ≡ before ++ (word_of s (width_of shape) cell item ++ after) →

@@ -6,7 +6,7 @@ use Rattle.queue_calls.specs.Queue.{Enqueue, Close, Dequeue, FindClosed}
 use Rattle.ring_core.specs.Linear.{TimedOperation, operations, put_operations, take_operations}
 use Rattle.ring_core.proofs.Examples.{one_cell, put_and_close, second_scan, three_cells, three_at_once}
 
--- the operations before these moments: none, the first ones, the same, and then the second ones behind them
+-- the operations before these moments: none, the first ones, the same, and then the second ones after them
 abbrev ComeAt : (ℕ → List TimedOperation) → (before with_first still with_both : ℕ) → (first second : List TimedOperation) → Type 0
 ComeAt by before with_first still with_both first second = (by before ≡ []) × (by with_first ≡ first) × (by still ≡ first) × (by with_both ≡ first ++ second)
 
@@ -17,8 +17,7 @@ put_and_close-operations :
 unfolding one_cell
 put_and_close-operations = (refl, refl, refl, refl)
 
--- it is taken with the first event of the take's count write, number 10, and that the ring is closed is told with the last of the
--- 24 events
+-- it is taken with the first event of the take's count write, number 10, and Closed is returned with the last of the 24 events
 second_scan-operations :
     ComeAt (take_operations one_cell first_count 0 second_scan.takes second_scan.end) 10 11 23 24 (operations C 0 14 (Dequeue 1 ∷ [])) (operations C 14 24 (FindClosed ∷ []))
 unfolding one_cell

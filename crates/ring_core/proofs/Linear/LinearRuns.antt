@@ -31,7 +31,7 @@ use Rattle.ring_core.proofs.Linear.PutTurnFacts.{put_turns-numbered, put_turns-i
 use Rattle.ring_core.proofs.Linear.TakeTurns.{take_turns, take_turns-ops, take_turns-sorted, take_turns-numbered, taken_from}
 use Rattle.ring_core.proofs.Linear.TakeTurnFacts.{takes_hold}
 
--- an order that keeps time from the front keeps it
+-- an order that respects time from the front respects it
 in_behind : (xs ys : List TimedOperation) (b : TimedOperation) → In b (xs ++ b ∷ ys)
 in_behind [] ys b = inl refl
 in_behind (x ∷ xs) ys b = inr (in_behind xs ys b)
@@ -106,7 +106,7 @@ module _ (shape : Shape) (h : List Event) (puts : Puts) (takes : Takes) (run : I
   within =
       omega (arith, (law.within (length h)).1, ap (counts_begun (put_spans shape puts)) (clock_end P h), ap (counts_begun (take_spans shape takes)) (clock_end C h), taken_is)
 
-  -- as many items are put as are stored
+  -- as many items are put as stored
   stored_is : length (items_put shape first_count puts.puts (length (subhistory P h))) ≡ stored
   stored_is = ap length (puts_items shape first_count puts.puts (length (subhistory P h))) ∙ length-begun_items (put_spans shape puts) (length (subhistory P h))
 

@@ -1,5 +1,5 @@
--- The operations of two sides have an order that is that of a queue and keeps the time of the calls: each operation of the consumer
--- stands behind those of the producer that have to stand before it, or before one that the consumer makes earlier, and no others.
+-- The operations of two sides have an order that is that of a queue and respects the time of the calls: each operation of the
+-- consumer comes after those of the producer that must precede it, or precede an earlier one of the consumer, and after no others.
 use Rattle.std.proofs.Common.{◌≡◌, ◌⊎◌, inl, inr, ℕ, suc, ◌+◌, ◌<◌, ◌≤◌, Bool, true, false, List, [], ◌∷◌, ◌++◌, length, refl, sym, ap, subst, ◌∙◌, arith, length-append, append_assoc}
 use Rattle.bits_core.specs.declared.events.Side.TheVariants.{P, C}
 use Rattle.bits_core.specs.declared.events.Event.{Event}
@@ -19,7 +19,7 @@ abbrev pub take_ops : List TakeOp → List TimedOperation
 take_ops [] = []
 take_ops (y ∷ ys) = take_op y ∷ take_ops ys
 
--- each stands before those behind it, and the close is the last
+-- each comes before those after it, and the close is the last
 abbrev pub PutsSorted : List Op → Type 0
 PutsSorted [] = Unit {0}
 PutsSorted (x ∷ xs) = ((x' : Op) → In x' xs → GoesTo x x' × ¬ IsEnd x.kind) × PutsSorted xs
@@ -28,7 +28,7 @@ abbrev pub TakesSorted : List TakeOp → Type 0
 TakesSorted [] = Unit {0}
 TakesSorted (y ∷ ys) = ((y' : TakeOp) → In y' ys → TakesTo y y') × TakesSorted ys
 
--- the numbers go on by one with each item, from the second number to the first
+-- the numbers grow by one with each item, from the second number to the first
 abbrev pub next_number : ℕ → Kind → ℕ
 next_number n (Moves item) = suc n
 next_number n Misses = n
@@ -56,7 +56,7 @@ abbrev pub items_taken_by : List TakeOp → List ℕ
 items_taken_by [] = []
 items_taken_by (y ∷ ys) = with_item y.kind (items_taken_by ys)
 
--- whether the queue is closed behind these
+-- whether the queue is closed after these
 abbrev pub closed_by : Bool → Kind → Bool
 closed_by closed (Moves item) = closed
 closed_by closed Misses = closed
@@ -66,7 +66,7 @@ abbrev pub IsClosedBy : Bool → List Op → Type 0
 IsClosedBy closed [] = closed ≡ true
 IsClosedBy closed (x ∷ xs) = IsClosedBy (closed_by closed x.kind) xs
 
--- no operation stands behind one before which it had ended, told from the front
+-- no operation comes after one before which it had ended, defined from the front
 abbrev pub IsTimely : List Event → List TimedOperation → Type 0
 IsTimely h [] = Unit {0}
 IsTimely h (o ∷ order) = ((o' : TimedOperation) → In o' order → ¬ EndsBefore h o' o) × IsTimely h order
@@ -75,7 +75,7 @@ IsTimely h (o ∷ order) = ((o' : TimedOperation) → In o' order → ¬ EndsBef
 abbrev pub IsOf : List Op → List TakeOp → TimedOperation → Type 0
 IsOf xs ys o = ((x : Op) × In x xs × (o ≡ put_op x)) ⊎ ((y : TakeOp) × In y ys × (o ≡ take_op y))
 
--- an order of the operations to come, from a queue on
+-- an order of the operations to come, starting with this queue
 pub record Ordered (h : List Event) (capacity : ℕ) (q : Queue) (xs : List Op) (ys : List TakeOp) : Type 0 where
   pub order : List TimedOperation
   pub producer : of_side P order ≡ put_ops xs
@@ -84,7 +84,7 @@ pub record Ordered (h : List Event) (capacity : ℕ) (q : Queue) (xs : List Op) 
   pub timely : IsTimely h order
   pub members : (o : TimedOperation) → In o order → IsOf xs ys o
 
--- What holds where the operations to come are these, so many items were taken, and these are in the queue.
+-- What holds when these operations are to come, this many items were taken, and these are in the queue.
 pub record Standing (capacity stored taken : ℕ) (IsPut : Op → Type 0) (IsTake : TakeOp → Type 0) (k : ℕ) (items : List ℕ) (closed : Bool) (xs : List Op) (ys : List TakeOp) : Type 0 where
   pub fits : length items ≤ capacity
   pub puts_numbered : PutsNumbered stored (k + length items) xs
@@ -112,7 +112,7 @@ takes_up : (last k : ℕ) (ys : List TakeOp) → TakesNumbered last k ys → k �
 takes_up last k [] e = omega (arith, e)
 takes_up last k (y ∷ ys) (e, r) = omega (arith, next_up k y.kind, takes_up last (next_number k y.kind) ys r)
 
--- the next item is put by one of the operations, where there is one
+-- the next item is put by one of the operations, if there is one
 abbrev NextPut : ℕ → List Op → Type 0
 NextPut n xs = (x : Op) × In x xs × IsMove x.kind × (x.number ≡ n)
 
@@ -216,7 +216,7 @@ module _ (h : List Event) (capacity events stored taken : ℕ) (puts_begun puts_
           let a' : y'.stop ≤ clock C h t = subst (λ (z : TimedOperation). z.stop ≤ clock z.side h t) e a in
           omega (arith, a', b, qy'.some, to.start)
 
-  -- an operation of the producer that may stand before all of the consumer that are to come, where these items are in the queue behind it
+  -- an operation of the producer that may precede all remaining ones of the consumer, if these items are in the queue after it
   put_on :
       (x : Op) (xs : List Op) (ys : List TakeOp) (k : ℕ) (items items' : List ℕ) (closed closed' : Bool) → Stands k items closed (x ∷ xs) ys →
       ((y : TakeOp) → In y ys → May h capacity x y) → Step (exactly capacity) (queue items closed) (put_does x.kind) (queue items' closed') →
@@ -266,7 +266,7 @@ module _ (h : List Event) (capacity events stored taken : ℕ) (puts_begun puts_
       put_on x xs ys k items items closed true r mays refl r.fits refl (λ y i e. absurd ((mays y i).opened tt e)) (λ x' i. absurd ((r.puts_sorted.0 x' i).1 tt))
       r.ends r.same (next items true)
 
-  -- an operation of the consumer before which none of the producer that are to come has to stand, where these items are in the queue behind it
+  -- an operation of the consumer that none of the producer's remaining ones must precede, if these items are in the queue after it
   take_on :
       (y : TakeOp) (xs : List Op) (ys : List TakeOp) (k : ℕ) (items items' : List ℕ) (closed : Bool) → Stands k items closed xs (y ∷ ys) → NoMust h capacity xs y →
       Step (exactly capacity) (queue items closed) (take_does y.kind) (queue items' closed) →
@@ -326,7 +326,7 @@ module _ (h : List Event) (capacity events stored taken : ℕ) (puts_begun puts_
       let y : TakeOp = record { number = n; kind = Ends; start = start; stop = stop; place = place } in
       take_on y [] ys k [] [] closed r none ((refl, r.ends y (inl refl) tt), refl) r.fits refl r.fulls r.same (next k [] closed)
 
-  -- what has to stand before the next operation of the consumer comes first
+  -- what must precede the next operation of the consumer comes first
   abbrev Goes : List Op → List TakeOp → Type 0
   Goes xs ys = (k : ℕ) (items : List ℕ) (closed : Bool) → Stands k items closed xs ys → Order items closed xs ys
 
@@ -354,7 +354,7 @@ module _ (h : List Event) (capacity events stored taken : ℕ) (puts_begun puts_
           put_step x.number x.start x.stop x.kind xs (y ∷ ys) k items closed r mays
           (λ s. omega (arith, (mays y (inl refl)).room s, r.puts_numbered.0, r.takes_numbered.0)) (go k)
 
-  -- behind all operations of the consumer the producer's come
+  -- after all operations of the consumer come the producer's
   puts_alone : (xs : List Op) → Goes xs []
   puts_alone [] k items closed r = record { order = []; producer = refl; consumer = refl; legal = tt; timely = tt; members = λ o i. absurd i }
   puts_alone (x ∷ xs) k items closed r = step (puts_alone xs)

@@ -1,4 +1,4 @@
--- What holds of the operations of the producer's calls in a run.
+-- The properties of the operations of the producer's calls in a run.
 use Rattle.std.proofs.Common.{◌≡◌, inl, inr, ℕ, suc, ◌+◌, ◌-◌, ◌<◌, ◌≤◌, Bool, true, false, nat_lt, nat_le, if◌then◌else◌, List, [], ◌∷◌, ◌++◌, length, refl, sym, ap, subst, ◌∙◌, arith, length-append}
 use Rattle.std.proofs.lemmas.Bool.{ltb-true, ltb-false, leb-true, lt-ltb}
 use Rattle.bits_core.specs.declared.events.Side.{Side}
@@ -27,7 +27,7 @@ use Rattle.ring_core.proofs.Linear.PutTurns.{if_yes, if_no, in_append, in_if, be
 use Rattle.bits_core.proofs.LawLemmas.{subhistory_has_place}
 use Rattle.bits_core.proofs.OwnEvents.{by_case}
 
--- the place of an own event is the last at which no more events have come
+-- the place of own event i is the last one with a clock of at most i
 pub last_place : (s : Side) (h : List Event) (i place t : ℕ) → IsPlaceOf s h i place → clock s h t ≤ i → t ≤ place
 last_place s h i place t q l = elim (at_most_or_above t place) [
   | inl m ↦ m
@@ -166,7 +166,7 @@ module _ (shape : Shape) (h : List Event) (puts : Puts) (takes : Takes) (law : L
       PutFact h (capacity_of shape) all_events (counts_begun (put_spans shape puts)) (counts_ended (put_spans shape puts)) (counts_ended (take_spans shape takes)) x ×
       (IsMove x.kind → x.number < counts_begun (put_spans shape puts) (length (subhistory P h)))
 
-  -- the spans of puts stand among those of all, behind so many events and a count
+  -- the spans of puts are among those of all puts, after this many events and starting at this count
   abbrev Stand : Count → ℕ → List Put → Type 0
   Stand c start rest = (s n : ℕ) (x : Span) → IsSpanAt (spans P shape c (put_looks rest)) s n x → IsSpanAt (put_spans shape puts) (start + s) (c.number + n) x
 
@@ -178,7 +178,7 @@ module _ (shape : Shape) (h : List Event) (puts : Puts) (takes : Takes) (law : L
       stands_at (put_spans shape puts) (start + (whole y + s)) (stop + s) (c.number + (counts y.outcome + n)) (next.number + n) x (omega (arith, f)) (omega (arith, g))
       (stand (whole y + s) (counts y.outcome + n) x here)
 
-  -- what has begun before a span that stands there
+  -- what has begun before a span that is there
   begun_there : (start n : ℕ) (y : Span) → IsSpanAt (put_spans shape puts) start n y → (i : ℕ) → i ≤ start → counts_begun (put_spans shape puts) i ≤ n
   begun_there start n y st i l =
       let here : counts_begun (put_spans shape puts) (start + 0) ≡ n = begun_at (batch_of shape) (put_spans shape puts) proper_puts start n y st 0 (omega arith) in

@@ -69,7 +69,7 @@ abbrev pub enqueue_turns : ℕ → ℕ → ℕ → List ℕ → List Op
 enqueue_turns n start stop [] = []
 enqueue_turns n start stop (item ∷ items) = put_turn n (Moves item) start stop ∷ enqueue_turns (suc n) start stop items
 
--- how many events a put has, and one that stores up to its count write
+-- how many events a put has, and how many one that stores has up to its count write
 abbrev pub put_long : Shape → Count → Put → ℕ
 put_long shape c x = events_in (put_phrase shape c x)
 
@@ -126,7 +126,7 @@ put_turns-ops shape c start (Full seen ∷ puts) closes t =
     let stop : ℕ = start + put_long shape c (Full seen) in
     join_ops (nat_le stop t) (nat_le stop t) (put_turn c.number Misses start stop ∷ []) _ _ _ refl refl (put_turns-ops shape c stop puts closes t)
 
--- ---- where nothing has begun there are none
+-- ---- if nothing has begun there are none
 
 pub put_some : (shape : Shape) (c : Count) (seen : ℕ) → 1 ≤ put_long shape c (Full seen)
 put_some shape c seen = omega (arith, length-scan (row_read_by P) seen)
@@ -182,7 +182,7 @@ enqueue_of n start stop (item ∷ items) x (inr i) =
     let r = enqueue_of (suc n) start stop items x i in
     record { index = suc r.index; number = omega (arith, r.number); inside = omega (arith, r.inside); starts = r.starts; stops = r.stops; enqueues = r.enqueues }
 
--- an operation that comes behind so many events and items
+-- an operation that comes after this many events and items
 pub record IsFrom (start number : ℕ) (x : Op) : Type 0 where
   pub starts : start ≤ x.start
   pub some : x.start < x.stop
@@ -227,7 +227,7 @@ put_turns-from shape c start (Full seen ∷ puts) closes t x i =
       | inr j ↦ from_later start stop c.number c.number x (omega arith) (omega arith) (put_turns-from shape c stop puts closes t x j)
     ]
 
--- the operations of a batch stand before what comes behind it
+-- the operations of a batch precede what comes after it
 enqueue_before :
     (n start stop : ℕ) (item : ℕ) (x : Op) → IsFrom stop (suc n) x → start ≤ stop → GoesTo (put_turn n (Moves item) start stop) x
 enqueue_before n start stop item x r l =

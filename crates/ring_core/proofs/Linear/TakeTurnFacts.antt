@@ -1,4 +1,4 @@
--- What holds of the operations of the consumer's calls in a run.
+-- The properties of the operations of the consumer's calls in a run.
 use Rattle.std.proofs.Common.{◌≡◌, inl, inr, ℕ, suc, ◌+◌, ◌*◌, ◌<◌, ◌≤◌, Bool, true, false, nat_le, if◌then◌else◌, Some, List, [], ◌∷◌, ◌++◌, length, refl, sym, ap, subst, ◌∙◌, arith, length-append}
 use Rattle.std.specs.Prelude.{slice_get}
 use Rattle.bits_core.specs.declared.events.Side.TheVariants.{P, C}
@@ -45,7 +45,7 @@ module _ (shape : Shape) (h : List Event) (puts : Puts) (takes : Takes) (law : L
       TakeFact h all_events all_stored (counts_ended (put_spans shape puts)) (counts_begun (take_spans shape takes)) (counts_ended (take_spans shape takes)) y ×
       ItemIs all_items y.kind y.number × (IsEnd y.kind → (all_events < length (subhistory P h)) × (puts.closes ≡ true))
 
-  -- these spans stand among those of all takes, behind so many events and items
+  -- these spans are among those of all takes, after this many events and items
   abbrev Stand : List Span → ℕ → ℕ → Type 0
   Stand xs start k = (s n : ℕ) (x : Span) → IsSpanAt xs s n x → IsSpanAt (take_spans shape takes) (start + s) (k + n) x
 
@@ -58,7 +58,7 @@ module _ (shape : Shape) (h : List Event) (puts : Puts) (takes : Takes) (law : L
   stand_first y ys start k stand =
       stands_at (take_spans shape takes) (start + 0) start (k + 0) k y (omega arith) (omega arith) (stand 0 0 y (inl (refl, refl, refl)))
 
-  -- what the consumer is told once all takes from here on have ended
+  -- what holds once all takes from here on have ended
   abbrev Told : Count → ℕ → List Take → End → Type 0
   Told c start rest end =
       (t : ℕ) → Tells end → start + events_in (take_phrases shape c rest ++ end_phrase end) ≤ clock C h t →

@@ -39,7 +39,7 @@ turns_of h k (Item seen items) start stop = dequeue_turns h k start stop items
 turns_of h k (ItemAfterClose seen again items) start stop = dequeue_turns h k start stop items
 turns_of h k (Empty seen) start stop = take_turn h k Misses start stop ∷ []
 
--- how many events a take has, and the one that is told the ring is closed
+-- how many events a take has, and how many the one that returns Closed has
 abbrev pub take_long : Shape → Count → Take → ℕ
 take_long shape c x = events_in (take_phrase shape c x)
 
@@ -89,7 +89,7 @@ take_turns-ops h shape c start (x ∷ takes) end t =
     join_ops (nat_le (start + take_effect shape c x) t) (turns_of h c.number x start stop) (take_turns h shape next stop takes end t) _ _
     (turns_of-ops h c.number x start stop) (take_turns-ops h shape next stop takes end t)
 
--- ---- where nothing has begun there are none
+-- ---- if nothing has begun there are none
 
 pub item_until : (shape : Shape) (c : Count) (seen : ℕ) (items : List ℕ) → events_in (take_before_count shape c (Item seen items)) ≡ before_count (span_of C shape c (look seen (Passes items)))
 item_until shape c seen items =
@@ -107,7 +107,7 @@ after_until shape c seen again items =
     let b : List Made = words_read shape c.number items in
     omega (arith, length-append (a ++ Read X true ∷ a') b, length-append a (Read X true ∷ a'))
 
--- where a take takes effect, in it
+-- a take takes effect with one of its own events
 effect_within : (shape : Shape) (c : Count) (x : Take) → (1 ≤ take_effect shape c x) × (take_effect shape c x ≤ suc (take_long shape c x))
 effect_within shape c (Item seen items) = omega (arith, item_until shape c seen items, take_phrase-item shape c seen items)
 effect_within shape c (ItemAfterClose seen again items) = omega (arith, after_until shape c seen again items, take_phrase-after shape c seen again items)
@@ -133,7 +133,7 @@ take_turns-none h shape c start (x ∷ takes) end t l =
 
 -- ---- their order
 
--- an operation that comes behind so many events and items
+-- an operation that comes after this many events and items
 pub record IsFrom (start number : ℕ) (y : TakeOp) : Type 0 where
   pub starts : start ≤ y.start
   pub some : y.start < y.stop
@@ -176,7 +176,7 @@ from_turn h k (ItemAfterClose seen again items) start stop y l i = from_dequeue 
 from_turn h k (Empty seen) start stop y l (inl e) = from_here h k start stop Misses y l e
 from_turn h k (Empty seen) start stop y l (inr i) = absurd i
 
--- what a take takes
+-- the number of items taken does not fall with a take
 taken_on : (k : ℕ) (x : Take) → k ≤ taken_after k x
 taken_on k (Item seen items) = omega (arith, past_is k items)
 taken_on k (ItemAfterClose seen again items) = omega (arith, past_is k items)
@@ -287,7 +287,7 @@ none_taken shape c (x ∷ takes) =
     counted_no (events_in (take_before_count shape c x)) 0 _ _ (omega arith) ∙ ap (λ j. 0 + taken_begun shape (count_after shape c x) takes j) none ∙
     omega (arith, none_taken shape (count_after shape c x) takes)
 
--- behind a take of items whose count write begins with its event number before
+-- after a take of items whose count write begins with its event number before
 items_numbered :
     (h : List Event) (shape : Shape) (c next : Count) (start : ℕ) (takes : List Take) (end : End) (t last before long : ℕ) (items : List ℕ) → before ≤ long →
     next.number ≡ number_past c.number items →
@@ -367,13 +367,13 @@ take_turns-numbered h shape c start (Empty seen ∷ takes) end t last e =
 
 -- ---- their items
 
--- an operation that takes an item takes that of its number
+-- an operation that takes an item takes the one of its number
 abbrev pub ItemIs : List ℕ → Kind → ℕ → Type 0
 ItemIs items (Moves item) k = slice_get items k ≡ Some item
 ItemIs items Misses k = Unit {0}
 ItemIs items Ends k = Unit {0}
 
--- the items of a list from number k on begin with those that are taken
+-- the items of a list from number k on begin with those taken
 abbrev pub GoesOnWith : List ℕ → ℕ → List ℕ → Type 0
 GoesOnWith items k front = (rest : List ℕ) × (drop k items ≡ front ++ rest)
 

@@ -1,4 +1,4 @@
--- The operations of the two sides with their numbers, and which of the one side have to stand before which of the other.
+-- The operations of the two sides with their numbers, and which of one side must precede which of the other.
 use Rattle.std.proofs.Common.{◌≡◌, ◌⊎◌, inl, inr, ℕ, ◌+◌, ◌<◌, ◌≤◌, List, [], ◌∷◌, refl, sym, subst, arith}
 use Rattle.bits_core.specs.declared.events.Side.{Side}
 use Rattle.bits_core.specs.declared.events.Side.TheVariants.{P, C}
@@ -8,12 +8,12 @@ use Rattle.queue_calls.specs.Queue.{Operation, Enqueue, FindFull, Close, Dequeue
 use Rattle.ring_core.specs.Linear.{TimedOperation}
 use Rattle.ring_core.proofs.Readings.Cuts.{at_most_or_above}
 
--- x is one of the list
+-- x is in the list
 abbrev pub In : {A : Type 0} → A → List A → Type 0
 In x [] = ⊥
 In x (y ∷ ys) = (x ≡ y) ⊎ In x ys
 
--- what an operation of a side does: it puts or takes an item, finds the queue full or empty, or closes it or is told that it is closed
+-- what an operation of a side does: it puts or takes an item, finds the queue full or empty, closes it, or finds it closed
 pub data Kind : Type 0 where
   Moves : (item : ℕ) → Kind
   Misses : Kind
@@ -44,7 +44,7 @@ take_does (Moves item) = Dequeue item
 take_does Misses = FindEmpty
 take_does Ends = FindClosed
 
--- an operation of a side, behind so many items that the side put or took
+-- an operation of a side, after this many items that the side put or took
 pub record Op : Type 0 where
   pub number : ℕ
   pub kind : Kind
@@ -71,7 +71,7 @@ put_op x = operation P x.start x.stop (put_does x.kind)
 abbrev pub take_op : TakeOp → TimedOperation
 take_op y = operation C y.start y.stop (take_does y.kind)
 
--- what holds of the counts of both sides, of which so many have begun and ended with so many own events
+-- what holds of the counts of both sides, given how many have begun and ended within their own events
 pub record Tallies (h : List Event) (capacity : ℕ) (puts_begun puts_ended takes_begun takes_ended : ℕ → ℕ) : Type 0 where
   pub has_cell : 1 ≤ capacity
   pub few : (t : ℕ) → takes_begun (clock C h t) ≤ puts_begun (clock P h t)
@@ -81,7 +81,7 @@ pub record Tallies (h : List Event) (capacity : ℕ) (puts_begun puts_ended take
   pub up_p : (t u : ℕ) → t ≤ u → clock P h t ≤ clock P h u
   pub up_c : (t u : ℕ) → t ≤ u → clock C h t ≤ clock C h u
 
--- what holds of an operation of the producer, whose puts have so many events
+-- what holds of an operation of the producer, whose puts have `events` events
 pub record PutFact (h : List Event) (capacity events : ℕ) (puts_begun puts_ended takes_ended : ℕ → ℕ) (x : Op) : Type 0 where
   pub some : x.start < x.stop
   pub begins : x.start ≤ events
@@ -90,7 +90,7 @@ pub record PutFact (h : List Event) (capacity events : ℕ) (puts_begun puts_end
   pub full : IsMiss x.kind → (t : ℕ) → clock P h t ≤ x.start → takes_ended (clock C h t) + capacity ≤ x.number
   pub close : IsEnd x.kind → events + 2 ≤ x.stop
 
--- what holds of one of the consumer, where so many items were stored
+-- what holds of one of the consumer, if this many items were stored
 pub record TakeFact (h : List Event) (events stored : ℕ) (puts_ended takes_begun takes_ended : ℕ → ℕ) (y : TakeOp) : Type 0 where
   pub some : y.start < y.stop
   pub at_place : clock C h y.place ≡ y.start
@@ -101,7 +101,7 @@ pub record TakeFact (h : List Event) (events stored : ℕ) (puts_ended takes_beg
   pub told : IsEnd y.kind → (t : ℕ) → y.stop ≤ clock C h t → events < clock P h t
   pub all : IsEnd y.kind → y.number ≡ stored
 
--- one operation of a side is another, or stands before it
+-- an operation of a side is another, or precedes it
 pub record GoesTo (x x' : Op) : Type 0 where
   pub start : x.start ≤ x'.start
   pub stop : x.stop ≤ x'.stop
@@ -131,8 +131,8 @@ pub goes_to_itself : (x : Op) → GoesTo x x
 goes_to_itself x =
     record { start = omega arith; stop = omega arith; number = omega arith; miss = λ a b. absurd (move_not_miss x.kind a b); ends = λ a. a }
 
--- What the queue needs: number k is dequeued behind its enqueueing, and behind each operation that finds the queue full with no
--- more in it than is left without number k; that the queue is closed is found behind all of the producer.
+-- What the queue needs: number k is dequeued after it is enqueued, and after each operation that finds the queue full and would
+-- find it not full without number k; the queue is found closed after all operations of the producer.
 abbrev pub Needs : ℕ → Kind → ℕ → Kind → ℕ → Type 0
 Needs capacity (Moves item) k (Moves item') n = n ≤ k
 Needs capacity (Moves item) k Misses n = n ≤ k + capacity
@@ -140,11 +140,11 @@ Needs capacity (Moves item) k Ends n = ⊥
 Needs capacity Misses k x n = ⊥
 Needs capacity Ends k x n = Unit {0}
 
--- x has to stand before y: it ended before y began, or the queue needs it
+-- x must precede y: it ended before y began, or the queue needs it
 abbrev pub Must : List Event → ℕ → Op → TakeOp → Type 0
 Must h capacity x y = (x.stop ≤ clock P h y.place) ⊎ Needs capacity y.kind y.number x.kind x.number
 
--- x may stand before y
+-- x may precede y
 pub record May (h : List Event) (capacity : ℕ) (x : Op) (y : TakeOp) : Type 0 where
   pub time : (t : ℕ) → y.stop ≤ clock C h t → clock P h t ≤ x.start → ⊥
   pub room : IsMove x.kind → x.number < y.number + capacity
@@ -167,7 +167,7 @@ decide_must h capacity x y = elim (at_most_or_above x.stop (clock P h y.place)) 
   ]
 ]
 
--- one of some operations has to stand before y, or none has
+-- one of some operations must precede y, or none must
 abbrev pub FindsMust : List Event → ℕ → List Op → TakeOp → Type 0
 FindsMust h capacity xs y = (x : Op) × In x xs × Must h capacity x y
 
@@ -186,7 +186,7 @@ find_must h capacity (x ∷ xs) y = elim (decide_must h capacity x y) [
 
 module _ (h : List Event) (capacity events stored : ℕ) (puts_begun puts_ended takes_begun takes_ended : ℕ → ℕ)
     (tallies : Tallies h capacity puts_begun puts_ended takes_begun takes_ended) where
-  -- what ended before an operation of the consumer began may stand before a later one
+  -- what ended before an operation of the consumer began may precede a later one
   may_by_time :
       (x x' : Op) (y y' : TakeOp) → PutFact h capacity events puts_begun puts_ended takes_ended x →
       TakeFact h events stored puts_ended takes_begun takes_ended y → TakeFact h events stored puts_ended takes_begun takes_ended y' →
@@ -246,7 +246,7 @@ module _ (h : List Event) (capacity events stored : ℕ) (puts_begun puts_ended 
         opened = λ s e. absurd (end_not_miss y'.kind (yy.ends is) e);
       }
 
-  -- what stands before one that has to stand before y may stand before each that does not stand before y
+  -- what precedes an operation that must precede y may precede each operation that does not precede y
   pub may :
       (x x' : Op) (y y' : TakeOp) → PutFact h capacity events puts_begun puts_ended takes_ended x → PutFact h capacity events puts_begun puts_ended takes_ended x' →
       TakeFact h events stored puts_ended takes_begun takes_ended y → TakeFact h events stored puts_ended takes_begun takes_ended y' →

@@ -1,4 +1,4 @@
--- Some of the items that a put is given, and their words.
+-- Some of the items that a put is offered, and their words.
 use Rattle.std.proofs.Common.{◌≡◌, ◌⊎◌, inl, inr, ℕ, zero, suc, ◌+◌, ◌%◌, ◌<◌, ◌≤◌, Some, List, [], ◌∷◌, ◌++◌, length, take, refl, sym, ap, ◌∙◌, arith, append_assoc, append-nil}
 use Rattle.std.specs.Prelude.{slice_get, slice_index_or}
 use Rattle.std.proofs.Math.Nat.{mod-add-mod}
@@ -42,7 +42,7 @@ taken_fit shape [] (suc m) fit = tt
 taken_fit shape (x ∷ xs) zero fit = tt
 taken_fit shape (x ∷ xs) (suc m) fit = (fit.0, taken_fit shape xs m fit.1)
 
--- some of a batch are one
+-- some items of a batch are a batch
 pub taken_batch : (shape : Shape) (xs : List ℕ) (m : ℕ) → 1 ≤ m → IsBatch shape xs → IsBatch shape (take m xs)
 taken_batch shape xs m some batch =
     record { some = taken_some xs m some batch.some; few = omega (arith, (taken_few xs m).1, batch.few); fit = taken_fit shape xs m batch.fit }
@@ -53,7 +53,7 @@ fits_at shape [] i item fit e = absurd (cc)
 fits_at shape (x ∷ xs) zero item fit e = let same : x ≡ item = cc in rw (sym same) (fit.0, tt)
 fits_at shape (x ∷ xs) (suc i) item fit e = fits_at shape xs i item fit.1 e
 
--- what stands among the first items stands among all
+-- what is among the first items is among all
 pub taken_at : (xs : List ℕ) (q i : ℕ) → i < length (take q xs) → slice_get (take q xs) i ≡ Some (slice_index_or xs i 0)
 taken_at [] zero i l = absurd (omega (arith, l))
 taken_at [] (suc q) i l = absurd (omega (arith, l))
@@ -114,10 +114,10 @@ words-split shape n (x ∷ xs) (suc i) (suc most) item e l =
 
 -- ---- numbers
 
--- a number so far from a remainder
+-- a number this far from a remainder
 pub far_from : (count n i m : ℕ) → count ≡ n % m → (count + i) % m ≡ (n + i) % m
 far_from count n i m e = ap (λ k. (k + i) % m) e ∙ mod-add-mod n m i
 
--- the number past some items, by how many they are
+-- the number past some items, by their number
 pub past_so : (count n m : ℕ) (items : List ℕ) (most : ℕ) → count ≡ n % m → length items ≡ most → (count + most) % m ≡ number_past n items % m
 past_so count n m items most e size = far_from count n most m e ∙ ap (λ k. k % m) (omega (arith, past_is n items, size))

@@ -29,7 +29,7 @@ same_taking :
     IsTaking (record p { stage = st; scan = scan; word = word; row = row; items = items; most = most })
 same_taking p st scan word row items most is = record { not_told = is.not_told; not_answered = is.not_answered; some = is.some; few = is.few }
 
--- a consumer whose row is that of its side stays one where its stage holds
+-- a consumer whose row is that of its side stays one if its stage's invariant holds
 stays_one :
     (p : ConsumerState) (st : Stage) (scan : ScanState) (word : ReaderState) (row : UnaryState) (items : List ℕ) (wanted most : ℕ) → IsConsumer p →
     row.side ≡ p.row.side → row.modulus ≡ p.row.modulus →
@@ -49,19 +49,19 @@ still_scans p st s answer is e due (counted, taking, fresh, scans) at_scan one f
     (subst (λ t. ConsumerIsAt t (record p { stage = t; scan = s })) (sym e)
     (at_scan (counted, same_taking p st s p.word p.row p.items p.most taking, fresh, scanning p.shape C p.scan s answer scans one' fed open_still)))
 
--- a first scan that goes on
+-- a first scan that continues
 pub scan_keeps :
     (p : ConsumerState) (s : ScanState) (answer : Bool) → IsConsumer p → p.stage ≡ Scanning → (LastBitIsDue p.shape C (due_take p) → answer ≡ true) →
     s ≡ scan_read p.scan answer → s.found ≡ false → IsConsumer (record p { scan = s })
 scan_keeps p s answer is e = still_scans p Scanning s answer is e refl (at_stage p Scanning is e) (λ at. at)
 
--- a second scan that goes on
+-- a second scan that continues
 pub rescan_keeps :
     (p : ConsumerState) (s : ScanState) (answer : Bool) → IsConsumer p → p.stage ≡ Rescanning → (LastBitIsDue p.shape C (due_take p) → answer ≡ true) →
     s ≡ scan_read p.scan answer → s.found ≡ false → IsConsumer (record p { scan = s })
 rescan_keeps p s answer is e = still_scans p Rescanning s answer is e refl (at_stage p Rescanning is e) (λ at. at)
 
--- a word that is read
+-- a word being read
 loads_so :
     (p : ConsumerState) (w : ReaderState) (items : List ℕ) → IsConsumer p → p.stage ≡ Loading → length items < p.most →
     w.width ≡ width_of p.shape → w.cell ≡ (p.cell + length items) % capacity_of p.shape → w.read < w.width → IsConsumer (record p { word = w; items = items })
@@ -71,7 +71,7 @@ loads_so p w items is e more width cell unread =
     (subst (λ st. ConsumerIsAt st (record p { stage = st; word = w; items = items })) (sym e)
     (counted, same_taking p Loading p.scan w p.row items p.most taking, record { width_is = width; cell_is = cell }, more, few, unread))
 
--- a word read that goes on
+-- a word read that continues
 pub word_stays :
     (p : ConsumerState) (w : ReaderState) (answer : Bool) → IsConsumer p → p.stage ≡ Loading → w ≡ read_digit p.word answer → w.read < w.width →
     IsConsumer (record p { word = w })
@@ -95,7 +95,7 @@ kept_size old item items n most e len less last =
     let long : length items ≡ length old + 1 = ap length e ∙ length-append old (item ∷ []) in
     grind (arith, long, len, less, last)
 
--- the words are read, and the count's write begins
+-- the words have been read, and the write of the count begins
 pub word_keeps :
     (p : ConsumerState) (w : ReaderState) (row : UnaryState) (items : List ℕ) → IsConsumer p → p.stage ≡ Loading → length items ≡ p.most →
     row ≡ record p.row { value = (p.count + p.most) % modulus_of p.shape } → IsConsumer (record p { stage = Counting; word = w; row = row; items = items })
@@ -109,7 +109,7 @@ word_keeps p w row items is e size begun =
       few,
     )
 
--- between words, the write of the count of those that are read begins
+-- between words, the write that counts those read begins
 pub now_keeps :
     (p : ConsumerState) (row : UnaryState) (m : ℕ) → IsConsumer p → IsBetweenWords p → length p.items ≡ m →
     row ≡ record p.row { value = (p.count + m) % modulus_of p.shape } → IsConsumer (record p { stage = Counting; row = row; wanted = m; most = m })

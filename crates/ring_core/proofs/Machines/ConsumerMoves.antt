@@ -36,7 +36,7 @@ pub made_at :
     ConsumerMadeAt st p calls made
 made_at st p calls made e stands = subst (λ s. ConsumerMadeAt s p calls made) e stands.made_is
 
--- whether no take was told that the ring is closed
+-- whether no take has returned Closed
 pub open_at : (st : Stage) (p : ConsumerState) (calls : Takes) (made : List Made) → p.stage ≡ st → ConsumerStands p calls made → IsOpenForTake (takes_at st) calls
 open_at st p calls made e stands = subst (λ s. IsOpenForTake (takes_at s) calls) e stands.not_over
 
@@ -44,7 +44,7 @@ open_at st p calls made e stands = subst (λ s. IsOpenForTake (takes_at s) calls
 pub due_is : (st : Stage) (p : ConsumerState) (access : Access) → p.stage ≡ st → due_take p ≡ Some access → consumer_due_at st p ≡ Some access
 due_is st p access e due = subst (λ s. consumer_due_at s p ≡ Some access) e due
 
--- ---- a take goes on
+-- ---- a take continues
 
 -- the state with the machines of its take, at a stage
 abbrev pub at_stage : ConsumerState → Stage → ScanState → ReaderState → UnaryState → List ℕ → ℕ → ConsumerState
@@ -59,7 +59,7 @@ after_over : (shape : Shape) (wanted : ℕ) (a : Bool) (calls more : Takes) → 
 after_over shape wanted true calls more e has = has
 after_over shape wanted false calls more e has = absurd (cc)
 
--- a take under way goes on at a stage
+-- a take under way continues at a stage
 pub take_goes_on :
     (p : ConsumerState) (st now : Stage) (scan : ScanState) (word : ReaderState) (row : UnaryState) (items : List ℕ) (most : ℕ) (calls : Takes) (made more : List Made) →
     p.stage ≡ st → takes_at st ≡ true → takes_at now ≡ true → ConsumerStands p calls made →
@@ -139,7 +139,7 @@ none_fit shape items e = subst (AllFit shape) (sym e) tt
 
 -- ---- the first scan
 
--- it goes on
+-- it continues
 pub scan_on : (p : ConsumerState) (s : ScanState) (answer : Bool) → p.stage ≡ Scanning → ScanGoesOn p.scan s answer → ConsumerMoves p answer (record p { scan = s })
 scan_on p s answer e goes calls made access stands due =
     let (rests, reads, scans, made_is) = made_at Scanning p calls made e stands in
@@ -230,7 +230,7 @@ check_zero p answer fresh e none calls made access stands due =
 
 -- ---- the second scan
 
--- it goes on
+-- it continues
 pub rescan_on : (p : ConsumerState) (s : ScanState) (answer : Bool) → p.stage ≡ Rescanning → ScanGoesOn p.scan s answer → ConsumerMoves p answer (record p { scan = s })
 rescan_on p s answer e goes calls made access stands due =
     let (rests, seen, sees, reads, scans, made_is) = made_at Rescanning p calls made e stands in
@@ -308,11 +308,11 @@ rescan_none p s answer again fresh e goes gives none calls made access stands du
 
 -- ---- the word
 
--- what the word machine stands after once the due access was made
+-- what the word machine stands after, once the due access was made
 abbrev pub WordGoesOn : ReaderState → ReaderState → Bool → Type 0
 WordGoesOn = GoesOn ReaderStands due_read
 
--- it goes on
+-- it continues
 pub word_on : (p : ConsumerState) (w : ReaderState) (answer : Bool) → p.stage ≡ Loading → WordGoesOn p.word w answer → ConsumerMoves p answer (record p { word = w })
 word_on p w answer e goes calls made access stands due =
     let (rests, look, finds, fit, reads, words, made_is) = made_at Loading p calls made e stands in
@@ -348,7 +348,7 @@ whole_words p calls look front reads x made item cell_is made_is all =
 pub item_fits : (shape : Shape) (items : List ℕ) (item : ℕ) → AllFit shape items → item < 2 ^ width_of shape → AllFit shape (items ++ item ∷ [])
 item_fits shape items item fit last = fit-push shape items item fit (last, tt)
 
--- it is over, and the next one begins
+-- it is over, and the next word begins
 pub word_next :
     (p : ConsumerState) (w new : ReaderState) (answer : Bool) (item : ℕ) (items : List ℕ) → p.stage ≡ Loading → WordGoesOn p.word w answer →
     ((reads : List Made) → ReaderStands w reads → IsReadOf (width_of p.shape) ((p.cell + length p.items) % capacity_of p.shape) reads item) →
@@ -372,7 +372,7 @@ word_next p w new answer item items e goes whole items_are begins calls made acc
     subst (λ l. ConsumerHasMoved p (record p { word = new; items = l }) calls (made ++ x)) (sym items_are)
     (subst (λ st. ConsumerHasMoved p (at_stage p st p.scan new p.row (p.items ++ item ∷ []) p.most) calls (made ++ x)) (sym e) moved)
 
--- the last one is over, and the count's write begins
+-- the last word is over, and the count's write begins
 pub word_over :
     (p : ConsumerState) (w : ReaderState) (row : UnaryState) (answer : Bool) (item : ℕ) (items : List ℕ) → p.stage ≡ Loading → WordGoesOn p.word w answer →
     ((reads : List Made) → ReaderStands w reads → IsReadOf (width_of p.shape) ((p.cell + length p.items) % capacity_of p.shape) reads item) →
@@ -402,12 +402,12 @@ word_over p w row answer item items e goes whole items_are size begins_row calls
     ) in
     subst (λ l. ConsumerHasMoved p (at_stage p Counting p.scan w row l p.most) calls (made ++ x)) (sym items_are) moved
 
--- what shows some items shows fewer to a take that wants no more
+-- what shows items to a take shows fewer to one that wants fewer
 fewer : (shape : Shape) (k wanted : ℕ) (look : Finding) (most m : ℕ) → m ≤ most → Finds shape k wanted look most → Finds shape k m look m
 fewer shape k wanted (Once seen) most m few ((below, shows, room), all) = ((below, omega (arith, few, shows), room), (omega arith, inl refl))
 fewer shape k wanted (Twice seen again) most m few (none, (below, shows, room), all) = (none, (below, omega (arith, few, shows), room), (omega arith, inl refl))
 
--- between words, the write of the count of those that are read begins
+-- between words, the write that counts those read begins
 pub now_counts :
     (p : ConsumerState) (row : UnaryState) (m : ℕ) → IsBetweenWords p → length p.items < p.most → length p.items ≡ m →
     ((values : List ℕ) (made : List Made) → UnaryStands p.row values made → UnaryStands row (values ++ (p.count + m) % modulus_of p.shape ∷ []) made) →
@@ -442,7 +442,7 @@ now_counts p row m between less size begins_row calls made stands =
 
 -- ---- the count
 
--- its write goes on
+-- its write continues
 pub count_on : (p : ConsumerState) (row : UnaryState) (answer : Bool) → p.stage ≡ Counting → RowGoesOn p.row row answer → ConsumerMoves p answer (record p { row = row })
 count_on p row answer e goes calls made access stands due =
     let (look, finds, fit, writes, rows, made_is) = made_at Counting p calls made e stands in

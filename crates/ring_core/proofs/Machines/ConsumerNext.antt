@@ -34,9 +34,9 @@ use Rattle.ring_core.proofs.Machines.TakeCalls.{are-push, are-last, are-end, end
 use Rattle.ring_core.proofs.Machines.ConsumerMoves.{made_at, open_at}
 use Rattle.ring_core.proofs.Recorded.RecordedStates.{few_items as takes_few}
 
--- ---- beginnings of one take more
+-- ---- prefixes of one more take
 
--- accesses that begin a take
+-- accesses that start a take
 begins_take :
     (shape : Shape) (wanted : ℕ) (calls : Takes) (made part : List Made) (x : Take) → AreTakes shape 0 calls.takes calls.end → calls.end ≡ Open →
     IsTake shape (count_taken shape calls).number x × IsTakeOf shape (count_taken shape calls).number wanted x → made ≡ take_phrases shape first_count calls.takes ++ part →
@@ -52,7 +52,7 @@ begins_take shape wanted calls made part x are o (is, of) made_is (rest, e) =
       (rest, ap (λ l. l ++ rest) made_is ∙ append_assoc front part rest ∙ ap (λ l. front ++ l) e ∙ sym (program-push shape calls x)),
     )
 
--- accesses that begin a take that found items so
+-- accesses that start a take that found items with these scans
 begins_found :
     (shape : Shape) (wanted : ℕ) (calls : Takes) (made part : List Made) (look : Finding) (items : List ℕ) → AreTakes shape 0 calls.takes calls.end → calls.end ≡ Open →
     Finds shape (count_taken shape calls).number wanted look (length items) → IsTakeBatch shape items → made ≡ take_phrases shape first_count calls.takes ++ part →
@@ -62,7 +62,7 @@ begins_found shape wanted calls made part look items are o finds batch made_is b
     begins_take shape wanted calls made part (take_of look items) are o (take_of-is shape c.number wanted look items finds batch) made_is
     (subst (λ l. IsPrefix part l) (sym (take_of-phrase shape c look items)) begins_look)
 
--- items of 0 that a take of so many takes where the count shows some
+-- items of 0, as many as a take takes if the count shows some
 zeros_for :
     (shape : Shape) (k wanted c : ℕ) → 1 ≤ wanted → wanted ≤ take_batch_of shape → c < modulus_of shape → ShowsItem shape c (k % modulus_of shape) →
     (m : ℕ) × SeesItems shape k c (length (zeros m)) × IsTakeBatch shape (zeros m) × TakesAll shape k wanted c (length (zeros m))
@@ -86,7 +86,7 @@ zeros_for shape k wanted c some few below shows =
     which : (a b : ℕ) → (a ≤ b) ⊎ (b ≤ a)
     which a b = grind arith
 
--- accesses that begin a take that is told the ring is closed
+-- accesses that start a take that returns Closed
 begins_end :
     (shape : Shape) (wanted : ℕ) (calls : Takes) (made part : List Made) (seen again : ℕ) → AreTakes shape 0 calls.takes calls.end → calls.end ≡ Open →
     SeesNone shape (count_taken shape calls).number seen → SeesNone shape (count_taken shape calls).number again → made ≡ take_phrases shape first_count calls.takes ++ part →
@@ -108,7 +108,7 @@ shows_or_none shape c k = between_or_not (distance (modulus_of shape) c k) (capa
     between_or_not : (a b : ℕ) → ((0 < a) × (a ≤ b)) ⊎ ((0 < a) × (a ≤ b) → ⊥)
     between_or_not a b = grind arith
 
--- accesses that begin the first scan of a take
+-- accesses that start the first scan of a take
 begins_scan :
     (shape : Shape) (wanted : ℕ) → 1 ≤ wanted → wanted ≤ take_batch_of shape → (calls : Takes) (made part : List Made) (c : ℕ) → AreTakes shape 0 calls.takes calls.end → calls.end ≡ Open → c < modulus_of shape →
     made ≡ take_phrases shape first_count calls.takes ++ part → IsPrefix part (scan_phrase (row_read_by C) c) → BeginsTake shape wanted calls made
@@ -123,7 +123,7 @@ begins_scan shape wanted some few calls made part c are o below made_is begins_c
       | inr none ↦ begins_take shape wanted calls made part (Empty c) are o ((below, none), tt) made_is (begins_more part scan (Read X false ∷ []) begins_c)
     ]
 
--- accesses that begin the second scan of a take
+-- accesses that start the second scan of a take
 begins_rescan :
     (shape : Shape) (wanted : ℕ) → 1 ≤ wanted → wanted ≤ take_batch_of shape → (calls : Takes) (made part : List Made) (seen again : ℕ) → AreTakes shape 0 calls.takes calls.end → calls.end ≡ Open →
     SeesNone shape (count_taken shape calls).number seen → again < modulus_of shape → made ≡ take_phrases shape first_count calls.takes ++ part →
@@ -140,7 +140,7 @@ begins_rescan shape wanted some few calls made part seen again are o sees below 
 
 -- ---- how many accesses a take has
 
--- a take that goes on has not had its most
+-- a take that continues has not yet had its most accesses
 pub begins_short :
     (shape : Shape) (wanted : ℕ) (calls : Takes) (made : List Made) (y : Made) → 1 ≤ wanted → BeginsTake shape wanted calls (made ++ y ∷ []) →
     length made < length (take_program shape calls) + longest_taking shape wanted
@@ -178,7 +178,7 @@ begins_short shape wanted calls made y some (more, has, (rest, e)) =
 
 -- ---- the stages
 
--- a take is under way, and goes on with the access that is due
+-- a take is under way, and continues with the access that is due
 pub record Going (shape : Shape) (wanted : ℕ) (taking : Bool) (calls : Takes) (made : List Made) (due : Option Access) : Type 0 where
   pub access : Access
   pub taking_is : taking ≡ true
@@ -204,7 +204,7 @@ pub going_bounded :
     length made < length (take_program shape calls) + longest_taking shape wanted
 going_bounded shape wanted taking calls made due g = begins_short shape wanted calls made (answered g.access true) g.some (g.goes_on true (λ l. refl))
 
--- what is told of the due access of a consumer whose take goes on with it
+-- the contract of `next` for a consumer whose take continues with the due access
 pub told_next :
     (p : ConsumerState) (next : Option Access) → next ≡ due_take p → IfSome next (IsOpenRight p.shape C) → IsTaking p →
     ((calls : Takes) (made : List Made) → ConsumerStands p calls made → Going p.shape p.wanted (is_taking p) calls made next) →
@@ -309,7 +309,7 @@ word_right p due loads more due_is =
     in_shape : p.word.cell < capacity_of p.shape → p.word.read < width_of p.shape → belongs p.shape (Cell p.word.cell p.word.read) ≡ true
     in_shape a b = grind (arith, nat_tests)
 
--- the accesses of a take of items, of one, and of others behind it
+-- the accesses of a take of items, of one, and of others after it
 one_more :
     (shape : Shape) (c : Count) (look : Finding) (items : List ℕ) (item : ℕ) (later : List ℕ) →
     made_of_take shape c.number look items ++
@@ -400,7 +400,7 @@ next_count_write p calls made due e stands taking least size few side some due_i
 
 -- ---- the last bit of the producer's count
 
--- where it is due in the second scan of a take, that scan has read 0 in all bits below
+-- if it is due in the second scan of a take, that scan has read 0 in all bits below
 pub rescan_zeros :
     (p : ConsumerState) (calls : Takes) (made : List Made) → p.stage ≡ Rescanning → ConsumerStands p calls made → IsScanning C (modulus_of p.shape) p.scan →
     LastIsDue p.scan → EndsInZeros p.shape C made

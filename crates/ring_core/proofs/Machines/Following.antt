@@ -1,4 +1,4 @@
--- A side that has made a beginning of the accesses of calls follows these.
+-- A side that has made a prefix of the accesses of calls follows these calls.
 use Rattle.std.proofs.Common.{◌≡◌, ◌*◌, List, [], ◌∷◌, ◌++◌, length, refl, sym, ap, ◌∙◌, arith, append_assoc}
 use Rattle.bits_core.specs.declared.events.Side.{Side}
 use Rattle.bits_core.specs.declared.events.Side.TheVariants.{P, C}
@@ -16,7 +16,7 @@ pub length-events : (s : Side) (xs : List Made) → length (events_of s xs) ≡ 
 length-events s [] = refl
 length-events s (x ∷ xs) = omega (arith, length-events s xs)
 
--- what begins the events of a beginning begins the events of the whole
+-- a prefix of the events of a prefix is a prefix of the events of the whole
 through : (s : Side) (es : List Event) (made whole : List Made) → IsPrefix made whole → IsPrefix es (events_of s made) → IsPrefix es (events_of s whole)
 through s es made whole (more, e) (rest, f) = (
   rest ++ events_of s more,

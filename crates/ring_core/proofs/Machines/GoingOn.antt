@@ -1,5 +1,5 @@
--- The access that a call under way goes on with is the only one: the accesses of two calls that were answered alike so far are
--- of the same bit next.
+-- The access that a call under way continues with is the only one: if two calls have had the same accesses and answers so far,
+-- their next accesses are of the same bit.
 use Rattle.std.proofs.Common.{◌≡◌, ◌⊎◌, inl, inr, ℕ, zero, suc, ◌+◌, ◌-◌, ◌%◌, ◌<◌, ◌≤◌, Bool, true, false, List, [], ◌∷◌, ◌++◌, length, take, refl, sym, ap, subst, ◌∙◌, arith, append_assoc, append-nil}
 use Rattle.bits_core.specs.declared.events.Bit.{Bit}
 use Rattle.bits_core.specs.declared.events.Bit.TheVariants.{X, Cell}
@@ -25,7 +25,7 @@ use Rattle.ring_core.specs.GoingOn.{PutsGoOnByOne, TakesGoOnByOne}
 use Rattle.ring_core.proofs.Machines.PutCalls as put_calls
 use Rattle.ring_core.proofs.Machines.TakeCalls as take_calls
 
--- two lists of accesses ask alike: as long as their accesses were made and answered alike, the next ones are the same
+-- two lists of accesses ask alike: as long as their accesses and answers were the same, the next accesses are the same
 abbrev AskAlike : List Made → List Made → Type 0
 AskAlike [] ys = Unit {0}
 AskAlike (x ∷ xs) [] = Unit {0}
@@ -46,7 +46,7 @@ alike-behind : (front xs ys : List Made) → AskAlike xs ys → AskAlike (front 
 alike-behind [] xs ys alike = alike
 alike-behind (x ∷ front) xs ys alike = (refl, (λ e. alike-behind front xs ys alike))
 
--- the accesses next to the same beginning are the same
+-- the accesses after the same prefix are the same
 alike-next :
     (made rest rest' : List Made) (x y : Made) → AskAlike ((made ++ x ∷ []) ++ rest) ((made ++ y ∷ []) ++ rest') → access_of x ≡ access_of y
 alike-next [] rest rest' x y alike = alike.0
@@ -56,7 +56,7 @@ pub access_back : (a : Access) (answer : Bool) → access_of (answered a answer)
 access_back (begins.Read b) answer = refl
 access_back (begins.Write b v) answer = refl
 
--- accesses that begin two lists which ask alike
+-- accesses that start two lists which ask alike
 same_next :
     (made xs ys : List Made) (a b : Access) → AskAlike xs ys → IsPrefix (made ++ answered a true ∷ []) xs → IsPrefix (made ++ answered b true ∷ []) ys → a ≡ b
 same_next made xs ys a b alike (rest, e) (rest', e') =
@@ -66,7 +66,7 @@ same_next made xs ys a b alike (rest, e) (rest', e') =
 
 -- ---- scans
 
--- a scan that goes on past bit c has read a 0 there
+-- a scan that continues past bit c has read a 0 there
 past_bit : (row : ℕ → Bit) (c more : ℕ) → (rest : List Made) × (zero_reads row (suc (c + more)) ≡ zero_reads row c ++ Read (row c) false ∷ rest)
 past_bit row c zero = subst (λ n. (rest : List Made) × (zero_reads row (suc n) ≡ zero_reads row c ++ Read (row c) false ∷ rest)) (zero_more c) ([], refl)
   where
@@ -99,7 +99,7 @@ scan_past row c d ys l =
 three_ways : (c d : ℕ) → (c < d) ⊎ ((c ≡ d) ⊎ (d < c))
 three_ways c d = grind arith
 
--- two scans of a row ask alike, and with them what follows where they gave the same value
+-- two scans of a row ask alike, and so does what follows, if they returned the same value
 scans_alike :
     (row : ℕ → Bit) (c d : ℕ) (xs ys : List Made) → (c ≡ d → AskAlike xs ys) → AskAlike (scan_phrase row c ++ xs) (scan_phrase row d ++ ys)
 scans_alike row c d xs ys alike =
@@ -119,7 +119,7 @@ scans_alike row c d xs ys alike =
 
 -- ---- puts
 
--- what a put of items makes behind its scan
+-- what a put of items makes after its scan
 abbrev stores : Shape → Count → List ℕ → List Made
 stores shape c stored = words_phrase shape c.number stored ++ batch_phrase shape P c stored
 
@@ -190,7 +190,7 @@ words_alike shape n (a ∷ us) (b ∷ vs) xs ys e alike =
     (subst (λ l. AskAlike (word_read (width_of shape) cell a ++ (more ++ xs)) l) (sym (append_assoc (word_read (width_of shape) cell b) more' ys))
     (digits_alike cell a b (width_of shape) (more ++ xs) (more' ++ ys) (words_alike shape (suc n) us vs xs ys (omega (arith, e)) alike)))
 
--- what a take makes behind its scans: of items, their words and the count; else the read of the close bit, and the rest
+-- what a take makes after its scans: for items, their words and the count; otherwise the read of the close bit, and the rest
 abbrev TakesSome : Shape → Count → ℕ → List Made → Type 0
 TakesSome shape k m rest = (items : List ℕ) × (length items ≡ m) × (rest ≡ items_phrase shape k items)
 
@@ -280,7 +280,7 @@ end_looks shape k wanted seen again none none' =
     let scan : List Made = scan_phrase (row_read_by C) again in
     (seen, Read X true ∷ scan, refl, inr (none, inr (again, [], ap (λ l. Read X true ∷ l) (sym (append-nil scan)), inr (none', refl))))
 
--- one take more is what it makes behind those before it
+-- one more take is what it makes after those before it
 more_looks :
     (shape : Shape) (wanted : ℕ) (calls more : Takes) → HasTakeMore shape wanted calls more →
     (phrase : List Made) × LooksOnce shape (takes.count_taken shape calls) wanted phrase × (take_program shape more ≡ take_phrases shape first_count calls.takes ++ phrase)

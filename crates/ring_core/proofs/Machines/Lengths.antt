@@ -20,7 +20,7 @@ pub use Rattle.register_core.proofs.ScanMachine.{length-zeros as length-zero_rea
 
 -- ---- phrases
 
--- a scan that gives c has c + 1 reads
+-- a scan that returns c has c + 1 reads
 pub length-scan : (row : ℕ → Bit) (c : ℕ) → length (scan_phrase row c) ≡ suc c
 length-scan row c = omega (arith, length-zero_reads row c, length-append (zero_reads row c) (Read (row c) true ∷ []))
 
@@ -39,7 +39,7 @@ longest_least shape n =
 
 -- ---- calls
 
--- the words of items one after the other, each of so many accesses, whichever side makes them
+-- the words of items one after the other, each with a fixed number of accesses, whichever side makes them
 words-long :
     (words : ℕ → List ℕ → List Made) (word : ℕ → ℕ → List Made) (w : ℕ) → ((n : ℕ) → words n [] ≡ []) →
     ((n item : ℕ) (items : List ℕ) → words n (item ∷ items) ≡ word n item ++ words (suc n) items) → ((n item : ℕ) → length (word n item) ≡ w) →
@@ -105,7 +105,7 @@ length-items : (shape : Shape) (c : Count) (items : List ℕ) → length (items_
 length-items shape c items =
     omega (arith, length-append (words_read shape c.number items) (batch_phrase shape C c items), length-words_read shape c.number items)
 
--- what follows the scans of a take of items: of one its word and two writes of the count, of several a word each and a write
+-- what follows the scans of a take of items: for one item its word and two writes of the count, for several a word each and a write
 items_short :
     (shape : Shape) (c : Count) (items : List ℕ) (scans : ℕ) → IsCount shape c → 1 ≤ length items → scans ≤ 2 * modulus_of shape + 1 →
     scans + length (items_phrase shape c items) ≤ longest_taking shape (length items)
@@ -147,6 +147,6 @@ longest_up shape (suc (suc m)) zero l = absurd (omega (arith, l))
 longest_up shape (suc (suc m)) (suc zero) l = absurd (omega (arith, l))
 longest_up shape (suc (suc m)) (suc (suc n)) l = omega (arith, mul-le-mul_right (width_of shape) l)
 
--- no take that is told the ring is closed is longer than the bound
+-- no take that returns Closed is longer than the bound
 pub ends-are_short : EndsAreShort
 ends-are_short shape k seen again (below, none) (below', none') = omega (arith, below, below', length-two_scans seen again)

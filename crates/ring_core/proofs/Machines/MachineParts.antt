@@ -1,4 +1,4 @@
--- The machines that both sides are made of: what holds of them while they are at work, and once they are done.
+-- The machines that both sides are made of: what holds of them while they are running, and once they are done.
 use Rattle.std.proofs.Common.{◌≡◌, inl, inr, ℕ, zero, suc, ◌+◌, ◌%◌, ◌<◌, ◌≤◌, Bool, true, false, cond, not, is_some, Option, Some, None, List, [], ◌∷◌, ◌++◌, length, if◌then◌else◌, refl, sym, ap, subst, ◌∙◌, arith, append_assoc}
 use Rattle.std.proofs.Math.Nat.{mod-eq_of_lt}
 use Rattle.bits_core.specs.declared.events.Side.{Side}
@@ -20,7 +20,7 @@ use Rattle.register_core.proofs.Stands.{idle as no_first}
 
 -- ---- the scan
 
--- a scan that goes on has not reached the last bit
+-- a scan that continues has not reached the last bit
 pub scanning :
     (shape : Shape) (side : Side) (old new : ScanState) (answer : Bool) → IsScanning side (modulus_of shape) old → (LastBitIsDue shape side (due_scan old) → answer ≡ true) →
     new ≡ scan_read old answer → new.found ≡ false → IsScanning side (modulus_of shape) new
@@ -38,7 +38,7 @@ scanning shape side old new false is one e f =
 
 -- ---- the count
 
--- where nothing is due of a unary write, its bit is set and those below are clear
+-- if nothing is due of a unary write, its bit is set and those below are clear
 set_there : (bits : ℕ → Bool) (v : ℕ) (b : Bool) → bits v ≡ b → unary_phrase bits v ≡ [] → bits v ≡ true
 set_there bits v true e none = e
 set_there bits v false e none =
@@ -109,9 +109,9 @@ counting_on shape row new count items m (none, value) below size some few e =
     subst (λ v. 1 ≤ length (unary_phrase bits v)) value_is (bits_long shape c items is some few) in
     rw e ((λ f. absurd (omega (arith, long, ap length (no_first (row_bit row.side) (unary_phrase bits ((count + m) % modulus_of shape)) f)))), refl)
 
--- ---- what a scan gives
+-- ---- what a scan returns
 
--- a scan without a value goes on
+-- a scan without a value continues
 pub no_value : (s : ScanState) (value : Option ℕ) → value ≡ (if s.found then Some s.zeros else None) → value ≡ None → s.found ≡ false
 no_value s value e f = by_found s.found refl
   where
@@ -139,7 +139,7 @@ gives shape side old new answer value seen is fed some values reads stands =
     let read : IsValueRead (row_read_by new.side) new.modulus reads (Some seen) = subst (λ v. IsValueRead (row_read_by new.side) new.modulus reads v) some (values reads stands) in
     subst (λ s. IsScanOf (row_read_by s) (modulus_of shape) reads seen) of_side (subst (λ m. IsScanOf (row_read_by new.side) m reads seen) of_modulus read)
 
--- what a test that failed would have told does not hold
+-- what a test implies does not hold if the test failed
 pub denied : {A : Type 0} (b : Bool) → (A → b ≡ true) → b ≡ false → A → ⊥
 denied true told e a = absurd (cc)
 denied false told e a = let clash : false ≡ true = told a in absurd (cc)
@@ -159,7 +159,7 @@ row_whole side row new due is same none next values made stands =
 
 -- ---- an access more
 
--- what a machine stands after once the due access was made
+-- what a machine stands after, once the due access was made
 abbrev pub GoesOn : {S : Type 0} → (S → List Made → Type 0) → (S → Option Access) → S → S → Bool → Type 0
 GoesOn Stands due old new answer = (made : List Made) (access : Access) → Stands old made → due old ≡ Some access → Stands new (made ++ answered access answer ∷ [])
 
@@ -170,17 +170,17 @@ abbrev pub RowGoesOn : UnaryState → UnaryState → Bool → Type 0
 RowGoesOn old new answer =
     (values : List ℕ) (made : List Made) (access : Access) → UnaryStands old values made → due_unary old ≡ Some access → UnaryStands new values (made ++ answered access answer ∷ [])
 
--- a row that has made writes behind others makes one more
+-- a row that has made writes after others makes one more
 pub row_more :
     (old new : UnaryState) (answer : Bool) (values : List ℕ) (front writes : List Made) (access : Access) → RowGoesOn old new answer →
     UnaryStands old values (front ++ writes) → due_unary old ≡ Some access → UnaryStands new values (front ++ (writes ++ answered access answer ∷ []))
 row_more old new answer values front writes access goes stands due =
     subst (λ l. UnaryStands new values l) (append_assoc front writes (answered access answer ∷ [])) (goes values (front ++ writes) access stands due)
 
--- one access more behind a part of those made
+-- one more access after a part of those made
 pub and_more : (made front part x : List Made) → made ≡ front ++ part → made ++ x ≡ front ++ (part ++ x)
 and_more made front part x e = ap (λ l. l ++ x) e ∙ append_assoc front part x
 
--- a call under way, one access more
+-- a call under way, one more access
 pub longer : (front scan writes x : List Made) → (front ++ (scan ++ writes)) ++ x ≡ front ++ (scan ++ (writes ++ x))
 longer front scan writes x = append_assoc front (scan ++ writes) x ∙ ap (λ l. front ++ l) (append_assoc scan writes x)

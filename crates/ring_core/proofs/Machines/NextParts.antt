@@ -21,15 +21,15 @@ use Rattle.ring_core.specs.Calls.{LastBitIsDue, IsScanning}
 
 -- ---- beginnings
 
--- a beginning of a list begins the list with more behind it
+-- a prefix of a list begins the list with more after it
 pub begins_more : (part whole more : List Made) → IsPrefix part whole → IsPrefix part (whole ++ more)
 begins_more part whole more (rest, e) = (rest ++ more, sym (append_assoc part rest more) ∙ ap (λ l. l ++ more) e)
 
--- and with the same before both
+-- and the same with the same list before both
 pub begins_behind : (front part whole : List Made) → IsPrefix part whole → IsPrefix (front ++ part) (front ++ whole)
 begins_behind front part whole (rest, e) = (rest, append_assoc front part rest ∙ ap (λ l. front ++ l) e)
 
--- accesses that go on are fewer than those that they begin
+-- a list of accesses that can continue is shorter than what it is a prefix of
 pub length-part : (made rest whole : List Made) (y : Made) → (made ++ y ∷ []) ++ rest ≡ whole → length made < length whole
 length-part made rest whole y e = omega (arith, ap length e, length-append (made ++ y ∷ []) rest, length-append made (y ∷ []))
 
@@ -47,7 +47,7 @@ scan_reads side modulus s reads is stands =
     stands.made_is ∙ ap (λ b. if b then scan_phrase (row_read_by s.side) s.zeros else zero_reads (row_read_by s.side) s.zeros) is.not_found ∙
     ap (λ t. zero_reads (row_read_by t) s.zeros) is.side_is
 
--- it goes on whatever the read is answered, but for a 0 of the last bit
+-- it continues whatever the read returns, except for a 0 of the last bit
 pub scan_goes_on :
     (shape : Shape) (side : Side) (s : ScanState) (reads : List Made) (answer : Bool) → IsScanning side (modulus_of shape) s → ScanStands s reads →
     (LastBitIsDue shape side (Some (begins.Read (row_read_by side s.zeros))) → answer ≡ true) →
@@ -63,7 +63,7 @@ scan_goes_on shape side s reads false is stands one =
 
 -- ---- writes
 
--- the due write of a phrase, once made, is the phrase's
+-- the due write of a phrase, once made, is the next of the phrase
 pub answered_write : (x : Made) (access : Access) (b : Bit) (v answer : Bool) → access_of x ≡ access → access ≡ begins.Write b v → answered access answer ≡ x
 answered_write (Read c w) access b v answer e f = absurd (cc)
 answered_write (Write c w) access b v answer e f = ap (λ a. answered a answer) (sym e)
@@ -111,7 +111,7 @@ pub row_bit_right : (shape : Shape) (side : Side) (i : ℕ) (v : Bool) → i < m
 row_bit_right shape P i v l = (grind (arith, nat_tests), refl)
 row_bit_right shape C i v l = (grind (arith, nat_tests), refl)
 
--- the read that a scan under way has due is one
+-- the read that a scan under way has due is such an access
 pub scan_right :
     (shape : Shape) (side : Side) (s : ScanState) (due : Option Access) → IsScanning side (modulus_of shape) s → due ≡ due_scan s → IfSome due (IsOpenRight shape side)
 scan_right shape side s due is due_is =

@@ -1,4 +1,4 @@
--- A program with one call more.
+-- A program with one more call.
 use Rattle.std.proofs.Common.{◌≡◌, ℕ, ◌≤◌, true, [], ◌∷◌, ◌++◌, List, length, refl, arith, sym, ap, subst, ◌∙◌}
 use Rattle.bits_core.specs.declared.events.Bit.TheVariants.{X}
 use Rattle.bits_core.specs.Made.{Made, Write}
@@ -38,7 +38,7 @@ ends-by_one shape calls seen again are opened none none' = record {
   program_is = ap (λ (l : List Made). l ++ end_phrase (Closed seen again)) (sym (takes_open shape calls opened));
 }
 
--- a take of some items, and of at most one, is of one
+-- a take of some items, and of at most one, is a take of one item
 one_item :
     (items : List ℕ) → 1 ≤ length items → length items ≤ 1 → items ≡ reply_items (items_reply items)
 one_item [] some few = absurd (omega (arith, some))

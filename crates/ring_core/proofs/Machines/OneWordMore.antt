@@ -6,7 +6,7 @@ use Rattle.bits_core.specs.Made.{IsPrefix}
 use Rattle.register_core.specs.Phrases.{word_read}
 use Rattle.ring_core.specs.Takes.{words_read}
 
--- the word of one item more is read behind those of the items, in the cell of its number
+-- the word of one more item is read after those of the items, in the cell of its number
 abbrev pub WordsByOneMore : Type 0
 WordsByOneMore =
     (shape : Shape) (n : ℕ) (items : List ℕ) (item : ℕ) →
@@ -16,7 +16,7 @@ WordsByOneMore =
 abbrev pub ItemsFitByOneMore : Type 0
 ItemsFitByOneMore = (shape : Shape) (items : List ℕ) (item : ℕ) → AllFit shape items → item < 2 ^ width_of shape → AllFit shape (items ++ item ∷ [])
 
--- items that fit, so many at most: their words begin those of so many items that fit
+-- at most m items that fit: their words are a prefix of those of m items that fit
 abbrev pub WordsGoOn : Type 0
 WordsGoOn =
     (shape : Shape) (n many : ℕ) (items : List ℕ) → length items ≤ many → AllFit shape items →

@@ -32,7 +32,7 @@ same_putting p st scan word row most is e f g = record {
   writes = record { width_is = e ∙ is.writes.width_is; cell_is = f ∙ is.writes.cell_is; item_is = is.writes.item_is ∙ ap Some (sym g) };
 }
 
--- a producer whose row is that of its side stays one where its stage holds
+-- a producer whose row is that of its side stays one if its stage's invariant holds
 stays_one :
     (p : ProducerState) (st : Stage) (scan : ScanState) (word : WriterState) (row : UnaryState) (index : ℕ) → IsProducer p → row.side ≡ p.row.side → row.modulus ≡ p.row.modulus →
     ProducerIsAt st (record p { stage = st; scan = scan; word = word; row = row; index = index }) →
@@ -50,7 +50,7 @@ scan_keeps p s answer is e one fed open_still =
     (subst (λ st. ProducerIsAt st (record p { stage = st; scan = s })) (sym e)
     (counted, same_putting p Scanning s p.word p.row p.most putting refl refl refl, fresh, start, scanning p.shape P p.scan s answer scans one' fed open_still))
 
--- what is known of the scan of a put once it has given a value: it is one of the consumer's count
+-- what is known of the scan of a put once it has a value: it is one of the consumer's count
 pub record HasGiven (p : ProducerState) (s : ScanState) (answer : Bool) (seen : ℕ) : Type 0 where
   pub stage_is : p.stage ≡ Scanning
   pub fresh : p.word.written ≡ 0
@@ -66,7 +66,7 @@ has_given p s answer value seen e is fed some values =
     let (counted, putting, fresh, start, scans) = at_stage p Scanning is e in
     record { stage_is = e; fresh = fresh; start = start; goes = fed.stands; is_scan = gives p.shape P p.scan s answer value seen scans fed.state some values }
 
--- a word that is written
+-- a word being written
 stores_so :
     (p : ProducerState) (w : WriterState) (index : ℕ) → IsProducer p → p.stage ≡ Storing → IsPutting (record p { stage = Storing; word = w; index = index }) → index < p.most →
     w.written < w.width → IsProducer (record p { word = w; index = index })
@@ -75,7 +75,7 @@ stores_so p w index is e putting less more =
     stays_one p p.stage p.scan w p.row index is refl refl
     (subst (λ st. ProducerIsAt st (record p { stage = st; word = w; index = index })) (sym e) (counted, putting, (less, keeping.1), more))
 
--- a word write that goes on
+-- a word write that continues
 pub word_stays :
     (p : ProducerState) (w : WriterState) → IsProducer p → p.stage ≡ Storing → w ≡ record p.word { written = suc p.word.written } →
     w.written < w.width → IsProducer (record p { word = w })

@@ -40,7 +40,7 @@ open_at st p calls made e stands = subst (λ s. IsOpenForCall (call_at s p.items
 pub due_is : (st : Stage) (p : ProducerState) (access : Access) → p.stage ≡ st → due_put p ≡ Some access → producer_due_at st p ≡ Some access
 due_is st p access e due = subst (λ s. producer_due_at s p ≡ Some access) e due
 
--- ---- a put goes on
+-- ---- a put continues
 
 -- the state with the machines of its call, at a stage
 abbrev pub at_stage : ProducerState → Stage → ScanState → WriterState → UnaryState → ℕ → ℕ → ProducerState
@@ -59,7 +59,7 @@ after_over shape (Some a) c calls more answer e has h =
     let same : c ≡ a = cc in
     (subst (λ d. HasCallMore shape d calls more) same has, λ f. h (same ∙ f))
 
--- a put under way goes on at a stage
+-- a put under way continues at a stage
 pub put_goes_on :
     (p : ProducerState) (st now : Stage) (scan : ScanState) (word : WriterState) (row : UnaryState) (most index : ℕ) (calls : Puts) (made more : List Made) →
     p.stage ≡ st → call_at st p.items ≡ Some (Put p.items) → call_at now p.items ≡ Some (Put p.items) → ProducerStands p calls made →
@@ -342,7 +342,7 @@ close_over p answer e none calls made access stands due =
       after_over p.shape (call_of p) Close calls (and_close calls) p.reply was (refl, stands.are, o) (λ f. none),
     )
 
--- ---- which kind of put the last one was
+-- ---- which kind of put was last
 
 batched_at : (st : Stage) (p : ProducerState) (b : Bool) (calls : Puts) (made : List Made) → ProducerMadeAt st p calls made → ProducerMadeAt st (record p { batched = b }) calls made
 batched_at Idle p b calls made is = is

@@ -33,9 +33,9 @@ use Rattle.ring_core.proofs.Machines.NextParts.{length-part, scan_due, scan_goes
 use Rattle.ring_core.proofs.Machines.PutCalls.{are-push, are-last, calls_are_count, values_hold, program-push}
 use Rattle.ring_core.proofs.Machines.ProducerMoves.{made_at, open_at}
 
--- ---- beginnings of one call more
+-- ---- prefixes of one more call
 
--- accesses that begin a put
+-- accesses that start a put
 begins_put :
     (shape : Shape) (items : List ℕ) (calls : Puts) (made part : List Made) (x : puts.Put) → ArePuts shape 0 calls.puts → calls.closes ≡ false →
     IsPutOf shape (count_of shape calls).number items x → IsPut shape (count_of shape calls).number x →
@@ -57,7 +57,7 @@ room_or_none shape n c = less_or_not (distance (modulus_of shape) n c) (capacity
 room_for : (shape : Shape) (n c : ℕ) (items : List ℕ) → LeavesRoom shape n c → (1 ≤ room_in shape n c) × LeavesRoomFor shape n c (length (take (room_in shape n c) items))
 room_for shape n c items room = (omega (arith, room), omega (arith, room, (taken_few items (room_in shape n c)).0))
 
--- accesses that begin the scan of a put
+-- accesses that start the scan of a put
 begins_scan :
     (shape : Shape) (items : List ℕ) (calls : Puts) (made part : List Made) (c : ℕ) → ArePuts shape 0 calls.puts → calls.closes ≡ false → IsBatch shape items →
     c < modulus_of shape → made ≡ put_phrases shape first_count calls.puts ++ part → IsPrefix part (scan_phrase (row_read_by P) c) → BeginsCall shape (Put items) calls made
@@ -132,7 +132,7 @@ begins_short shape Close calls made y (more, (more_is, are, o), (rest, e)) =
 
 -- ---- the stages
 
--- the call under way, and the access that is due, with which it goes on
+-- the call under way, and the access that is due, with which it continues
 pub record Going (shape : Shape) (call : Option Call) (calls : Puts) (made : List Made) (due : Option Access) : Type 0 where
   pub under_way : Call
   pub access : Access
@@ -163,7 +163,7 @@ going_bounded shape call calls made due g c e =
     some_same : (a b : Call) → Some a ≡ Some b → a ≡ b
     some_same a b e = cc
 
--- what is told of the due access of a producer whose call goes on with it
+-- the contract of `next` for a producer whose call continues with the due access
 pub told_next :
     (p : ProducerState) (next : Option Access) → next ≡ due_put p → IfSome next (IsOpenRight p.shape P) →
     ((calls : Puts) (made : List Made) → ProducerStands p calls made → Going p.shape (call_of p) calls made next) →

@@ -1,4 +1,4 @@
--- A program of puts with one put more.
+-- A program of puts with one more put.
 use Rattle.std.proofs.Common.{◌≡◌, ℕ, ◌%◌, Option, Some, List, [], ◌∷◌, ◌++◌, refl, ap, ◌∙◌, append-nil, sym, append_assoc}
 use Rattle.bits_core.specs.declared.shapes.Shape.{Shape}
 use Rattle.bits_core.specs.Shape.{modulus_of}
@@ -41,7 +41,7 @@ stored_is_count shape c (Full seen ∷ xs) is = stored_is_count shape c xs is
 pub calls_are_count : (shape : Shape) (calls : Puts) → IsCount shape (count_of shape calls)
 calls_are_count shape calls = stored_is_count shape first_count calls.puts (first_is_count shape)
 
--- and those that the values' writes leave
+-- and those that result from the writes of the values
 pub values_hold :
     (shape : Shape) (c : Count) (xs : List Put) →
     bits_after c.bits (row_writes (unary_writes c.bits (put_values shape c.number xs))) ≡ (stored_count shape c xs).bits
@@ -67,7 +67,7 @@ pub reply-push : (first : Option BatchReply) (xs : List Put) (x : Put) → last_
 reply-push first [] x = refl
 reply-push first (y ∷ xs) x = reply-push (Some (put_reply_to y)) xs x
 
--- the items that puts have put, and one put more
+-- the items that puts have put, and one more put
 pub all_put-push : (xs : List Put) (seen : ℕ) (items : List ℕ) → all_put (xs ++ Stored seen items ∷ []) ≡ all_put xs ++ items
 all_put-push [] seen items = append-nil items
 all_put-push (Stored u i ∷ xs) seen items = ap (λ l. i ++ l) (all_put-push xs seen items) ∙ sym (append_assoc i (all_put xs) items)
@@ -78,7 +78,7 @@ all_put-full [] seen = refl
 all_put-full (Stored u i ∷ xs) seen = ap (λ l. i ++ l) (all_put-full xs seen)
 all_put-full (Full u ∷ xs) seen = all_put-full xs seen
 
--- the accesses of the calls and one put more
+-- the accesses of the calls and one more put
 pub program-push :
     (shape : Shape) (calls : Puts) (x : Put) →
     put_program shape (and_put calls x) ≡ put_phrases shape first_count calls.puts ++ put_phrase shape (count_of shape calls) x

@@ -20,14 +20,14 @@ use Rattle.ring_core.proofs.CountRow.{batch_below, first_is_count, bits_long}
 use Rattle.ring_core.proofs.Readings.ItemsRead.{same_stored, same_full, stored_is_count}
 use Rattle.ring_core.proofs.LastBits.{AllOne, one-append, one_at, one-scan, one-writes}
 
--- the producer's scan of a count
+-- the producer's scan that returns a count
 abbrev scan : ℕ → List Made
 scan c = scan_phrase (row_read_by P) c
 
 abbrev puts_from : Shape → Count → List Put → Bool → List Made
 puts_from shape c puts close = put_phrases shape c puts ++ close_phrase close
 
--- ---- behind whole puts
+-- ---- after complete puts
 
 -- calls from a count on
 record From (shape : Shape) (c : Count) (rest : List Made) : Type 0 where
@@ -37,7 +37,7 @@ record From (shape : Shape) (c : Count) (rest : List Made) : Type 0 where
   are : ArePuts shape c.number puts
   rest_is : rest ≡ puts_from shape c puts close
 
--- calls that begin with a put
+-- calls that start with a put
 same_put :
     (shape : Shape) (c : Count) (x : Put) (ys : List Put) (b : Bool) (zs : List Made) → IsCount shape c → IsPut shape c.number x → ArePuts shape c.number ys →
     put_phrase shape c x ++ zs ≡ puts_from shape c ys b → (more : List Put) × (ys ≡ x ∷ more)
@@ -120,7 +120,7 @@ goes_on_scanning shape c zeros x rest f = by_puts f.puts f.close f.rest_is
     by_puts (Stored u i ∷ puts) close e = scan_next (row_read_by P) (suc zeros) u x rest _ (e ∙ puts_stored shape c u i puts close)
     by_puts (Full u ∷ puts) close e = scan_next (row_read_by P) (suc zeros) u x rest _ (e ∙ puts_full shape c u puts close)
 
--- behind a scan that found room comes a put that stores
+-- after a scan that found room comes a put that stores
 record StoresFrom (shape : Shape) (c : Count) (seen : ℕ) (zs : List Made) : Type 0 where
   items : List ℕ
   behind_it : List Made
@@ -146,7 +146,7 @@ stores shape c seen zs room f = by_puts f.puts f.close f.are f.rest_is
           rest_is = scans.1;
         }
 
--- words go on with further words, and then with what is no word
+-- words continue with further words, and then with something else
 record WordsLeft (shape : Shape) (n : ℕ) (items all : List ℕ) (zs tail : List Made) : Type 0 where
   more : List ℕ
   all_is : all ≡ items ++ more
@@ -200,7 +200,7 @@ first_word shape n y ys tail =
     let (rest, e) = word_first (width_of shape) (n % capacity_of shape) y (words_phrase shape (suc n) ys ++ tail) shape.has_digits in
     (rest, append_assoc word (words_phrase shape (suc n) ys) tail ∙ e)
 
--- what a put stores, behind whole words
+-- what a put stores, after complete words
 left_words :
     (shape : Shape) (c : Count) (seen : ℕ) (items : List ℕ) (zs : List Made) → AllFit shape items → (s : StoresFrom shape c seen (words_phrase shape c.number items ++ zs)) →
     WordsLeft shape c.number items s.items zs (batch_phrase shape P c s.items ++ s.behind_it)

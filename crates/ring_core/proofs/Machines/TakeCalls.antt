@@ -1,4 +1,4 @@
--- A program of takes with one take more, or with the take that is told the ring is closed.
+-- A program of takes with one more take, or with the take that returns Closed.
 use Rattle.std.proofs.Common.{Bool, true, false, ◌≡◌, ℕ, zero, suc, ◌+◌, ◌-◌, ◌%◌, Option, Some, List, [], ◌∷◌, ◌++◌, length, refl, sym, ap, ◌∙◌, arith, append_assoc, append-nil, length-append}
 use Rattle.std.proofs.lemmas.Nat.{pow_pos}
 use Rattle.bits_core.specs.declared.shapes.Shape.{Shape}
@@ -26,7 +26,7 @@ pub phrases-push :
     take_phrases shape c (xs ++ x ∷ []) ≡ take_phrases shape c xs ++ take_phrase shape (taken_count shape c xs) x
 phrases-push shape = calls-push (takes_go_by_calls shape)
 
--- they are takes if the last one is
+-- these are takes if the last one is
 pub are-push :
     (shape : Shape) (c : Count) (xs : List Take) (x : Take) → AreTakes shape c.number xs Open → IsTake shape (taken_count shape c xs).number x →
     AreTakes shape c.number (xs ++ x ∷ []) Open
@@ -38,21 +38,21 @@ pub are-last : (shape : Shape) (c : Count) (xs : List Take) (x : Take) → AreTa
 are-last shape c [] x (is, end) = is
 are-last shape c (y ∷ xs) x (here, are) = are-last shape (count_after shape c y) xs x are
 
--- takes, and then one that is told the ring is closed
+-- takes, and then one that returns Closed
 pub are-end :
     (shape : Shape) (c : Count) (xs : List Take) (seen again : ℕ) → AreTakes shape c.number xs Open → SeesNone shape (taken_count shape c xs).number seen →
     SeesNone shape (taken_count shape c xs).number again → AreTakes shape c.number xs (Closed seen again)
 are-end shape c [] seen again are none none' = (none, none')
 are-end shape c (y ∷ xs) seen again (here, are) none none' = (here, are-end shape (count_after shape c y) xs seen again are none none')
 
--- the one that is told so saw no item
+-- the take that returns Closed saw no item
 pub end-sees_none :
     (shape : Shape) (c : Count) (xs : List Take) (seen again : ℕ) → AreTakes shape c.number xs (Closed seen again) →
     SeesNone shape (taken_count shape c xs).number seen × SeesNone shape (taken_count shape c xs).number again
 end-sees_none shape c [] seen again are = are
 end-sees_none shape c (y ∷ xs) seen again (here, are) = end-sees_none shape (count_after shape c y) xs seen again are
 
--- the last reply is that to the last take, and the last items are its
+-- the last reply is that to the last take, and the last items are its items
 pub reply-push : (first : Option TakeReply) (xs : List Take) (x : Take) → last_take_reply first (xs ++ x ∷ []) ≡ Some (take_reply_to x)
 reply-push first [] x = refl
 reply-push first (y ∷ xs) x = reply-push (Some (take_reply_to y)) xs x
@@ -65,7 +65,7 @@ pub all_taken-push : (xs : List Take) (x : Take) → all_taken (xs ++ x ∷ []) 
 all_taken-push [] x = append-nil (taken_of x)
 all_taken-push (y ∷ xs) x = ap (λ l. taken_of y ++ l) (all_taken-push xs x) ∙ sym (append_assoc (taken_of y) (all_taken xs) (taken_of x))
 
--- the last take was told that the ring is closed
+-- the last take returned Closed
 pub closed_tells : (end : End) → ends_closed end ≡ true → Tells end
 closed_tells Open e = absurd (cc)
 closed_tells (Closed seen again) e = record {}
@@ -81,7 +81,7 @@ due_at-takes Counting p a e = refl
 
 -- ---- the count's writes
 
--- the bits after takes are those that the values' writes leave
+-- the bits after takes are those that result from the writes of the values
 pub values_hold :
     (shape : Shape) (c : Count) (xs : List Take) →
     bits_after c.bits (row_writes (unary_writes c.bits (take_values shape c.number xs))) ≡ (taken_count shape c xs).bits
@@ -109,7 +109,7 @@ taken_is_count shape c (Empty seen ∷ xs) is = taken_is_count shape (count_afte
 pub calls_are_count : (shape : Shape) (calls : Takes) → IsCount shape (count_taken shape calls)
 calls_are_count shape calls = taken_is_count shape first_count calls.takes (first_is_count shape)
 
--- the accesses of the calls and one take more
+-- the accesses of the calls and one more take
 pub program-push :
     (shape : Shape) (calls : Takes) (x : Take) →
     take_program shape (and_take calls x) ≡ take_phrases shape first_count calls.takes ++ take_phrase shape (count_taken shape calls) x
@@ -117,7 +117,7 @@ program-push shape calls x = append-nil (take_phrases shape first_count (calls.t
 
 -- ---- a take that found items
 
--- the take that found items so
+-- the take that found items with these scans
 abbrev pub take_of : Finding → List ℕ → Take
 take_of (Once seen) items = Item seen items
 take_of (Twice seen again) items = ItemAfterClose seen again items
@@ -139,14 +139,14 @@ pub take_of-takes : (shape : Shape) (c : Count) (look : Finding) (items : List �
 take_of-takes shape c (Once seen) items = refl
 take_of-takes shape c (Twice seen again) items = refl
 
--- what a take is answered by how many items it took
+-- the reply of a take by how many items it took
 pub batched-reply :
     (calls : Takes) (taking : Bool) (reply : Option TakeReply) (items : List ℕ) → IsReplyToTake calls taking reply → AreItemsOfTake calls taking items →
     IsBatchReplyToTake calls taking (take_batch_reply reply items)
 batched-reply calls true reply items none any = ap (λ r. take_batch_reply r items) none
 batched-reply calls false reply items replied taken = ap (λ r. take_batch_reply r items) replied ∙ ap (take_batch_reply (reply_at_end calls.end calls.takes)) taken
 
--- the values with it
+-- the values of the count with this take
 pub values-push :
     (shape : Shape) (c : Count) (xs : List Take) (look : Finding) (items : List ℕ) →
     take_values shape c.number (xs ++ take_of look items ∷ []) ≡ take_values shape c.number xs ++ number_past (taken_count shape c xs).number items % modulus_of shape ∷ []
@@ -208,7 +208,7 @@ pub fit-push : (shape : Shape) (items : List ℕ) (item : ℕ) → AllFit shape 
 fit-push shape [] item fit last = last
 fit-push shape (x ∷ xs) item (here, fit) last = (here, fit-push shape xs item fit last)
 
--- so their words begin those of any greater number
+-- so their words are a prefix of those of any greater number
 pub words-go_on : WordsGoOn
 words-go_on shape n many items few fit =
     let rest : List ℕ = zeros (many - length items) in (

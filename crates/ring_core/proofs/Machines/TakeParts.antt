@@ -1,5 +1,5 @@
--- What a consumer may do next: behind the same accesses, answered alike, a take and any takes go on with the same access, but that behind
--- a whole word one may read the next and the other count.
+-- What a consumer may do next: after the same accesses and answers, a take and any takes continue with the same access, except that after
+-- a complete word one may read the next and the other count.
 use Rattle.std.proofs.Common.{◌≡◌, ◌⊎◌, inl, inr, ℕ, zero, suc, ◌%◌, ◌<◌, ◌≤◌, Bool, true, false, List, [], ◌∷◌, ◌++◌, length, refl, sym, ap, subst, ◌∙◌, arith, append_assoc, append-nil}
 use Rattle.std.proofs.lemmas.List.{append_cancel_left}
 use Rattle.bits_core.specs.declared.events.Side.TheVariants.{C}
@@ -33,15 +33,15 @@ use Rattle.ring_core.proofs.Readings.Over.{first_takes as are_front}
 abbrev IsCellRead : Made → Type 0
 IsCellRead x = (j i : ℕ) × (v : Bool) × (x ≡ Read (Cell j i) v)
 
--- As long as the accesses of both were made and answered alike, the next ones are the same, or may part behind a digit of a cell. The
--- first ones may where this holds.
+-- As long as the accesses and answers of both were the same, the next accesses are the same, or may differ after a digit of a cell.
+-- The first ones may differ if the given statement holds.
 abbrev AskOr : Shape → ℕ → Type 0 → List Made → List Made → Type 0
 AskOr shape wanted may [] ys = Unit {0}
 AskOr shape wanted may (x ∷ xs) [] = Unit {0}
 AskOr shape wanted may (x ∷ xs) (y ∷ ys) =
     ((access_of x ≡ access_of y) ⊎ (may × TakesPart shape wanted (access_of x) (access_of y))) × (x ≡ y → AskOr shape wanted (IsCellRead x) xs ys)
 
--- whatever holds of them
+-- whatever the statement
 abbrev AskAnyway : Shape → ℕ → List Made → List Made → Type 1
 AskAnyway shape wanted xs ys = (may : Type 0) → AskOr shape wanted may xs ys
 
@@ -52,7 +52,7 @@ or_none shape wanted (x ∷ xs) may = tt
 the_same : (l : List Made) → l ≡ l
 the_same l = refl
 
--- the same lists, written otherwise
+-- the same lists, written differently
 or_both : (shape : Shape) (wanted : ℕ) (may : Type 0) {l l' r r' : List Made} → l ≡ l' → r ≡ r' → AskOr shape wanted may l' r' → AskOr shape wanted may l r
 or_both shape wanted may {l = l} {r' = r'} e f on = subst (λ z. AskOr shape wanted may l z) (sym f) (subst (λ z. AskOr shape wanted may z r') (sym e) on)
 
@@ -64,7 +64,7 @@ or_first :
     (shape : Shape) (wanted : ℕ) (x y : Made) (xs ys : List Made) → access_of x ≡ access_of y → (x ≡ y → AskAnyway shape wanted xs ys) → AskAnyway shape wanted (x ∷ xs) (y ∷ ys)
 or_first shape wanted x y xs ys same on may = (inl same, λ e. on e (IsCellRead x))
 
--- two that are answered otherwise, or are made where the lists may part
+-- two accesses with different answers, or made where the lists may differ
 or_apart :
     (shape : Shape) (wanted : ℕ) (x y : Made) (xs ys : List Made) → access_of x ≡ access_of y → (x ≡ y → ⊥) → AskAnyway shape wanted (x ∷ xs) (y ∷ ys)
 or_apart shape wanted x y xs ys same apart may = (inl same, λ e. absurd (apart e))
@@ -91,7 +91,7 @@ or_scan shape wanted row (suc c) (suc d) xs ys on may =
 
 -- ---- words
 
--- behind a word, where they may part
+-- after a word, where they may differ
 abbrev AskBehindWord : Shape → ℕ → List Made → List Made → Type 1
 AskBehindWord shape wanted xs ys = (may : Type 0) → may → AskOr shape wanted may xs ys
 
@@ -132,12 +132,12 @@ counts_first :
     (shape : Shape) (c : Count) (items : List ℕ) (behind : List Made) → IsCount shape c → IsTakeBatch shape items → CountsFirst (batch_phrase shape C c items ++ behind)
 counts_first shape c items behind is batch = row_first (count_bits shape c items) behind (bits_long shape c items is batch.some (omega (arith, batch.few, take_batch_below shape)))
 
--- of two takes of so many items, one that reads on where the other counts wants more than one, and one that counts where the other reads
--- on wants less than may be taken
+-- of two takes, one that reads on when the other counts wants more than one item, and one that counts when the other reads on wants
+-- fewer than may be taken
 abbrev PartsBy : Shape → ℕ → (m n : ℕ) → Type 0
 PartsBy shape wanted m n = (m < n → wanted < take_batch_of shape) × (n < m → 1 < wanted)
 
--- words of both, behind a word
+-- words of both, after a word
 or_words :
     (shape : Shape) (wanted n : ℕ) (us vs : List ℕ) (xs ys : List Made) → (length us ≡ length vs → AskAnyway shape wanted xs ys) →
     PartsBy shape wanted (length us) (length vs) → CountsFirst xs → CountsFirst ys → AskBehindWord shape wanted (words_read shape n us ++ xs) (words_read shape n vs ++ ys)
@@ -185,13 +185,13 @@ or_items shape wanted c (a ∷ us) (b ∷ vs) left right is batch batch' on by m
         let same : count (b ∷ vs) ≡ count (a ∷ us) = ap (λ v. writes_in (row_bit C) (unary_phrase c.bits (v % modulus_of shape))) past in
         λ may. or_both shape wanted may (the_same (count (a ∷ us) ++ left)) (ap (λ l. l ++ right) same) (or_behind shape wanted (count (a ∷ us)) left right (on (ap suc e)) may)
 
--- ---- takes of at most so many items, beside any takes
+-- ---- a take of at most `wanted` items, next to any takes
 
--- what is shown, and that it is all that one may take
+-- what is shown, if it is all that one may take
 shown : (shape : Shape) (k : ℕ) (c : ℕ) (items : List ℕ) → SeesItems shape k c (length items) → IsTakeBatch shape items → Shows shape k (length items) c (length items)
 shown shape k c items sees batch = (batch.some, sees, (omega arith, inl refl))
 
--- who takes less than the other takes all that it wants, and who takes more wants more than one
+-- a take that takes fewer than the other takes all that it wants, and one that takes more wants more than one
 parts_by :
     (shape : Shape) (k wanted c d : ℕ) (us vs : List ℕ) → c ≡ d → TakesAll shape k wanted c (length us) → SeesItems shape k d (length vs) → IsTakeBatch shape vs →
     PartsBy shape wanted (length us) (length vs)
@@ -204,14 +204,14 @@ parts_by shape k wanted c d us vs same (few, all) (below, shows, room) batch = (
         ap (λ n. distance (modulus_of shape) n (k % modulus_of shape)) same in
         absurd (omega (arith, all, far, shows, less))
 
--- the count behind items, by the number of what comes behind them
+-- the count after items, by the number that follows them
 abbrev count_at : Shape → Count → ℕ → Count
 count_at shape k n = record { number = n; bits = bits_after k.bits (unary_phrase k.bits (n % modulus_of shape)) }
 
 abbrev count_past : Shape → Count → List ℕ → Count
 count_past shape k items = count_at shape k (number_past k.number items)
 
--- behind as many items the counts are the same
+-- after as many items the counts are the same
 or_past :
     (shape : Shape) (wanted : ℕ) (k : Count) (us vs : List ℕ) (xs ys : List Take) (a b : End) → AreTakes shape (number_past k.number vs) ys b →
     (AreTakes shape (number_past k.number us) ys b → AskAnyway shape wanted (calls_from shape (count_past shape k us) xs a) (calls_from shape (count_past shape k us) ys b)) →
@@ -289,7 +289,7 @@ beside shape wanted j k (Empty c ∷ xs) a (Empty d ∷ ys) b is (none, p) (of, 
 
 -- ---- the next access
 
--- what holds behind some accesses
+-- what holds after some accesses
 abbrev Behind : Type 0 → List Made → Type 0
 Behind may [] = may
 Behind may (z ∷ made) = Behind (IsCellRead z) made
@@ -306,14 +306,14 @@ last_is_read z (w ∷ made) is =
     let (before, j, i, v, e) = last_is_read w made is in
     (z ∷ before, j, i, v, ap (λ l. z ∷ l) e)
 
--- behind other accesses
+-- after other accesses
 reads_behind : (front part : List Made) → Behind ⊥ part → EndInCellRead (front ++ part)
 reads_behind front [] is = absurd is
 reads_behind front (z ∷ part) is =
     let (before, j, i, v, e) = last_is_read z part is in
     (front ++ before, j, i, v, ap (λ l. front ++ l) e ∙ sym (append_assoc front before (Read (Cell j i) v ∷ [])))
 
--- calls behind others
+-- calls after others
 calls_behind :
     (shape : Shape) (c : Count) (xs ys : List Take) (end : End) → calls_from shape c (xs ++ ys) end ≡ take_phrases shape c xs ++ calls_from shape (taken_count shape c xs) ys end
 calls_behind shape c [] ys end = refl
@@ -326,7 +326,7 @@ are_behind : (shape : Shape) (c : Count) (xs ys : List Take) (end : End) → Are
 are_behind shape c [] ys end are = are
 are_behind shape c (x ∷ xs) ys end (is, are) = are_behind shape (count_after shape c x) xs ys end are
 
--- the takes of one more, behind those that were made, beside those of any
+-- one more take after those that were made, next to any takes
 parts :
     (shape : Shape) (wanted : ℕ) (calls b : Takes) (part : List Made) (a : Access) (y : Made) (rest later : List Made) (xs : List Take) (end front : End) →
     AreTakes shape 0 calls.takes front → AreTakes shape 0 b.takes b.end →
@@ -375,9 +375,9 @@ takes-go_on shape wanted calls b made a y rest (part, made_is) goes are e =
           (begins ∙ ap (take_program shape) more_is ∙ ap (λ l. calls_from shape first_count l (Closed seen again)) (sym (append-nil calls.takes))) program
     ])
 
--- ---- where one item may be taken
+-- ---- if only one item may be taken
 
--- a take takes all that a take of one wants
+-- a take then takes all that a take of one wants
 one_wanted : (shape : Shape) → take_batch_of shape ≡ 1 → (k seen : ℕ) (items : List ℕ) → IsTakeBatch shape items → TakesAll shape k 1 seen (length items)
 one_wanted shape one k seen items batch =
     let single : length items ≡ 1 = omega (arith, one, batch.some, batch.few) in

@@ -1,4 +1,4 @@
--- Each call has the spans of its looks, and they stand at its own events.
+-- Each call has the spans of its looks, and they are at its own events.
 use Rattle.std.proofs.Common.{◌≡◌, inl, inr, ℕ, ◌+◌, true, false, List, [], ◌∷◌, ◌++◌, length, refl, ap, subst, ◌∙◌, arith, length-append}
 use Rattle.bits_core.specs.declared.events.Side.{Side}
 use Rattle.bits_core.specs.declared.events.Side.TheVariants.{P, C}
@@ -17,11 +17,11 @@ use Rattle.ring_core.proofs.CountRow.{past_is}
 use Rattle.ring_core.proofs.Machines.PutCalls as put
 use Rattle.ring_core.proofs.Machines.TakeCalls as take
 
--- the same, by equal numbers
+-- the same, for equal numbers
 pub stands_at : (xs : List Span) (s s' n n' : ℕ) (x : Span) → s ≡ s' → n ≡ n' → IsSpanAt xs s n x → IsSpanAt xs s' n' x
 stands_at xs s s' n n' x e f st = subst (λ i. IsSpanAt xs i n' x) e (subst (λ j. IsSpanAt xs s j x) f st)
 
--- behind a first span
+-- after a first span
 stands_behind : (y : Span) (ys : List Span) (s n s' n' : ℕ) (x : Span) → s' ≡ whole y + s → n' ≡ counts y.outcome + n → IsSpanAt ys s n x → IsSpanAt (y ∷ ys) s' n' x
 stands_behind y ys s n s' n' x e f st = inr (s, n, e, f, st)
 
@@ -30,7 +30,7 @@ three a b d = omega (arith, length-append (a ++ b) d, length-append a b)
 
 -- ---- puts
 
--- what a put's scan gives
+-- what a put's scan returns
 abbrev pub put_seen : Put → ℕ
 put_seen (Stored seen items) = seen
 put_seen (Full seen) = seen
@@ -56,7 +56,7 @@ pub put_phrase-stored :
     (shape : Shape) (c : Count) (seen : ℕ) (items : List ℕ) → events_in (put_phrase shape c (Stored seen items)) ≡ whole (span_of P shape c (look seen (Passes items)))
 put_phrase-stored shape c seen items = omega (arith, three (scan_phrase (row_read_by P) seen) (words_phrase shape c.number items) (batch_phrase shape P c items))
 
--- what stands in the spans of puts stands in those of more puts, behind the events and the items of the ones before
+-- what is in the spans of puts is in those of more puts, after the events and the items of the earlier ones
 pub behind_puts :
     (shape : Shape) (c : Count) (before rest : List Put) (s n : ℕ) (x : Span) →
     IsSpanAt (spans P shape (stored_count shape c before) (put_looks rest)) s n x →
@@ -75,7 +75,7 @@ behind_puts shape c (Full seen ∷ before) rest s n x st =
     (omega (arith, length-append a (put_phrases shape c before))) (omega arith)
     (behind_puts shape c before rest s n x st)
 
--- the span of a look that stands there
+-- the span of a look that is there
 pub record HasSpan (s : Side) (xs : List Span) (n start stop seen : ℕ) (outcome : Outcome) : Type 0 where
   pub span : Span
   pub stands : IsSpanAt xs start n span
@@ -84,7 +84,7 @@ pub record HasSpan (s : Side) (xs : List Span) (n start stop seen : ℕ) (outcom
   pub scan_is : span.scan ≡ scan_events s seen
   pub stop_is : stop ≡ start + whole span
 
--- that of a look which stands there
+-- that of a look that is there
 has_span :
     (s : Side) (shape : Shape) (c : Count) (l : Look) (xs : List Span) (n start stop : ℕ) → IsSpanAt xs start n (span_of s shape c l) →
     stop ≡ start + whole (span_of s shape c l) → HasSpan s xs n start stop l.seen l.outcome
@@ -108,7 +108,7 @@ put_size (Full seen) = refl
 first_stands : (y : Span) (ys : List Span) → IsSpanAt (y ∷ ys) 0 0 y
 first_stands y ys = inl (refl, refl, refl)
 
--- each put has its span, which stands at its own events
+-- each put has its span, which is at its own events
 pub put_has_span :
     (shape : Shape) (calls : Puts) (x : Put) (n start stop : ℕ) → IsPutAt shape calls x n start stop →
     HasSpan P (put_spans shape calls) n start stop (put_seen x) (put_outcome x)
@@ -143,12 +143,12 @@ taken_is k (Item seen items ∷ takes) = omega (arith, taken_is (number_past k i
 taken_is k (ItemAfterClose seen again items ∷ takes) = omega (arith, taken_is (number_past k items) takes, past_is k items)
 taken_is k (Empty seen ∷ takes) = taken_is k takes
 
--- the number of the count behind takes
+-- the number of the count after takes
 pub taken_number : (shape : Shape) (c : Count) (takes : List Take) → (taken_count shape c takes).number ≡ taken_in c.number takes
 taken_number shape c [] = refl
 taken_number shape c (x ∷ takes) = taken_number shape (count_after shape c x) takes
 
--- and behind puts
+-- and after puts
 pub stored_number : (shape : Shape) (c : Count) (puts : List Put) → (stored_count shape c puts).number ≡ stored_in c.number puts
 stored_number shape c [] = refl
 stored_number shape c (x ∷ puts) = stored_number shape (stored_after shape c x) puts
@@ -210,7 +210,7 @@ take_phrases-push :
     length (take_phrases shape c (before ++ x ∷ [])) ≡ length (take_phrases shape c before) + length (take_phrase shape (taken_count shape c before) x)
 take_phrases-push shape c before x = ap length (take.phrases-push shape c before x) ∙ length-append (take_phrases shape c before) (take_phrase shape (taken_count shape c before) x)
 
--- where the second scan of a take begins: behind its first scan, which gave seen, and the read of the close bit
+-- where the second scan of a take begins: after its first scan, which returned seen, and the read of the close bit
 abbrev pub second_scan : ℕ → ℕ → ℕ
 second_scan start seen = start + events_in (scan_phrase (row_read_by C) seen ++ Read X true ∷ [])
 

@@ -1,16 +1,16 @@
--- Two sides on one history: clocks that count their events, and what the registers promise of a scan.
+-- Two sides on one history: clocks that count their events, and what the registers guarantee about a scan.
 use Rattle.std.specs.Prelude.{◌≡◌, ◌⊎◌, ℕ, suc, ◌+◌, ◌*◌, ◌<◌, ◌≤◌, ◌%◌, Bool, true, false, Some, List, slice_get}
 use Rattle.ring_core.specs.Counts.{distance}
 use Rattle.ring_core.proofs.OverSpans.Spans.{Span, Asks, counts, items_of, before_count, counts_begun, counts_ended, total, IsSpanAt, sizes, tally}
 
--- The clock of a side says how many of its events stand before a position of the history. Each event is of one side.
+-- The clock of a side says how many of its events come before a position of the history. Each event is of one side.
 pub record Clocks (p c : ℕ → ℕ) : Type 0 where
   pub producer : p 0 ≡ 0
   pub consumer : c 0 ≡ 0
   pub tick :
       (t : ℕ) → ((p (suc t) ≡ suc (p t)) × (c (suc t) ≡ c t)) ⊎ ((p (suc t) ≡ p t) × (c (suc t) ≡ suc (c t))) ⊎ ((p (suc t) ≡ p t) × (c (suc t) ≡ c t))
 
--- the side's own event number i stands at position t of the history
+-- the side's own event number i is at position t of the history
 abbrev pub IsPlace : (ℕ → ℕ) → ℕ → ℕ → Type 0
 IsPlace clock i t = (clock t ≡ i) × (clock (suc t) ≡ suc i)
 
@@ -30,12 +30,12 @@ AreRegular modulus own other scans writes =
     (s n : ℕ) (x : Span) → IsSpanAt scans s n x → (first last e : ℕ) → IsPlace own s first → IsPlace own e last → suc e ≡ s + x.scan →
     Permitted modulus other writes first last x.seen
 
--- A put behind n items stores some where the count that it read leaves room for them, and finds the ring full where it leaves none.
+-- A put after n items stores some if the count that it read leaves room for them, and finds the ring full if it leaves none.
 pub record IsPutSpan (modulus capacity n : ℕ) (x : Span) : Type 0 where
   pub room : 1 ≤ counts x.outcome → distance modulus (n % modulus) x.seen + counts x.outcome ≤ capacity
   pub full : counts x.outcome ≡ 0 → capacity ≤ distance modulus (n % modulus) x.seen
 
--- A take behind k items takes some, no more than the count that it read shows, and none exactly where that shows none.
+-- A take after k items takes no more than the count that it read shows, and none exactly if that shows none.
 pub record IsTakeSpan (modulus capacity k : ℕ) (x : Span) : Type 0 where
   pub item : 1 ≤ counts x.outcome → (counts x.outcome ≤ distance modulus x.seen (k % modulus)) × (distance modulus x.seen (k % modulus) ≤ capacity)
   pub none : counts x.outcome ≡ 0 → (distance modulus x.seen (k % modulus) ≡ 0) ⊎ (capacity < distance modulus x.seen (k % modulus))
@@ -49,7 +49,7 @@ pub record WritesCell (capacity : ℕ) (puts : List Span) (cell : ℕ) : Type 0 
   pub stands : IsSpanAt puts start number put
   pub same_cell : (number + index) % capacity ≡ cell
 
--- A word write of a put is of the cell, and neither the put's word writes nor the read of the cell end before the other begins.
+-- A word write of a put is of the cell, and neither the put's word writes nor the read of the cell end before the other begin.
 -- The read begins at position first, and ends at position last or is open there.
 pub record CellOverlap (capacity : ℕ) (p : ℕ → ℕ) (puts : List Span) (cell first last : ℕ) : Type 0 where
   pub write : WritesCell capacity puts cell
@@ -68,11 +68,11 @@ pub record IsLastWrite (capacity : ℕ) (p : ℕ → ℕ) (puts : List Span) (ce
   pub no_later :
       (s n i : ℕ) (y : Span) → IsSpanAt puts s n y → i < counts y.outcome → (n + i) % capacity ≡ cell → number + index < n + i → s + y.scan ≤ p first → ⊥
 
--- Word access number i of a look, each of so many events, ends with this event.
+-- Word access number i of a look, each of `word` events, ends with this event.
 abbrev pub word_end : ℕ → ℕ → Span → ℕ → ℕ
 word_end word s x i = s + x.scan + suc i * word
 
--- The law of the safe word: a word read that no word write of its cell overlaps gives the item last written.
+-- The law of the safe word: a word read that no word write of its cell overlaps returns the item last written.
 abbrev pub AreSafe : (capacity word : ℕ) → (p c : ℕ → ℕ) → (puts takes : List Span) → Type 0
 AreSafe capacity word p c puts takes =
     (s k i : ℕ) (x : Span) (item : ℕ) → IsSpanAt takes s k x → slice_get (items_of x.outcome) i ≡ Some item →
@@ -80,16 +80,16 @@ AreSafe capacity word p c puts takes =
     (CellOverlap capacity p puts ((k + i) % capacity) first last → ⊥) →
     (written : ℕ) → IsLastWrite capacity p puts ((k + i) % capacity) first written → item ≡ written
 
--- The law of the close bit. The close stands behind all puts: its begin is event number `total puts`, its end the next one.
+-- The law of the close bit. The close comes after all puts: its start is event number `total puts`, its end the next one.
 abbrev pub AreCloseReads : (p c : ℕ → ℕ) → (puts takes : List Span) → Type 0
 AreCloseReads p c puts takes =
     (s k : ℕ) (x : Span) (answer : Bool) → IsSpanAt takes s k x → x.outcome ≡ Asks answer →
     (first last e : ℕ) → IsPlace c (s + x.scan) first → IsPlace c e last → suc e ≡ s + before_count x →
     (answer ≡ false → p first < total puts + 2) × (answer ≡ true → total puts < p last)
 
--- What the law of the ring rests on: two sides on one history, whose spans follow the rules of puts and takes, and the
--- laws of the registers between them.
--- A put stores at most `batch` items, a take takes at most `more`, and each of its word accesses has `word` events.
+-- What the law of the ring depends on: two sides on one history, whose spans follow the rules of puts and takes, and
+-- the laws of the registers between them. A put stores at most `batch` items, a take takes at most `more`, and each of
+-- its word accesses has `word` events.
 pub record Ring (modulus capacity batch more word : ℕ) (p c : ℕ → ℕ) (puts takes : List Span) : Type 0 where
   pub modulus_fits : suc (capacity + batch) ≤ modulus
   pub has_batch : 1 ≤ batch
@@ -102,7 +102,7 @@ pub record Ring (modulus capacity batch more word : ℕ) (p c : ℕ → ℕ) (pu
   pub takes_regular : AreRegular modulus c p takes puts
   pub words_safe : AreSafe capacity word p c puts takes
   pub close_reads : AreCloseReads p c puts takes
-  -- a word access, and a read of the close bit, has an event; the word accesses of a take are as long as one another
+  -- a word access has an event, and so has a read of the close bit; the word accesses of a take are as long as one another
   pub has_word : 1 ≤ word
   pub takes_words : (s k : ℕ) (x : Span) → IsSpanAt takes s k x → 1 ≤ counts x.outcome → x.word ≡ counts x.outcome * word
   pub asks_words : (s k : ℕ) (x : Span) (answer : Bool) → IsSpanAt takes s k x → x.outcome ≡ Asks answer → 1 ≤ x.word

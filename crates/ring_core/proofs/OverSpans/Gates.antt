@@ -7,7 +7,7 @@ use Rattle.ring_core.proofs.Readings.Cuts.{at_most_or_above}
 use Rattle.ring_core.proofs.OverSpans.Timeline.{Proper, AllProper, before-whole, begun_zero, ended_begun, begun_at, begun_step, begun_up}
 use Rattle.ring_core.proofs.OverSpans.Distances.{distance_of, distance_back}
 
--- a clock that begins at 0 and goes on by at most one
+-- a clock that begins at 0 and advances by at most one
 pub record Clock (p : ℕ → ℕ) : Type 0 where
   pub start : p 0 ≡ 0
   pub tick : (t : ℕ) → (p t ≤ p (suc t)) × (p (suc t) ≤ suc (p t))
@@ -26,7 +26,7 @@ pub record Placed (p : ℕ → ℕ) (i t : ℕ) : Type 0 where
   pub before : place < t
   pub is : IsPlace p i place
 
--- each event that a clock has counted has one
+-- each event that a clock has counted has a position
 pub place_of : (p : ℕ → ℕ) → Clock p → (i t : ℕ) → i < p t → Placed p i t
 place_of p h i zero l = absurd (omega (arith, h.start))
 place_of p h i (suc t) l = elim (at_most_or_above (suc i) (p t)) [
@@ -79,7 +79,7 @@ record Read (modulus : ℕ) (own other : ℕ → ℕ) (scans writes : List Span)
   pub write : ℕ
   pub tallies : number ≡ tally (sizes writes) write
 
--- each scan that has ended is known so
+-- this is known of each scan that has ended
 read_of :
     (modulus : ℕ) (own other : ℕ → ℕ) → Clock own → Clock other → (most most' : ℕ) (scans writes : List Span) → AllProper most scans → AllProper most' writes →
     AreRegular modulus own other scans writes →
@@ -139,13 +139,13 @@ reads_so modulus own other ho scans writes Low High t s n x r low high = record 
   tallies = r.tallies;
 }
 
--- each span that stands is proper
+-- each span is proper
 pub proper_at : (most : ℕ) (xs : List Span) → AllProper most xs → (s n : ℕ) (x : Span) → IsSpanAt xs s n x → Proper most x
 proper_at most [] h s n x st = elim st [ ]
 proper_at most (y ∷ ys) h s n x (inl st) = rw st.2 h.0
 proper_at most (y ∷ ys) h s n x (inr st) = proper_at most ys h.1 st.0 st.1 x st.4
 
--- a scan that has ended has read a number between bounds that hold of what the counts were where it began and where it ended
+-- a scan that has ended has read a number between bounds that hold of the counts when it began and when it ended
 reads_between :
     (modulus : ℕ) (own other : ℕ → ℕ) → Clock own → Clock other → (most most' : ℕ) (scans writes : List Span) → AllProper most scans → AllProper most' writes →
     AreRegular modulus own other scans writes → (Low High : ℕ → Type 0) (t s n : ℕ) (x : Span) → IsSpanAt scans s n x → s + x.scan ≤ own t →
@@ -174,7 +174,7 @@ module _ (modulus capacity batch more word : ℕ) (p c : ℕ → ℕ) (puts take
   abbrev pub Shown : (t s k : ℕ) → Span → Type 0
   Shown t s k x = Reads modulus c p puts (λ number. k ≤ number + batch) (λ number. number ≤ k + capacity) t s x
 
-  -- each scan of the consumer that has ended has read so, where the counts were right up to now
+  -- each scan of the consumer that has ended has read that, if the counts were right up to now
   shown : (t : ℕ) → ((u : ℕ) → u ≤ t → Within u) → (s k : ℕ) (x : Span) → IsSpanAt takes s k x → s + x.scan ≤ c t → Shown t s k x
   shown t within s k x st l =
       reads_between modulus c p hc hp more batch takes puts proper_takes proper_puts ring.takes_regular _ _ t s k x st l
@@ -201,7 +201,7 @@ module _ (modulus capacity batch more word : ℕ) (p c : ℕ → ℕ) (puts take
         | inr l ↦ absurd (omega (arith, rule, distance_back modulus k r.number l (omega (arith, r.low)), r.low))
       ]
 
-  -- a take that takes none has not
+  -- a take that takes none has read one that shows none
   pub shows_none : (t s k : ℕ) (x : Span) → IsSpanAt takes s k x → (r : Shown t s k x) → counts x.outcome ≡ 0 → r.number ≤ k
   shows_none t s k x st r o =
       let fits = ring.modulus_fits in
@@ -284,15 +284,15 @@ module _ (modulus capacity batch more word : ℕ) (p c : ℕ → ℕ) (puts take
   pub within : (t : ℕ) → Within t
   within t = within_below t t (omega arith)
 
-  -- so at every moment each scan of the consumer that has ended has read so
+  -- so at every moment each scan of the consumer that has ended has read that
   pub shown_at : (t s k : ℕ) (x : Span) → IsSpanAt takes s k x → s + x.scan ≤ c t → Shown t s k x
   shown_at t = shown t (λ u _. within u)
 
-  -- and so each scan of the producer
+  -- and likewise each scan of the producer
   pub left_at : (t s n : ℕ) (x : Span) → IsSpanAt puts s n x → s + x.scan ≤ p t → Left t s n x
   left_at t = left t (λ u _. within u)
 
-  -- from the end of its scan on, a take that found items is, with them, behind the puts
+  -- from the end of its scan on, the takes, with the items that this take found, do not get ahead of the puts
   pub behind : (t s k : ℕ) (x : Span) → IsSpanAt takes s k x → 1 ≤ counts x.outcome → s + x.scan ≤ c t → k + counts x.outcome ≤ counts_begun puts (p t)
   behind t = taken_behind t (λ u _. within u)
 

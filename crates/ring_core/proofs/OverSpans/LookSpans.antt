@@ -13,7 +13,7 @@ use Rattle.ring_core.specs.Takes.{Take, Item, ItemAfterClose, Empty, End, Open, 
 pub use Rattle.ring_core.specs.Takes.{words_read}
 use Rattle.ring_core.proofs.OverSpans.Spans.{Outcome, Passes, Stops, Asks, Span}
 
--- a count whose writes count one item each, as its writer knows it
+-- a count whose writes count one item each, as known to its writer
 abbrev pub steps : Shape → ℕ → Count
 steps shape n = record { number = n; bits = bits_held shape n }
 
@@ -31,7 +31,7 @@ put_looks [] = []
 put_looks (Stored seen items ∷ puts) = look seen (Passes items) ∷ put_looks puts
 put_looks (Full seen ∷ puts) = look seen Stops ∷ put_looks puts
 
--- a take looks again where the close bit was 1
+-- a take looks again if the close bit was 1
 abbrev pub take_looks : List Take → End → List Look
 take_looks [] Open = []
 take_looks [] (Closed seen again) = look seen (Asks true) ∷ look again Stops ∷ []
@@ -39,7 +39,7 @@ take_looks (Item seen items ∷ takes) end = look seen (Passes items) ∷ take_l
 take_looks (ItemAfterClose seen again items ∷ takes) end = look seen (Asks true) ∷ look again (Passes items) ∷ take_looks takes end
 take_looks (Empty seen ∷ takes) end = look seen (Asks false) ∷ take_looks takes end
 
--- what a side does after a scan, behind n items: the word accesses or the read of the close bit, and the count write
+-- what a side does after a scan, after n items: the word accesses or the read of the close bit, and the count write
 abbrev pub word_part : Side → Shape → ℕ → Outcome → List Made
 word_part P shape n (Passes items) = words_phrase shape n items
 word_part C shape n (Passes items) = words_read shape n items
@@ -62,11 +62,11 @@ look_bits shape c (Passes items) = bits_after c.bits (count_bits shape c items)
 look_bits shape c Stops = c.bits
 look_bits shape c (Asks answer) = c.bits
 
--- the side's count after one
+-- the side's count after a look
 abbrev pub after_look : Shape → Count → Outcome → Count
 after_look shape c o = record { number = look_number c.number o; bits = look_bits shape c o }
 
--- the accesses of looks, behind a count, and of what comes after them
+-- the accesses of looks, starting at a count, and of what comes after them
 abbrev pub look_accesses : Side → Shape → Count → List Look → List Made → List Made
 look_accesses s shape c [] behind = behind
 look_accesses s shape c (l ∷ looks) behind =
@@ -96,7 +96,7 @@ take_spans shape calls = spans C shape first_count (take_looks calls.takes calls
 
 -- ---- looks and the programs
 
--- the span is that of a look of the program, behind n items, and begins with the look's own event
+-- the span is that of a look of the program, after n items, and begins with the look's own event
 pub record LookAt (s : Side) (shape : Shape) (program : List Made) (n start : ℕ) (x : Span) : Type 0 where
   pub look : Look
   pub count : Count

@@ -25,7 +25,7 @@ use Rattle.ring_core.proofs.Readings.TakesFirst.{item_first, after_first, empty_
 
 -- ---- the accesses of the calls are those of their looks
 
--- the accesses of puts, and of a close behind them
+-- the accesses of puts, and of a close after them
 pub puts_as_looks :
     (shape : Shape) (c : Count) (puts : List Put) (closes : Bool) →
     put_phrases shape c puts ++ close_phrase closes ≡ look_accesses P shape c (put_looks puts) (close_phrase closes)
@@ -63,7 +63,7 @@ takes_as_looks shape c (Empty seen ∷ takes) end =
 
 -- ---- what looks count
 
--- a look that passes has some items, at most so many
+-- a look that passes items has at least one and at most the most
 abbrev pub Passing : ℕ → Outcome → Type 0
 Passing most (Passes items) = (1 ≤ length items) × (length items ≤ most)
 Passing most Stops = Unit {0}
@@ -73,7 +73,7 @@ abbrev pub AllPassing : ℕ → List Look → Type 0
 AllPassing most [] = Unit {0}
 AllPassing most (l ∷ looks) = Passing most l.outcome × AllPassing most looks
 
--- those of puts have at most a batch, and those of takes at most a take batch
+-- the looks of puts have at most a batch, and those of takes at most a take batch
 pub puts_pass : (shape : Shape) (n : ℕ) (puts : List Put) → ArePuts shape n puts → AllPassing (batch_of shape) (put_looks puts)
 puts_pass shape n [] h = tt
 puts_pass shape n (Stored seen items ∷ puts) ((below, room, batch), h) = ((batch.some, batch.few), puts_pass shape (number_past n items) puts h)
@@ -104,7 +104,7 @@ count_some most s shape c (Passes items) fits h (some, few) =
 count_some most s shape c Stops fits h p = (omega arith, λ o. absurd (omega (arith, o)))
 count_some most s shape c (Asks answer) fits h p = (omega arith, λ o. absurd (omega (arith, o)))
 
--- each span has an event in its scan, and where it counts one in its count write
+-- each span has an event in its scan, and if it counts, one in its count write
 pub all_proper :
     (most : ℕ) (s : Side) (shape : Shape) (c : Count) (looks : List Look) → most < modulus_of shape → IsCount shape c → AllPassing most looks →
     AllProper most (spans s shape c looks)
@@ -137,7 +137,7 @@ total_is s shape c (l ∷ looks) =
     let after : List Made = look_accesses s shape (after_look shape c l.outcome) looks [] in
     omega (arith, length_parts a b d after, total_is s shape (after_look shape c l.outcome) looks)
 
--- ---- where a span stands
+-- ---- the position of a span
 
 -- how many items there are after a look
 pub after_counts : (n : ℕ) (o : Outcome) → look_number n o ≡ n + counts o
@@ -151,7 +151,7 @@ first_look : (s : Side) (shape : Shape) (c : Count) (l : Look) (after : List Mad
 first_look s shape c l after start x zero_is e =
     record { look = l; count = c; before = []; after = after; number_is = refl; is_x = e; program_is = refl; start_is = omega (arith, zero_is) }
 
--- a look behind other accesses
+-- a look after other accesses
 later_look : (s : Side) (shape : Shape) (a b d program : List Made) (k start rest : ℕ) (x : Span) →
     start ≡ 2 * length a + 2 * length b + 2 * length d + rest → LookAt s shape program k rest x → LookAt s shape (a ++ (b ++ (d ++ program))) k start x
 later_look s shape a b d program k start rest x e r = record {
@@ -165,7 +165,7 @@ later_look s shape a b d program k start rest x e r = record {
   start_is = omega (arith, e, r.start_is, length_parts a b d r.before);
 }
 
--- where a span stands there is its look
+-- at the position of a span is its look
 pub look_at :
     (s : Side) (shape : Shape) (c : Count) (looks : List Look) (behind : List Made) (start m : ℕ) (x : Span) →
     IsSpanAt (spans s shape c looks) start m x → LookAt s shape (look_accesses s shape c looks behind) (c.number + m) start x
@@ -182,7 +182,7 @@ look_at s shape c (l ∷ looks) behind start m x (inr st) =
     (look_accesses s shape (after_look shape c l.outcome) looks behind) (n + st.1) start st.0 x st.2
     (look_at s shape (after_look shape c l.outcome) looks behind st.0 st.1 x st.4))
 
--- also by its number alone, in a whole program
+-- also given its number alone, in a whole program
 pub look_from_first :
     (s : Side) (shape : Shape) (looks : List Look) (behind : List Made) (start m : ℕ) (x : Span) →
     IsSpanAt (spans s shape first_count looks) start m x → LookAt s shape (look_accesses s shape first_count looks behind) m start x
@@ -192,7 +192,7 @@ look_from_first s shape looks behind start m x st =
 
 -- ---- the parts of a span
 
--- a scan that gives c has c + 1 reads
+-- a scan that returns c has c + 1 reads
 pub scan_is :
     (s : Side) (shape : Shape) (looks : List Look) (start m : ℕ) (x : Span) → IsSpanAt (spans s shape first_count looks) start m x → x.scan ≡ 2 * suc x.seen
 scan_is s shape looks start m x st =
@@ -205,7 +205,7 @@ word_length C shape n (Passes items) e = length-words_read shape n items
 word_length s shape n Stops e = absurd (omega (arith, e))
 word_length s shape n (Asks answer) e = absurd (omega (arith, e))
 
--- so has a span that counts some items
+-- the same for a span that counts some items
 pub words_are :
     (s : Side) (shape : Shape) (looks : List Look) (start m : ℕ) (x : Span) →
     IsSpanAt (spans s shape first_count looks) start m x → 1 ≤ counts x.outcome → x.word ≡ 2 * (counts x.outcome * width_of shape)
@@ -239,12 +239,12 @@ asks_word s shape looks start m x answer st e =
 
 -- ---- the items
 
--- no item, whatever the test
+-- no items, whatever the test
 no_items : (t : Bool) (l : List ℕ) → l ≡ (if t then [] else []) ++ l
 no_items true l = refl
 no_items false l = refl
 
--- items where the same test holds, before the same items
+-- equal items under the same test, before equal items
 same_items : (a b : Bool) (items l m : List ℕ) → a ≡ b → l ≡ m → (if a then items else []) ++ l ≡ (if b then items else []) ++ m
 same_items a b items l m e f = cc
 
@@ -266,7 +266,7 @@ puts_items shape c (Full seen ∷ puts) t =
     ap (λ k. items_put shape c puts (t - k)) number_past ∙ puts_items shape c puts (t - (2 * length a + 0 + 0)) ∙
     no_items (nat_lt (2 * length a + 0) t) (begun_items (spans P shape c (put_looks puts)) (t - (2 * length a + 0 + 0)))
 
--- two phrases have ended where the second has, behind the first
+-- two phrases have ended if the second has, after the first
 two_ended : (a b t : ℕ) → 0 < b → nat_le (a + b) t ≡ nat_le b (t - a)
 two_ended a b t some = grind (arith, nat_tests)
 
@@ -320,7 +320,7 @@ abbrev EachLook : (ℕ → ℕ → Outcome → Type 0) → ℕ → List Look →
 EachLook rule n [] = Unit {0}
 EachLook rule n (l ∷ looks) = rule n l.seen l.outcome × EachLook rule (look_number n l.outcome) looks
 
--- it holds of the look that stands there
+-- it holds of the look that is there
 each_at :
     (rule : ℕ → ℕ → Outcome → Type 0) (s : Side) (shape : Shape) (c : Count) (looks : List Look) → EachLook rule c.number looks →
     (start m : ℕ) (x : Span) → IsSpanAt (spans s shape c looks) start m x → rule (c.number + m) x.seen x.outcome
@@ -333,7 +333,7 @@ each_at rule s shape c (l ∷ looks) h start m x (inr st) =
     let same : n + st.1 ≡ c.number + m = omega (arith, st.3, after_counts c.number l.outcome) in
     subst (λ k. rule k x.seen x.outcome) same (each_at rule s shape (after_look shape c l.outcome) looks h.1 st.0 st.1 x st.4)
 
--- what is true of each look: the scan gives a number below the modulus, and the items fit
+-- what is true of each look: the scan returns a number below the modulus, and the items fit
 pub record FitsShape (shape : Shape) (seen : ℕ) (o : Outcome) : Type 0 where
   pub below : seen < modulus_of shape
   pub items : AllFit shape (items_of o)
@@ -432,7 +432,7 @@ pub take_fits :
     (start m : ℕ) (x : Span) → IsSpanAt (spans C shape c (take_looks takes end)) start m x → FitsShape shape x.seen x.outcome
 take_fits shape c takes end h start m x st = (take_rule shape c takes end h start m x st).0
 
--- ---- the last two looks of a consumer that is told the ring is closed
+-- ---- the last two looks of a consumer whose last take returns Closed
 
 -- they are a read of the close bit that is 1, and a scan after which nothing is taken
 pub last_two : (shape : Shape) (c : Count) (takes : List Take) (seen again : ℕ) → LastTwo (spans C shape c (take_looks takes (Closed seen again)))

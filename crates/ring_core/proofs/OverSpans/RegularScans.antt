@@ -26,7 +26,7 @@ use Rattle.ring_core.proofs.CountTimes.{bit_writes, IsQuiet, quiet_close, sizes_
 use Rattle.ring_core.proofs.OwnEvents.{clock_within, one_place, count_begun_own, count_begun_before, count_ended_before}
 use Rattle.register_core.proofs.LawLemmas.{reads_are_made_scans, unary_is_regular}
 
--- the first events of a beginning are those of the whole
+-- the first events of a prefix are those of the whole
 bits_of_beginning :
     (s : Side) (xs rest all : List Event) (i : ℕ) → xs ++ rest ≡ all → i ≤ length xs → length (count_begun s (take i xs)) ≡ bit_writes s all i
 bits_of_beginning s xs rest all i e l = ap (λ z. length (count_begun s z)) (sym (take-append-le i xs rest l) ∙ ap (take i) e)
@@ -48,7 +48,7 @@ module _
   events = events_of w (look_accesses w shape first_count looks behind)
 
   module _ (most : ℕ) (fits : most < modulus_of shape) (passing : AllPassing most looks) where
-    -- what the count writes of its spans that had ended before a place count, the unary writes that had do
+    -- the unary writes that had ended before a place count at least as much as the count writes of its spans that had
     ended_there : (place : ℕ) → counts_ended (spans w shape first_count looks) (clock w h place) ≤ tally (sizes_in looks) (ended_before w h (counted_in shape looks) place)
     ended_there place =
         let same : length (count_ended w (take place h)) ≡ bit_writes w events (clock w h place - 1) =
@@ -56,7 +56,7 @@ module _
         bits_of_beginning w (subhistory w h) follows.0 events (clock w h place - 1) follows.1 (omega (arith, clock_within w h place)) in
         rw same (count_writes_ended most w shape looks behind fits passing (clock w h place))
 
-    -- what the unary writes that had begun before a place count, the count writes of its spans that had do
+    -- the count writes of its spans that had begun before a place count at least as much as the unary writes that had
     begun_there : (place : ℕ) → tally (sizes_in looks) (begun_before w h (counted_in shape looks) place) ≤ counts_begun (spans w shape first_count looks) (clock w h place)
     begun_there place =
         let same : length (count_begun w (take place h)) ≡ bit_writes w events (clock w h place) =
@@ -64,7 +64,7 @@ module _
         bits_of_beginning w (subhistory w h) follows.0 events (clock w h place) follows.1 (clock_within w h place) in
         rw same (count_writes_begun most w shape looks behind fits passing (clock w h place))
 
-    -- so the value that the register gives is one that the spans permit
+    -- so the value that the register returns is one that the spans permit
     permitted :
         (first last c : ℕ) → IsRegularValue w h (counted_in shape looks) first last c →
         Permitted (modulus_of shape) (clock w h) (spans w shape first_count looks) first last c
@@ -119,13 +119,13 @@ pub take_events :
 take_events shape h calls follows =
     subst (λ (l : List Made). IsPrefix (subhistory C h) (events_of C l)) (takes_as_looks shape first_count calls.takes calls.end) follows.events
 
--- the value that the register gives is between those places
+-- the value that the register returns is between those places
 between :
     (w : Side) (h : List Event) (values : List ℕ) (first last first' last' c : ℕ) → first ≡ first' → last ≡ last' →
     IsRegularValue w h values first' last' c → IsRegularValue w h values first last c
 between w h values first last first' last' c e f r = rw (e, f) r
 
--- the scans of one side are regular, in a lawful history whose two sides follow their programs
+-- the scans of one side are regular in a lawful history whose two sides follow their programs
 pub regular_scans :
     (shape : Shape) (h : List Event) → IsLawful shape h →
     (s : Side) (looks writes : List Look) (behind behind_writes : List Made) → IsQuiet (other s) behind_writes →

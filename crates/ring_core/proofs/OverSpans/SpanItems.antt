@@ -1,4 +1,4 @@
--- What follows from the counts: cells at rest, the items in order, what a full and an empty ring tell, and the close.
+-- What follows from the counts: no overlapping access to a cell, the items in order, what a full and an empty ring imply, and the close.
 use Rattle.std.specs.Prelude.{slice_get, Some}
 use Rattle.std.proofs.Math.Nat.{suc-mul, mul-le-mul_right}
 use Rattle.std.proofs.lemmas.Option.{slice_get_within, get_or_from_slice_get}
@@ -12,7 +12,7 @@ use Rattle.ring_core.proofs.OverSpans.Distances.{apart, distance_of}
 use Rattle.ring_core.specs.Counts.{distance}
 use Rattle.ring_core.proofs.OverSpans.Gates.{clock_up, place_of, clock_p, clock_c, proper_at, shows_none, leaves_none, within, shown_at, left_at, behind as has_begun, ahead as has_room}
 
--- an item of an outcome is one of so many
+-- an item of an outcome is one of those that it counts
 pub within_items : (o : Outcome) (i item : ℕ) → slice_get (items_of o) i ≡ Some item → i < counts o
 within_items o i item e = omega (arith, counts-items o, slice_get_within (items_of o) i item e)
 
@@ -37,7 +37,7 @@ module _ (modulus capacity batch more word : ℕ) (p c : ℕ → ℕ) (puts take
   ahead : (t s n : ℕ) (x : Span) → IsSpanAt puts s n x → 1 ≤ counts x.outcome → s + x.scan ≤ p t → n + counts x.outcome ≤ counts_begun takes (c t) + capacity
   ahead = has_room modulus capacity batch more word p c puts takes ring proper_puts proper_takes
 
-  -- the count of a side from the begin of a scan to the begin of the count write
+  -- the count of a side from the start of a scan to the start of the count write
   at_put : (s n j : ℕ) (x : Span) → IsSpanAt puts s n x → s ≤ j → j ≤ s + before_count x → counts_begun puts j ≡ n
   at_put s n j x st l m =
       let e : s + (j - s) ≡ j = omega arith in
@@ -75,7 +75,7 @@ module _ (modulus capacity batch more word : ℕ) (p c : ℕ → ℕ) (puts take
             (omega (arith, room, kk, v.stored)) v.same_cell)
       ]
 
-  -- word read i of a take behind k items, which has ended by moment t, has item number k + i of those put
+  -- word read i of a take after k items, which has ended by moment t, has item number k + i of those put
   same_item :
       (t s k i : ℕ) (x : Span) (item : ℕ) → IsSpanAt takes s k x → slice_get (items_of x.outcome) i ≡ Some item → word_end word s x i ≤ c t →
       (g : Found puts (begun_items puts (p t)) (k + i)) → item ≡ g.item
@@ -156,7 +156,7 @@ module _ (modulus capacity batch more word : ℕ) (p c : ℕ → ℕ) (puts take
       get_or_from_slice_get (begun_items puts (p t)) k f.item 0 (ap (slice_get (begun_items puts (p t))) f.is_k ∙ there) ∙
       sym (get_or_from_slice_get (ended_items takes (c t)) k f.item 0 f.listed)
 
-  -- the items taken are a beginning of the items put
+  -- the items taken are a prefix of the items put
   pub prefix : (t : ℕ) → begun_items puts (p t) ≡ ended_items takes (c t) ++ drop (length (ended_items takes (c t))) (begun_items puts (p t))
   prefix t =
       let a = length-begun_items puts (p t) in

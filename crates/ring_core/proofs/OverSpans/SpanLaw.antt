@@ -10,7 +10,7 @@ use Rattle.ring_core.proofs.OverSpans.Timeline.{AllProper, before-whole}
 use Rattle.ring_core.proofs.OverSpans.Gates.{clock_up, clock_c, proper_at, within, shown_at, left_at}
 use Rattle.ring_core.proofs.OverSpans.SpanItems.{quiet, taken_item, prefix, empty_fresh, empty_open, full_fresh, fill_fresh, drain_fresh, closed}
 
--- The last two spans are a read of the close bit, which is 1, and then a scan after which nothing is taken.
+-- The last two spans are a read of the close bit, which returns 1, and then a scan after which nothing is taken.
 pub record LastTwo (xs : List Span) : Type 0 where
   pub start : ℕ
   pub number : ℕ
@@ -36,7 +36,7 @@ two_last x z asks stops = record {
   at_end = omega arith;
 }
 
--- and with a span more before them
+-- and with one more span before them
 pub two_after : (y : Span) (xs : List Span) → LastTwo xs → LastTwo (y ∷ xs)
 two_after y xs r = record {
   start = whole y + r.start;
@@ -50,7 +50,7 @@ two_after y xs r = record {
   at_end = omega (arith, r.at_end);
 }
 
--- by moment t the consumer has ended its last take, and was told by it that the ring is closed
+-- by moment t the consumer has ended its last take, which returned Closed
 pub record IsToldAt (c : ℕ → ℕ) (takes : List Span) (t : ℕ) : Type 0 where
   pub two : LastTwo takes
   pub ended : total takes ≤ c t
@@ -62,18 +62,18 @@ pub record SpanLaw (modulus capacity batch more word : ℕ) (p c : ℕ → ℕ) 
   -- put number n reads a count from n - capacity - more to n
   pub put_range :
       (t s n : ℕ) (x : Span) → IsSpanAt puts s n x → s + x.scan ≤ p t → ReadsCount modulus p c takes s x (n - (capacity + more)) n
-  -- a take behind k items reads a count from k - batch to k + capacity
+  -- a take after k items reads a count from k - batch to k + capacity
   pub take_range :
       (t s k : ℕ) (x : Span) → IsSpanAt takes s k x → s + x.scan ≤ c t → ReadsCount modulus c p puts s x (k - batch) (k + capacity)
-  -- no word write of a cell overlaps a word read of it, from its begin at position first to its end, or as long as it is open
+  -- no word write of a cell overlaps a word read of it, from its start at position first to its end, or as long as it is open
   pub quiet :
       (s k i : ℕ) (x : Span) → IsSpanAt takes s k x → i < counts x.outcome → (first last : ℕ) → first ≤ last →
       s + x.scan ≤ c first → c last ≤ s + before_count x → CellOverlap capacity p puts ((k + i) % capacity) first last → ⊥
-  -- word read i of a take behind k items, once it has ended, has item number k + i of those put
+  -- word read i of a take after k items, once it has ended, has item number k + i of those put
   pub items :
       (t s k i : ℕ) (x : Span) (item : ℕ) → IsSpanAt takes s k x → slice_get (items_of x.outcome) i ≡ Some item → word_end word s x i ≤ c t →
       slice_get (begun_items puts (p t)) (k + i) ≡ Some item
-  -- the items taken are a beginning of the items put
+  -- the items taken are a prefix of the items put
   pub prefix : (t : ℕ) → IsPrefix (ended_items takes (c t)) (begun_items puts (p t))
   -- a take that finds the ring empty: all puts that had ended before it began were taken by takes that had ended then, and
   -- no close had ended
@@ -84,23 +84,23 @@ pub record SpanLaw (modulus capacity batch more word : ℕ) (p c : ℕ → ℕ) 
   pub full :
       (t s n : ℕ) (x : Span) → IsSpanAt puts s n x → counts x.outcome ≡ 0 → s + x.scan ≤ p t →
       (first : ℕ) → IsPlace p s first → counts_ended takes (c first) + capacity ≤ n
-  -- a put whose items fill all the room that its scan left: the items up to and with its own, less the takes that had ended when
-  -- it began, are at least the capacity
+  -- a put whose items fill all the room that its scan left: the items up to and including its own, less the takes that had ended
+  -- when it began, are at least the capacity
   pub fill :
       (t s n : ℕ) (x : Span) → IsSpanAt puts s n x → distance modulus (n % modulus) x.seen + counts x.outcome ≡ capacity → s + x.scan ≤ p t →
       (first : ℕ) → IsPlace p s first → counts_ended takes (c first) + capacity ≤ n + counts x.outcome
   -- a take that takes all the items that its scan showed: the puts that had ended when it began had stored no more than the items up to
-  -- and with its own
+  -- and including its own
   pub drain :
       (t s k : ℕ) (x : Span) → IsSpanAt takes s k x → 1 ≤ counts x.outcome → distance modulus x.seen (k % modulus) ≡ counts x.outcome → s + x.scan ≤ c t →
       (first : ℕ) → IsPlace c s first → counts_ended puts (p first) ≤ k + counts x.outcome
-  -- once a take was told that the ring is closed, at every later moment the close has begun, every item put has been taken,
-  -- and no more come
+  -- once a take has returned Closed, at every later moment the close has begun, every item put has been taken, and no more
+  -- come
   pub closed :
       (t u : ℕ) → IsToldAt c takes t → t ≤ u →
       (begun_items puts (p u) ≡ all_items puts) × (ended_items takes (c u) ≡ all_items puts) × (total puts < p u)
 
--- The law holds wherever two sides keep the rules of puts and takes and the registers keep theirs.
+-- The law holds if two sides follow the rules of puts and takes and the registers follow theirs.
 pub span_law :
     (modulus capacity batch more word : ℕ) (p c : ℕ → ℕ) (puts takes : List Span) → AllProper batch puts → AllProper more takes →
     Ring modulus capacity batch more word p c puts takes → SpanLaw modulus capacity batch more word p c puts takes

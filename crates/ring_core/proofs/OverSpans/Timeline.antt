@@ -6,13 +6,13 @@ use Rattle.std.proofs.lemmas.Bool.Decides.{nat_tests}
 use Rattle.ring_core.proofs.OverSpans.Spans.{Span, Outcome, Passes, Stops, Asks, counts, items_of, before_count, whole, counts_begun, counts_ended, begun_items, ended_items, all_items, total, IsSpanAt}
 use Rattle.ring_core.proofs.Readings.Cuts.{at_most_or_above}
 
--- a scan has an event, and so has a write that counts an item; and it counts at most so many
+-- a scan has an event, and so has a write that counts an item; and it counts at most the most
 pub record Proper (most : ℕ) (x : Span) : Type 0 where
   pub scan : 1 ≤ x.scan
   pub few : counts x.outcome ≤ most
   pub count : 1 ≤ counts x.outcome → 1 ≤ x.count
 
--- each span is so
+-- each span is proper
 abbrev pub AllProper : ℕ → List Span → Type 0
 AllProper most [] = Unit {0}
 AllProper most (x ∷ xs) = Proper most x × AllProper most xs
@@ -78,7 +78,7 @@ ended_zero most (y ∷ ys) h =
     let w = before-whole most y h.0 in
     omega (arith, ended_cons y ys 0 0 0 (omega arith) (le_false (whole y) 0 (counts y.outcome) (omega (arith, w))), ended_zero most ys h.1)
 
--- before the count write of the first span, during it, and past the span
+-- before the count write of the first span, during it, and after the span
 begun_first : (most : ℕ) (y : Span) (ys : List Span) (i : ℕ) → Proper most y → i ≤ before_count y → counts_begun (y ∷ ys) i ≡ 0
 begun_first most y ys i h l =
     let w = before-whole most y h in
@@ -96,7 +96,7 @@ begun_past most y ys i j h e = elim (at_most_or_above i (before_count y)) [
   | inr l ↦ begun_cons y ys i j (counts y.outcome) (omega arith) (lt_true (before_count y) i (counts y.outcome) l)
 ]
 
--- before the end of the first span, and past it
+-- before the end of the first span, and after it
 ended_first : (most : ℕ) (y : Span) (ys : List Span) (i : ℕ) → AllProper most ys → i < whole y → counts_ended (y ∷ ys) i ≡ 0
 ended_first most y ys i h l =
     omega (arith, ended_cons y ys i 0 0 (omega arith) (le_false (whole y) i (counts y.outcome) l), ended_zero most ys h)
@@ -118,7 +118,7 @@ ended_begun most (y ∷ ys) h i = elim (at_most_or_above (whole y) i) [
       ])
 ]
 
--- a span stands with its number, up to the begin of its count write
+-- a span's number is what is counted, up to the start of its count write
 pub begun_at :
     (most : ℕ) (xs : List Span) → AllProper most xs → (s n : ℕ) (x : Span) → IsSpanAt xs s n x → (j : ℕ) → j ≤ before_count x → counts_begun xs (s + j) ≡ n
 begun_at most [] h s n x st j l = elim st [ ]
@@ -128,7 +128,7 @@ begun_at most (y ∷ ys) h s n x (inl st) j l =
 begun_at most (y ∷ ys) h s n x (inr st) j l =
     omega (arith, begun_past most y ys (s + j) (st.0 + j) h.0 (omega (arith, st.2)), begun_at most ys h.1 st.0 st.1 x st.4 j l, st.3)
 
--- up to its end as many items have been counted by ended writes as its number says
+-- up to its end ended writes have counted as many items as its number
 pub ended_at :
     (most : ℕ) (xs : List Span) → AllProper most xs → (s n : ℕ) (x : Span) → IsSpanAt xs s n x → (j : ℕ) → j < whole x → counts_ended xs (s + j) ≡ n
 ended_at most [] h s n x st j l = elim st [ ]
@@ -149,7 +149,7 @@ pub record Begins (xs : List Span) (i : ℕ) : Type 0 where
   pub now : counts_begun xs i ≡ number
   pub next : counts_begun xs (suc i) ≡ number + counts span.outcome
 
--- it stands behind a first span, or is the first
+-- it comes after the first span, or is the first
 later : (most : ℕ) (y : Span) (ys : List Span) (i j : ℕ) → Proper most y → i ≡ whole y + j → Begins ys j → Begins (y ∷ ys) i
 later most y ys i j h e b = record {
   start = whole y + b.start;
@@ -194,7 +194,7 @@ begun_step most (y ∷ ys) h i = elim (at_most_or_above (whole y) i) [
   ]
 ]
 
--- what count writes that have begun count is counted later too
+-- the number counted by count writes that have begun never falls
 pub begun_up : (most : ℕ) (xs : List Span) → AllProper most xs → (i j : ℕ) → i ≤ j → counts_begun xs i ≤ counts_begun xs j
 begun_up most xs h i j l = subst (λ m. counts_begun xs i ≤ counts_begun xs m) (omega arith) (go (j - i))
   where
@@ -205,7 +205,7 @@ begun_up most xs h i j l = subst (λ m. counts_begun xs i ≤ counts_begun xs m)
       | inr b ↦ rw suc-add (omega (arith, b.now, b.next, go k))
     ]
 
--- and what ended ones count, an event later
+-- nor that of ended ones, one event later
 ended_up_one : (most : ℕ) (xs : List Span) → AllProper most xs → (i : ℕ) → counts_ended xs i ≤ counts_ended xs (suc i)
 ended_up_one most [] h i = omega arith
 ended_up_one most (y ∷ ys) h i = elim (at_most_or_above (whole y) i) [
@@ -218,7 +218,7 @@ ended_up_one most (y ∷ ys) h i = elim (at_most_or_above (whole y) i) [
   | inr l ↦ omega (arith, ended_first most y ys i h.1 l)
 ]
 
--- and ever after
+-- nor ever after
 pub ended_up : (most : ℕ) (xs : List Span) → AllProper most xs → (i j : ℕ) → i ≤ j → counts_ended xs i ≤ counts_ended xs j
 ended_up most xs h i j l = subst (λ m. counts_ended xs i ≤ counts_ended xs m) (omega arith) (go (j - i))
   where
@@ -231,7 +231,7 @@ abbrev pub in_all : List Span → ℕ
 in_all [] = 0
 in_all (x ∷ xs) = counts x.outcome + in_all xs
 
--- no more ever begin
+-- no more are ever counted
 pub begun_all : (most : ℕ) (xs : List Span) → AllProper most xs → (i : ℕ) → counts_begun xs i ≤ in_all xs
 begun_all most [] h i = omega arith
 begun_all most (y ∷ ys) h i = elim (at_most_or_above (whole y) i) [
@@ -260,7 +260,7 @@ pub record Found (xs : List Span) (items : List ℕ) (k : ℕ) : Type 0 where
   pub stored : slice_get (items_of span.outcome) index ≡ Some item
   pub listed : slice_get items k ≡ Some item
 
--- what stands in the first of two lists, and behind it
+-- an element of the first of two lists, and of the second
 pub slice_get-front : (xs ys : List ℕ) (i : ℕ) → i < length xs → slice_get (xs ++ ys) i ≡ slice_get xs i
 slice_get-front [] ys i l = absurd (omega (arith, l))
 slice_get-front (x ∷ xs) ys zero l = refl
@@ -271,7 +271,7 @@ slice_get-behind [] ys i j e = ap (slice_get ys) (omega (arith, e))
 slice_get-behind (x ∷ xs) ys zero j e = absurd (omega (arith, e))
 slice_get-behind (x ∷ xs) ys (suc i) j e = slice_get-behind xs ys i j (omega (arith, e))
 
--- it is the first span, or is found behind it
+-- it is the first span, or is found after it
 find_cons :
     (y : Span) (ys : List Span) (items rest : List ℕ) → items ≡ items_of y.outcome ++ rest →
     (n k : ℕ) → k < counts y.outcome + n → ((j : ℕ) → j < n → Found ys rest j) → Found (y ∷ ys) items k
@@ -315,7 +315,7 @@ if_true t xs e = rw e refl
 if_false : (t : Bool) (xs : List ℕ) → t ≡ false → (if t then xs else []) ≡ []
 if_false t xs e = rw e refl
 
--- the items of the first span, once its count write has begun, and those of the spans past it
+-- the items of the first span, once its count write has begun, and those of the later spans
 pub begun_items_cons : (y : Span) (ys : List Span) (i : ℕ) → before_count y < i → begun_items (y ∷ ys) i ≡ items_of y.outcome ++ begun_items ys (i - whole y)
 begun_items_cons y ys i l = ap (λ (l : List ℕ). l ++ begun_items ys (i - whole y)) (if_true _ (items_of y.outcome) (grind (arith, nat_tests)))
 
@@ -360,7 +360,7 @@ length-ended_items [] i = refl
 length-ended_items (y ∷ ys) i =
     simp length-append (ap₂ (λ (m n : ℕ). m + n) (length_if (nat_le (whole y) i) y.outcome) (length-ended_items ys (i - whole y)))
 
--- past the first span its items are among them
+-- after the first span its items are among them
 pub begun_items_past :
     (most : ℕ) (y : Span) (ys : List Span) (i : ℕ) → Proper most y → whole y ≤ i → begun_items (y ∷ ys) i ≡ items_of y.outcome ++ begun_items ys (i - whole y)
 begun_items_past most y ys i h l = elim (at_most_or_above i (before_count y)) [
@@ -370,7 +370,7 @@ begun_items_past most y ys i h l = elim (at_most_or_above i (before_count y)) [
       ap (λ (l : List ℕ). l ++ begun_items ys (i - whole y)) (if_false _ (items_of y.outcome) (grind (arith, nat_tests)) ∙ sym none))
 ]
 
--- past the last span they are all items
+-- after the last span they are all items
 pub all_begun : (most : ℕ) (xs : List Span) → AllProper most xs → (i : ℕ) → total xs ≤ i → begun_items xs i ≡ all_items xs
 all_begun most [] h i l = refl
 all_begun most (y ∷ ys) h i l =
@@ -383,7 +383,7 @@ none_begun (y ∷ ys) =
     let e : 0 - whole y ≡ 0 = omega arith in
     rw (e, none_begun ys) (ap (λ (l : List ℕ). l ++ []) (if_false (nat_lt (before_count y) 0) (items_of y.outcome) (grind (arith, nat_tests))))
 
--- nor are there before the first count write
+-- nor before the first count write
 pub begun_items_first : (y : Span) (ys : List Span) (i : ℕ) → i ≤ before_count y → before_count y ≤ whole y → begun_items (y ∷ ys) i ≡ []
 begun_items_first y ys i l w =
     let e : i - whole y ≡ 0 = omega arith in

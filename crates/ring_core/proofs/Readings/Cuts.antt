@@ -9,7 +9,7 @@ use Rattle.ring_core.proofs.Readings.Phrases.{same_made}
 pub at_most_or_above : (a b : ℕ) → (a ≤ b) ⊎ (b < a)
 at_most_or_above a b = grind arith
 
--- the next access of both programs, behind those that they both begin with, begins alike
+-- the next access of both programs, after those that they both begin with, starts with the same event
 pub record OpenBoth (s : Side) (made left right : List Made) : Type 0 where
   pub on_left : Made
   pub on_right : Made
@@ -19,7 +19,7 @@ pub record OpenBoth (s : Side) (made left right : List Made) : Type 0 where
   pub right_is : right ≡ made ++ on_right ∷ more_right
   pub same : begin_event s on_left ≡ begin_event s on_right
 
--- the accesses that two programs both begin with, where both begin with so many events
+-- the accesses that two programs both begin with, if both begin with the same t events
 pub record BeginBoth (s : Side) (t : ℕ) (left right : List Made) : Type 0 where
   pub made : List Made
   pub begins_left : IsPrefix made left
@@ -27,7 +27,7 @@ pub record BeginBoth (s : Side) (t : ℕ) (left right : List Made) : Type 0 wher
   pub reach : t ≤ suc (2 * length made)
   pub next : suc (2 * length made) ≤ t → OpenBoth s made left right
 
--- programs whose events begin alike begin with the same accesses, as far as those have ended
+-- programs with the same first events begin with the same accesses, as far as those have ended
 pub begin_both :
     (s : Side) (es : List Event) (left right : List Made) →
     IsPrefix es (events_of s left) → IsPrefix es (events_of s right) → BeginBoth s (length es) left right
@@ -74,7 +74,7 @@ begin_both s (e ∷ f ∷ es) (x ∷ left) (y ∷ right) (r, p) (r', q) =
           });
     }
 
--- a beginning of a list that is no shorter than the list's first part has that part, and then a beginning of the rest
+-- a prefix of a list that is no shorter than the list's first part consists of that part and a prefix of the rest
 pub cut :
     {A : Type 0} → (us vs made more : List A) → length us ≤ length made → made ++ more ≡ us ++ vs →
     (rest : List A) × (made ≡ us ++ rest) × (rest ++ more ≡ vs)
@@ -86,12 +86,12 @@ cut (u ∷ us) vs (m ∷ made) more l e =
     let head : m ≡ u = cc in
     (rest.0, cc, rest.2)
 
--- another program that begins with the same accesses has their first part too
+-- another program that begins with the same accesses begins with their first part too
 pub also_begins :
     (us rest made left : List Made) → made ≡ us ++ rest → IsPrefix made left → (more : List Made) × (us ++ (rest ++ more) ≡ left)
 also_begins us rest made left e (more, f) = (more, sym (append_assoc us rest more) ∙ ap (λ l. l ++ more) (sym e) ∙ f)
 
--- accesses whose events begin those of others begin these
+-- accesses whose events are a prefix of those of others are a prefix of these
 pub made_first : (s : Side) (left right : List Made) → IsPrefix (events_of s left) (events_of s right) → IsPrefix left right
 made_first s [] right begins = (right, refl)
 made_first s (x ∷ left) [] (r, e) = absurd (cc)

@@ -20,11 +20,11 @@ use Rattle.ring_core.proofs.Readings.PutsRead.{no_close, puts_stored, puts_full,
 use Rattle.ring_core.proofs.CountRow.{first_is_count, counted_is_count}
 use Rattle.ring_core.proofs.Readings.Cuts.{at_most_or_above, OpenBoth, BeginBoth, begin_both, cut, also_begins, made_first}
 
--- the producer's calls from a count on
+-- the producer's calls starting at a count
 abbrev puts_from : Shape → Count → List Put → Bool → List Made
 puts_from shape c puts close = put_phrases shape c puts ++ close_phrase close
 
--- the accesses of a put that tell which one it is, with the first one behind them
+-- the accesses of a put that identify it, with the first one after them
 abbrev head_of : Shape → Count → Put → List Made
 head_of shape c (Stored seen items) = accesses_before_count shape c.number seen items
 head_of shape c (Full seen) = scan_phrase (row_read_by P) seen
@@ -48,7 +48,7 @@ from_head shape c x puts close =
     ∙ ap (λ l. l ++ puts_from shape (stored_after shape c x) puts close) (put_parts shape c x)
     ∙ append_assoc (head_of shape c x) (rest_of shape c x) (puts_from shape (stored_after shape c x) puts close)
 
--- the items of a put whose count write has begun within t events of it
+-- the items of a put whose count write has begun within its first t events
 abbrev items_begun : Shape → Count → Put → ℕ → List ℕ
 items_begun shape c (Stored seen items) t = (if nat_lt (events_in (accesses_before_count shape c.number seen items)) t then items else [])
 items_begun shape c (Full seen) t = []
@@ -91,7 +91,7 @@ late_put shape c x puts t l =
 
 -- ---- two readings
 
--- where the events end with a begin, the next access of both readings begins alike
+-- if the events end with a start, the next access of both readings starts with the same event
 abbrev AreOpen : ℕ → (made left right : List Made) → Type 0
 AreOpen t made left right = suc (2 * length made) ≤ t → OpenBoth P made left right
 
@@ -106,7 +106,7 @@ turned made left right o = record {
   same = sym o.same;
 }
 
--- an access that begins as a write to a cell does is that write
+-- an access that starts as a write to a cell does is that write
 begins_as_cell : (x y : Made) (j d : ℕ) (v : Bool) → begin_event P x ≡ begin_event P y → y ≡ Write (Cell j d) v → x ≡ Write (Cell j d) v
 begins_as_cell (Read b w) y j d v e f =
     let acts : ReadBegin ≡ WriteBegin v = ap (λ (z : Event). z.act) (e ∙ ap (begin_event P) f) in
@@ -116,7 +116,7 @@ begins_as_cell (Write b w) y j d v e f =
     let bits : b ≡ Cell j d = ap (λ (z : Event). z.bit) (e ∙ ap (begin_event P) f) in
     cc
 
--- behind the words of a put whose count write has begun in one reading, the other one too goes on with no write to a cell
+-- after the words of a put whose count write has begun in one reading, the other one too continues with no write to a cell
 goes_on :
     (head after made left right : List Made) (t : ℕ) → left ≡ head ++ after → NoCellFirst after → IsPrefix made left → IsPrefix made right →
     AreOpen t made left right → events_in head < t → t ≤ suc (2 * length made) → (zs : List Made) × (head ++ zs ≡ right) × NoCellFirst zs
@@ -185,7 +185,7 @@ same_full shape c u (Full v ∷ ys) b zs p q e =
     let seen : u ≡ v = (same_scan (row_read_by P) u v _ _ (e ∙ puts_full shape c v ys b)).0 in
     (ys, cc)
 
--- where more than the head of the first put of one reading has begun, the other reading begins with the same put
+-- if more than the head of the first put of one reading has begun, the other reading begins with the same put
 reads_first :
     (shape : Shape) (c : Count) (x : Put) (xs ys : List Put) (a b : Bool) (made : List Made) (t : ℕ) → IsCount shape c → IsPut shape c.number x →
     ArePuts shape c.number ys → IsPrefix made (puts_from shape c (x ∷ xs) a) → IsPrefix made (puts_from shape c ys b) →
@@ -201,7 +201,7 @@ reads_first shape c (Full u) xs ys a b made t is p q (more, e) begins both early
     let (later, f) = also_begins scan rest made (puts_from shape c ys b) made_is begins in
     same_full shape c u ys b (rest ++ later) p q f
 
--- behind a whole put that both readings begin with
+-- after a complete put that both readings begin with
 open_behind :
     (phrase rest left right : List Made) (t : ℕ) → AreOpen t (phrase ++ rest) (phrase ++ left) (phrase ++ right) → AreOpen (t - events_in phrase) rest left right
 open_behind phrase rest left right t both l =
@@ -220,7 +220,7 @@ pub stored_is_count : (shape : Shape) (c : Count) (x : Put) → IsCount shape c 
 stored_is_count shape c (Stored seen items) is = counted_is_count shape c items
 stored_is_count shape c (Full seen) is = is
 
--- puts whose accesses begin alike put the same items within as many events
+-- puts with the same first accesses put the same items within as many events
 same_items :
     (shape : Shape) (c : Count) (xs ys : List Put) (a b : Bool) (made : List Made) (t : ℕ) → IsCount shape c → ArePuts shape c.number xs → ArePuts shape c.number ys →
     IsPrefix made (puts_from shape c xs a) → IsPrefix made (puts_from shape c ys b) →
@@ -290,7 +290,7 @@ items-are_read shape h a b p q =
     same_items shape first_count a.puts b.puts a.closes b.closes both.made (length (subhistory P h)) (first_is_count shape) p.are q.are both.begins_left both.begins_right
     both.next both.reach
 
--- ---- whole calls that begin others
+-- ---- complete calls that others begin with
 
 first_put :
     (shape : Shape) (c : Count) (x : Put) (ys : List Put) (b : Bool) (tail : List Made) → IsCount shape c → IsPut shape c.number x →
@@ -300,7 +300,7 @@ first_put shape c (Stored u i) ys b tail is p q e =
     (sym (append_assoc (head_of shape c (Stored u i)) (batch_phrase shape P c i) tail) ∙ e)
 first_put shape c (Full u) ys b tail is p q e = same_full shape c u ys b tail p q e
 
--- puts whose accesses begin with those of whole puts begin with these
+-- puts whose accesses begin with those of complete puts begin with these
 first_puts :
     (shape : Shape) (c : Count) (xs ys : List Put) (b : Bool) (zs : List Made) → IsCount shape c → ArePuts shape c.number xs →
     ArePuts shape c.number ys → put_phrases shape c xs ++ zs ≡ puts_from shape c ys b →
@@ -318,7 +318,7 @@ first_puts shape c (x ∷ xs) ys b zs is p q e =
     let (more, f, g) = first_puts shape next xs rest b zs (stored_is_count shape c x is) p.1 are (append_cancel_left phrase tail (puts_from shape next rest b) whole) in
     (more, same ∙ ap (λ l. x ∷ l) f, g)
 
--- where a close comes next, no put does
+-- if a close comes next, no put does
 only_close : (shape : Shape) (c : Count) (more : List Put) (b : Bool) (zs : List Made) → Write X true ∷ zs ≡ puts_from shape c more b → (more ≡ []) × (b ≡ true)
 only_close shape c [] b zs e = (refl, closing b e)
   where

@@ -18,7 +18,7 @@ use Rattle.ring_core.proofs.Readings.TakenRead.{takes-are_first}
 use Rattle.ring_core.proofs.Machines.Following.{events_of-append, length-events}
 
 module _ {S X : Type 0} (events : S → X → ℕ) (after : S → X → S) where
-  -- the events of these calls, and the state behind them
+  -- the events of these calls, and the state after them
   abbrev pub total : S → List X → ℕ
   total s [] = 0
   total s (x ∷ xs) = events s x + total (after s x) xs
@@ -41,7 +41,7 @@ module _ {S X : Type 0} (events : S → X → ℕ) (after : S → X → S) where
       by_test more true e = record { rest = more.rest; parts = ap (λ l. x ∷ l) more.parts; within = omega (arith, more.within, leb-true (events s x) t e) }
       by_test more false e = record { rest = x ∷ xs; parts = refl; within = omega arith }
 
-  -- of calls that begin with these, which have at most t events, these are over
+  -- of calls that start with these, which have at most t events, these are over
   behind : (s : S) (xs ys : List X) (t : ℕ) → total s xs ≤ t → over events after s (xs ++ ys) t ≡ xs ++ over events after (state s xs) ys (t - total s xs)
   behind s [] ys t l = let whole : t ≡ t - 0 = omega arith in ap (λ n. over events after s ys n) whole
   behind s (x ∷ xs) ys t l =
@@ -55,7 +55,7 @@ module _ {S X : Type 0} (events : S → X → ℕ) (after : S → X → S) where
   none_left xs ys l [] e = e ∙ append-nil ys
   none_left xs ys l (x ∷ more) e = absurd (omega (arith, l, ap length e, length-append ys (x ∷ more)))
 
-  -- where what is over of the one begins the other, and the other way round, it is the same
+  -- if those over of one are a prefix of the other, and vice versa, they are the same
   same_over :
       (s : S) (xs ys : List X) (t : ℕ) → ((rest : List X) × (ys ≡ over events after s xs t ++ rest)) → ((rest : List X) × (xs ≡ over events after s ys t ++ rest)) →
       over events after s xs t ≡ over events after s ys t
@@ -66,9 +66,9 @@ module _ {S X : Type 0} (events : S → X → ℕ) (after : S → X → S) where
       let a_longer : a ≡ b ++ over events after (state s b) v (t - total s b) = ap (λ l. over events after s l t) f ∙ behind s b v t (front s ys t).within in
       none_left a b (omega (arith, ap length b_longer, length-append a (over events after (state s a) u (t - total s a)))) (over events after (state s b) v (t - total s b)) a_longer
 
--- ---- whole calls whose events have come
+-- ---- complete calls whose events have come
 
--- whole accesses whose events have come, behind which the accesses of a side go on, begin those of each reading
+-- complete accesses whose events have come, after which the accesses of a side continue, are a prefix of those of each reading
 begin_each :
     (s : Side) (es : List Event) (whole rest one other : List Made) → 2 * length whole ≤ length es → one ≡ whole ++ rest →
     IsPrefix es (events_of s one) → IsPrefix es (events_of s other) → IsPrefix (events_of s whole) (events_of s other)
@@ -87,7 +87,7 @@ calls_total go s [] = omega (arith, ap length (go.none s))
 calls_total {phrase} {phrases} {after} go s (x ∷ xs) =
     omega (arith, ap length (go.more s x xs), calls_total go (after s x) xs, length-append (phrase s x) (phrases (after s x) xs))
 
--- what is over of one reading begins the other
+-- the calls over in one reading are a prefix of the other
 done_begins :
     {S X : Type 0} → {phrase : S → X → List Made} → {phrases : S → List X → List Made} → {after : S → X → S} → {state : S → List X → S} →
     GoByCalls phrase phrases after state → (side : Side) (es : List Event) (s : S) (xs : List X) (left other : List Made) →
@@ -104,7 +104,7 @@ done_begins {X} {phrase} {phrases} {after} {state} go side es s xs left other p 
     let size : 2 * length (first ++ []) ≤ length es = omega (arith, f.within, calls_total go s done, ap length (append-nil first)) in
     begin_each side es (first ++ []) rest (phrases s xs ++ left) other size program p q
 
--- so they are the same, where calls that begin others are the first of them
+-- so they are the same, if calls that others begin with are the first of them
 over_read :
     {S X : Type 0} → {phrase : S → X → List Made} → {phrases : S → List X → List Made} → {after : S → X → S} → {state : S → List X → S} →
     GoByCalls phrase phrases after state → (side : Side) (es : List Event) (s : S) (xs ys : List X) (left right : List Made) →

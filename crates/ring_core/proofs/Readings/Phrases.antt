@@ -1,4 +1,4 @@
--- Lists of accesses that begin with phrases: the phrase and what follows it are read off the list.
+-- Lists of accesses that start with phrases: the phrase and what follows it are determined by the list.
 use Rattle.std.proofs.Common.{◌≡◌, ℕ, zero, suc, ◌^◌, ◌<◌, Bool, true, false, List, [], ◌∷◌, ◌++◌, length, refl, sym, ap, ◌∙◌, arith, ◌⊎◌, inl, inr, append_assoc}
 use Rattle.bits_core.specs.declared.events.Side.{Side}
 use Rattle.bits_core.specs.declared.events.Act.TheVariants.{ReadBegin, ReadEnd, WriteBegin}
@@ -78,7 +78,7 @@ same_scan bit_of (suc a) (suc b) xs ys e =
     let rest : (a ≡ b) × (xs ≡ ys) = same_scan (λ i. bit_of (suc i)) a b xs ys g in
     (ap suc rest.0, rest.1)
 
--- a scan is not nothing
+-- a scan has an access
 pub no_scan : (bit_of : ℕ → Bit) (c : ℕ) (xs : List Made) → [] ≡ scan_phrase bit_of c ++ xs → ⊥
 no_scan bit_of c xs e =
     let begins : (v : Bool) × (rest : List Made) × (scan_phrase bit_of c ++ xs ≡ Read (bit_of 0) v ∷ rest) = scan_begins bit_of c xs in
@@ -87,7 +87,7 @@ no_scan bit_of c xs e =
 
 -- ---- words
 
--- beginnings of one length
+-- prefixes of one length
 same_parts : {A : Type 0} → (us vs xs ys : List A) → length us ≡ length vs → us ++ xs ≡ vs ++ ys → (us ≡ vs) × (xs ≡ ys)
 same_parts [] [] xs ys n e = (refl, e)
 same_parts [] (v ∷ vs) xs ys n e = absurd (cc)
@@ -136,7 +136,7 @@ with_parts b v = record { bit = b; value = v }
 same_row : (u v : RowWrite) → u.bit ≡ v.bit → u.value ≡ v.value → u ≡ v
 same_row u v e f = ap (λ b. with_parts b u.value) e ∙ ap (with_parts v.bit) f
 
--- the writes of a row are read off their accesses
+-- the writes of a row are determined by their accesses
 pub same_writes :
     (cell : ℕ) (us vs : List RowWrite) (xs ys : List Made) → length us ≡ length vs →
     writes_in (Cell cell) us ++ xs ≡ writes_in (Cell cell) vs ++ ys → (us ≡ vs) × (xs ≡ ys)
@@ -171,13 +171,13 @@ same_word_write width cell a b xs ys l m e =
     same_writes cell (digit_writes a width) (digit_writes b width) xs ys (length-digit_writes a width ∙ sym (length-digit_writes b width)) e in
     (digits_tell_items width a b l m (digits_written width a b parts.0), parts.1)
 
--- ---- words one after the other, and what comes behind them
+-- ---- words one after the other, and what comes after them
 
 -- accesses that do not begin with one of these
 abbrev pub NotFirst : (ℕ → ℕ → Bool → Made) → List Made → Type 0
 NotFirst access made = (j d : ℕ) (v : Bool) (rest : List Made) → made ≡ access j d v ∷ rest → ⊥
 
--- words that begin with one are read off the accesses, where each of them is
+-- words that start with one are determined by the accesses, if each of them is
 pub same_words_by :
     (shape : Shape) (words : ℕ → List ℕ → List Made) (word : ℕ → ℕ → List Made) (access : ℕ → ℕ → Bool → Made) → ((n : ℕ) → words n [] ≡ []) →
     ((n item : ℕ) (items : List ℕ) → words n (item ∷ items) ≡ word n item ++ words (suc n) items) →

@@ -1,4 +1,4 @@
--- Equal events of whole calls of the producer come from equal calls.
+-- Equal events of complete calls of the producer come from equal calls.
 use Rattle.std.proofs.Common.{◌≡◌, ℕ, zero, suc, ◌%◌, ◌<◌, ◌≤◌, Bool, true, false, List, [], ◌∷◌, ◌++◌, length, refl, sym, ap, ap₂, subst, ◌∙◌, arith, append_assoc}
 use Rattle.std.proofs.lemmas.List.{append_cancel_left}
 use Rattle.bits_core.specs.declared.events.Side.TheVariants.{P}
@@ -60,7 +60,7 @@ no_room shape n c d xs ys room none e =
 pub some_room : (shape : Shape) (n d m : ℕ) → 1 ≤ m → LeavesRoomFor shape n d m → LeavesRoom shape n d
 some_room shape n d m some room = omega (arith, some, room)
 
--- ---- words, and what comes behind them
+-- ---- words, and what comes after them
 
 -- accesses that do not begin with a write to a cell
 abbrev pub NoCellFirst : List Made → Type 0
@@ -93,7 +93,7 @@ words_first shape n item items behind none =
     let (rest, e) = word_first (width_of shape) (n % capacity_of shape) item (words_phrase shape (suc n) items ++ behind) shape.has_digits in
     none (n % capacity_of shape) 0 (digit 0 item) rest (append_assoc word (words_phrase shape (suc n) items) behind ∙ e)
 
--- words are read off the accesses
+-- words are determined by the accesses
 pub same_words :
     (shape : Shape) (n : ℕ) (xs ys : List ℕ) (left right : List Made) → AllFit shape xs → AllFit shape ys → NoCellFirst left → NoCellFirst right →
     words_phrase shape n xs ++ left ≡ words_phrase shape n ys ++ right → (xs ≡ ys) × (left ≡ right)

@@ -17,7 +17,7 @@ use Rattle.ring_core.proofs.Readings.TakesFirst.{scan, calls_from, item_first, a
 use Rattle.ring_core.proofs.Readings.TakesRead.{item_or_none, open_or_closed, same_twice, after_or_closed, same_items_phrase}
 use Rattle.ring_core.proofs.Readings.Cuts.{at_most_or_above, BeginBoth, begin_both, cut, also_begins, made_first}
 
--- the item of a take that has ended within t events of it
+-- the item of a take that has ended within its first t events
 abbrev item_ended : Shape → Count → Take → ℕ → List ℕ
 item_ended shape k (Item seen items) t = (if nat_le (events_in (take_phrase shape k (Item seen items))) t then items else [])
 item_ended shape k (ItemAfterClose seen again items) t =
@@ -47,7 +47,7 @@ scans_first shape k (ItemAfterClose seen again items) =
     (seen, Read X true ∷ (scan again ++ items_phrase shape k items), append_assoc (scan seen) (Read X true ∷ scan again) (items_phrase shape k items))
 scans_first shape k (Empty seen) = (seen, Read X false ∷ [], refl)
 
--- a take is not nothing
+-- a take has an access
 take_is_long : (shape : Shape) (k : Count) (x : Take) → 0 < length (take_phrase shape k x)
 take_is_long shape k x =
     let (c, rest, e) = scans_first shape k x in
@@ -85,7 +85,7 @@ after_is_count shape k (Item seen items) is = counted_is_count shape k items
 after_is_count shape k (ItemAfterClose seen again items) is = counted_is_count shape k items
 after_is_count shape k (Empty seen) is = is
 
--- the accesses of a take, or of one that is told that the ring is closed, and what follows them, from the scan on
+-- the accesses of a take, or of one that returns Closed, and what follows them, from the scan on
 item_on :
     (shape : Shape) (k : Count) (seen : ℕ) (items : List ℕ) (zs : List Made) →
     take_phrase shape k (Item seen items) ++ zs ≡ scan seen ++ (items_phrase shape k items ++ zs)
@@ -153,7 +153,7 @@ same_first shape k is (Empty c) (Empty d ∷ ys) b zs p q e =
     let seen : c ≡ d = (same_scan (row_read_by C) c d _ _ (sym (empty_on shape k c zs) ∙ e ∙ empty_first shape k d ys b)).0 in
     (ys, cc)
 
--- where the first take of one reading has ended, the other reading begins with the same take
+-- if the first take of one reading has ended, the other reading begins with the same take
 reads_first :
     (shape : Shape) (k : Count) (is : IsCount shape k) (x : Take) (xs ys : List Take) (a b : End) (made : List Made) → IsTake shape k.number x → AreTakes shape k.number ys b →
     IsPrefix made (calls_from shape k (x ∷ xs) a) → IsPrefix made (calls_from shape k ys b) →
@@ -163,7 +163,7 @@ reads_first shape k is x xs ys a b made p q (r, e) begins l =
     let (more, f) = also_begins (take_phrase shape k x) rest made (calls_from shape k ys b) made_is begins in
     same_first shape k is x ys b (rest ++ more) p q f
 
--- takes whose accesses begin alike take the same items within as many events
+-- takes with the same first accesses take the same items within as many events
 same_items :
     (shape : Shape) (k : Count) (is : IsCount shape k) (xs ys : List Take) (a b : End) (made : List Made) (t : ℕ) → AreTakes shape k.number xs a → AreTakes shape k.number ys b →
     IsPrefix made (calls_from shape k xs a) → IsPrefix made (calls_from shape k ys b) → t ≤ suc (2 * length made) →
@@ -254,7 +254,7 @@ same_closed shape k is (x ∷ xs) (y ∷ ys) (Closed c c') b zs p q told e =
     let more_same : xs ≡ ys = rest.0 in
     (cc, rest.1)
 
--- where the takes of one reading have ended and the last is told that the ring is closed, so it is in the other
+-- if the takes of one reading have ended and the last returned Closed, so it is in the other
 still_told :
     (shape : Shape) (a b : Takes) (made : List Made) (t : ℕ) →
     AreTakes shape 0 a.takes a.end → AreTakes shape 0 b.takes b.end →
@@ -269,7 +269,7 @@ still_told shape a b made t p q (r, l) begins reach (tells, ended) =
     ap (λ l. calls_from shape first_count l a.end) same.0 ∙ ap (λ z. calls_from shape first_count b.takes z) same.1 in
     (subst Tells same.1 tells, omega (arith, ended, ap length programs))
 
--- the items taken in a history, and whether it was told, are the same whichever takes its events are read as
+-- the items taken in a history, and whether a take returned Closed, are the same whichever takes its events are read as
 pub taken-are_read : TakenAreRead
 taken-are_read shape h a b p q =
     let both : BeginBoth C (length (subhistory C h)) (take_program shape a) (take_program shape b) =
@@ -278,7 +278,7 @@ taken-are_read shape h a b p q =
       λ told. still_told shape a b both.made (length (subhistory C h)) p.are q.are both.begins_left both.begins_right both.reach told,
     )
 
--- ---- whole calls that begin others
+-- ---- complete calls that others begin with
 
 pub first_takes :
     (shape : Shape) (k : Count) (is : IsCount shape k) (xs ys : List Take) (a b : End) (zs : List Made) → AreTakes shape k.number xs a → AreTakes shape k.number ys b →

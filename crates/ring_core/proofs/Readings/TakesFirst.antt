@@ -13,7 +13,7 @@ use Rattle.ring_core.proofs.Readings.Phrases.{joined, joined_two}
 abbrev pub scan : ℕ → List Made
 scan c = scan_phrase (row_read_by C) c
 
--- the takes behind a count, and their end
+-- the takes after a count, and their end
 abbrev pub calls_from : Shape → Count → List Take → End → List Made
 calls_from shape c takes end = take_phrases shape c takes ++ end_phrase end
 

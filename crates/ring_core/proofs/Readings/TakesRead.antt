@@ -1,4 +1,4 @@
--- Equal events of whole calls of the consumer come from equal calls.
+-- Equal events of complete calls of the consumer come from equal calls.
 use Rattle.std.proofs.Common.{◌≡◌, ℕ, zero, suc, ◌%◌, ◌<◌, ◌≤◌, true, false, List, [], ◌∷◌, ◌++◌, refl, sym, ap, ap₂, subst, ◌∙◌, arith, append_assoc}
 use Rattle.std.proofs.lemmas.List.{append_cancel_left}
 use Rattle.bits_core.specs.declared.events.Side.TheVariants.{C}
@@ -19,7 +19,7 @@ use Rattle.ring_core.proofs.Readings.TakesFirst.{scan, calls_from, item_first, a
 abbrev takes_of : List Take → End → Takes
 takes_of takes end = record { takes = takes; end = end }
 
--- what tells the takes apart: a count that shows items shows them, and the close bit is 0 or 1
+-- what distinguishes the takes: a count that shows items shows them, and the close bit is 0 or 1
 pub item_or_none :
     (shape : Shape) (k c d m : ℕ) (xs ys : List Made) → 1 ≤ m → SeesItems shape k c m → SeesNone shape k d → scan c ++ xs ≡ scan d ++ ys → ⊥
 item_or_none shape k c d m xs ys some (below, few, room) (below', none) e =
@@ -30,7 +30,7 @@ open_or_closed c d xs ys e =
     let rest : Read X false ∷ xs ≡ Read X true ∷ ys = (same_scan (row_read_by C) c d (Read X false ∷ xs) (Read X true ∷ ys) e).1 in
     absurd (cc)
 
--- scans of two counts, with a close bit between them that is 1
+-- scans of two counts, with a close bit read as 1 between them
 pub same_twice :
     (c d c' d' : ℕ) (xs ys : List Made) → scan c ++ (Read X true ∷ (scan d ++ xs)) ≡ scan c' ++ (Read X true ∷ (scan d' ++ ys)) →
     (c ≡ c') × (scan d ++ xs ≡ scan d' ++ ys)
@@ -44,7 +44,7 @@ pub after_or_closed :
     scan c ++ (Read X true ∷ (scan d ++ xs)) ≡ scan c' ++ (Read X true ∷ (scan d' ++ ys)) → ⊥
 after_or_closed shape k c d c' d' m xs ys some sees none e = item_or_none shape k d d' m xs ys some sees none (same_twice c d c' d' xs ys e).1
 
--- ---- words, and what comes behind them
+-- ---- words, and what comes after them
 
 -- accesses that do not begin with a read of a cell
 abbrev pub NoCellReadFirst : List Made → Type 0
@@ -72,7 +72,7 @@ words_first shape n item items behind none =
     none (n % capacity_of shape) 0 (digit 0 item) (rest ++ (words_read shape (suc n) items ++ behind))
     (append_assoc word (words_read shape (suc n) items) behind ∙ ap (λ ws. ws ++ (words_read shape (suc n) items ++ behind)) e)
 
--- words are read off the accesses
+-- words are determined by the accesses
 pub same_words :
     (shape : Shape) (n : ℕ) (xs ys : List ℕ) (left right : List Made) → AllFit shape xs → AllFit shape ys → NoCellReadFirst left → NoCellReadFirst right →
     words_read shape n xs ++ left ≡ words_read shape n ys ++ right → (xs ≡ ys) × (left ≡ right)

@@ -1,4 +1,4 @@
--- Whole calls: all their items are put or taken, and are counted by count writes that have begun.
+-- Complete calls: all their items are put or taken, and are counted by count writes that have begun.
 use Rattle.std.proofs.Common.{◌≡◌, ℕ, zero, ◌+◌, ◌-◌, ◌<◌, ◌≤◌, Bool, true, false, nat_lt, nat_le, if◌then◌else◌, List, [], ◌∷◌, ◌++◌, length, refl, ap, ◌∙◌, arith, length-append}
 use Rattle.std.proofs.lemmas.Bool.{cond-true, lt-ltb, le-leb}
 use Rattle.bits_core.specs.declared.events.Side.TheVariants.{P, C}
@@ -25,7 +25,7 @@ either false n = refl
 
 -- ---- takes
 
--- a take of items ends behind the begin of its count write
+-- a take of items ends after the start of its count write
 before_whole : (shape : Shape) (c : Count) (items : List ℕ) (looks : List Made) → IsCount shape c → IsTakeBatch shape items →
     events_in (looks ++ words_read shape c.number items) < events_in (looks ++ items_phrase shape c items)
 before_whole shape c items looks is batch =
@@ -61,7 +61,7 @@ all-taken shape c (Empty seen ∷ takes) t l =
     let x : Take = Empty seen in
     all-taken shape (count_after shape c x) takes (t - events_in (take_phrase shape c x)) (two_parts (take_phrase shape c x) (take_phrases shape (count_after shape c x) takes) t l).1
 
--- behind a whole take its items are counted
+-- after a complete take its items are counted
 counted_first : (shape : Shape) (c : Count) (items : List ℕ) (looks : List Made) (t more : ℕ) (all : List ℕ) → IsCount shape c → IsTakeBatch shape items →
     events_in (looks ++ items_phrase shape c items) ≤ t → more ≡ length all →
     (if nat_lt (events_in (looks ++ words_read shape c.number items)) t then length items else 0) + more ≡ length (items ++ all)

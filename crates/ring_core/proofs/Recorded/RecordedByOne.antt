@@ -1,4 +1,4 @@
--- What one own event of a side tells of its calls.
+-- What one own event of a side records of its calls.
 use Rattle.std.proofs.Common.{◌≡◌, inl, inr, ℕ, suc, ◌+◌, ◌-◌, ◌*◌, ◌<◌, ◌≤◌, Bool, true, false, List, [], ◌∷◌, ◌++◌, length, refl, sym, ap, subst, ◌∙◌, arith, length-append}
 use Rattle.queue_calls.specs.Calls.{Event, PutBegin, CloseBegin, CloseEnd, TakeBegin, TakeClosed}
 use Rattle.bits_core.specs.declared.events.Side.TheVariants.{P, C}
@@ -20,7 +20,7 @@ use Rattle.ring_core.proofs.Recorded.TellsByOne.{IsFirst, IsBetween, IsLast, IsB
 
 -- ---- puts
 
--- a put has its first event and another
+-- a put has at least two events
 put_long : (shape : Shape) (c : Count) (x : Put) → 2 ≤ events_in (put_phrase shape c x)
 put_long shape c (Stored seen items) =
     let scan : List Made = scan_phrase (row_read_by P) seen in
@@ -28,7 +28,7 @@ put_long shape c (Stored seen items) =
     omega (arith, length-append (scan ++ words) (batch_phrase shape P c items), length-append scan words, length-scan (row_read_by P) seen)
 put_long shape c (Full seen) = omega (arith, length-scan (row_read_by P) seen)
 
--- what an event behind all puts tells
+-- what an event after all puts records
 abbrev put_last : Bool → ℕ → List Event
 put_last false i = []
 put_last true i = told_or_behind (events_in (close_phrase true)) CloseBegin CloseEnd i []
@@ -48,7 +48,7 @@ put_told_is shape offers j c (x ∷ puts) closes i =
     let long : ℕ = put_events shape c x in
     ap (λ l. told_or_behind long (put_begin offers j) (put_answer x) i l) (put_told_is shape offers (suc j) (stored_after shape c x) puts closes (i - long))
 
--- what an event tells of the puts, in the words of any calls
+-- what an event records of the puts, for any calls
 abbrev PutsTell : Shape → (ℕ → List ℕ) → Puts → ℕ → List Put → List Put → List Event → Type 0
 PutsTell shape offers calls = Told (put_events shape) (stored_after shape) (put_begin offers) put_answer (put_last calls.closes) (events_of_puts shape) 0 calls.puts
 
@@ -56,7 +56,7 @@ PutsTell shape offers calls = Told (put_events shape) (stored_after shape) (put_
 put_program_is : (shape : Shape) (calls : Puts) → events_in (put_program shape calls) ≡ events_of_puts shape calls.puts + 2 * length (close_phrase calls.closes)
 put_program_is shape calls = omega (arith, length-append (put_phrases shape first_count calls.puts) (close_phrase calls.closes))
 
--- an event behind all puts is one of the close
+-- an event after all puts is one of the close
 close_tells :
     (shape : Shape) (offers : ℕ → List ℕ) (calls : Puts) (i : ℕ) (before after : List Put) (told : List Event) (closes : Bool) → calls.closes ≡ closes →
     i < events_in (put_program shape calls) → after ≡ before → before ≡ calls.puts → events_of_puts shape before ≤ i → events_of_puts shape before ≡ events_of_puts shape calls.puts →
@@ -74,7 +74,7 @@ close_tells shape offers calls i before after told true e l same all past whole 
       | IsBehind more ↦ absurd (omega (arith, more, l, past, two, whole, put_program_is shape calls))
     ]
 
--- the same in the words of the puts
+-- the same in terms of the puts
 in_puts :
     (shape : Shape) (offers : ℕ → List ℕ) (calls : Puts) (i : ℕ) (before after : List Put) (told : List Event) → i < events_in (put_program shape calls) →
     PutsTell shape offers calls i before after told → PutTells shape offers calls i before after told
@@ -98,7 +98,7 @@ puts-tell shape offers calls i l =
 
 -- ---- takes
 
--- a take has its first event and another
+-- a take has at least two events
 take_long : (shape : Shape) (c : Count) (x : Take) → 2 ≤ events_in (take_phrase shape c x)
 take_long shape c (Item seen items) =
     let scan : List Made = scan_phrase (row_read_by C) seen in
@@ -118,7 +118,7 @@ take_events shape c x = events_in (take_phrase shape c x)
 abbrev take_begin : (ℕ → ℕ) → ℕ → Event
 take_begin wants j = TakeBegin (wants j)
 
--- what an event behind all takes, which are so many, tells
+-- what an event after all takes records, given their number
 abbrev take_last : (ℕ → ℕ) → ℕ → End → ℕ → List Event
 take_last wants j Open i = []
 take_last wants j (Closed seen again) i = told_or_behind (events_in (end_phrase (Closed seen again))) (take_begin wants j) TakeClosed i []
@@ -137,16 +137,16 @@ take_told_is shape wants j c (x ∷ takes) end i =
     (take_told_is shape wants (suc j) (count_after shape c x) takes end (i - long) ∙
     ap (λ n. told (take_events shape) (count_after shape) (take_begin wants) take_answer (take_last wants n end) (suc j) (count_after shape c x) takes (i - long)) next)
 
--- what an event tells of the takes, in the words of any calls
+-- what an event records of the takes, for any calls
 abbrev TakesTell : Shape → (ℕ → ℕ) → Takes → ℕ → List Take → List Take → List Event → Type 0
 TakesTell shape wants calls =
     Told (take_events shape) (count_after shape) (take_begin wants) take_answer (take_last wants (0 + length calls.takes) calls.end) (events_of_takes shape) 0 calls.takes
 
--- the program's events are those of the takes, and of the last that is told the ring is closed
+-- the program's events are those of the takes, and of the last that returns Closed
 take_program_is : (shape : Shape) (calls : Takes) → events_in (take_program shape calls) ≡ events_of_takes shape calls.takes + events_in (end_phrase calls.end)
 take_program_is shape calls = omega (arith, length-append (take_phrases shape first_count calls.takes) (end_phrase calls.end))
 
--- an event behind all takes is one of that one
+-- an event after all takes is one of that take
 end_tells :
     (shape : Shape) (wants : ℕ → ℕ) (calls : Takes) (i : ℕ) (before after : List Take) (told : List Event) (end : End) → calls.end ≡ end →
     i < events_in (take_program shape calls) → after ≡ before → events_of_takes shape before ≤ i → events_of_takes shape before ≡ events_of_takes shape calls.takes →
@@ -174,7 +174,7 @@ end_tells shape wants calls i before after told (Closed seen again) e l same pas
       | IsBehind more ↦ absurd (omega (arith, more, l, past, long_is, whole, take_program_is shape calls))
     ]
 
--- the same in the words of the takes
+-- the same in terms of the takes
 in_takes :
     (shape : Shape) (wants : ℕ → ℕ) (calls : Takes) (i : ℕ) (before after : List Take) (told : List Event) → i < events_in (take_program shape calls) →
     TakesTell shape wants calls i before after told → TakeTells shape wants calls i before after told

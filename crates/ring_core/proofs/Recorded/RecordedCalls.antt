@@ -1,4 +1,4 @@
--- The calls of each side behind its first ones: what their own events tell.
+-- The calls of each side after its first ones: what their own events record.
 use Rattle.std.proofs.Common.{◌≡◌, ℕ, suc, ◌+◌, ◌-◌, ◌<◌, Bool, true, false, nat_eq, if◌then◌else◌, List, [], ◌∷◌, ◌++◌, length, refl, sym, ap, subst, ◌∙◌, arith, append_assoc, append-nil, length-append}
 use Rattle.std.proofs.lemmas.Bool.{lt-ltb, eq-eqb}
 use Rattle.queue_calls.specs.Calls as calls
@@ -25,17 +25,17 @@ use Rattle.ring_core.proofs.Linear.TakeTurns.{take_long}
 use Rattle.ring_core.proofs.Recorded.RecordedSpans.{SpansBehind, spans_first, spans_past}
 use Rattle.ring_core.proofs.Recorded.TellsByOne.{behind_told}
 
--- ---- what the events of one call tell
+-- ---- what the events of one call record
 
 told_in : (long : ℕ) (begins ends : calls.Event) (i : ℕ) (behind : List calls.Event) → i < long → told_or_behind long begins ends i behind ≡ call_told long begins ends i
 told_in long begins ends i behind l = ap (λ (b : Bool). if b then call_told long begins ends i else behind) (lt-ltb i long l)
 
--- the first tells the begin
+-- the first records the start
 pub told_first : (long : ℕ) (begins ends : calls.Event) (behind : List calls.Event) → 0 < long → told_or_behind long begins ends 0 behind ≡ begins ∷ []
 told_first long begins ends behind l =
     told_in long begins ends 0 behind l ∙ ap (λ (b : Bool). if b then begins ∷ [] else if nat_eq (suc 0) long then ends ∷ [] else []) (eq-eqb 0 0 refl)
 
--- so they tell what comes behind, from its first event on
+-- so they record what comes after, from its first event on
 told_behind :
     (long : ℕ) (begins ends : calls.Event) (next : ℕ → List calls.Event) (j : ℕ) → told_or_behind long begins ends (long + j) (next (long + j - long)) ≡ next j
 told_behind long begins ends next j =
@@ -44,15 +44,15 @@ told_behind long begins ends next j =
 
 -- ---- the calls of a side
 
--- Behind the first of all calls of a side, which were so many with so many events and passed these items, come others: these are
--- their spans, and this is what their events tell, by how many calls there were before.
+-- After the first calls of a side, whose number, number of events and items are given, come others: these are their spans, and
+-- this is what their events record, by how many calls there were before.
 pub record CallsBehind (most : ℕ) (all : List Span) (tell : ℕ → List calls.Event) (start : ℕ) (passed : List ℕ) (rest : List Span) (rest_tell : ℕ → ℕ → List calls.Event) (n : ℕ) : Type 0 where
   pub spans_are : SpansBehind most all start passed rest
   pub made : ℕ
   pub told : (j : ℕ) → tell (start + j) ≡ rest_tell made j
   pub number : n ≡ length passed
 
--- behind none
+-- after none
 abbrev calls_first :
     (most : ℕ) (all : List Span) (tells : ℕ → ℕ → List calls.Event) → AllProper most all → CallsBehind most all (tells 0) 0 [] all tells 0
 calls_first most all tells proper = record {
@@ -62,7 +62,7 @@ calls_first most all tells proper = record {
   number = refl;
 }
 
--- and behind one call more, of so many events and of these items
+-- and after one more call, with its number of events and its items
 abbrev calls_past :
     (most : ℕ) (all : List Span) (tell : ℕ → List calls.Event) (start stop long : ℕ) (passed items : List ℕ) (rest rest' : List Span) (tells tells' : ℕ → ℕ → List calls.Event) (n n' : ℕ) →
     CallsBehind most all tell start passed rest tells n → stop ≡ start + long → SpansBehind most all (start + long) (passed ++ items) rest' →
@@ -76,11 +76,11 @@ calls_past most all tell start stop long passed items rest rest' tells tells' n 
 
 -- ---- puts
 
--- what the events of puts tell, behind so many
+-- what the events of puts record, after a number of them
 abbrev puts_tell : Shape → (ℕ → List ℕ) → Puts → Count → List Put → ℕ → ℕ → List calls.Event
 puts_tell shape offers puts c rest made j = put_told shape offers made c rest puts.closes j
 
--- behind the first of all puts, which stored these items, come the rest
+-- after the first of all puts, which stored these items, come the rest
 pub record PutsBehind (shape : Shape) (offers : ℕ → List ℕ) (puts : Puts) (c : Count) (start : ℕ) (stored : List ℕ) (rest : List Put) : Type 0 where
   pub calls :
       CallsBehind (batch_of shape) (put_spans shape puts) (puts_tell shape offers puts first_count puts.puts 0) start stored (spans P shape c (put_looks rest))
@@ -119,7 +119,7 @@ items_past : (stored : List ℕ) (x : Put) (rest : List Put) → stored ++ all_p
 items_past stored (Stored seen items) rest = sym (append_assoc stored items (all_put rest))
 items_past stored (Full seen) rest = ap (λ l. l ++ all_put rest) (sym (append-nil stored))
 
--- behind one put more
+-- after one more put
 pub puts_past : (shape : Shape) (offers : ℕ → List ℕ) (puts : Puts) (c : Count) (start stop : ℕ) (stored : List ℕ) (x : Put) (rest : List Put) →
     stop ≡ start + put_long shape c x →
     PutsBehind shape offers puts c start stored (x ∷ rest) → PutsBehind shape offers puts (stored_after shape c x) stop (stored ++ put_items x) rest
@@ -136,11 +136,11 @@ puts_past shape offers puts c start stop stored x rest e b =
 
 -- ---- takes
 
--- what the events of takes tell, behind so many
+-- what the events of takes record, after a number of them
 abbrev takes_tell : Shape → (ℕ → ℕ) → Takes → Count → List Take → ℕ → ℕ → List calls.Event
 takes_tell shape wants takes c rest made j = take_told shape wants made c rest takes.end j
 
--- behind the first of all takes, which took these items, come the rest
+-- after the first of all takes, which took these items, come the rest
 pub record TakesBehind (shape : Shape) (wants : ℕ → ℕ) (takes : Takes) (c : Count) (start : ℕ) (taken : List ℕ) (rest : List Take) : Type 0 where
   pub calls :
       CallsBehind (take_batch_of shape) (take_spans shape takes) (takes_tell shape wants takes first_count takes.takes 0) start taken (spans C shape c (take_looks rest takes.end))
@@ -187,7 +187,7 @@ taken_past k taken (Item seen items) e = omega (arith, e, past_is k items, lengt
 taken_past k taken (ItemAfterClose seen again items) e = omega (arith, e, past_is k items, length-append taken items)
 taken_past k taken (Empty seen) e = omega (arith, e, ap length (append-nil taken))
 
--- behind one take more
+-- after one more take
 pub takes_past : (shape : Shape) (wants : ℕ → ℕ) (takes : Takes) (c : Count) (start stop : ℕ) (taken : List ℕ) (x : Take) (rest : List Take) →
     stop ≡ start + take_long shape c x →
     TakesBehind shape wants takes c start taken (x ∷ rest) → TakesBehind shape wants takes (count_after shape c x) stop (taken ++ taken_of x) rest

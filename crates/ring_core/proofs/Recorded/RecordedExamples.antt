@@ -26,8 +26,7 @@ one_each-wanted : AreWanted one_cell one_each 0 0 second_scan.takes
 unfolding one_cell
 one_each-wanted = ((omega arith, inl refl), tt)
 
--- all of the producer's events, and then all of the consumer's: a second scan finds the item, and the next take is told that the ring
--- is closed
+-- all of the producer's events, and then all of the consumer's: a second scan finds the item, and the next take returns Closed
 abbrev one_by_one : List Event
 one_by_one = events_of P (put_program one_cell put_and_close) ++ events_of C (take_program one_cell second_scan)
 

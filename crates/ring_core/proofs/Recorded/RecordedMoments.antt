@@ -1,4 +1,4 @@
--- A moment of a run: what comes behind it, and what an auditor of the recorded calls keeps there.
+-- A moment of a run: what comes after it, and the state of an auditor of the recorded calls there.
 use Rattle.std.proofs.Common.{◌≡◌, ◌⊎◌, ℕ, suc, ◌+◌, ◌<◌, ◌≤◌, true, List, [], ◌∷◌, ◌++◌, length, sym, ap, subst, ◌∙◌, arith, length-append}
 use Rattle.queue_calls.specs.Queue.{Capacity, exactly}
 use Rattle.queue_calls.specs.Calls as calls
@@ -26,7 +26,7 @@ use Rattle.bits_core.proofs.LawLemmas.{subhistory_has_place}
 
 -- ---- the clocks
 
--- behind p events of the producer and q of the consumer, at place t, comes the rest of the history
+-- after p events of the producer and q of the consumer, at place t, the rest of the history follows
 pub record Moment (h : List Event) (t p q : ℕ) (rest : List Event) : Type 0 where
   pub puts : (j : ℕ) → clock P h (t + j) ≡ p + clock P rest j
   pub takes : (j : ℕ) → clock C h (t + j) ≡ q + clock C rest j
@@ -68,7 +68,7 @@ next_p h t p q e rest by m = omega (arith, at_p h (suc t) (suc p) q rest (past_p
 pub next_q : (h : List Event) (t p q : ℕ) (e : Event) (rest : List Event) → e.side ≡ C → Moment h t p q (e ∷ rest) → q < length (subhistory C h)
 next_q h t p q e rest by m = omega (arith, at_q h (suc t) p (suc q) rest (past_q h t p q e rest by m), clock_within C h (suc t))
 
--- and stands there
+-- and is there
 place_here : (s : Side) (h : List Event) (t i : ℕ) → clock s h t ≡ i → clock s h (suc t) ≡ suc i → IsPlaceOf s h i t
 place_here s h t i here past =
     subst (IsPlaceOf s h i) (sym (one_place s h i t (here, past))) (subhistory_has_place s h i (omega (arith, past, clock_within s h (suc t))))
@@ -79,7 +79,7 @@ place_p h t p q e rest by m = place_here P h t p (at_p h t p q (e ∷ rest) m) (
 pub place_q : (h : List Event) (t p q : ℕ) (e : Event) (rest : List Event) → e.side ≡ C → Moment h t p q (e ∷ rest) → IsPlaceOf C h q t
 place_q h t p q e rest by m = place_here C h t q (at_q h t p q (e ∷ rest) m) (at_q h (suc t) p (suc q) rest (past_q h t p q e rest by m))
 
--- a side has no more events than its calls
+-- a side has no more events than its calls have
 few_own : (s : Side) (subhistory all : List Event) → IsPrefix subhistory all → length subhistory ≤ length all
 few_own s subhistory all (more, e) = omega (arith, ap length e, length-append subhistory more)
 
@@ -119,7 +119,7 @@ prefix_at shape h puts takes law t p q rest m =
           puts_items shape first_count puts.puts (clock P h t) ∙ ap (begun_items (put_spans shape puts)) (at_p h t p q rest m),
     )
 
--- ---- what is kept at a moment
+-- ---- the state at a moment
 
 pub record Now (shape : Shape) (offers : ℕ → List ℕ) (wants : ℕ → ℕ) (h : List Event) (puts : Puts) (takes : Takes) (t p q : ℕ) (rest : List Event) (k : Kept) : Type 0 where
   pub stored : List ℕ
@@ -132,7 +132,7 @@ pub record Now (shape : Shape) (offers : ℕ → List ℕ) (wants : ℕ → ℕ)
   pub shut : k.shut ≡ true → (before_close shape puts < p) × ((before_close shape puts + 2 ≤ p) ⊎ (events_in (take_program shape takes) ≤ q))
   pub closed : before_close shape puts + 2 ≤ p → k.shut ≡ true
 
--- at most one event is told, and it can be counted
+-- at most one event is recorded, and it can be counted
 abbrev pub Moves : Capacity → Kept → List calls.Event → Kept → Type 0
 Moves capacity k [] after = after ≡ k
 Moves capacity k (event ∷ []) after = Counts capacity k event after

@@ -1,4 +1,4 @@
--- The next event of a run is one of the producer's: what it tells can be counted.
+-- The next event of a run is one of the producer's: what it records can be counted.
 use Rattle.std.proofs.Common.{◌≡◌, inl, inr, ℕ, suc, ◌+◌, ◌-◌, ◌%◌, ◌<◌, ◌≤◌, Bool, true, false, List, [], ◌∷◌, ◌++◌, length, take, refl, sym, ap, subst, ◌∙◌, arith, append_assoc, append-nil, length-append}
 use Rattle.std.proofs.lemmas.List.{length-take-le, take_all, append_cancel_left}
 use Rattle.std.proofs.Math.Seq.{take-append_seam}
@@ -31,12 +31,12 @@ use Rattle.ring_core.proofs.Recorded.RecordedStates.{before_close, PutRuns, PutC
 use Rattle.ring_core.proofs.Recorded.RecordedMoments.{at_q, past_p, next_p, place_p, few_puts, within_at, prefix_at, Now, Stepped, by_events}
 use Rattle.ring_core.proofs.Recorded.TellsByOne.{between_told, last_told}
 
--- a put has two events
+-- a put has at least two events
 put_two : (shape : Shape) (c : Count) (x : Put) → 2 ≤ put_long shape c x
 put_two shape c (Stored seen items) = omega (arith, before_put_ends shape c seen items)
 put_two shape c (Full seen) = omega (arith, put_some shape c seen)
 
--- a close has two
+-- a close has at least two
 some_close : (b : Bool) → 0 < events_in (close_phrase b) → b ≡ true
 some_close true l = refl
 some_close false l = absurd (omega (arith, l))
@@ -45,7 +45,7 @@ few_close : (b : Bool) → events_in (close_phrase b) ≤ 2
 few_close true = omega arith
 few_close false = omega arith
 
--- fewer items than there were are as many as were asked for
+-- if fewer items were taken than there were, as many were taken as requested
 pub took_all : (room : ℕ) (items : List ℕ) → length (take room items) < length items → length (take room items) ≡ room
 took_all room items l = elim (at_most_or_above room (length items)) [
   | inl m ↦ length-take-le room items m
@@ -60,11 +60,11 @@ module _ (shape : Shape) (offers : ℕ → List ℕ) (wants : ℕ → ℕ) (h : 
   abbrev Here : ℕ → ℕ → ℕ → List Event → Kept → Type 0
   Here = Now shape offers wants h puts takes
 
-  -- what the producer's next event tells
+  -- what the producer's next event records
   abbrev told : ℕ → List calls.Event
   told p = put_told shape offers 0 first_count puts.puts puts.closes p
 
-  -- where a put begins that will store fewer items than it is offered
+  -- when a put begins that will store fewer items than it is offered
   lacks :
       (c : Count) (stored : List ℕ) (x : Put) (more : List Put) (t p ended inside : ℕ) → (b : PutsBehind shape offers puts c p stored (x ∷ more)) → IsPlaceOf P h p t →
       counts_ended (take_spans shape takes) (clock C h t) ≡ ended → length stored ≤ ended + inside → p + put_long shape c x ≤ length (subhistory P h) →
@@ -186,7 +186,7 @@ module _ (shape : Shape) (offers : ℕ → List ℕ) (wants : ℕ → ℕ) (h : 
         };
       })
 
-  -- an event in the course of a put tells nothing
+  -- an event within a put records nothing
   put_goes_on :
       (t p q : ℕ) (e : Event) (rest : List Event) (k : Kept) → e.side ≡ P → (now : Here t p q (e ∷ rest) k) →
       (r : PutRuns shape offers h puts p now.stored now.left k.put) → suc p < r.start + put_long shape r.count r.call →
@@ -212,7 +212,7 @@ module _ (shape : Shape) (offers : ℕ → List ℕ) (wants : ℕ → ℕ) (h : 
         };
       })
 
-  -- what a put leaves that ends: the items that it did not store go
+  -- the state after a put ends: the items that it did not store are dropped
   record PutLeft (t p q : ℕ) (rest : List Event) (k : Kept) (stored left items : List ℕ) : Type 0 where
     pub ends : EndsPut (exactly (capacity_of shape)) k (length left - length items) (kept (without (length left - length items) k.inside) Free k.take k.shut)
     pub now : Here t p q rest (kept (without (length left - length items) k.inside) Free k.take k.shut)
@@ -260,7 +260,7 @@ module _ (shape : Shape) (offers : ℕ → List ℕ) (wants : ℕ → ℕ) (h : 
         };
       }
 
-  -- the last event of a put tells its end
+  -- the last event of a put records its end
   put_told_end :
       (t p q : ℕ) (rest : List Event) (k : Kept) (stored left : List ℕ) (c : Count) (start before : ℕ) (x : Put) (more : List Put) →
       PutsBehind shape offers puts c start stored (x ∷ more) → k.put ≡ Offers (length left) before → 0 < length left → length (put_items x) ≤ length left →

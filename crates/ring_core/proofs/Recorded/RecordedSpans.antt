@@ -1,4 +1,4 @@
--- The spans of a side behind its first ones: what had begun and ended there, and in the course of the next one.
+-- The spans of a side after its first ones: what had begun and ended there, and within the next one.
 use Rattle.std.proofs.Common.{◌≡◌, inl, inr, ℕ, ◌+◌, ◌-◌, ◌≤◌, List, [], ◌∷◌, ◌++◌, length, refl, sym, ap, ◌∙◌, arith, append_assoc, append-nil, length-append}
 use Rattle.bits_core.specs.Made.{IsPrefix}
 use Rattle.ring_core.proofs.OverSpans.Spans.{Span, counts, items_of, before_count, whole, counts_begun, counts_ended, begun_items, ended_items, IsSpanAt}
@@ -6,14 +6,14 @@ use Rattle.ring_core.proofs.OverSpans.Timeline.{AllProper, counts-items, begun_i
 use Rattle.ring_core.proofs.Readings.Cuts.{at_most_or_above}
 use Rattle.ring_core.proofs.OverSpans.CallSpans.{stands_at}
 
--- behind the first of all spans, which have so many events and passed these items, come the rest
+-- after the first of all spans, with their number of events and their items, come the rest
 pub record SpansBehind (most : ℕ) (all : List Span) (start : ℕ) (passed : List ℕ) (rest : List Span) : Type 0 where
   pub begun : (j : ℕ) → begun_items all (start + j) ≡ passed ++ begun_items rest j
   pub ended : (j : ℕ) → ended_items all (start + j) ≡ passed ++ ended_items rest j
   pub stands : (s n : ℕ) (x : Span) → IsSpanAt rest s n x → IsSpanAt all (start + s) (length passed + n) x
   pub proper : AllProper most rest
 
--- behind none
+-- after none
 pub spans_first : (most : ℕ) (all : List Span) → AllProper most all → SpansBehind most all 0 [] all
 spans_first most all proper = record {
   begun = λ j. ap (begun_items all) (same j);
@@ -25,7 +25,7 @@ spans_first most all proper = record {
     same : (j : ℕ) → 0 + j ≡ j
     same j = omega arith
 
--- behind one more
+-- after one more
 pub spans_past :
     (most : ℕ) (all : List Span) (start stop : ℕ) (passed : List ℕ) (x : Span) (rest : List Span) → stop ≡ start + whole x →
     SpansBehind most all start passed (x ∷ rest) → SpansBehind most all stop (passed ++ items_of x.outcome) rest
@@ -49,7 +49,7 @@ spans_past most all start stop passed x rest e b = record {
   proper = b.proper.1;
 }
 
--- the next one stands there
+-- the next one is there
 pub stands_next : (most : ℕ) (all : List Span) (start : ℕ) (passed : List ℕ) (x : Span) (rest : List Span) →
     SpansBehind most all start passed (x ∷ rest) → IsSpanAt all start (length passed) x
 stands_next most all start passed x rest b =
@@ -57,7 +57,7 @@ stands_next most all start passed x rest b =
 
 -- ---- what had begun and ended
 
--- no fewer had than were passed
+-- no fewer than were passed
 passed_at : (of : ℕ → List ℕ) (n start i : ℕ) (passed more : List ℕ) → start ≤ i → n ≡ length (of i) → of (start + (i - start)) ≡ passed ++ more → length passed ≤ n
 passed_at of n start i passed more l size parts =
     let at : start + (i - start) ≡ i = omega (arith, l) in
@@ -71,7 +71,7 @@ pub passed_ended : (most : ℕ) (all : List Span) (start : ℕ) (passed : List �
     SpansBehind most all start passed rest → length passed ≤ counts_ended all i
 passed_ended most all start passed rest i l b = passed_at (ended_items all) (counts_ended all i) start i passed _ l (sym (length-ended_items all i)) (b.ended (i - start))
 
--- between two, just those
+-- between two spans, exactly those
 pub begun_here : (most : ℕ) (all : List Span) (start : ℕ) (passed : List ℕ) (rest : List Span) →
     SpansBehind most all start passed rest → begun_items all start ≡ passed
 begun_here most all start passed rest b =
@@ -82,7 +82,7 @@ pub counted_here : (most : ℕ) (all : List Span) (start : ℕ) (passed : List �
     SpansBehind most all start passed rest → counts_begun all start ≡ length passed
 counted_here most all start passed rest b = sym (length-begun_items all start) ∙ ap length (begun_here most all start passed rest b)
 
--- in the course of the next one, those and perhaps its own
+-- within the next one, those and perhaps its own
 first_begun : (x : Span) (rest : List Span) (j : ℕ) → j ≤ whole x → IsPrefix (begun_items (x ∷ rest) j) (items_of x.outcome)
 first_begun x rest j l = elim (at_most_or_above j (before_count x)) [
   | inl m ↦ (items_of x.outcome, ap (λ l. l ++ items_of x.outcome) (begun_items_first x rest j m (omega arith)))

@@ -1,4 +1,4 @@
--- Where each side is in its calls, with what an auditor of its recorded calls keeps of it.
+-- Where each side is in its calls, with an auditor's state for it.
 use Rattle.std.proofs.Common.{◌≡◌, ◌⊎◌, inl, inr, ℕ, ◌+◌, ◌-◌, ◌<◌, ◌≤◌, ◌%◌, Bool, true, false, if◌then◌else◌, List, [], ◌∷◌, ◌++◌, length, drop, refl, sym, ap, subst, ◌∙◌, arith, append_assoc, append-nil, length-append, take-append-drop}
 use Rattle.queue_calls.specs.State.{offered_by, asked_by}
 use Rattle.queue_calls.specs.declared.turns.PutTurn.{PutTurn}
@@ -31,7 +31,7 @@ before_close shape puts = events_in (put_phrases shape first_count puts.puts)
 
 -- ---- the producer
 
--- behind p own events it is in no call; these items were stored
+-- after p own events it is in no call; these items were stored
 pub record PutIdle (shape : Shape) (offers : ℕ → List ℕ) (puts : Puts) (p : ℕ) (stored left : List ℕ) (put : PutTurn) : Type 0 where
   pub count : Count
   pub rest : List Put
@@ -39,7 +39,7 @@ pub record PutIdle (shape : Shape) (offers : ℕ → List ℕ) (puts : Puts) (p 
   pub left_is : left ≡ []
   pub put_is : put ≡ Free
 
--- a put, which is offered the items left. Where that ends with fewer, there was no room for one more than it stored.
+-- a put, which is offered the items left. If that ends with fewer, there was no room for one more than it stored.
 pub record PutOffers (shape : Shape) (offers : ℕ → List ℕ) (h : List Event) (puts : Puts) (stored left : List ℕ) (put : PutTurn) : Type 0 where
   pub count : Count
   pub start : ℕ
@@ -59,7 +59,7 @@ pub record PutRuns (shape : Shape) (offers : ℕ → List ℕ) (h : List Event) 
   pub begun : start < p
   pub not_ended : p < start + put_long shape count call
 
--- it is past all puts, with so many own events of its close
+-- it is past all puts, with this many own events of its close
 pub record PastPuts (shape : Shape) (offers : ℕ → List ℕ) (puts : Puts) (p made : ℕ) (stored left : List ℕ) : Type 0 where
   pub count : Count
   pub start : ℕ
@@ -86,11 +86,11 @@ PutAt shape offers h puts p stored left put =
     PutIdle shape offers puts p stored left put ⊎ PutRuns shape offers h puts p stored left put ⊎ PutCloses shape offers puts p stored left put ⊎
     PutClosed shape offers puts p stored left put
 
--- it is past all puts: in the close or behind it
+-- it is past all puts: in the close or after it
 abbrev pub IsClosing : Shape → Puts → ℕ → PutTurn → Type 0
 IsClosing shape puts p put = ((again : Bool) × (put ≡ Closes again)) ⊎ ((before_close shape puts + 2 ≤ p) × (put ≡ Free))
 
--- what the consumer's steps need of it
+-- what the consumer's steps need to know about it
 pub record PutView (shape : Shape) (puts : Puts) (p : ℕ) (stored left : List ℕ) (put : PutTurn) : Type 0 where
   pub begun : IsPrefix (begun_items (put_spans shape puts) p) (stored ++ left)
   pub few : length stored ≤ counts_begun (put_spans shape puts) p
@@ -146,7 +146,7 @@ runs_view shape offers h puts p stored left put r =
           absurd (omega (arith, l, b.all, r.not_ended, length-append (put_phrase shape r.count r.call) (put_phrases shape (stored_after shape r.count r.call) r.rest)));
     }
 
--- behind all puts
+-- after all puts
 last_view :
     (shape : Shape) (offers : ℕ → List ℕ) (puts : Puts) (c : Count) (start : ℕ) (p : ℕ) (stored left : List ℕ) (put : PutTurn) → start ≤ p →
     PutsBehind shape offers puts c start stored [] → left ≡ [] → offered_by put ≡ 0 → IsClosing shape puts p put → PutView shape puts p stored left put
@@ -172,14 +172,14 @@ put_view shape offers h puts p stored left put (inr (inr (inr r))) =
 
 -- ---- the consumer
 
--- behind q own events it is in no call; these items were taken
+-- after q own events it is in no call; these items were taken
 pub record TakeIdle (shape : Shape) (wants : ℕ → ℕ) (takes : Takes) (q : ℕ) (taken : List ℕ) (take : TakeTurn) : Type 0 where
   pub count : Count
   pub rest : List Take
   pub behind : TakesBehind shape wants takes count q taken rest
   pub take_is : take ≡ Rests
 
--- it is in a call, behind which these takes are to come, begun behind so many own events
+-- it is in a call that began after this many own events and that these takes follow
 pub record InCall (shape : Shape) (wants : ℕ → ℕ) (takes : Takes) (left : List Take) (taken : List ℕ) (take : TakeTurn) : Type 0 where
   pub count : Count
   pub start : ℕ
@@ -188,8 +188,8 @@ pub record InCall (shape : Shape) (wants : ℕ → ℕ) (takes : Takes) (left : 
   pub behind : TakesBehind shape wants takes count start taken left
   pub take_is : take ≡ Waits (wants behind.made) before shut
 
--- it is in a take. Where that ends with fewer items than it wants, no more were inside where it began; and where it ends with none, the
--- ring was open.
+-- it is in a take. If that ends with fewer items than it wants, no more were inside when it began; and if it ends with none, the ring
+-- was open.
 pub record TakeRuns (shape : Shape) (wants : ℕ → ℕ) (h : List Event) (takes : Takes) (q : ℕ) (taken : List ℕ) (take : TakeTurn) : Type 0 where
   pub call : Take
   pub rest : List Take
@@ -200,7 +200,7 @@ pub record TakeRuns (shape : Shape) (wants : ℕ → ℕ) (h : List Event) (take
   pub no_more : start + take_long shape count call ≤ length (subhistory C h) → length (taken_of call) < wants behind.made → before ≤ length (taken_of call)
   pub open_then : start + take_long shape count call ≤ length (subhistory C h) → taken_of call ≡ [] → shut ≡ false
 
--- it is in the take that is told the ring is closed
+-- it is in the take that returns Closed
 pub record TakeEnds (shape : Shape) (wants : ℕ → ℕ) (takes : Takes) (q : ℕ) (taken : List ℕ) (take : TakeTurn) : Type 0 where
   pub seen : ℕ
   pub again : ℕ
@@ -210,7 +210,7 @@ pub record TakeEnds (shape : Shape) (wants : ℕ → ℕ) (takes : Takes) (q : �
   pub begun : start < q
   pub not_ended : q < start + end_long seen again
 
--- that has ended
+-- that take has ended
 pub record TakeOver (shape : Shape) (wants : ℕ → ℕ) (takes : Takes) (q : ℕ) (taken : List ℕ) (take : TakeTurn) : Type 0 where
   pub count : Count
   pub start : ℕ
@@ -224,7 +224,7 @@ TakeAt shape wants h takes q taken take =
     TakeIdle shape wants takes q taken take ⊎ TakeRuns shape wants h takes q taken take ⊎ TakeEnds shape wants takes q taken take ⊎
     TakeOver shape wants takes q taken take
 
--- what the producer's steps need of it
+-- what the producer's steps need to know about it
 pub record TakeView (shape : Shape) (takes : Takes) (q : ℕ) (taken : List ℕ) (take : TakeTurn) : Type 0 where
   pub begun : counts_begun (take_spans shape takes) q ≤ length taken + asked_by take
   pub ended : length taken ≤ counts_ended (take_spans shape takes) q
@@ -247,7 +247,7 @@ none_if : (t : Bool) (l : List ℕ) → (if t then [] else []) ++ l ≡ l
 none_if true l = refl
 none_if false l = refl
 
--- the take that is told so counts nothing
+-- the take that returns Closed counts nothing
 end_begun : (shape : Shape) (c : Count) (end : End) (j : ℕ) → begun_items (spans C shape c (take_looks [] end)) j ≡ []
 end_begun shape c Open j = refl
 end_begun shape c (Closed seen again) j = none_if _ _ ∙ none_if _ []

@@ -1,4 +1,4 @@
--- The next event of a run is one of the consumer's: what it tells can be counted.
+-- The next event of a run is one of the consumer's: what it records can be counted.
 use Rattle.std.proofs.Common.{◌≡◌, ◌⊎◌, inl, inr, ℕ, suc, ◌+◌, ◌-◌, ◌%◌, ◌<◌, ◌≤◌, Bool, true, false, List, [], ◌∷◌, ◌++◌, length, drop, refl, sym, ap, subst, ◌∙◌, arith, append_assoc, append-nil, length-append}
 use Rattle.std.proofs.lemmas.List.{append_cancel_left}
 use Rattle.std.proofs.Math.Seq.{drop-append_seam}
@@ -40,7 +40,7 @@ use Rattle.ring_core.proofs.Recorded.TellsByOne.{between_told, last_told}
 use Rattle.bits_core.proofs.LawLemmas.{subhistory_has_place}
 use Rattle.bits_core.proofs.OwnEvents.{by_case}
 
--- a take has two events
+-- a take has at least two events
 take_two : (shape : Shape) (c : Count) (x : Take) → 2 ≤ take_long shape c x
 take_two shape c x = omega (arith, phrase_some shape c x)
 
@@ -52,24 +52,24 @@ takes_shown : (wanted shown m : ℕ) → (m ≡ wanted) ⊎ (m ≡ shown) → m 
 takes_shown wanted shown m (inl e) l = absurd (omega (arith, e, l))
 takes_shown wanted shown m (inr e) l = sym e
 
--- every take wants an item, also the one that is told the ring is closed
+-- every take wants an item, including the one that returns Closed
 module _ (shape : Shape) (offers : ℕ → List ℕ) (wants : ℕ → ℕ) (h : List Event) (puts : Puts) (takes : Takes) (run : IsRun shape h puts takes)
     (law : LawOfSpans shape h puts takes) (some_wanted : (j : ℕ) → 0 < wants j) where
   abbrev Here : ℕ → ℕ → ℕ → List Event → Kept → Type 0
   Here = Now shape offers wants h puts takes
 
-  -- what the consumer's next event tells
+  -- what the consumer's next event records
   abbrev told : ℕ → List calls.Event
   told q = take_told shape wants 0 first_count takes.takes takes.end q
 
-  -- the close has come, or the consumer was told so, also an event later
+  -- if the close has come, or a take has returned Closed, so it is one event later
   shut_later :
       (p q : ℕ) → (before_close shape puts < p) × ((before_close shape puts + 2 ≤ p) ⊎ (events_in (take_program shape takes) ≤ q)) →
       (before_close shape puts < p) × ((before_close shape puts + 2 ≤ p) ⊎ (events_in (take_program shape takes) ≤ suc q))
   shut_later p q (l, inl m) = (l, inl m)
   shut_later p q (l, inr m) = (l, inr (omega (arith, m)))
 
-  -- behind an event of the consumer that neither takes items nor tells that the ring is closed, it is in this turn
+  -- after an event of the consumer that neither takes items nor returns Closed, it is in this state
   turns :
       (t p q : ℕ) (e : Event) (rest : List Event) (k : Kept) → e.side ≡ C → (now : Here t p q (e ∷ rest) k) → (turn : TakeTurn) →
       TakeAt shape wants h takes (suc q) now.taken turn → Here (suc t) p (suc q) rest (kept k.inside k.put turn k.shut)
@@ -85,7 +85,7 @@ module _ (shape : Shape) (offers : ℕ → List ℕ) (wants : ℕ → ℕ) (h : 
     closed = now.closed;
   }
 
-  -- where a take begins that will find nothing
+  -- when a take begins that will find nothing
   none_inside :
       (c : Count) (taken : List ℕ) (seen : ℕ) (more : List Take) (t p q stored inside : ℕ) → TakesBehind shape wants takes c q taken (Empty seen ∷ more) → IsPlaceOf C h q t →
       clock P h t ≡ p → clock C h t ≡ q → stored ≤ counts_ended (put_spans shape puts) p → inside ≡ stored - length taken →
@@ -105,7 +105,7 @@ module _ (shape : Shape) (offers : ℕ → List ℕ) (wants : ℕ → ℕ) (h : 
         omega (arith, opened, ep),
       )
 
-  -- where a scan begins whose items are all taken, and before, no more items were stored than taken up to and with these
+  -- when a scan begins whose items are all taken, and before, no more items were stored than taken up to and including these
   drained :
       (c : Count) (taken : List ℕ) (seen : ℕ) (items : List ℕ) (t s : ℕ) → IsSpanAt (take_spans shape takes) s (length taken) (span_of C shape c (look seen (Passes items))) →
       c.number ≡ length taken → distance (modulus_of shape) seen (c.number % modulus_of shape) ≡ length items → 1 ≤ length items →
@@ -124,7 +124,7 @@ module _ (shape : Shape) (offers : ℕ → List ℕ) (wants : ℕ → ℕ) (h : 
       ] in
       omega (arith, few, ended_up (batch_of shape) (put_spans shape puts) (proper_puts shape puts run.puts_follow.are) (clock P h t) (clock P h there) (clock_rises P h t there order))
 
-  -- where a take begins that will take fewer items than it wants, no more are inside
+  -- when a take begins that will take fewer items than it wants, no more are inside
   lacks :
       (c : Count) (taken : List ℕ) (x : Take) (more : List Take) (t p q stored inside : ℕ) → (b : TakesBehind shape wants takes c q taken (x ∷ more)) → IsPlaceOf C h q t →
       clock P h t ≡ p → clock C h t ≡ q → stored ≤ counts_ended (put_spans shape puts) p → inside ≡ stored - length taken →
@@ -147,7 +147,7 @@ module _ (shape : Shape) (offers : ℕ → List ℕ) (wants : ℕ → ℕ) (h : 
   lacks c taken (Empty seen) more t p q stored inside b place ep eq ended l over fewer =
       omega (arith, (none_inside c taken seen more t p q stored inside b place ep eq ended l over).0)
 
-  -- where a take begins that will find nothing, the ring is open
+  -- when a take begins that will find nothing, the ring is open
   opened :
       (c : Count) (taken : List ℕ) (x : Take) (more : List Take) (t p q stored inside : ℕ) (shut : Bool) → TakesBehind shape wants takes c q taken (x ∷ more) → IsPlaceOf C h q t →
       clock P h t ≡ p → clock C h t ≡ q → stored ≤ counts_ended (put_spans shape puts) p → inside ≡ stored - length taken →
@@ -197,7 +197,7 @@ module _ (shape : Shape) (offers : ℕ → List ℕ) (wants : ℕ → ℕ) (h : 
         })));
       })
 
-  -- the consumer goes on in a take
+  -- the consumer continues in a take
   take_goes_on :
       (t p q : ℕ) (e : Event) (rest : List Event) (k : Kept) → e.side ≡ C → (now : Here t p q (e ∷ rest) k) →
       (r : TakeRuns shape wants h takes q now.taken k.take) → suc q < r.start + take_long shape r.count r.call →
@@ -221,7 +221,7 @@ module _ (shape : Shape) (offers : ℕ → List ℕ) (wants : ℕ → ℕ) (h : 
         })));
       })
 
-  -- what a take leaves that ends
+  -- the state after a take ends
   record TakeLeft (t p q : ℕ) (rest : List Event) (k : Kept) (items : List ℕ) : Type 0 where
     pub more : List ℕ
     pub next : k.inside ≡ items ++ more
@@ -270,7 +270,7 @@ module _ (shape : Shape) (offers : ℕ → List ℕ) (wants : ℕ → ℕ) (h : 
         };
       }
 
-  -- the last event of a take tells its end
+  -- the last event of a take records its end
   take_told_end :
       (t p q : ℕ) (rest : List Event) (k : Kept) (c : Count) (start : ℕ) (taken : List ℕ) (before : ℕ) (shut : Bool) (x : Take) (more : List Take) →
       (b : TakesBehind shape wants takes c start taken (x ∷ more)) → k.take ≡ Waits (wants b.made) before shut → 0 < wants b.made →
@@ -306,7 +306,7 @@ module _ (shape : Shape) (offers : ℕ → List ℕ) (wants : ℕ → ℕ) (h : 
       (take_told_end (suc t) p (suc q) rest k r.count r.start now.taken r.before r.shut r.call r.rest r.behind r.take_is (some_wanted r.behind.made)
       (r.no_more over) (r.open_then over) (take_leaves t p q e rest k by now r stop))
 
-  -- ---- the take that is told the ring is closed
+  -- ---- the take that returns Closed
 
   end_told :
       (made : ℕ) (c : Count) (end : End) (seen again j : ℕ) → end ≡ Closed seen again →
@@ -338,7 +338,7 @@ module _ (shape : Shape) (offers : ℕ → List ℕ) (wants : ℕ → ℕ) (h : 
         }))));
       })
 
-  -- it goes on
+  -- it continues
   end_goes_on :
       (t p q : ℕ) (e : Event) (rest : List Event) (k : Kept) → e.side ≡ C → (now : Here t p q (e ∷ rest) k) →
       (r : TakeEnds shape wants takes q now.taken k.take) → suc q < r.start + end_long r.seen r.again → Stepped shape offers wants h puts takes (suc t) p (suc q) rest k (told q)

@@ -1,4 +1,4 @@
--- What one event tells of calls that follow one another, by those of them that are over before it and with it.
+-- What one event records of calls that follow one another, by those of them that are over before it and with it.
 use Rattle.std.proofs.Common.{◌≡◌, ◌⊎◌, inl, inr, ℕ, suc, ◌+◌, ◌-◌, ◌<◌, ◌≤◌, Bool, false, nat_eq, if◌then◌else◌, List, [], ◌∷◌, ◌++◌, length, refl, ap, ◌∙◌, arith}
 use Rattle.std.proofs.lemmas.Bool.Decides.{nat_tests}
 use Rattle.std.proofs.lemmas.Bool.{le-leb, lt-leb, lt-ltb, le-ltb, eq-eqb}
@@ -16,7 +16,7 @@ eq_not a b l = grind (arith, nat_tests)
 not_first : (i : ℕ) → 0 < i → nat_eq i 0 ≡ false
 not_first i l = grind (arith, nat_tests)
 
--- where an event of a call stands: it is the first, one between, the last, or behind the call
+-- the position of an event in a call: the first, one between, the last, or after the call
 pub data Place (long i : ℕ) : Type 0 where
   IsFirst : i ≡ 0 → Place long i
   IsBetween : 0 < i → suc i < long → Place long i
@@ -32,7 +32,7 @@ place long i some = elim (at_most_or_above long i) [
   ]
 ]
 
--- ---- what an event of one call tells
+-- ---- what an event of one call records
 
 pub first_told : (long : ℕ) (begins ends : Event) (i : ℕ) (behind : List Event) → 2 ≤ long → i ≡ 0 → told_or_behind long begins ends i behind ≡ begins ∷ []
 first_told long begins ends i behind some e =
@@ -56,15 +56,15 @@ last_told long begins ends i behind l e =
 pub behind_told : (long : ℕ) (begins ends : Event) (i : ℕ) (behind : List Event) → long ≤ i → told_or_behind long begins ends i behind ≡ behind
 behind_told long begins ends i behind l = ap (λ (b : Bool). if b then call_told long begins ends i else behind) (le-ltb i long l)
 
--- ---- what an event of calls that follow one another tells
+-- ---- what an event of calls that follow one another records
 
 module _ {S X : Type 0} (events : S → X → ℕ) (after : S → X → S) (begins : ℕ → Event) (answer : X → Event) (last : ℕ → List Event) where
-  -- the calls, from number j on, and what comes behind them
+  -- the calls, from number j on, and what comes after them
   abbrev pub told : ℕ → S → List X → ℕ → List Event
   told j s [] i = last i
   told j s (x ∷ xs) i = told_or_behind (events s x) (begins j) (answer x) i (told (suc j) (after s x) xs (i - events s x))
 
-  -- it begins a call, ends one, tells nothing within one, or comes behind them all
+  -- it starts a call, ends one, records nothing within one, or comes after them all
   pub data Tells (j : ℕ) (s : S) (xs : List X) (i : ℕ) (before with_it : List X) (tells : List Event) : Type 0 where
     Begins : with_it ≡ before → i ≡ total events after s before → length before < length xs → tells ≡ begins (j + length before) ∷ [] → Tells j s xs i before with_it tells
     Ends : (x : X) → with_it ≡ before ++ x ∷ [] → total events after s before < i → suc i ≡ total events after s with_it → tells ≡ answer x ∷ [] →
@@ -90,7 +90,7 @@ module _ {S X : Type 0} (events : S → X → ℕ) (after : S → X → S) (begi
       (j : ℕ) (s : S) (xs : List X) (i : ℕ) (b b' w w' : List X) (t t' : List Event) → b ≡ b' → w ≡ w' → t ≡ t' → Tells j s xs i b' w' t' → Tells j s xs i b w t
   by_same j s xs i b b' w w' t t' e f g h = rw (e, f, g) h
 
-  -- behind a first call
+  -- after a first call
   behind_one :
       (j : ℕ) (s : S) (x : X) (xs : List X) (i : ℕ) (b w : List X) (t : List Event) → events s x ≤ i → Tells (suc j) (after s x) xs (i - events s x) b w t →
       Tells j s (x ∷ xs) i (x ∷ b) (x ∷ w) t
@@ -130,7 +130,7 @@ module _ {S X : Type 0} (events : S → X → ℕ) (after : S → X → S) (begi
   tells long j s [] i = let whole : i ≡ i - 0 = omega arith in Behind refl refl (omega arith) (ap last whole)
   tells long j s (x ∷ xs) i = at long j s x xs i (place (events s x) i (long s x)) (tells long (suc j) (after s x) xs (i - events s x))
 
-  -- the same where the calls have so many events, told as in the laws
+  -- the same for the calls' number of events, stated as in the laws
   abbrev pub Told : (List X → ℕ) → ℕ → List X → ℕ → (before with_it : List X) → List Event → Type 0
   Told size j xs i before with_it tells =
       ((with_it ≡ before) × (i ≡ size before) × (length before < length xs) × (tells ≡ begins (j + length before) ∷ [])) ⊎
