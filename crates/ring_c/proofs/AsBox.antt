@@ -1,4 +1,4 @@
--- A slot that holds something, and its raw box, own what a box at the same types owns.
+-- A slot that holds something, and its raw box, own what a box of the same types owns.
 use mir.Syntax.{impl, tnil, dnil}
 use mathlib.Core.List.{[]}
 use Rattle.std.proofs.Common.{◌≡◌, refl, sym, true≢false, Option, Some, None, IsSome}

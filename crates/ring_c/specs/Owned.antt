@@ -16,6 +16,7 @@ use Rattle.ring_held.specs.contracts.takers.HeldTaker as Taker
 abbrev pub PutterRow : RattleType
 PutterRow = Putter.the_row Heap.the_row ghosts
 
+-- the same for the end that takes
 abbrev pub TakerRow : RattleType
 TakerRow = Taker.the_row Heap.the_row ghosts
 
@@ -23,6 +24,7 @@ TakerRow = Taker.the_row Heap.the_row ghosts
 abbrev pub KeptEnd : Type 0
 KeptEnd = Option RingEnd
 
+-- how what a handle has of an end is represented
 abbrev pub kept_end_coded : Coded KeptEnd
 kept_end_coded = coded_option PutterRow.coded
 
@@ -31,6 +33,7 @@ abbrev pub putter_owns : Global → Ptr → KeptEnd → Fml
 putter_owns alloc at (Some x) = box_owns (ghosts.dealloc_token alloc) PutterRow at x
 putter_owns alloc at None = ftrue
 
+-- the same for the end that takes
 abbrev pub taker_owns : Global → Ptr → KeptEnd → Fml
 taker_owns alloc at (Some x) = box_owns (ghosts.dealloc_token alloc) TakerRow at x
 taker_owns alloc at None = ftrue

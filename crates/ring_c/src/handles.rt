@@ -27,7 +27,7 @@ pub struct RingTaker {
 }
 
 impl RingPutter {
-    // Whether it has an end.
+    // Whether the handle has an end.
     #[inline(always)]
     pub(crate) fn is_open(&mut self) -> bool
         ensures is { result ≡ is_some self.old.slot.value }
@@ -62,7 +62,7 @@ impl RingPutter {
 }
 
 impl RingTaker {
-    // Whether it has an end.
+    // Whether the handle has an end.
     #[inline(always)]
     pub(crate) fn is_open(&mut self) -> bool
         ensures is { result ≡ is_some self.old.slot.value }

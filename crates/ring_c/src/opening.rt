@@ -21,7 +21,7 @@ fn fault_number(fault: ShapeFault) -> u32
 }
 
 /// Makes a ring with nothing put, by its two ends. 0: done. 1 to 5: the capacity, the batch, the take batch, the modulus or the
-/// width is out of its range. 6: there is no memory for it. 7: a handle has an end already. Unless it is 0, nothing is changed.
+/// width is out of range. 6: there is not enough memory. 7: a handle has an end already. Unless it is 0, nothing is changed.
 #[unsafe(no_mangle)]
 pub extern "C" fn ring_open(
     alloc: Global,
@@ -59,10 +59,11 @@ fn finish_by(putter: HeldPutter<Global>, taker: HeldTaker<Global>)
     requires { putter.ring ≡ taker.ring }
     ensures { Finishes putter taker }
 {
+    // what remains of the run is not needed
     let _finished = finish(putter, taker);
 }
 
-/// Ends the run of a ring, of which these are the two ends: both are gone, and its memory is given back. If a handle has no end,
+/// Ends the run of a ring, of which these are the two ends: both are gone, and its memory is freed. If a handle has no end,
 /// nothing is changed. Returns whether both had one.
 #[unsafe(no_mangle)]
 pub extern "C" fn ring_finish(alloc: Global, putter: &mut RingPutter, taker: &mut RingTaker) -> bool
@@ -79,18 +80,20 @@ pub extern "C" fn ring_finish(alloc: Global, putter: &mut RingPutter, taker: &mu
     true
 }
 
-/// Lets the end go, if the handle has one. The ring's memory is given back once both ends are gone.
+/// Releases the end, if the handle has one. The ring's memory is freed once both ends are gone.
 #[unsafe(no_mangle)]
 pub extern "C" fn ring_free_putter(alloc: Global, putter: &mut RingPutter)
     ensures { putter.new.slot.value ≡ None }
 {
+    // dropping the end frees it
     let _end = putter.take(alloc);
 }
 
-/// Lets the end go, in the same way.
+/// Releases the end, in the same way.
 #[unsafe(no_mangle)]
 pub extern "C" fn ring_free_taker(alloc: Global, taker: &mut RingTaker)
     ensures { taker.new.slot.value ≡ None }
 {
+    // dropping the end frees it
     let _end = taker.take(alloc);
 }

@@ -8,7 +8,7 @@ use ring_ends::PutEnd;
 use ring_held::HeldPutter;
 use std::alloc::Global;
 
-// A put, answered by a number.
+// A put, with its reply as a number.
 #[inline(always)]
 fn put_by(end: &mut HeldPutter<Global>, item: u64) -> u32
     ensures { PutsOr end.old end.new item result }
@@ -23,7 +23,7 @@ fn put_by(end: &mut HeldPutter<Global>, item: u64) -> u32
     }
 }
 
-// A put of several items, answered by numbers: the reply's, and how many were stored.
+// A put of several items, with its reply as numbers: the reply's, and how many were stored.
 #[inline(always)]
 fn put_all_by(end: &mut HeldPutter<Global>, items: &[u64]) -> (u32, usize)
     ensures { PutsAllOr end.old end.new items.now result.0 result.1 }
@@ -53,8 +53,8 @@ pub extern "C" fn ring_put(alloc: Global, putter: &mut RingPutter, item: u64) ->
     code
 }
 
-/// Puts the items, from the first on as many as there is room for, under one count write, and reports how many these are. The
-/// numbers are those of [`ring_put`]. It is refused too if there is no item, or if there are more than the shape's batch.
+/// Puts the items, starting with the first, as many as there is room for, under one count write, and reports their number.
+/// The numbers are those of [`ring_put`]. It is refused too if there is no item, or if there are more than the shape's batch.
 #[unsafe(no_mangle)]
 pub extern "C" fn ring_put_all(
     alloc: Global,

@@ -1,4 +1,4 @@
-//! A box, taken apart into its pointer and its allocator.
+//! A box, split into its pointer and its allocator.
 ghost use Rattle.std.specs.Prelude.{◌≡◌};
 ghost use Rattle.std.specs.Box.Ownership.{box_owns};
 
@@ -17,7 +17,7 @@ impl<T, A: Allocator> Model for Raw<T, A> {
 }
 
 impl<T: Drop, A: Allocator> Raw<T, A> {
-    // Takes the box apart.
+    // Splits the box.
     pub fn of(value: Box<T, A>) -> Raw<T, A>
         ensures { result.value ≡ value.value }
     {

@@ -1,4 +1,4 @@
-//! What a handle of C has of its end: the address of its box.
+//! What a handle of C stores of its end: the address of its box.
 ghost use Rattle.std.specs.Prelude.{◌≡◌, IsSome};
 ghost use Rattle.ring_c.specs.Owned.{KeptEnd, kept_end_coded, putter_owns, taker_owns};
 

@@ -8,7 +8,7 @@ use ring_ends::TakeEnd;
 use ring_held::HeldTaker;
 use std::alloc::Global;
 
-// A take, answered by numbers: the reply's, and what then stands at the item's place.
+// A take, with its reply as numbers: the reply's, and what is then at the item's place.
 #[inline(always)]
 fn take_by(end: &mut HeldTaker<Global>, before: u64) -> (u32, u64)
     ensures { TakesAs end.old end.new result.0 before result.1 }
@@ -20,7 +20,7 @@ fn take_by(end: &mut HeldTaker<Global>, before: u64) -> (u32, u64)
     }
 }
 
-// A take of several items, answered by numbers: the reply's, and how many were taken.
+// A take of several items, with its reply as numbers: the reply's, and how many were taken.
 #[inline(always)]
 fn take_all_by(end: &mut HeldTaker<Global>, into: &mut [u64]) -> (u32, usize)
     ensures { TakesAllOr end.old end.new result.0 into.old into.new result.1 }
@@ -35,8 +35,8 @@ fn take_all_by(end: &mut HeldTaker<Global>, into: &mut [u64]) -> (u32, usize)
     }
 }
 
-/// Takes the next item. 0: it stands in `item`, which otherwise stays as it was. 1: the ring is empty. 2: it is closed, and all
-/// that was put is taken. 3: refused, because the handle has no end.
+/// Takes the next item. 0: it is in `item`, which is otherwise unchanged. 1: the ring is empty. 2: it is closed, and all that
+/// was put has been taken. 3: refused, because the handle has no end.
 #[unsafe(no_mangle)]
 pub extern "C" fn ring_take(alloc: Global, taker: &mut RingTaker, item: &mut u64) -> u32
     ensures { TakesBy taker.old.slot.value taker.new.slot.value result item.old item.new }
@@ -50,9 +50,9 @@ pub extern "C" fn ring_take(alloc: Global, taker: &mut RingTaker, item: &mut u64
     code
 }
 
-/// Takes the next items under one count write, at most as many as there are places, and reports how many these are. They stand
-/// in the first places, in order; the others stay as they were. The numbers are those of [`ring_take`]. It is refused too if
-/// there is no place, or if there are more than the shape's take batch.
+/// Takes the next items under one count write, at most as many as there are places, and reports their number. They are in the
+/// first places, in order; the others are unchanged. The numbers are those of [`ring_take`]. It is refused too if there is no
+/// place, or if there are more than the shape's take batch.
 #[unsafe(no_mangle)]
 pub extern "C" fn ring_take_all(
     alloc: Global,

@@ -1,4 +1,4 @@
--- What a whole access of an end leaves as it was.
+-- What a complete access of an end leaves unchanged.
 use Rattle.std.proofs.Common.{Bool, ◌<◌, [], ◌∷◌, length, ap, arith}
 use Rattle.std.proofs.lemmas.List.{length-append}
 use Rattle.bits_core.specs.declared.events.Access.{Access}
@@ -7,7 +7,7 @@ use Rattle.ring_seats.specs.Ring.{RingEnd}
 use Rattle.ring_seats.specs.Steppers.{HasMade, IsSameEnd}
 use Rattle.ring_seats.proofs.CounterSteps.{same_end}
 
--- the end is the same but for its list, which is longer
+-- the end is the same except for its list, which is longer
 module _ (e b : RingEnd) (a : Access) (v : Bool) (h : HasMade e b a v) where
   pub same : IsSameEnd e b
   same = same_end e h.0 b h.1.same h.2.same

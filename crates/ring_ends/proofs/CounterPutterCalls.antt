@@ -31,7 +31,7 @@ none_left : (size far n : ℕ) → 1 ≤ n → (0 ≡ n) ⊎ (0 ≡ size - far) 
 none_left size far n some (inl e) lt = omega (arith, some, e)
 none_left size far n some (inr e) lt = omega (arith, e, lt)
 
--- so many of the items fit the room that was seen: all of them, or as many as there is room for
+-- this many of the items fit the room that was seen: all of them, or as many as there is room for
 pub record Fitting (shape : Shape) (count seen : ℕ) (items : List ℕ) (most : ℕ) : Type 0 where
   pub few : most ≤ length items
   pub room : most ≤ room_in shape count seen
@@ -46,7 +46,7 @@ number_of : (most seen n : ℕ) (items : List ℕ) → most ≤ length items →
 number_of zero seen n items le = omega arith
 number_of (suc m) seen n items le = past_is n (take (suc m) items) ∙ ap (λ (k : ℕ). n + k) (length-first (suc m) items le)
 
--- the number of items behind the put
+-- the number of items after the put
 number_now : (shape other : Shape) → other ≡ shape → (list : List Event) (calls : Puts) → HasPuts shape list calls → calls.closes ≡ false → (most seen : ℕ) (items : List ℕ) → most ≤ length items
     → IsPut shape (count_of shape calls).number (put_of most seen items) → (count_of other (and_put calls (put_of most seen items))).number ≡ (count_of other calls).number + most
 number_now shape other e list calls has opened most seen items le is =
@@ -152,16 +152,16 @@ module _ (a : RingEnd) (count cell : ℕ) (items : List ℕ) (calls : Puts) (p :
             is_stored zero l = absurd (omega (arith, l))
             is_stored (suc m) l = refl
 
--- ---- the counts behind a put
+-- ---- the counts after a put
 
--- nothing more
+-- nothing more is counted
 pub stands_still : (n k size : ℕ) → n ≡ k % size → n ≡ (n + 0) % size
 stands_still n k size is = is ∙ (sym (mod-mod k size) ∙ (ap (λ (j : ℕ). j % size) (sym is) ∙ ap (λ (j : ℕ). j % size) plus))
   where
     plus : n ≡ n + 0
     plus = omega arith
 
--- so many items more
+-- this many more items are counted
 pub counted_on :
     (x : Side) (Has Has' : Shape → List Event → Type 0) (number number' : Shape → ℕ) (a b : RingEnd) (count cell more : ℕ) → CountedList x Has number a count cell → IsSameEnd a b → StandsAs x b →
     Has' b.ring.shape b.list → number' b.ring.shape ≡ number b.ring.shape + more → (next next' : ℕ) → next ≡ (count + more) % modulus_of a.ring.shape → next' ≡ (cell + more) % capacity_of a.ring.shape →
@@ -188,6 +188,6 @@ kept a b count cell items calls most p m next next' is is' =
           a b count cell most p m.same m.stands m.has m.number next next' is is';
     }
 
--- the same, of a put that found the ring full
+-- the same, for a put that found the ring full
 pub kept_full : (a b : RingEnd) (count cell : ℕ) (items : List ℕ) (calls : Puts) → PutterList a count cell calls → PutMade a b calls items 0 → PutKept a b count cell calls items 0
 kept_full a b count cell items calls p m = kept a b count cell items calls 0 p m count cell (stands_still count (count_of a.ring.shape calls).number (modulus_of a.ring.shape) p.count_is) (stands_still cell (count_of a.ring.shape calls).number (capacity_of a.ring.shape) p.cell_is)

@@ -33,8 +33,7 @@ use Rattle.ring_seats.proofs.CounterSteps.{same_shape, same_end, stands_as}
 
 -- ---- a take that is over
 
--- one take more, at the ring of another end
--- the takes count so many items more
+-- one more take: at the ring of another end the takes count this many more items
 abbrev CountsMore : Shape → Takes → Takes → ℕ → Type 0
 CountsMore shape calls more m = (count_taken shape more).number ≡ (count_taken shape calls).number + m
 
@@ -76,7 +75,7 @@ made_end a b calls wanted seen again opened same stands has = record {
 
 -- ---- the scans
 
--- of a count that shows items, so many are taken where so many are wanted
+-- of a count that shows items, as many are taken as wanted and shown
 pub record ShownOf (shape : Shape) (seen count wanted most : ℕ) : Type 0 where
   pub shows : ShowsItem shape seen count
   pub some : 1 ≤ most
@@ -112,7 +111,7 @@ module _ (a : RingEnd) (count cell wanted : ℕ) (calls : Takes) (p : TakerList 
       none : SeesNone a.ring.shape (count_taken a.ring.shape calls).number seen
       none = (lt, subst (λ (n : ℕ). ¬ ShowsItem a.ring.shape seen n) p.count_is not_shown)
 
-      -- behind the first scan
+      -- after the first scan
       behind : (made : List Made) → a.list ++ events_of C (scan_phrase (row_read_by C) seen ++ made) ≡ b.list ++ events_of C made
       behind made = ap (λ (l : List Event). a.list ++ l) (events_of-append C (scan_phrase (row_read_by C) seen) made) ∙
           (sym (append_assoc a.list (events_of C (scan_phrase (row_read_by C) seen)) (events_of C made)) ∙ ap (λ (l : List Event). l ++ events_of C made) (sym at1))
@@ -176,7 +175,7 @@ pub few_found : (shape : Shape) (k wanted most : ℕ) (look : Finding) → Finds
 few_found shape k wanted most (Once seen) finds = finds.1.0
 few_found shape k wanted most (Twice seen again) finds = finds.2.0
 
--- so a take of one finds one
+-- so a take of one item finds one
 pub one_found : (a b : RingEnd) (calls : Takes) (look : Finding) (most : ℕ) → HasFound a b calls 1 look most → HasFound a b calls 1 look 1
 one_found a b calls look most f = subst (HasFound a b calls 1 look) one f
   where
@@ -267,7 +266,7 @@ pub one_read :
     GrowsBy a b (words_read a.ring.shape cell (item ∷ []))
 one_read a b cell item lt grows = subst (GrowsBy a b) (sym (one_word a.ring.shape cell item lt)) grows
 
--- ---- whole calls
+-- ---- complete calls
 
 pub kept_take :
     (a b : RingEnd) (count cell : ℕ) (calls : Takes) (wanted : ℕ) (r : TakeReply) (items : List ℕ) → TakerList a count cell calls → (m : TakeMade a b calls wanted r items) →
@@ -279,7 +278,7 @@ kept_take a b count cell calls wanted r items p m next next' is is' = record {
       a b count cell (length items) p m.same m.stands m.has m.number next next' is is';
 }
 
--- the same, of a take that brought nothing
+-- the same, for a take that brought nothing
 pub kept_none :
     (a b : RingEnd) (count cell : ℕ) (calls : Takes) (wanted : ℕ) (r : TakeReply) → TakerList a count cell calls → TakeMade a b calls wanted r [] → TakeKept a b count cell calls wanted r []
 kept_none a b count cell calls wanted r p m =

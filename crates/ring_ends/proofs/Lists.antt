@@ -31,14 +31,14 @@ pub begin_same : (s : Side) (a : Access) (v : Bool) → begin_event s (answered 
 begin_same s (access.Read b) v = refl
 begin_same s (access.Write b w) v = refl
 
--- the events of one access more
+-- the events of one more access
 pub events_more : (s : Side) (made : List Made) (a : Access) (v : Bool) → events_of s (made ++ answered a v ∷ []) ≡ (events_of s made ++ begin_of s a ∷ []) ++ ending_event s a v ∷ []
 events_more s made a v =
     events_of-append s made (answered a v ∷ []) ∙
     (λ i. events_of s made ++ begin_same s a v i ∷ ending_event s a v ∷ []) ∙
     sym (append_assoc (events_of s made) (begin_of s a ∷ []) (ending_event s a v ∷ []))
 
--- a beginning of a beginning
+-- a prefix of a prefix
 pub shorter : (xs : List Event) (e : Event) (ys : List Event) → IsPrefix (xs ++ e ∷ []) ys → IsPrefix xs ys
 shorter xs e ys b = (e ∷ b.0, sym (append_assoc xs (e ∷ []) b.0) ∙ b.1)
 
@@ -54,7 +54,7 @@ begun_open s list a =
 
 -- ---- the last bit of a count
 
--- a side never ends reads of 0 in all bits of the other's count, where that one follows its program
+-- a side never ends reads of 0 in all bits of the other's count, if that one follows its program
 pub misses : (shape : Shape) (x : Side) (h : List Event) → IsLawful shape h → Follows shape (other x) (subhistory (other x) h) → (before : List Made)
     → subhistory x h ≡ events_of x (before ++ zero_reads (row_read_by x) (modulus_of shape)) → ⊥
 misses shape P h lawful f before is =
@@ -68,7 +68,7 @@ misses shape C h lawful f before is =
     let lt = never made before [] ([], append-nil (subhistory C h) ∙ is) (ap (λ (l : List Made). before ++ l) (sym (append-nil (zero_reads (row_read_by C) (modulus_of shape))))) in
     omega (arith, lt, ap length is, length-events_of C made, length-append before (zero_reads (row_read_by C) (modulus_of shape)), length-zeros (row_read_by C) (modulus_of shape))
 
--- so the last bit, behind reads of 0 in all others, is not read as 0
+-- so the last bit, after reads of 0 in all others, is not read as 0
 pub no_zero : (shape : Shape) (x : Side) (h : List Event) → IsLawful shape h → Follows shape (other x) (subhistory (other x) h) → (made : List Made) (i : ℕ) → suc i ≡ modulus_of shape → EndsInZeros shape x made
     → subhistory x h ≡ events_of x (made ++ Read (row_read_by x i) false ∷ []) → ⊥
 no_zero shape x h lawful f made i size zeros is =

@@ -19,7 +19,7 @@ pub list_rests : (x : Side) (list : List Event) (made : List Made) (due : Option
 list_rests x list made due (inl is) none = is
 list_rests x list made due (inr (a, same, is)) none = absurd (none-some a (sym none ∙ same))
 
--- the list without its last events, and how many it has
+-- the list without its last events, and its number of events
 before_more : (n : ℕ) (list : List Event) (x : Event) → n ≤ length list → without_last (n + 1) (list ++ x ∷ []) ≡ without_last n list
 before_more n list x few =
     let size : length (list ++ x ∷ []) - (n + 1) ≡ length list - n = omega (arith, length-append list (x ∷ []), few) in
@@ -44,11 +44,11 @@ module _ (k : Machine) (ks : MachineLaws k) where
       (λ busy. sym (ks.whole_busy m busy.0 list (without_last n list) busy.1))
       (ks.either m)
 
-  -- where no call is under way none is marked, whatever the list
+  -- if no call is under way no event is marked, whatever the list
   pub rest_marked : (l l' : List Event) (m m' : k.State) (n : ℕ) → k.Rests m → IsMarked n l (k.most m) → IsMarked n l' (k.most m')
   rest_marked l l' m m' n none marked = let z : n ≡ 0 = omega (arith, marked.1, ks.most_rests m none) in (omega (arith, z), omega (arith, z))
 
--- ---- what a step call comes to
+-- ---- the result of a step call
 
 pub data Outcome (k : Machine) (e e' : RingEnd) (m' : k.State) (calls : k.Calls) (c : k.Call) : Type 0 where
   Refused : e' ≡ e → k.Rests m' → k.Refuses c calls m' → e'.list ≡ events_of k.side (k.program e'.ring.shape calls) → Outcome k e e' m' calls c
@@ -113,7 +113,7 @@ module _ (k : Machine) (ks : MachineLaws k) (e : RingEnd) (m : k.State) (calls :
         (λ gone. let t = there gone.0 in record { calls = calls; made = made; at = t.1; whole_is = ks.whole_rests m' e'.list whole t.0 ∙ rest_list k ks e' m' calls made t.1 t.0 })
         begins.2
 
-    -- how long the list is at most
+    -- the greatest length of the list
     few : (whole : List Event) → whole ≡ events_of k.side (k.program e.ring.shape calls) → length e'.list ≤ length whole + 2 * k.longest e'.ring.shape c
     few whole w = ⊎_elim
         (λ here.
@@ -137,8 +137,8 @@ stepped_stands k ks {e} {m} s calls made at = ⊎_elim
 
 -- ---- of an end that marks the events of the call under way
 
--- A call that is begun, or goes on: the end as it is seen, and its list without what was made of the call under way; the end, its machine
--- and its mark, which are so; and the machine where the call is begun.
+-- A call that starts or continues: the model of the end, and its list without the events of the call under way; the end, its machine and
+-- its mark, as required; and the machine once the call has started.
 pub record Begun (k : Machine) (c : k.Call) : Type 0 where
   pub seen : RingEnd
   pub whole : List Event
@@ -151,7 +151,7 @@ pub record Begun (k : Machine) (c : k.Call) : Type 0 where
   pub now : k.State
   pub begins : CallBegins k m now was.0.calls was.0.made c
 
--- it is begun at an end that is seen so
+-- it starts at an end with this model
 abbrev pub begun_seen :
     (k : Machine) (e : RingEnd) (m : k.State) (n : ℕ) (seen : RingEnd) (whole : List Event) → e ≡ seen → k.whole m e.list (without_last n e.list) ≡ whole →
     IsMachine k e m (k.whole m e.list (without_last n e.list)) × IsMarked n e.list (k.most m) → (c : k.Call) (now : k.State) →
@@ -169,7 +169,7 @@ begun_seen k e m n seen whole end_is whole_is was c now begins = record {
   begins = begins was.0.calls was.0.made was.0.at.stands;
 }
 
--- what a step makes of it
+-- the result of a step
 pub record Step (k : Machine) (c : k.Call) : Type 0 where
   pub begun : Begun k c
   pub e : RingEnd
@@ -227,14 +227,14 @@ module _ (k : Machine) (ks : MachineLaws k) {c : k.Call} (s : Step k c) where
   pub step_few : length s.e.list ≤ length b.whole + 2 * k.longest s.e.ring.shape c
   step_few = subst (λ (l : List Event). length s.e.list ≤ length l + 2 * k.longest s.e.ring.shape c) marked_is few_more
 
-  -- the shape that the machine was of, and what the list was before, which is that of the calls by this shape
+  -- the shape that the machine was of, and the list before, which is that of the calls by this shape
   pub shape_there : k.shape_of b.m ≡ s.e.ring.shape
   shape_there = b.was.0.at.shape_is ∙ ap (λ (r : Ring). r.shape) (sym (same_end k b.e s.e s.m b.was.0.calls c came).ring)
 
   pub whole_there : b.whole ≡ events_of k.side (k.program s.e.ring.shape b.was.0.calls)
   whole_there = sym b.whole_is ∙ b.was.0.whole_is ∙ ap (λ (r : Ring). events_of k.side (k.program r.shape b.was.0.calls)) (sym (same_end k b.e s.e s.m b.was.0.calls c came).ring)
 
-  -- the events of the call that goes on are one more
+  -- the events of the call that continues are one more
   module _ (n' : ℕ) (over : k.Rests s.m → n' ≡ 0) (on : (d : k.Call) → k.Busy s.m d → n' ≡ b.n + 1) where
     abbrev Moves : Type 0
     Moves = (k.whole s.m s.e.list (without_last b.n b.e.list) ≡ k.whole s.m s.e.list (without_last n' s.e.list)) × IsMarked n' s.e.list (k.most s.m)
@@ -258,6 +258,6 @@ module _ (k : Machine) (ks : MachineLaws k) {c : k.Call} (s : Step k c) where
     pub step_invariant : IsMachine k s.e s.m (k.whole s.m s.e.list (without_last n' s.e.list)) × IsMarked n' s.e.list (k.most s.m)
     step_invariant = let moved = moves came in (subst (IsMachine k s.e s.m) moved.0 step_machine, moved.1)
 
-    -- a call that goes on began where it had begun
+    -- the start of a call that continues does not change
     pub stays : k.Busy s.m c → k.whole s.m s.e.list (without_last n' s.e.list) ≡ b.whole
     stays goes = sym (moves came).0 ∙ ks.whole_busy s.m c s.e.list (without_last b.n b.e.list) goes ∙ marked_is

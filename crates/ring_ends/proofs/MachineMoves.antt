@@ -25,7 +25,7 @@ use Rattle.bits_core.proofs.LawLemmas.{made_leave_none_open}
 pub right_there : (k : Machine) (e : RingEnd) (m : k.State) (calls : k.Calls) (made : List Made) → MachineAt k e m calls made → (a : Access) → Due k m a → IsOpenRight e.ring.shape e.side a
 right_there k e m calls made at a d = subst (λ (z : Shape × Side). IsOpenRight z.0 z.1 a) (λ i. (at.shape_is i, sym at.side_is i)) d.right
 
--- what a machine tells, by what holds where no access is due, and where one is
+-- what `next` returns, by what holds if no access is due, and if one is
 pub tells :
     (k : Machine) (m : k.State) (due : Option Access) → (due ≡ None → (calls : k.Calls) (made : List Made) → k.Stands m calls made → k.Rests m) →
     ((a : Access) → due ≡ Some a → Due k m a) → TellsNext k m due
@@ -102,7 +102,7 @@ module _ (k : Machine) (ks : MachineLaws k) (e : RingEnd) (m : k.State) (calls :
         let was : e.list ≡ events_of k.side made = list_closed k.side e.list made (Some a) list_due (ap (λ (x : Side). open_access x e.list) (sym at.side_is) ∙ s.0) in
         s.1.list ∙ (λ i. was i ++ begin_of (at.side_is i) a ∷ [])
 
-    -- the begin of the due access, and where the end then stands
+    -- the start of the due access, and the state of the end then
     pub at_begun : HasStepped e b a None → MachineAt k b m calls made
     at_begun s = record { side_is = s.1.same.side ∙ at.side_is; lawful = lawful_b s.1; shape_is = shape_b s.1.same; stands = at.stands; list_is = inr (a, d.is, list_begun s) }
 
@@ -149,7 +149,7 @@ module _ (k : Machine) (ks : MachineLaws k) (e : RingEnd) (m : k.State) (calls :
         abbrev more : k.Calls
         more = moved.0
 
-        -- the end of the due access, and where the end then stands
+        -- the end of the due access, and the state of the end then
         pub at_ended : MachineAt k b m' more (made ++ answered a v ∷ [])
         at_ended = record { side_is = s.1.same.side ∙ at.side_is; lawful = lawful_b s.1; shape_is = fed.shape ∙ shape_b s.1.same; stands = moved.1; list_is = inl list_ended }
 

@@ -1,4 +1,4 @@
--- A whole call of an end, access by access, by its machine, whichever side it is of.
+-- A complete call of an end, access by access, by its machine, whichever side it is of.
 use Rattle.std.proofs.Common.{append-nil, add-zero, ◌≡◌, inl, inr, ⊎_elim, ◌+◌, ◌*◌, ◌<◌, Bool, Some, None, List, [], ◌∷◌, ◌++◌, length, refl, ap, sym, subst, ◌∙◌, arith, ℕ}
 use Rattle.bits_core.specs.declared.events.Side.{Side}
 use Rattle.bits_core.specs.declared.events.Access.{Access}
@@ -21,7 +21,7 @@ use Rattle.ring_seats.proofs.Answered.{answered_then}
 use Rattle.ring_seats.proofs.CounterSteps.{same_end as same_on}
 use Rattle.bits_core.proofs.LawLemmas.{made_leave_none_open}
 
--- ---- one access of a call that goes on, by what a machine tells of the one that is due
+-- ---- one access of a call that continues, by what a machine reports about the due one
 
 module _ (k : Machine) (ks : MachineLaws k) (e : RingEnd) (m : k.State) (calls : k.Calls) (c : k.Call) (g : MachineGoes k e m calls c) (a : Access) (d : Due k m a) where
   pub can_go : CanMake e a
@@ -62,7 +62,7 @@ module _ (k : Machine) (ks : MachineLaws k) (e : RingEnd) (m : k.State) (calls :
 
 -- ---- some accesses of a call
 
--- none, and some behind others
+-- no access, and some after others
 pub answered_nothing : (e : RingEnd) (said : ℕ → Bool) → AreAnswered e e said said
 answered_nothing e said = record { loads = []; loads_are = sym (append-nil e.loads); answers_are = sym (append-nil (answers_in e.list)); asked = λ i. ap said (sym (add-zero i)) }
 
@@ -91,7 +91,7 @@ pub part_begins :
 part_begins k ring e m m' said IsOf is of = (is, went_same k e m said of.0, of.1)
 
 module _ (k : Machine) (ks : MachineLaws k) {e0 : RingEnd} {m0 : k.State} {e : RingEnd} {m : k.State} {old now : ℕ → Bool} (w : MachineWent k e0 m0 e m old now) where
-  -- a call that is under way behind them was before
+  -- a call that is under way after them was under way before
   pub went_busy : MachineBusy k e0 m0 → MachineBusy k e m
   went_busy was d busy = ⊎_elim
       (λ none. absurd (ks.never m d (subst k.Rests (sym (w.rests none).0) none) busy))
@@ -102,7 +102,7 @@ module _ (k : Machine) (ks : MachineLaws k) {e0 : RingEnd} {m0 : k.State} {e : R
     first : (c : k.Call) → k.Busy m0 c → MachineIn k e0 m0 calls c
     first c is = inl (record { made = k.program (k.shape_of m0) calls; at = ready.at; list_is = ready.list_is; busy = is })
 
-    -- while an access is due, the call under way goes on
+    -- while an access is due, the call under way continues
     going : (a : Access) → k.due m ≡ Some a → (c : k.Call) × k.Busy m0 c × MachineGoes k e m calls c
     going a due = ⊎_elim
         (λ none. absurd (none-some a (sym (ks.at_rest m0 calls (k.program (k.shape_of m0) calls) ready.at.stands none).1 ∙ ap k.due (sym (w.rests none).0) ∙ due)))
@@ -120,7 +120,7 @@ module _ (k : Machine) (ks : MachineLaws k) {e0 : RingEnd} {m0 : k.State} {e : R
         subst (λ (z : Shape × k.Call). length g.made < length (k.program z.0 calls) + k.longest z.0 z.1) (λ i. (shape i, same i)) next.few in
         omega (arith, few, ks.most_busy m0 c is, ap length g.list_is, length-events_of k.side g.made, ap length ready.list_is, length-events_of k.side (k.program (k.shape_of m0) calls))
 
-  -- where no access is due, the call is over
+  -- if no access is due, the call is over
   pub ended_by : ((calls : k.Calls) (made : List Made) → k.Stands m calls made → k.Rests m) → MachineEnded k e0 m0 e m old now
   ended_by ends = record {
     same = w.same;
@@ -130,11 +130,11 @@ module _ (k : Machine) (ks : MachineLaws k) {e0 : RingEnd} {m0 : k.State} {e : R
     answered = w.answered;
   }
 
--- a call that is begun goes on
+-- a call that has started continues
 pub ready_busy : (k : Machine) (e : RingEnd) (m : k.State) (calls : k.Calls) → MachineReady k e m calls → MachineBusy k e m
 ready_busy k e m calls ready d is = (calls, d, inl (record { made = k.program (k.shape_of m) calls; at = ready.at; list_is = ready.list_is; busy = is }))
 
--- one access behind them, while the call goes on
+-- one more access after them, while the call continues
 module _ (k : Machine) (ks : MachineLaws k) {e0 : RingEnd} {m0 : k.State} {e : RingEnd} {m : k.State} {old now : ℕ → Bool} (was : MachineBusy k e0 m0) (w : MachineWent k e0 m0 e m old now) (a : Access) (d : Due k m a) where
   goes_in : (calls : k.Calls) (c : k.Call) → MachineIn k e m calls c → MachineGoes k e m calls c
   goes_in calls c (inl g) = g
@@ -163,7 +163,7 @@ module _ (k : Machine) (ks : MachineLaws k) {e0 : RingEnd} {m0 : k.State} {e : R
       answered = said;
     })
 
--- ---- a whole call
+-- ---- a complete call
 
 -- the call is over: it is one of the calls, or it was refused after a close
 pub data Ended (k : Machine) (e e' : RingEnd) (m1 m' : k.State) (calls : k.Calls) (c : k.Call) : Type 0 where
@@ -186,7 +186,7 @@ module _ (k : Machine) (ks : MachineLaws k) {c : k.Call} (b : Begun k c) (idle :
     },
   )
 
--- a call, begun where none was under way, and what all its accesses came to
+-- a call, started when none was under way, and the result of all its accesses
 pub record Whole (k : Machine) (c : k.Call) : Type 0 where
   pub begun : Begun k c
   pub idle : k.Rests begun.m

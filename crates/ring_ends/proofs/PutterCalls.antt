@@ -42,7 +42,7 @@ rest_at Closing m calls items made is at = absurd (cc)
 pub rest : (m : ProducerState) (calls : Puts) (made : List Made) → ProducerStands m calls made → call_of m ≡ None → (made ≡ put_program m.shape calls) × (due_put m ≡ None)
 rest m calls made st none = rest_at m.stage m calls m.items made none st.made_is
 
--- the calls of one call more
+-- the calls of one more call
 call_are : (shape : Shape) (c : Call) (calls more : Puts) → HasCallMore shape c calls more → ArePuts shape 0 more.puts
 call_are shape (producer.Put items) calls more h = h.3
 call_are shape Close calls more h = h.1
@@ -79,7 +79,7 @@ put_laws = record {
   most_busy = λ m c is. ap (longest_at m.shape) is;
 }
 
--- what the machine tells of its due access, and where none is due
+-- what the machine reports about its due access, and if none is due
 pub put_due :
     (m : ProducerState) (a : Access) → due_put m ≡ Some a → IsOpenRight m.shape P a →
     ((calls : Puts) (made : List Made) → ProducerStands m calls made → (c : Call) × (call_of m ≡ Some c) × PutGoesOn m.shape calls c made a) →
@@ -95,7 +95,7 @@ put_due m a due right goes_on bounded zeros = record {
 pub busy_at : (m : ProducerState) (c : Call) → call_of m ≡ Some c → call_of m ≢ None
 busy_at m c is none = none-some c (sym none ∙ is)
 
--- no call has many accesses
+-- the number of a call's accesses is bounded
 pub few_accesses : (shape : Shape) (items : List ℕ) → IsBatch shape items → longest_of shape items ≤ 4608
 few_accesses shape [] batch = omega (arith, shape.small_modulus, shape.few_digits)
 few_accesses shape (item ∷ []) batch = omega (arith, shape.small_modulus, shape.few_digits)
@@ -152,9 +152,9 @@ some_item (Some (reply.Stored m)) N F h = (h.0, (reply.Stored m, refl, h.1))
 some_item (Some reply.Full) N F h = (h.0, (reply.Full, refl, h.1))
 some_item (Some reply.Closed) N F h = (h.0, (reply.Closed, refl, h.1))
 
--- ---- the end as it is seen
+-- ---- the model of the end
 
--- what holds of the end and the oracle holds of them as they are seen
+-- what holds of the end and the oracle holds of their models
 pub put_seen : {O : Type 0} {a s : PutterState O} → a ≡ s → (F : RingEnd → O → Type 0) → F a.end a.oracle → F s.end s.oracle
 put_seen {O} e F h = subst (λ (z : PutterState O). F z.end z.oracle) e h
 
@@ -164,14 +164,14 @@ put_shape {O} e = ap (λ (z : PutterState O). z.end.ring.shape) e
 pub call_seen : {O : Type 0} {a s : PutterState O} → a ≡ s → a.call ≡ s.call
 call_seen {O} e = ap (λ (z : PutterState O). z.call) e
 
--- a call that is begun, or goes on
+-- a call that starts or continues
 abbrev pub put_begun :
     {O : Type 0} (o : O) (e : RingEnd) (m : ProducerState) (n : ℕ) (s : PutterState O) → record { end = e; call = call_of m; batched = m.batched; start = without_last n e.list; oracle = o } ≡ s →
     IsMachine producing e m (whole_put (call_of m) e.list (without_last n e.list)) × IsMarked n e.list (longest_at m.shape (call_of m)) → (c : Call) (now : ProducerState) →
     ((calls : Puts) (made : List Made) → ProducerStands m calls made → CallBegins producing m now calls made c) → Begun producing c
 put_begun {O} o e m n s view = begun_seen producing e m n s.end (puts_whole s) (ap (λ (z : PutterState O). z.end) view) (ap (λ (z : PutterState O). puts_whole z) view)
 
--- and what a step makes of it
+-- and the result of a step
 abbrev pub put_step :
     {O : Type 0} (o : O) (e : RingEnd) (m : ProducerState) (n : ℕ) (s : PutterState O) → record { end = e; call = call_of m; batched = m.batched; start = without_last n e.list; oracle = o } ≡ s →
     IsMachine producing e m (whole_put (call_of m) e.list (without_last n e.list)) × IsMarked n e.list (longest_at m.shape (call_of m)) → (c : Call) (now : ProducerState) →
@@ -228,7 +228,7 @@ module _ (items : List ℕ) (s : Step producing (producer.Put items)) where
     none : IfNone s.m.reply ((call_of s.m ≡ Some (producer.Put items)) × (new s n' n_rests n_goes ≡ whole s) × HasPutPart s.e.ring.shape (producer.Put items) (new s n' n_rests n_goes) s.e.list)
     none = none_put s.m.reply refl (out producing put_laws s)
 
--- where the put was begun as one of several items
+-- if the put was started as one of several items
 module _ (items : List ℕ) (s : Step producing (producer.Put items)) (kind : s.m.batched ≡ true) (r : Option replies.BatchReply) (r_is : r ≡ producer.batch_reply s.m) where
   batch_is : s.m.reply ≡ r
   batch_is = sym (r_is ∙ ap (λ (b : Bool). cond b s.m.reply None) kind)
@@ -244,7 +244,7 @@ module _ (items : List ℕ) (s : Step producing (producer.Put items)) (kind : s.
   batch_none n' n_rests n_goes = subst (λ (a : Option replies.BatchReply). IfNone a ((call_of s.m ≡ Some (producer.Put items)) × (s.m.batched ≡ true) × (new s n' n_rests n_goes ≡ whole s) × HasPutPart s.e.ring.shape (producer.Put items) (new s n' n_rests n_goes) s.e.list))
       batch_is (with_kind true s.m.reply _ _ _ kind (none items s n' n_rests n_goes))
 
--- where it was begun as one of one item
+-- if it was started as a put of one item
 module _ (item : ℕ) (s : Step producing (producer.Put (item ∷ []))) (kind : s.m.batched ≡ false) (r : Option items_replies.PutReply) (r_is : r ≡ producer.put_reply s.m) where
   item_is : producer.item_reply s.m.reply ≡ r
   item_is = sym (r_is ∙ ap (λ (b : Bool). cond b None (producer.item_reply s.m.reply)) kind)
@@ -261,7 +261,7 @@ module _ (item : ℕ) (s : Step producing (producer.Put (item ∷ []))) (kind : 
   item_none n' n_rests n_goes = subst (λ (a : Option items_replies.PutReply). IfNone a ((call_of s.m ≡ Some (producer.Put (item ∷ []))) × (s.m.batched ≡ false) × (new s n' n_rests n_goes ≡ whole s) × HasPutPart s.e.ring.shape (producer.Put (item ∷ [])) (new s n' n_rests n_goes) s.e.list))
       item_is (none_item s.m.reply _ (with_kind false s.m.reply _ _ _ kind (none (item ∷ []) s n' n_rests n_goes)))
 
--- of a close, by whether it is over
+-- for a close, by whether it is over
 module _ (s : Step producing Close) (r : Bool) (over_is : (call_of s.m ≡ None → r ≡ true) × (call_of s.m ≢ None → r ≡ false)) where
   abbrev CloseOf : Type 0
   CloseOf = Outcome producing s.begun.seen s.e s.m (calls s) Close

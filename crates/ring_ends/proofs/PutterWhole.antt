@@ -1,4 +1,4 @@
--- A whole call of the producer's end, access by access.
+-- A complete call of the producer's end, access by access.
 use Rattle.std.proofs.Common.{IsSome, ◌≡◌, cond, ℕ, Bool, true, false, Option, Some, None, List, refl, ap, sym, subst, ◌∙◌}
 use Rattle.bits_core.specs.declared.shapes.Shape.{Shape}
 use Rattle.ring_core.specs.declared.replies.PutReply as items_replies
@@ -14,7 +14,7 @@ use Rattle.ring_ends.specs.Machines.{producing}
 use Rattle.ring_ends.proofs.MachineWhole.{Ended, More, Refused, Whole, ending, list_there, more_there, over_list, shape_whole}
 use Rattle.ring_ends.proofs.PutterCalls.{over_adds, over_closes, over_reply, put_laws}
 
--- ---- a whole call
+-- ---- a complete call
 
 module _ {c : Call} (w : Whole producing c) where
   abbrev calls : Puts
@@ -23,7 +23,7 @@ module _ {c : Call} (w : Whole producing c) where
   before_is : HasPuts w.e.ring.shape w.begun.seen.list calls
   before_is = record { are = subst (λ (z : Shape). ArePuts z 0 calls.puts) (shape_whole producing put_laws w) w.begun.was.0.at.stands.are; list_is = list_there producing put_laws w }
 
--- a put was answered, and this is what it added
+-- a put returned, and this is what it added
 pub put_ended : (items : List ℕ) (w : Whole producing (producer.Put items)) → (x : replies.BatchReply) × (w.m.reply ≡ Some x) × HasPutAll w.e.ring.shape items w.begun.seen.list w.e.list x
 put_ended items w = by (ending producing put_laws w)
   where
@@ -47,9 +47,9 @@ close_ended w = record { calls = w.begun.was.0.calls; before_is = before_is w; a
     by (More z) = over_closes w.e.ring.shape w.begun.was.0.calls z.more (more_there producing put_laws w z) w.begun.seen.list w.e.list (over_list producing put_laws w z)
     by (Refused same_end same_m none refused) = subst (λ (t : Bool). CloseAdds t w.e.ring.shape w.begun.was.0.calls w.begun.seen.list w.e.list) (sym refused.0) (ap (λ (x : RingEnd). x.list) same_end)
 
--- ---- the reply of a whole put
+-- ---- the reply of a complete put
 
--- what a put of items, and of one item, was answered, by what the machine tells
+-- the reply of a put of items, and of one item, by what the machine reports
 pub batch_told : (m : ProducerState) (F : replies.BatchReply → Type 0) → ((x : replies.BatchReply) × (m.reply ≡ Some x) × F x) → m.batched ≡ true → (r : Option replies.BatchReply) → r ≡ producer.batch_reply m → (x : replies.BatchReply) × (r ≡ Some x) × F x
 batch_told m F (x, is, h) kind r r_is = (x, r_is ∙ ap (λ (b : Bool). cond b m.reply None) kind ∙ is, h)
 

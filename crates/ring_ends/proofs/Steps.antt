@@ -1,4 +1,4 @@
--- The list of an end beside the accesses of its machine.
+-- The list of an end together with the accesses of its machine.
 use Rattle.std.proofs.Common.{◌≡◌, ◌⊎◌, inl, inr, ℕ, Bool, true, false, Option, Some, None, List, [], ◌∷◌, ◌++◌, refl, ap, sym, ◌∙◌}
 use Rattle.bits_core.specs.declared.events.Side.{Side}
 use Rattle.bits_core.specs.declared.events.Side.TheVariants.{P, C}
@@ -15,13 +15,13 @@ use Rattle.ring_ends.specs.Machines.{ListIs}
 use Rattle.ring_ends.proofs.Lists.{same_side-same, begun_open}
 use Rattle.bits_core.proofs.LawLemmas.{made_leave_none_open}
 
--- the access can begin, or it is open and can end
+-- the access can start, or it is open and can end
 abbrev pub CanStepAt : Shape → Side → List Event → Access → Type 0
 CanStepAt shape x list a =
     ((open_access x list ≡ None) × Follows shape x (list ++ begin_of x a ∷ []))
     ⊎ ((open_access x list ≡ Some a) × GoesOn shape x a list)
 
--- the access can be made as a whole
+-- the access can be made completely
 abbrev pub CanMakeAt : Shape → Side → List Event → Access → Type 0
 CanMakeAt shape x list a = (open_access x list ≡ None) × Follows shape x (list ++ begin_of x a ∷ []) × GoesOn shape x a (list ++ begin_of x a ∷ [])
 
@@ -35,7 +35,7 @@ not_by_end P (access.Write b w) v = refl
 not_by_end C (access.Read b) v = refl
 not_by_end C (access.Write b w) v = refl
 
--- a read of the last bit that answers 0
+-- a read of the last bit that returns 0
 pub last_false : (x : Side) (a : Access) (i : ℕ) → Some a ≡ Some (access.Read (row_read_by x i)) → answered a false ≡ Read (row_read_by x i) false
 last_false x a i e = let same : a ≡ access.Read (row_read_by x i) = cc in ap (λ (b : Access). answered b false) same
 

@@ -1,4 +1,4 @@
--- What whole calls of a ring's ends store and take, one call after the other.
+-- What complete calls of a ring's ends store and take, one call after the other.
 use Rattle.std.proofs.Common.{◌≡◌, ⊎_elim, ℕ, zero, suc, ◌+◌, ◌≤◌, Bool, true, false, Some, None, List, [], ◌∷◌, ◌++◌, length, take, refl, ap, sym, subst, ◌∙◌, arith, append-nil, append_assoc, ◌%◌}
 use Rattle.bits_core.specs.declared.shapes.Shape.{Shape}
 use Rattle.bits_core.specs.declared.events.Event.{Event}
@@ -26,7 +26,7 @@ use Rattle.ring_seats.specs.Calls.{HasPuts, HasTakes}
 use Rattle.ring_ends.specs.Ends.{CloseAdds, HasClosed, HasPut, HasPutAll, PutAdds, HasTaken, TakeAdds, HasTakenAll, TakeAllAdds, number_brought}
 use Rattle.ring_ends.specs.Stored.{HasStored, HasTook, StoresMore, TakesMore, item_stored, number_stored}
 
--- the first n of a list are as many of its first as they are
+-- the first n elements of a list are the first ones, as many as they are
 pub first : (n : ℕ) (xs : List ℕ) → (take n xs ≡ take (length (take n xs)) xs) × (length (take n xs) ≤ length xs)
 first zero xs = (refl, omega arith)
 first (suc n) [] = (refl, omega arith)
@@ -55,7 +55,7 @@ few_by_one shape before after calls false given m (puts.Stored seen few, of, ans
     )
 few_by_one shape before after calls false given m (puts.Full seen, of, answered, has) = absurd (cc)
 
--- a put of these items that stored m of them stored some, and not more than there are
+-- a put of these items that stored m of them stored at least one, and no more than there are
 pub few_stored : (shape : Shape) (given : List ℕ) (before after : List Event) (m : ℕ) → HasPutAll shape given before after (several.Stored m) → (1 ≤ m) × (m ≤ length given)
 few_stored shape given before after m h = few_by_one shape before after h.calls h.calls.closes given m h.adds
 
@@ -81,7 +81,7 @@ module _ (read : PutsAreRead) (a b : RingEnd) (same : b.ring ≡ a.ring) (items 
   put_unchanged : (calls : Puts) → HasPuts b.ring.shape a.list calls → b.list ≡ a.list → HasStored b items
   put_unchanged calls has kept = record { calls = calls; list_is = subst (λ (l : List Event). HasPuts b.ring.shape l calls) (sym kept) has; items_are = put_items_of calls has }
 
-  -- one put more
+  -- one more put
   put_more : (calls : Puts) → HasPuts b.ring.shape a.list calls → (x : Put) → HasPuts b.ring.shape b.list (and_put calls x) → HasStored b (items ++ all_put (x ∷ []))
   put_more calls has x after = record {
     calls = and_put calls x;
@@ -101,7 +101,7 @@ module _ (read : PutsAreRead) (a b : RingEnd) (same : b.ring ≡ a.ring) (items 
       subst (λ (l : List ℕ). HasStored b (items ++ l)) nil (put_more calls has (puts.Stored seen few) after)
   stored_by_one calls has false given m (puts.Full seen, of, answered, after) = absurd (cc)
 
-  -- a put of these items that was answered so stored the first m of them
+  -- a put of these items with this reply stored the first m of them
   pub stored_more : (given : List ℕ) (m : ℕ) → HasPutAll b.ring.shape given a.list b.list (several.Stored m) → HasStored b (items ++ take m given)
   stored_more given m h = stored_by_one h.calls h.before_is h.calls.closes given m h.adds
 
@@ -123,13 +123,13 @@ module _ (read : PutsAreRead) (a b : RingEnd) (same : b.ring ≡ a.ring) (items 
   pub stored_late : (given : List ℕ) → HasPutAll b.ring.shape given a.list b.list several.Closed → HasStored b items
   stored_late given h = refused_by_one h.calls h.before_is h.calls.closes given h.adds
 
-  -- so, whatever it was answered
+  -- so whatever the reply
   pub stored_all : (given : List ℕ) (reply : BatchReply) → HasPutAll b.ring.shape given a.list b.list reply → HasStored b (items ++ take (number_stored reply) given)
   stored_all given (several.Stored m) h = stored_more given m h
   stored_all given several.Full h = subst (HasStored b) (sym (append-nil items)) (stored_none given h)
   stored_all given several.Closed h = subst (HasStored b) (sym (append-nil items)) (stored_late given h)
 
-  -- the same of a put of one item
+  -- the same for a put of one item
   pub one_stored : (item : ℕ) → HasPut b.ring.shape item a.list b.list single.Stored → HasStored b (items ++ item ∷ [])
   one_stored item (several.Stored m, is, h) =
       let few = few_stored b.ring.shape (item ∷ []) a.list b.list m h in
@@ -191,7 +191,7 @@ module _ (read : TakesAreRead) (single : TakesOfOne) (a b : RingEnd) (same : b.r
       })
       is_more.is_one_more
 
-  -- a take took the item that it was answered, if it was one
+  -- a take took the item of its reply, if there was one
   pub took_more : (reply : TakeReply) → HasTaken b.ring.shape a.list b.list reply → HasTook b (items ++ reply_items reply)
   took_more reply h = took_by_one h.calls h.before_is (ends_closed h.calls.end) reply h.adds refl
 
@@ -225,7 +225,7 @@ module _ (read : TakesAreRead) (a b : RingEnd) (same : b.ring ≡ a.ring) (items
   pub took_all : HasTakenAll b.ring.shape wanted a.list b.list reply into → HasTook b (items ++ take (number_brought reply) into)
   took_all h = by_one h.calls h.before_is (ends_closed h.calls.end) h.adds
 
--- ---- so of each call, whatever it is answered
+-- ---- so for each call, whatever its reply
 
 pub put_stores : (a b : RingEnd) (item : ℕ) (reply : PutReply) → IsSameEnd a b → HasPut b.ring.shape item a.list b.list reply → StoresMore a b (item_stored reply item)
 put_stores a b item single.Stored same h before has = one_stored puts_are_read a b same.ring before has item h

@@ -38,7 +38,7 @@ rest_at Rescanning m calls made is at = absurd (true≢false is)
 rest_at Loading m calls made is at = absurd (true≢false is)
 rest_at Counting m calls made is at = absurd (true≢false is)
 
--- what a take comes to by one access more, as the machine's states tell it
+-- the state of a take after one more access, as the machine's states say it
 after_so :
     (shape : Shape) (wanted : ℕ) (a b c d : Bool) (calls more : Takes) → a ≡ c → b ≡ d → IsAfterTake shape wanted a b calls more → IsAfterTake shape wanted c d calls more
 after_so shape wanted a b c d calls more e f after = subst (λ (z : Bool × Bool). IsAfterTake shape wanted z.0 z.1 calls more) (λ i. (e i, f i)) after
@@ -65,7 +65,7 @@ take_laws = record {
   most_busy = λ m c is. ap (λ (t : Bool). longest_while m.shape t m.wanted) is.0 ∙ ap (longest_taking m.shape) is.1;
 }
 
--- what the machine tells of its due access
+-- what the machine reports about its due access
 pub take_due :
     (m : ConsumerState) (a : Access) → due_take m ≡ Some a → IsOpenRight m.shape C a →
     ((calls : Takes) (made : List Made) → ConsumerStands m calls made → (is_taking m ≡ true) × TakeGoesOn m.shape m.wanted calls made a) →
@@ -78,7 +78,7 @@ take_due m a due right goes_on bounded zeros = record {
   zeros = λ calls made st last. zeros calls made st (subst (LastBitIsDue m.shape C) (sym due) last);
 }
 
--- no take has many accesses
+-- the number of a take's accesses is bounded
 few_reads : (shape : Shape) (wanted : ℕ) → wanted ≤ take_batch_of shape → longest_taking shape wanted ≤ 4865
 few_reads shape zero few = omega (arith, shape.small_modulus, shape.few_digits)
 few_reads shape (suc zero) few = omega (arith, shape.small_modulus, shape.few_digits)
@@ -92,7 +92,7 @@ pub few_taken :
 few_taken shape false wanted n list marked few = omega (arith, marked.1)
 few_taken shape true wanted n list marked few = omega (arith, marked.1, few_reads shape wanted (few refl))
 
--- where the machine keeps how many items the take wants, the answer is fed as one of a side's machine
+-- if the machine keeps the number of items wanted, the answer is fed as to a side's machine
 pub take_fed :
     (m m' : ConsumerState) (v : Bool) → m'.shape ≡ m.shape → m'.wanted ≡ m.wanted →
     ((calls : Takes) (made : List Made) (a : Access) → ConsumerStands m calls made → due_take m ≡ Some a → ConsumerHasMoved m m' calls (made ++ answered a v ∷ [])) →
@@ -115,31 +115,31 @@ pub over_adds :
 over_adds shape wanted calls more is_more whole list list_is x replied =
     subst (λ (t : Bool). TakeAdds t shape wanted calls x whole list) (sym (ap ends_closed is_more.not_over)) (more, is_more, replied, record { are = is_more.are; list_is = list_is })
 
--- ---- the end as it is seen
+-- ---- the model of the end
 
--- what holds of the end and the oracle holds of them as they are seen
+-- what holds of the end and the oracle holds of their models
 pub take_seen : {O : Type 0} {a s : TakerState O} → a ≡ s → (F : RingEnd → O → Type 0) → F a.end a.oracle → F s.end s.oracle
 take_seen {O} e F h = subst (λ (z : TakerState O). F z.end z.oracle) e h
 
 pub taking_seen : {O : Type 0} {a s : TakerState O} → a ≡ s → a.taking ≡ s.taking
 taking_seen {O} e = ap (λ (z : TakerState O). z.taking) e
 
--- a take of at most so many items begins, or goes on
+-- a take of at most `wanted` items starts or continues
 abbrev pub Begins : ConsumerState → ConsumerState → ℕ → Type 0
 Begins m now wanted = (calls : Takes) (made : List Made) → ConsumerStands m calls made → CallBegins consuming m now calls made wanted
 
--- by how many it wants as it is seen
+-- by the number of items wanted in its model
 pub begins_seen :
     {O : Type 0} {a s : TakerState O} → a ≡ s → (m now : ConsumerState) (most wanted : ℕ) → wants_next s.taking s.wanted most ≡ wanted →
     Begins m now (wants_next a.taking a.wanted most) → Begins m now wanted
 begins_seen {O} e m now most wanted is = subst (Begins m now) (ap (λ (z : TakerState O). wants_next z.taking z.wanted most) e ∙ is)
 
--- a take that is under way wants as many as one that begins now
+-- a take that is under way wants as many as one that starts now
 pub wants_same : (taking : Bool) (wanted most : ℕ) → (taking ≡ true → wanted ≡ most) → wants_next taking wanted most ≡ most
 wants_same false wanted most same = refl
 wants_same true wanted most same = same refl
 
--- a take that is begun, or goes on
+-- a take that starts or continues
 abbrev pub take_begun :
     {O : Type 0} (o : O) (e : RingEnd) (m : ConsumerState) (n : ℕ) (s : TakerState O) → record { end = e; taking = is_taking m; wanted = m.wanted; start = without_last n e.list; oracle = o } ≡ s →
     IsMachine consuming e m (whole_take (is_taking m) e.list (without_last n e.list)) × IsMarked n e.list (longest_while m.shape (is_taking m) m.wanted) → (wanted : ℕ) (now : ConsumerState) →
@@ -170,7 +170,7 @@ module _ (wanted : ℕ) (s : Step consuming wanted) where
   some_of (Some x) is (Over event grows none more is_more list made stands) =
       (none, record { calls = calls; before_is = before_is; adds = over_adds s.e.ring.shape wanted calls more is_more whole s.e.list list x (sym is ∙ subst (λ (z : Bool). IsReplyToTake more z s.m.reply) none stands.reply_is) })
 
-  -- a take that goes on wants as many items
+  -- a take that continues wants as many items
   wanted_of : TakeOf → is_taking s.m ≡ true → s.m.wanted ≡ wanted
   wanted_of (Refused same none refused list) is = absurd (true≢false (sym is ∙ none))
   wanted_of (Goes event grows same part more made stands) is = same.1

@@ -1,4 +1,4 @@
--- A whole take of the consumer's end, access by access.
+-- A complete take of the consumer's end, access by access.
 use Rattle.std.proofs.Common.{◌≡◌, ℕ, Bool, Some, refl, ap, sym, subst, ◌∙◌}
 use Rattle.bits_core.specs.declared.shapes.Shape.{Shape}
 use Rattle.ring_core.specs.declared.replies.TakeReply as replies
@@ -11,9 +11,9 @@ use Rattle.ring_ends.specs.Machines.{consuming}
 use Rattle.ring_ends.proofs.MachineWhole.{Ended, More, Refused, Whole, ending, list_there, more_there, over_list, shape_whole}
 use Rattle.ring_ends.proofs.TakerCalls.{over_adds, over_reply, take_laws}
 
--- ---- a whole take
+-- ---- a complete take
 
--- a take was answered, and this is what it added
+-- a take returned, and this is what it added
 pub take_ended : (wanted : ℕ) (w : Whole consuming wanted) → (x : replies.TakeReply) × (w.m.reply ≡ Some x) × HasTakenOf w.e.ring.shape wanted w.begun.seen.list w.e.list x
 take_ended wanted w = by (ending consuming take_laws w)
   where

@@ -1,4 +1,4 @@
--- A take of several items: what it was answered by their number, and the items that it took.
+-- A take of several items: its reply with their number, and the items that it took.
 use Rattle.std.proofs.Common.{◌≡◌, ⊎_elim, inl, inr, ℕ, ◌≤◌, Bool, true, false, true≢false, Option, Some, None, List, [], ◌∷◌, length, take, refl, ap, sym, subst, ◌∙◌, arith}
 use Rattle.std.specs.Prelude.{◌+◌, ◌⊎◌, IfNone, IfSome, drop}
 use Rattle.bits_core.specs.declared.events.Event.{Event}
@@ -49,13 +49,13 @@ numbered : (end : End) (xs : List Take) → Numbered (reply_at_end end xs) (item
 numbered takes.Open xs = by_last None [] (λ x is. absurd (none-some x is)) xs
 numbered (takes.Closed seen again) xs = λ x is. let e : batch_reply.Closed ≡ x = cc in sym (ap number_brought e)
 
--- a take that was answered was answered by its number too
+-- a take with a reply has one with the number of items too
 pub batch_told : (x : replies.TakeReply) (items : List ℕ) → (y : batch_replies.TakeBatchReply) × (take_batch_reply (Some x) items ≡ Some y)
 batch_told (reply.Item item) items = (batch_reply.Taken (length items), refl)
 batch_told reply.Empty items = (batch_reply.Empty, refl)
 batch_told reply.Closed items = (batch_reply.Closed, refl)
 
--- and the other way round
+-- and vice versa
 pub told_batch : (r : Option replies.TakeReply) (items : List ℕ) (y : batch_replies.TakeBatchReply) → take_batch_reply r items ≡ Some y → (x : replies.TakeReply) × (r ≡ Some x)
 told_batch None items y is = absurd (none-some y is)
 told_batch (Some x) items y is = (x, refl)
@@ -75,7 +75,7 @@ few_more shape wanted calls more is_more = ⊎_elim
     (λ told. omega (arith, ap (λ (t : Takes). length (items_at_end t.end t.takes)) told.2))
     is_more.is_one_more
 
--- ---- a reply that was told
+-- ---- a reply that was returned
 
 pub told_of : {R : Type 0} (r : Option R) (x : R) → r ≡ Some x → (y : R) → r ≡ Some y → x ≡ y
 told_of r x is y also = let same : Some x ≡ Some y = sym is ∙ also in (cc)
@@ -83,9 +83,9 @@ told_of r x is y also = let same : Some x ≡ Some y = sym is ∙ also in (cc)
 pub some_so : {R F : Type 0} (r : Option R) (x : R) → r ≡ Some x → IfSome r (λ _. F) → F
 some_so {R} {F} r x is = subst (λ (z : Option R). IfSome z (λ _. F)) is
 
--- ---- what a take came to
+-- ---- the result of a take
 
--- a take was answered, by the reply and the items that its machine tells, and this is what it added, where these are in the first places
+-- the reply of a take, by the reply and the items that its machine returns, and what it added, if these are in the first places
 pub record Brought (shape : Shape) (wanted : ℕ) (before after : List Event) (r : Option replies.TakeReply) (items : List ℕ) : Type 0 where
   pub reply : batch_replies.TakeBatchReply
   pub told : take_batch_reply r items ≡ Some reply
@@ -99,7 +99,7 @@ pub brought_within :
 brought_within {shape} {wanted} {before} {after} {r} {items} b y is = omega (arith, b.few, b.number, ap number_brought (told_of (take_batch_reply r items) b.reply b.told y is))
 
 module _ (shape : Shape) (wanted : ℕ) (before after : List Event) (calls : Takes) (has : HasTakes shape before calls) where
-  -- one call more
+  -- one more call
   brought_so : (more : Takes) → HasTakeMore shape wanted calls more → HasTakes shape after more → Brought shape wanted before after (reply_at_end more.end more.takes) (items_at_end more.end more.takes)
   brought_so more is_more added =
       let items : List ℕ = items_at_end more.end more.takes in
@@ -128,7 +128,7 @@ module _ (shape : Shape) (wanted : ℕ) (before after : List Event) (calls : Tak
       let items_are : items ≡ items_at_end more.end more.takes = subst (λ (t : Bool). AreItemsOfTake more t items) none are in
       subst (λ (z : Option replies.TakeReply × List ℕ). Brought shape wanted before after z.0 z.1) (λ i. (sym r_is i, sym items_are i)) (brought_so more is_more added)
 
-  -- none, once the ring was told to be closed
+  -- none, once a take has returned Closed
   pub brought_none : ends_closed calls.end ≡ true → after ≡ before → (r : Option replies.TakeReply) → r ≡ Some reply.Closed → (items : List ℕ) → items ≡ [] → Brought shape wanted before after r items
   brought_none told same r r_is items none = record {
     reply = batch_reply.Closed;
@@ -138,7 +138,7 @@ module _ (shape : Shape) (wanted : ℕ) (before after : List Event) (calls : Tak
     phrase = λ into _. record { calls = calls; before_is = has; adds = subst (λ (t : Bool). TakeAllAdds t shape wanted calls batch_reply.Closed into before after) (sym told) (refl, same) };
   }
 
--- once a take was told that the ring is closed, none is under way, and the machine keeps no items
+-- once a take has returned Closed, none is under way, and the machine keeps no items
 none_kept : (end : End) (xs : List Take) → ends_closed end ≡ true → items_at_end end xs ≡ []
 none_kept takes.Open xs is = absurd (true≢false (sym is))
 none_kept (takes.Closed seen again) xs is = refl
@@ -153,7 +153,7 @@ rests_told m calls made stands told = by (is_taking m) refl
     by true is = absurd (never_open calls told (subst (λ (z : Bool). IsOpenForTake z calls) is stands.not_over))
     by false is = (is, subst (λ (z : Bool). AreItemsOfTake calls z m.items) is stands.items_are ∙ none_kept calls.end calls.takes told)
 
--- ---- of a whole take
+-- ---- of a complete take
 
 pub take_brought : (wanted : ℕ) (w : Whole consuming wanted) → Brought w.e.ring.shape wanted w.begun.seen.list w.e.list w.m.reply w.m.items
 take_brought wanted w = by (ending consuming take_laws w)

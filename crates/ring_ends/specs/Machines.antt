@@ -1,4 +1,4 @@
--- The machines of the two ends beside their lists.
+-- The machines of the two ends together with their lists.
 use Rattle.std.specs.Prelude.{◌≡◌, ◌⊎◌, ℕ, Bool, ◌+◌, ◌-◌, ◌*◌, ◌<◌, ◌≤◌, true, false, Option, Some, None, List, [], ◌∷◌, ◌++◌, length, take}
 use Rattle.bits_core.specs.declared.shapes.Shape.{Shape}
 use Rattle.bits_core.specs.declared.events.Side.{Side}
@@ -21,7 +21,7 @@ use Rattle.ring_seats.specs.Programs.{begin_of}
 use Rattle.ring_seats.specs.Steppers.{AreAnswered, Grows, IsSameEnd, StandsAs}
 use Rattle.ring_ends.specs.Ends.{HasPutPart, HasTakePart, whole_put, whole_take}
 
--- the events of accesses, and perhaps the begin of the one that is due
+-- the events of accesses, and perhaps the start of the one that is due
 abbrev pub ListIs : Side → List Event → List Made → Option Access → Type 0
 ListIs x list made due = (list ≡ events_of x made) ⊎ ((access : Access) × (due ≡ Some access) × (list ≡ events_of x made ++ begin_of x access ∷ []))
 
@@ -29,30 +29,31 @@ ListIs x list made due = (list ≡ events_of x made) ⊎ ((access : Access) × (
 abbrev pub without_last : ℕ → List Event → List Event
 without_last n list = take (length list - n) list
 
--- the last n events of the list are of a call that has so many accesses at most
+-- the last n events of the list are of a call that has at most `most` accesses
 abbrev pub IsMarked : ℕ → List Event → ℕ → Type 0
 IsMarked n list most = (n ≤ length list) × (n ≤ 2 * most)
 
--- what a put is answered at once after a close
+-- the reply of a call that is refused at once after a close
 abbrev pub IsRefusedAtOnce : Call → Option replies.BatchReply → Type 0
 IsRefusedAtOnce (Put items) answer = answer ≡ Some reply.Closed
 IsRefusedAtOnce Close answer = Unit {0}
 
--- the most accesses of a call, and of a take of so many items, if one is under way
+-- the most accesses of the call under way, or 0 if there is none
 abbrev pub longest_at : Shape → Option Call → ℕ
 longest_at shape None = 0
 longest_at shape (Some c) = puts.longest shape c
 
+-- the most accesses of the take under way, or 0 if there is none
 abbrev pub longest_while : Shape → Bool → ℕ → ℕ
 longest_while shape false wanted = 0
 longest_while shape true wanted = longest_taking shape wanted
 
 -- ---- a side's machine
 
--- What a side's machine remembers, the calls that it makes, and what it tells: the access that is due, which call is under way,
--- or that none is, and whether the last call was begun as one of several items. The accesses of calls, one call more, the most accesses of a call, and a part of one. When the machine stands
--- after calls and accesses, what it comes to by one access more, and when a call is over at once. The list without what was made
--- of the call under way, and the most accesses of that.
+-- What a side's machine remembers, its calls, and what it reports: the access that is due, which call is under way, or that none is, and
+-- whether the last call was started as one of several items. The accesses of calls, one more call, the most accesses of a call, and a part
+-- of one. When the machine stands after calls and accesses, its state after one more access, and when a call is over at once. The list
+-- without the events of the call under way, and the most accesses of that call.
 pub record Machine : Type 1 where
   pub State : Type 0
   pub Calls : Type 0
@@ -73,6 +74,7 @@ pub record Machine : Type 1 where
   pub whole : State → List Event → List Event → List Event
   pub most : State → ℕ
 
+-- the producer's machine
 abbrev pub producing : Machine
 producing = record {
   State = ProducerState;
@@ -95,6 +97,7 @@ producing = record {
   most = λ (m : ProducerState). longest_at m.shape (call_of m);
 }
 
+-- the consumer's machine
 abbrev pub consuming : Machine
 consuming = record {
   State = ConsumerState;
@@ -117,7 +120,7 @@ consuming = record {
   most = λ (m : ConsumerState). longest_while m.shape (is_taking m) m.wanted;
 }
 
--- ---- beside an end
+-- ---- together with an end
 
 -- the machine stands after these calls and accesses, and the end's list, which is lawful, is theirs
 pub record MachineAt (k : Machine) (e : RingEnd) (m : k.State) (calls : k.Calls) (made : List Made) : Type 0 where
@@ -127,13 +130,14 @@ pub record MachineAt (k : Machine) (e : RingEnd) (m : k.State) (calls : k.Calls)
   pub stands : k.Stands m calls made
   pub list_is : ListIs k.side e.list made (k.due m)
 
+-- the machine stands after some calls and accesses, and the first list is that of the calls alone
 pub record IsMachine (k : Machine) (e : RingEnd) (m : k.State) (whole : List Event) : Type 0 where
   pub calls : k.Calls
   pub made : List Made
   pub at : MachineAt k e m calls made
   pub whole_is : whole ≡ events_of k.side (k.program e.ring.shape calls)
 
--- The call was begun, or it is under way; the accesses made stay. Where it is refused it is over at once.
+-- The call was started, or it is under way; the accesses made are unchanged. If it is refused it is over at once.
 abbrev pub CallBegins : (k : Machine) → k.State → k.State → k.Calls → List Made → k.Call → Type 0
 CallBegins k m m' calls made c =
     (k.shape_of m' ≡ k.shape_of m) × k.Stands m' calls made ×
@@ -150,7 +154,7 @@ pub record MachineStep (k : Machine) (a : RingEnd) (m : k.State) (b : RingEnd) (
   pub within : (c : k.Call) → k.Busy m c → length b.list < 2 * (length (k.program (k.shape_of m) calls) + k.longest (k.shape_of m) c) + 1
   pub part : (c : k.Call) → k.Busy m' c → k.Part b.ring.shape c (events_of k.side (k.program (k.shape_of m) calls)) b.list
 
--- what a machine and its end come to by one step of the call under way; where none is, nothing was made
+-- a machine and its end after one step of the call under way; if none is, nothing was made
 pub record MachineStepped (k : Machine) (a : RingEnd) (m : k.State) (b : RingEnd) (m' : k.State)
     (old now : ℕ → Bool) : Type 0 where
   pub kind : k.is_batch m' ≡ k.is_batch m
@@ -160,12 +164,12 @@ pub record MachineStepped (k : Machine) (a : RingEnd) (m : k.State) (b : RingEnd
       MachineStep k a m b m' calls
   pub answered : AreAnswered a b old now
 
--- no access of the call under way, if there is one, was made yet
+-- no access of the call under way, if there is one, has been made yet
 pub record MachineReady (k : Machine) (e : RingEnd) (m : k.State) (calls : k.Calls) : Type 0 where
   pub at : MachineAt k e m calls (k.program (k.shape_of m) calls)
   pub list_is : e.list ≡ events_of k.side (k.program (k.shape_of m) calls)
 
--- the call under way goes on, and no access is open
+-- the call under way continues, and no access is open
 pub record MachineGoes (k : Machine) (e : RingEnd) (m : k.State) (calls : k.Calls) (c : k.Call) : Type 0 where
   pub made : List Made
   pub at : MachineAt k e m calls made
@@ -180,15 +184,15 @@ pub record MachineOver (k : Machine) (e : RingEnd) (m : k.State) (calls : k.Call
   pub rests : k.Rests m
   pub is_more : k.More (k.shape_of m) c calls more
 
--- the call goes on, and no access is open, or it is over
+-- the call continues, and no access is open, or it is over
 abbrev pub MachineIn : (k : Machine) → RingEnd → k.State → k.Calls → k.Call → Type 0
 MachineIn k e m calls c = MachineGoes k e m calls c ⊎ MachineOver k e m calls c
 
--- a call that is under way goes on, or is over
+-- a call that is under way continues, or is over
 abbrev pub MachineBusy : (k : Machine) → RingEnd → k.State → Type 0
 MachineBusy k e m = (d : k.Call) → k.Busy m d → (calls : k.Calls) × (c : k.Call) × MachineIn k e m calls c
 
--- What some accesses of a call came to: the list is no shorter, a call that was under way goes on, or is over, and where none was, nothing
+-- The result of some accesses of a call: the list is no shorter, a call that was under way continues or is over, and if none was, nothing
 -- was made
 pub record MachineWent (k : Machine) (a : RingEnd) (m : k.State) (b : RingEnd) (m' : k.State) (old now : ℕ → Bool) : Type 0 where
   pub same : IsSameEnd a b
@@ -198,7 +202,7 @@ pub record MachineWent (k : Machine) (a : RingEnd) (m : k.State) (b : RingEnd) (
   pub goes : (calls : k.Calls) (c : k.Call) → MachineIn k a m calls c → MachineIn k b m' calls c
   pub answered : AreAnswered a b old now
 
--- what all accesses of a call came to
+-- the result of all accesses of a call
 pub record MachineEnded (k : Machine) (a : RingEnd) (m : k.State) (b : RingEnd) (m' : k.State) (old now : ℕ → Bool) : Type 0 where
   pub same : IsSameEnd a b
   pub kind : k.is_batch m' ≡ k.is_batch m

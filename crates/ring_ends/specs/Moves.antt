@@ -1,4 +1,4 @@
--- What a side's machine tells of the access that is due, what it comes to by it, and what holds of the machine.
+-- What a side's machine reports about the due access, its state after it, and the laws of a machine.
 use Rattle.std.specs.Prelude.{◌≡◌, ◌⊎◌, ◌+◌, ◌<◌, Bool, true, Option, Some, None, List, [], ◌∷◌, ◌++◌, length}
 use Rattle.bits_core.specs.declared.events.Access.{Access}
 use Rattle.bits_core.specs.declared.events.Event.{Event}
@@ -9,9 +9,9 @@ use Rattle.ring_core.specs.Calls.{LastBitIsDue, EndsInZeros}
 use Rattle.ring_seats.specs.Programs.{Follows}
 use Rattle.ring_ends.specs.Machines.{Machine}
 
--- What holds of a side's machine. A call is under way, or none is, and not two; one is where an access is due. At rest
--- its accesses are those of its calls, and none is due. One call more is one of the side's program, and a part of it is
--- one. While a call is under way it stays the same; once it is over it is one of the calls.
+-- The laws of a side's machine. At most one call is under way, and one is if an access is due. Between calls its
+-- accesses are those of its calls, and none is due. One more call is one of the side's program, and so is a part of it.
+-- While a call is under way it stays the same; once it is over it is one of the calls.
 pub record MachineLaws (k : Machine) : Type 0 where
   pub either : (m : k.State) → k.Rests m ⊎ ((c : k.Call) × k.Busy m c)
   pub never : (m : k.State) (c : k.Call) → k.Rests m → k.Busy m c → ⊥
@@ -40,9 +40,9 @@ pub record MachineLaws (k : Machine) : Type 0 where
   pub most_rests : (m : k.State) → k.Rests m → k.most m ≡ 0
   pub most_busy : (m : k.State) (c : k.Call) → k.Busy m c → k.most m ≡ k.longest (k.shape_of m) c
 
--- Behind these calls, with these accesses made, the call under way goes on with the access: whatever it is answered, but
--- for a 0 of the last bit of the count, the accesses made and it begin one call more. The call has fewer accesses yet than
--- it may have.
+-- After these calls, with these accesses made, the call under way continues with the access: whatever it returns, except
+-- for a 0 of the last bit of the count, the accesses made followed by it are a prefix of those of one more call. The call
+-- still has fewer accesses than it may have.
 pub record Next (k : Machine) (m : k.State) (calls : k.Calls) (made : List Made) (a : Access) : Type 0 where
   pub one : k.Call
   pub is : k.Busy m one
@@ -52,7 +52,7 @@ pub record Next (k : Machine) (m : k.State) (calls : k.Calls) (made : List Made)
       IsPrefix (made ++ answered a answer ∷ []) (k.program (k.shape_of m) more)
   pub few : length made < length (k.program (k.shape_of m) calls) + k.longest (k.shape_of m) one
 
--- the access is due: a bit of the shape takes it, the call under way goes on with it, and where it is of the last bit of
+-- the access is due: it is of a bit of the shape, the call under way continues with it, and if it is of the last bit of
 -- the other side's count, the accesses made end in zeros
 pub record Due (k : Machine) (m : k.State) (a : Access) : Type 0 where
   pub is : k.due m ≡ Some a
@@ -62,7 +62,7 @@ pub record Due (k : Machine) (m : k.State) (a : Access) : Type 0 where
       (calls : k.Calls) (made : List Made) → k.Stands m calls made → LastBitIsDue (k.shape_of m) k.side (Some a) →
       EndsInZeros (k.shape_of m) k.side made
 
--- what a machine tells: the due access, or that no call is under way
+-- what `next` returns: the due access, or that no call is under way
 abbrev pub TellsNext : (k : Machine) → k.State → Option Access → Type 0
 TellsNext k m None = (calls : k.Calls) (made : List Made) → k.Stands m calls made → k.Rests m
 TellsNext k m (Some a) = Due k m a
@@ -72,7 +72,7 @@ abbrev pub MayFeed : (k : Machine) → k.State → Bool → Type 0
 MayFeed k m answer =
     ((a : Access) × (k.due m ≡ Some a)) × (LastBitIsDue (k.shape_of m) k.side (k.due m) → answer ≡ true)
 
--- the due access was made and answered so: the machine stands behind it, with the same calls or one more
+-- the due access was made with this answer: the machine stands after it, with the same calls or one more
 pub record Fed (k : Machine) (m : k.State) (answer : Bool) (m' : k.State) : Type 0 where
   pub shape : k.shape_of m' ≡ k.shape_of m
   pub kind : k.is_batch m' ≡ k.is_batch m

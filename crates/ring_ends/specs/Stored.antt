@@ -1,4 +1,4 @@
--- The lists of a ring's two ends in the words of a queue: the items that were stored, or taken.
+-- The lists of a ring's two ends in terms of a queue: the items that were stored, or taken.
 use Rattle.std.specs.Prelude.{◌≡◌, ℕ, List, [], ◌∷◌, ◌++◌}
 use Rattle.ring_core.specs.declared.replies.PutReply.{PutReply}
 use Rattle.ring_core.specs.declared.replies.PutReply.TheVariants as single
@@ -10,19 +10,19 @@ use Rattle.ring_core.specs.Items.{all_put, all_taken}
 use Rattle.ring_seats.specs.Ring.{RingEnd}
 use Rattle.ring_seats.specs.Calls.{HasPuts, HasTakes}
 
--- the end has made whole calls, whose puts stored these items, one after the other
+-- the end has made complete calls, whose puts stored these items, one after the other
 pub record HasStored (e : RingEnd) (items : List ℕ) : Type 0 where
   pub calls : Puts
   pub list_is : HasPuts e.ring.shape e.list calls
   pub items_are : all_put calls.puts ≡ items
 
--- the end has made whole takes, which took these items, one after the other
+-- the end has made complete takes, which took these items, one after the other
 pub record HasTook (e : RingEnd) (items : List ℕ) : Type 0 where
   pub calls : Takes
   pub list_is : HasTakes e.ring.shape e.list calls
   pub items_are : all_taken calls.takes ≡ items
 
--- how many items a put of several stored, as it was answered
+-- how many items a put of several stored, by its reply
 abbrev pub number_stored : BatchReply → ℕ
 number_stored (several.Stored m) = m
 number_stored several.Full = 0
@@ -34,10 +34,10 @@ item_stored single.Stored item = item ∷ []
 item_stored single.Full item = []
 item_stored single.Closed item = []
 
--- whatever items the first end has stored, the second has stored these after them
+-- whatever items the first end has stored, the second has stored them and then these
 abbrev pub StoresMore : (a b : RingEnd) → List ℕ → Type 0
 StoresMore a b items = (before : List ℕ) → HasStored a before → HasStored b (before ++ items)
 
--- the same of items taken
+-- the same for items taken
 abbrev pub TakesMore : (a b : RingEnd) → List ℕ → Type 0
 TakesMore a b items = (before : List ℕ) → HasTook a before → HasTook b (before ++ items)

@@ -30,7 +30,7 @@ fn advance<'a, M: SideMachine, O: Oracle>(
     }
 }
 
-// How many events of the call under way the list has behind one step more.
+// How many events of the call under way the list has after one more step.
 fn steps_behind<M: SideMachine>(steps: u64, machine: &M) -> u64
     requires stands { (calls : M.kind.Calls) × (made : List Made) × M.kind.Stands (M.state machine.now) calls made }
     requires few { steps < 10000 }
@@ -66,7 +66,7 @@ pub(crate) fn step<'a, M: SideMachine, O: Oracle>(
     *steps = steps_behind(*steps, machine);
 }
 
-// The rest of a scan of the call under way, where one is.
+// The rest of a scan of the call under way, if there is one.
 #[inline(always)]
 fn finish_scan<'a, M: SideMachine, O: Oracle>(
     stepper: &mut Stepper<'a, Flickering>,
@@ -93,7 +93,7 @@ fn finish_scan<'a, M: SideMachine, O: Oracle>(
     }
 }
 
-// The rest of the word of the call under way, where one is written or read.
+// The rest of the word of the call under way, if one is being written or read.
 #[inline(always)]
 fn finish_word<'a, M: SideMachine, O: Oracle>(
     stepper: &mut Stepper<'a, Flickering>,
@@ -121,7 +121,7 @@ fn finish_word<'a, M: SideMachine, O: Oracle>(
     }
 }
 
-// The rest of the count of the call under way, where it is written.
+// The rest of the count of the call under way, if it is being written.
 #[inline(always)]
 fn write_count<'a, M: SideMachine, O: Oracle>(
     stepper: &mut Stepper<'a, Flickering>,

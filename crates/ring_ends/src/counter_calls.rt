@@ -1,4 +1,4 @@
-//! The whole calls of a counter ring, by its seats.
+//! The complete calls of a counter ring, by its seats.
 ghost use Rattle.std.specs.Prelude.{◌≡◌, ◌⊎◌, ℕ, ◌<◌, ◌≤◌, true, false, Some, [], ◌∷◌, length, drop};
 ghost use Rattle.bits_core.specs.Shape.{modulus_of, take_batch_of};
 ghost use Rattle.bits_core.specs.declared.events.Side.TheVariants.{P};
@@ -16,14 +16,14 @@ use bits_core::Shape;
 use ring_core::{TakeBatchReply, TakeReply, distance, has_item, items_shown, past_in};
 use ring_seats::{Counting, Stepper};
 
-/// What an end of a counter ring has counted: its own counter, and the number of the cell that is next.
+/// What an end of a counter ring has counted: its own counter, and the number of the next cell.
 #[derive(Drop)]
 pub(crate) struct Counted {
     pub(crate) count: u64,
     pub(crate) cell: u64,
 }
 
-// How many of so many items a producer that has put `n` stores, where it read the consumer's count `seen`.
+// How many of `offered` items a producer that has put `n` stores, if it read the consumer's count `seen`.
 fn fitting(shape: &Shape, n: u64, seen: u64, offered: usize) -> usize
     requires n { n < modulus_of shape.now }
     requires seen { seen < modulus_of shape.now }
@@ -39,10 +39,10 @@ fn fitting(shape: &Shape, n: u64, seen: u64, offered: usize) -> usize
     if room < offered { room } else { offered }
 }
 
-/// A put to a ring that is not closed: one load, and where there is room a store for each item that fits it, and one store. The
-/// count and the cell are those of the puts that the seat has made, and go on with the items. Tells how many were stored, the
-/// first of them, 0 where the ring was full. There are 1 to as many items as the shape's batch, and each has to fit the width.
-/// For example, a putter of a counter ring puts so.
+/// A put to a ring that is not closed: one load and, if there is room, a store for each item that fits and one more store. The
+/// count and the cell are those of the puts that the seat has made, and advance by the items. Returns how many were stored,
+/// starting with the first, or 0 if the ring was full. There are 1 to as many items as the shape's batch, and each has to fit
+/// the width. For example, a putter of a counter ring puts in this way.
 pub(crate) fn put_open<'a>(
     stepper: &mut Stepper<'a, Counting>,
     items: &[u64],
@@ -67,7 +67,7 @@ pub(crate) fn put_open<'a>(
     most
 }
 
-/// A close of a ring that is not closed: one store. For example, a putter of a counter ring closes so.
+/// A close of a ring that is not closed: one store. For example, a putter of a counter ring closes in this way.
 pub(crate) fn close_open<'a>(stepper: &mut Stepper<'a, Counting>)
     requires at { (calls : Puts) × (stepper.old.side ≡ P) × HasPuts stepper.old.ring.shape stepper.old.list calls ×
         (calls.closes ≡ false) }
@@ -79,17 +79,17 @@ pub(crate) fn close_open<'a>(stepper: &mut Stepper<'a, Counting>)
     stepper.write_close();
 }
 
-// What the scans of a take came to.
+// The result of the scans of a take.
 #[derive(Clone, Copy)]
 enum Scanned {
-    // It takes so many items.
+    // It takes this many items.
     Shows(usize),
-    // It is over, and was answered so.
+    // It is over, with this reply.
     Over(TakeReply),
 }
 
-// The scans of a take of at most so many items. One load, and where it shows no item one of the close word; where that is 1,
-// one load more.
+// The scans of a take of at most `wanted` items. One load and, if it shows no item, one of the close word; if that is 1, one
+// more load.
 fn look<'a>(stepper: &mut Stepper<'a, Counting>, count: u64, cell: u64, wanted: usize) -> Scanned
     requires at { (calls : Takes) × TakerList stepper.old count cell calls × (calls.end ≡ Open) }
     requires some { 1 ≤ wanted }
@@ -111,7 +111,7 @@ fn look<'a>(stepper: &mut Stepper<'a, Counting>, count: u64, cell: u64, wanted: 
     Scanned::Over(TakeReply::Closed)
 }
 
-// Behind the scans of a take of one that found an item: one load of its cell, and one store of the count.
+// After the scans of a take of one that found an item: one load of its cell, and one store of the count.
 fn fetch<'a>(stepper: &mut Stepper<'a, Counting>, count: &mut u64, cell: &mut u64) -> u64
     requires at { (before : RingEnd) × (calls : Takes) × HasLooked before stepper.old count.old cell.old calls 1 1 }
     ensures { (before : RingEnd) (calls : Takes) → HasLooked before stepper.old count.old cell.old calls 1 1 →
@@ -125,10 +125,9 @@ fn fetch<'a>(stepper: &mut Stepper<'a, Counting>, count: &mut u64, cell: &mut u6
     item
 }
 
-/// A take by a seat that was not told that the ring is closed: one load, and with an item one of its cell and one store; without
-/// one, a load of the close word, and where that is 1 one load more. The count and the cell are those of the takes that the seat
-/// has made, and go on with the item.
-/// For example, a taker of a counter ring takes so.
+/// A take by a seat that has not returned Closed: one load, and with an item one of its cell and one store; without one, a load
+/// of the close word, and if that is 1, one more load. The count and the cell are those of the takes that the seat has made, and
+/// advance by the item. For example, a taker of a counter ring takes in this way.
 pub(crate) fn take_open<'a>(
     stepper: &mut Stepper<'a, Counting>,
     count: &mut u64,
@@ -144,7 +143,7 @@ pub(crate) fn take_open<'a>(
     }
 }
 
-// Behind the scans of a take that found as many items as there are places: a load of each one's cell, and one store of the
+// After the scans of a take that found as many items as there are places: a load of the cell of each, and one store of the
 // count.
 fn fetch_all<'a>(
     stepper: &mut Stepper<'a, Counting>,
@@ -166,7 +165,7 @@ fn fetch_all<'a>(
     *cell = past_in(*cell, into.len() as u64, shape.capacity());
 }
 
-// What a take that brought no item was answered, by how many it brought.
+// The reply of a take that brought no item, with its number of items.
 fn of_none(reply: TakeReply) -> TakeBatchReply
     ensures reply { Some result ≡ take_batch_reply (Some reply) [] }
     ensures none { number_brought result ≡ 0 }
@@ -178,12 +177,12 @@ fn of_none(reply: TakeReply) -> TakeBatchReply
     }
 }
 
-/// A take of several items under one count write, by a seat that was not told that the ring is closed: one load, and with
-/// items one of each one's cell and one store; without one, a load of the close word, and where that is 1 one load more. It
-/// takes those that the producer's count shows, from the first on, at most as many as there are places, and tells how many;
-/// they are in the first places, and the others stay as they were. There are 1 to as many places as the shape's take batch.
-/// The count and the cell are those of the takes that the seat has made, and go on with the items.
-/// For example, a taker of a counter ring takes several items so.
+/// A take of several items under one count write, by a seat that has not returned Closed: one load, and with items one of
+/// the cell of each and one store; without one, a load of the close word, and if that is 1, one more load. It takes those
+/// that the producer's count shows, starting with the first, at most as many as there are places, and returns how many;
+/// they are in the first places, and the others are unchanged. There are 1 to as many places as the shape's take batch. The
+/// count and the cell are those of the takes that the seat has made, and advance by the items. For example, a taker of a
+/// counter ring takes several items in this way.
 pub(crate) fn take_all_open<'a>(
     stepper: &mut Stepper<'a, Counting>,
     into: &mut [u64],

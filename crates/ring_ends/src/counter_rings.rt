@@ -1,4 +1,4 @@
-//! The counter ring: how it is made, and how its two ends are made, meet, and end.
+//! The counter ring: how it is made, and how its two ends are made, meet and end.
 ghost use Rattle.std.specs.Prelude.{◌≡◌, ◌<◌, [], IfOk};
 ghost use Rattle.ring_seats.specs.Rule.{IsWordFound};
 ghost use Rattle.ring_seats.specs.Counters.{KeptWords, words_of};
@@ -21,10 +21,11 @@ use std::alloc::{Allocator, Global};
 /// (Lamport 1977).
 ///
 /// Each count, each cell and the close bit has an atomic word of its own. A put is one load, a store of each item's
-/// cell and one store; a take one load, one of the cell and one store. Each load or store stands for a whole scan, a
-/// whole access of a cell, a whole unary write or the close, bit by bit and with nothing between: so each call adds
-/// exactly its accesses to one lawful history of safe bits, as on a [`FlickerRing`](crate::FlickerRing), and who holds
-/// the ends cannot tell the rings apart. No call goes through the bits: they are in the contracts alone.
+/// cell and one store; a take one load, one of the cell and one store. Each load or store represents a complete scan,
+/// a complete access of a cell, a complete unary write or the close, bit by bit with nothing in between. So each call
+/// adds exactly its accesses to one lawful history of safe bits, as on a [`FlickerRing`](crate::FlickerRing), and the
+/// ends of the two rings are indistinguishable to their callers. No call goes through the bits: they are in the
+/// contracts alone.
 ///
 /// In use: `uses::two_threads::pass_through`.
 pub type CounterRing<A> = RingIn<Counting, A>;
@@ -34,14 +35,14 @@ pub type CounterRing<A> = RingIn<Counting, A>;
 /// In use: `uses::two_threads::pass_through`.
 pub type CounterStart = StartIn<Counting>;
 
-/// A counter ring whose run is over: what is left of it is what is left of a flickering ring.
+/// A counter ring whose run is over: what remains of it is what remains of a flickering ring.
 ///
 /// In use: `uses::two_threads::pass_through`.
 pub type CounterFinished = Finished;
 
 impl<A: Allocator + Copy> CounterRing<A> {
     /// A ring of this shape with nothing put, and the right to make its ends. It takes memory for one word for each
-    /// cell and three more. `OutOfMemory` is answered only where the allocator refused that.
+    /// cell and three more. `OutOfMemory` is returned only if the allocator refused that.
     pub fn new(alloc: A, shape: Shape) -> Result<(CounterRing<A>, CounterStart), RunFault>
         ensures { IfOk result (λ r. (r.0.shape ≡ shape) × (r.1 ≡ r.0.id)) }
     {
@@ -51,10 +52,9 @@ impl<A: Allocator + Copy> CounterRing<A> {
 }
 
 impl<A: Allocator> CounterRing<A> {
-    /// Loads a word: number 0 is that of the close bit, 1 the producer's counter, 2 the consumer's, and 3 + j that of
-    /// cell j. Any thread may do so at any time, whatever the two ends are at, and it is no event of theirs. A convenience
-    /// for who looks on: the word is that of some state which keeps the ring's rule ([`CounterRule`](ring_seats::CounterRule)). The place is
-    /// below 3 and the capacity.
+    /// Loads a word: number 0 is that of the close bit, 1 the producer's counter, 2 the consumer's, and 3 + j that of cell j. Any thread
+    /// may do so at any time, whatever the two ends are doing, and it is no event of theirs. A convenience for observers: the word is that
+    /// of some state that satisfies the ring's rule ([`CounterRule`](ring_seats::CounterRule)). The place is below the capacity + 3.
     pub fn observe(&self, place: usize) -> u64
         requires { place < words_of self.now.shape }
         ensures { IsWordFound (KeptWords self.now.shape) place result }
@@ -62,9 +62,9 @@ impl<A: Allocator> CounterRing<A> {
         self.words().find_word(place)
     }
 
-    /// The two ends of the ring: the one puts, the other takes. They have made no call and know the history with no
-    /// event. The start is the one that was made with this ring; it is spent, so a ring has one pair of ends. It takes
-    /// no memory.
+    /// The two ends of the ring: one puts, the other takes. They have made no call and know the history with no event.
+    /// The start is the one that was made with this ring; it is spent, so a ring has one pair of ends. It takes no
+    /// memory.
     pub fn ends<'a>(&'a self, start: CounterStart) -> (CounterPutter<'a>, CounterTaker<'a>)
         requires { start ≡ self.now.id }
         ensures putter { result.0 ≡ record { ring = self.now; side = P; list = []; known = []; loads = [] } }
@@ -91,11 +91,11 @@ impl<A: Allocator> CounterRing<A> {
     }
 }
 
-// With an allocator's name, so that `CounterRing::meet` and `CounterRing::finish` are called with none: ends have none.
+// With an allocator's name, so that `CounterRing::meet` and `CounterRing::finish` can be called without one: ends have none.
 impl CounterRing<Global> {
-    /// Both ends learn one lawful history, whose sides are their two lists and which begins with what each knew. Its calls
-    /// are linearizable. All later calls of both stand behind it. The ends are those of one ring; they come back with the same lists. It
-    /// makes no access and takes no memory.
+    /// Both ends learn one lawful history, whose sides are their two lists and which begins with what each knew. Its calls are
+    /// linearizable. All later calls of both come after it. The ends are those of one ring; they come back with the same lists. It makes
+    /// no access and takes no memory.
     pub fn meet<'a>(
         mut putter: CounterPutter<'a>,
         mut taker: CounterTaker<'a>,
@@ -114,9 +114,9 @@ impl CounterRing<Global> {
         (putter, taker)
     }
 
-    /// Ends the ring's run, of which one lawful history is left, whose sides are the two lists and which begins with
-    /// what each end knew; its calls are linearizable. The ends are those of one ring; they are gone. The ring's words stay as they
-    /// are, and its `close` hands them up. It makes no access and takes no memory.
+    /// Ends the ring's run, of which one lawful history remains, whose sides are the two lists and which begins with what each end
+    /// knew; its calls are linearizable. The ends are those of one ring; they are consumed. The ring's words are unchanged, and its
+    /// `close` returns them. It makes no access and takes no memory.
     pub fn finish<'a>(putter: CounterPutter<'a>, taker: CounterTaker<'a>) -> CounterFinished
         requires ring { putter.ring ≡ taker.ring }
         ensures ring { result.id ≡ putter.entry.ring.id }

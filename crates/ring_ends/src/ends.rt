@@ -8,8 +8,8 @@ use bits_core::{Oracle, Shape};
 use ring_core::{BatchReply, PutReply, TakeBatchReply, TakeReply};
 use std::alloc::{Allocator, Global};
 
-/// An end that puts. Its meaning is the list of its events: each call adds exactly its own accesses, and answers what
-/// they came to.
+/// An end that puts. Its meaning is the list of its events: each call adds exactly its own accesses, and returns
+/// their result.
 ///
 /// In use: `uses::batches::put_batch`.
 pub trait PutEnd {
@@ -26,17 +26,17 @@ pub trait PutEnd {
     /// No call is under way.
     ghost idle: { Self → Type 0 };
 
-    /// From the first to the second each read was answered as the end's reads are.
+    /// Between the first and the second each read was answered as the end's reads are.
     ghost answered: { Self → Self → Type 0 };
 
-    /// The shape of the ring. At all times the end's list is one side of a lawful history whose two sides follow their
+    /// The shape of the ring. The end's list is always one side of a lawful history whose two sides follow their
     /// programs, and which begins with what the end knows.
     fn shape(&self) -> Shape
         ensures shape { result ≡ (end self.now).ring.shape }
         ensures lawful { StandsAs P (end self.now) };
 
-    /// Puts the item: `Stored` where there was room for it, `Full` where a scan of the consumer's count left none, and
-    /// then nothing is stored. After a close the answer is `Closed`, with no access. The item has to fit the width.
+    /// Puts the item: `Stored` if there was room for it, `Full` if a scan of the consumer's count left none; then
+    /// nothing is stored. After a close it returns `Closed`, with no access. The item has to fit the width.
     fn put(&mut self, item: u64) -> PutReply
         requires idle { idle self.old }
         requires fits { item < 2 ^ width_of (end self.old).ring.shape }
@@ -46,9 +46,9 @@ pub trait PutEnd {
         ensures phrase { HasPut (end self.new).ring.shape item (end self.old).list (end self.new).list result }
         ensures answered { answered self.old self.new };
 
-    /// Puts the items under one count write, from the first on as many as there is room for: `Stored` with that
-    /// number, `Full` where there is room for none. After a close the answer is `Closed`, with no access. There are 1 to
-    /// as many items as the shape's batch, and each has to fit the width.
+    /// Puts the items under one count write, starting with the first, as many as there is room for: `Stored` with that
+    /// number, `Full` if there is room for none. After a close it returns `Closed`, with no access. There are 1 to as
+    /// many items as the shape's batch, and each has to fit the width.
     fn put_all(&mut self, items: &[u64]) -> BatchReply
         requires idle { idle self.old }
         requires batch { IsBatch (end self.old).ring.shape items.now }
@@ -84,18 +84,18 @@ pub trait TakeEnd {
     /// No take is under way.
     ghost idle: { Self → Type 0 };
 
-    /// From the first to the second each read was answered as the end's reads are.
+    /// Between the first and the second each read was answered as the end's reads are.
     ghost answered: { Self → Self → Type 0 };
 
-    /// The shape of the ring. At all times the end's list is one side of a lawful history whose two sides follow their
+    /// The shape of the ring. The end's list is always one side of a lawful history whose two sides follow their
     /// programs, and which begins with what the end knows.
     fn shape(&self) -> Shape
         ensures shape { result ≡ (end self.now).ring.shape }
         ensures lawful { StandsAs C (end self.now) };
 
-    /// Takes the next item: `Item`; `Empty` where a scan of the producer's count shows none and the close bit is 0;
-    /// `Closed` where the close bit is 1 and a second scan shows none either. Once it was told `Closed` each take is
-    /// answered so, with no access.
+    /// Takes the next item: `Item`; `Empty` if a scan of the producer's count shows none and the close bit is 0;
+    /// `Closed` if the close bit is 1 and a second scan shows none either. Once a take has returned `Closed` each
+    /// later one does so, with no access.
     fn take(&mut self) -> TakeReply
         requires idle { idle self.old }
         ensures idle { idle self.new }
@@ -104,10 +104,10 @@ pub trait TakeEnd {
         ensures phrase { HasTaken (end self.new).ring.shape (end self.old).list (end self.new).list result }
         ensures answered { answered self.old self.new };
 
-    /// Takes the next items under one count write: those that a scan of the producer's count shows, from the first on, at
-    /// most as many as there are places. `Taken` with their number, and they are in the first places, in order; `Empty` and
-    /// `Closed` as for [`take`](Self::take), and then none is. The other places stay as they were. There are 1 to as many
-    /// places as the shape's take batch.
+    /// Takes the next items under one count write: those that a scan of the producer's count shows, starting with the
+    /// first, at most as many as there are places. `Taken` with their number, and they are in the first places, in order;
+    /// `Empty` and `Closed` as for [`take`](Self::take), with no item. The other places are unchanged. There are 1 to as
+    /// many places as the shape's take batch.
     fn take_all(&mut self, into: &mut [u64]) -> TakeBatchReply
         requires idle { idle self.old }
         requires some { 1 ≤ length into.old }
@@ -123,8 +123,8 @@ pub trait TakeEnd {
         ensures answered { answered self.old self.new };
 }
 
-/// A kind of ring, by the type of its end that puts and of the one that takes: what both ends do together, in the same
-/// words for each kind.
+/// A kind of ring, by the type of its end that puts and of the one that takes: what both ends do together, with the
+/// same contracts for each kind.
 ///
 /// In use: [`relay_flicker`](crate::relay_flicker) and [`relay_counter`](crate::relay_counter), which are one relay
 /// over it.
@@ -135,9 +135,9 @@ pub trait RingOf<E: PutEnd, F: TakeEnd> {
     ghost use Rattle.ring_seats.specs.Steppers.{StandsAs};
     ghost use Rattle.ring_ends.specs.Meetings.{KeepsEnd, Meets, ClosesAre, TellsAre};
 
-    /// Both ends learn one lawful history, whose sides are their two lists and which begins with what each knew. Its calls
-    /// are linearizable. All later calls of both stand behind it. The ends are those of one ring, with no call under way; they come back with
-    /// the same lists. It makes no access and takes no memory.
+    /// Both ends learn one lawful history, whose sides are their two lists and which begins with what each knew. Its calls are
+    /// linearizable. All later calls of both come after it. The ends are those of one ring, with no call under way; they come back with the
+    /// same lists. It makes no access and takes no memory.
     fn meet(putter: E, taker: F) -> (E, F)
         requires ring { (E.end putter).ring ≡ (F.end taker).ring }
         requires idle { E.idle putter × F.idle taker }
@@ -148,9 +148,9 @@ pub trait RingOf<E: PutEnd, F: TakeEnd> {
         ensures linearizable { EachReadingIsLinearizable (E.end putter).ring.shape (E.end result.0).known }
         ensures lawful { StandsAs P (E.end result.0) × StandsAs C (F.end result.1) };
 
-    /// Ends the ring's run, of which one lawful history is left, whose sides are the two lists and which begins with
-    /// what each end knew; its calls are linearizable. The ends are those of one ring, with no call under way; they are gone. What is
-    /// left is of that ring. It makes no access and takes no memory.
+    /// Ends the ring's run, of which one lawful history remains, whose sides are the two lists and which begins with what each end
+    /// knew; its calls are linearizable. The ends are those of one ring, with no call under way; they are consumed. What remains is
+    /// of that ring. It makes no access and takes no memory.
     fn finish(putter: E, taker: F) -> Finished
         requires ring { (E.end putter).ring ≡ (F.end taker).ring }
         requires idle { E.idle putter × F.idle taker }

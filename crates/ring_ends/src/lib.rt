@@ -1,6 +1,6 @@
-//! The ends of a ring, which call by call make the steps of its seats (Lamport 1977, over the registers of 1986): the flickering
-//! ring and the counter ring, the putter and the taker of each, by whole calls and for the flickering one by single steps; how
-//! they are made, meet and end.
+//! The ends of a ring, which perform their calls as steps of its seats (Lamport 1977, over the registers of 1986): the
+//! flickering ring and the counter ring, the putter and the taker of each, with complete calls, and for the flickering ring
+//! single steps; how the ends are made, meet and end.
 #![tactic(auto)]
 
 mod calls;

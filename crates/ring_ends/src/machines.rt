@@ -1,9 +1,9 @@
-//! A side's machine, as its end goes on with it.
+//! A side's machine, as its end drives it.
 
 use bits_core::Access;
 
-/// The machine of a side, whichever it is: the accesses of its calls one by one, and a scan and a word by themselves,
-/// as [`Producer`](ring_core::Producer) and [`Consumer`](ring_core::Consumer) tell them.
+/// The machine of a side, whichever it is: the accesses of its calls one by one, and a scan and a word on their own,
+/// as [`Producer`](ring_core::Producer) and [`Consumer`](ring_core::Consumer) yield them.
 pub(crate) trait SideMachine {
     ghost use Rattle.std.specs.Prelude.{◌≡◌, ◌↔◌, ◌<◌, ℕ, true, false, IfSome, IsTrue};
     ghost use Rattle.ring_ends.specs.Machines.{Machine};
@@ -17,7 +17,7 @@ pub(crate) trait SideMachine {
 
     ghost state: { Self → kind.State };
 
-    // The machine that has come to where its scan is, or its word.
+    // The machine that has reached the point of its scan, or its word.
     ghost scanned: { Self.Scan → kind.State };
 
     ghost worded: { Self.Word → kind.State };
@@ -29,7 +29,7 @@ pub(crate) trait SideMachine {
 
     ghost IsCounting: { Self → Type 0 };
 
-    // How many accesses are left at the most.
+    // How many accesses are left at most.
     ghost reads_left: { Self.Scan → ℕ };
 
     ghost digits_left: { Self.Word → ℕ };
@@ -40,16 +40,16 @@ pub(crate) trait SideMachine {
     fn laws()
         ensures { MachineLaws kind };
 
-    // The access that is due, or that no call is under way.
+    // The access that is due, or `None` if no call is under way.
     fn next(&self) -> Option<Access>
         ensures { TellsNext kind (state self.now) result };
 
-    // The due access was made and answered so.
+    // Records that the due access was made and returned `answer`.
     fn feed(&mut self, answer: bool)
         requires { MayFeed kind (state self.old) answer }
         ensures { Fed kind (state self.old) answer (state self.new) };
 
-    // The scan of the call under way by itself, where one is.
+    // The scan of the call under way on its own, if there is one.
     fn scan(&self) -> Option<Self::Scan>
         ensures { IfSome result (λ s. (scanned s ≡ state self.now) × IsScanOf self.now s) };
 
@@ -57,7 +57,7 @@ pub(crate) trait SideMachine {
         ensures due { Due kind (scanned scan.now) result }
         ensures left { 0 < reads_left scan.now };
 
-    // A 0 was read.
+    // Records that a 0 was read.
     fn scan_zero(scan: &mut Self::Scan)
         requires feeds { MayFeed kind (scanned scan.old) false }
         requires left { 0 < reads_left scan.old }
@@ -65,13 +65,13 @@ pub(crate) trait SideMachine {
         ensures of { (m : Self) → IsScanOf m scan.old → IsScanOf m scan.new }
         ensures left { reads_left scan.new < reads_left scan.old };
 
-    // A 1 was read: the scan is over, and the machine goes on behind it.
+    // Records that a 1 was read: the scan is over, and the machine continues after it.
     fn end_scan(&mut self, scan: Self::Scan)
         requires feeds { MayFeed kind (scanned scan) true }
         requires of { IsScanOf self.old scan }
         ensures { Fed kind (scanned scan) true (state self.new) };
 
-    // The word of the call under way by itself, where one is written or read.
+    // The word of the call under way on its own, if one is being written or read.
     fn word(&self) -> Option<Self::Word>
         ensures { IfSome result (λ w. (worded w ≡ state self.now) × IsWordOf self.now w) };
 
@@ -88,7 +88,7 @@ pub(crate) trait SideMachine {
         ensures of { (m : Self) → IsWordOf m word.old → IsWordOf m word.new }
         ensures left { digits_left word.new < digits_left word.old };
 
-    // The word's last access was made and answered so, and the machine goes on behind it.
+    // Records that the word's last access was made and returned `answer`, and the machine continues after it.
     fn end_word(&mut self, word: Self::Word, answer: bool)
         requires { IsWordOf self.old word }
         ensures { Fed kind (worded word) answer (state self.new) };

@@ -15,8 +15,8 @@ use ring_seats::{View, first_steppers, join_steppers, meet_steppers};
 use std::alloc::{Allocator, Global};
 use std::marker::Model;
 
-/// What is left of a ring's run, whose ends are gone. To a contract it is which ring it is of, one lawful history, whether a close
-/// stands in it, and whether a take was told that the ring is closed.
+/// What remains of a ring's run, whose ends are gone. To a contract it is which ring it is of, one lawful history, whether it has
+/// a close, and whether a take returned Closed.
 ///
 /// In use: `uses::two_threads::pass_through`.
 #[derive(Drop)]
@@ -50,7 +50,7 @@ impl Finished {
         self.closed
     }
 
-    /// Whether the taker was told that the ring is closed.
+    /// Whether a take returned Closed.
     pub fn told(&self) -> bool
         ensures { result ≡ self.now.told }
     {
@@ -59,9 +59,9 @@ impl Finished {
 }
 
 impl<A: Allocator> FlickerRing<A> {
-    /// The two ends of the ring: the one puts, the other takes. They have made no call and know the history with no
-    /// event. The start is the one that was made with this ring; it is spent, so a ring has one pair of ends. Each end
-    /// has an oracle, which says what a read answers whose two loads do not agree. It takes no memory.
+    /// The two ends of the ring: one puts, the other takes. They have made no call and know the history with no event.
+    /// The start is the one that was made with this ring; it is spent, so a ring has one pair of ends. Each end has an
+    /// oracle, which answers a read whose two loads do not agree. It takes no memory.
     pub fn ends<'a, O1: Oracle + Drop, O2: Oracle + Drop>(
         &'a self,
         start: Start,
@@ -99,11 +99,11 @@ impl<A: Allocator> FlickerRing<A> {
     }
 }
 
-// With an allocator's name, so that `FlickerRing::meet` and `FlickerRing::finish` are called with none: ends have none.
+// With an allocator's name, so that `FlickerRing::meet` and `FlickerRing::finish` can be called without one: ends have none.
 impl FlickerRing<Global> {
-    /// Both ends learn one lawful history, whose sides are their two lists and which begins with what each knew. Its calls
-    /// are linearizable. All later calls of both stand behind it. The ends are those of one ring, with no call under way; they come back with
-    /// the same lists and the same oracles, which are asked nothing. It makes no access and takes no memory.
+    /// Both ends learn one lawful history, whose sides are their two lists and which begins with what each knew. Its calls are
+    /// linearizable. All later calls of both come after it. The ends are those of one ring, with no call under way; they come back with the
+    /// same lists and the same oracles, which are not asked. It makes no access and takes no memory.
     pub fn meet<'a, O1: Oracle + Drop, O2: Oracle + Drop>(
         mut putter: Putter<'a, O1>,
         mut taker: Taker<'a, O2>,
@@ -124,9 +124,9 @@ impl FlickerRing<Global> {
         (putter, taker)
     }
 
-    /// Ends the ring's run, of which one lawful history is left, whose sides are the two lists and which begins with
-    /// what each end knew; its calls are linearizable. The ends are those of one ring, with no call under way; they are gone, and their oracles with
-    /// them. The ring's words stay as they are, and its `close` hands them up. It makes no access and takes no memory.
+    /// Ends the ring's run, of which one lawful history remains, whose sides are the two lists and which begins with what each end knew;
+    /// its calls are linearizable. The ends are those of one ring, with no call under way; they are consumed, and their oracles with them.
+    /// The ring's words are unchanged, and its `close` returns them. It makes no access and takes no memory.
     pub fn finish<'a, O1: Oracle + Drop, O2: Oracle + Drop>(
         putter: Putter<'a, O1>,
         taker: Taker<'a, O2>,

@@ -24,10 +24,10 @@ use ring_seats::{Flickering, Stepper};
 use std::marker::Model;
 
 /// The producer's end of a ring. Its calls `put`, `put_all` and `close` are those of [`PutEnd`](crate::PutEnd); the step
-/// calls here make one atomic step each of such a call.
+/// calls here make one atomic step of such a call each.
 ///
-/// To a contract it is its list of events, what it knows, and the call under way with the list where that began. They
-/// take no memory and wait for nobody.
+/// To a contract it is its list of events, what it knows, and the call under way with the list when that began. Its
+/// calls take no memory and never wait.
 ///
 /// In use: `uses::steps::step_putter`.
 #[derive(Drop)]
@@ -36,7 +36,7 @@ pub struct Putter<'a, O: Oracle + Drop> {
     pub(crate) before: Pad,
     pub(crate) stepper: Stepper<'a, Flickering>,
     pub(crate) machine: Producer,
-    // how many events of the call under way the list has, and 0 where none is under way
+    // how many events of the call under way the list has, or 0 if none is under way
     pub(crate) steps: u64,
     pub(crate) oracle: O,
     pub(crate) after: Pad,
@@ -99,6 +99,7 @@ impl SideMachine for Producer {
 
     #[inline(always)]
     fn next(&self) -> Option<Access> {
+        // only for the proof: gives the contract of `expects_one` for the due access
         let _expects = self.expects_one();
         self.next()
     }
@@ -115,6 +116,7 @@ impl SideMachine for Producer {
 
     #[inline(always)]
     fn scan_next(scan: &PutScan) -> Access {
+        // only for the proof: gives the contract of `expects_one` for the due read
         let _expects = scan.expects_one();
         scan.next()
     }
@@ -167,7 +169,7 @@ impl SideMachine for Producer {
     }
 }
 
-// Begins a put where no call is under way.
+// Starts a put if no call is under way.
 fn begin_put(machine: &mut Producer, item: u64)
     requires stands { (calls : Puts) × (made : List Made) × ProducerStands machine.old calls made }
     requires fits { item < 2 ^ width_of machine.old.shape }
@@ -182,7 +184,7 @@ fn begin_put(machine: &mut Producer, item: u64)
     }
 }
 
-// Begins a put of items where no call is under way.
+// Starts a put of items if no call is under way.
 #[inline(always)]
 fn begin_put_all(machine: &mut Producer, items: &[u64])
     requires stands { (calls : Puts) × (made : List Made) × ProducerStands machine.old calls made }
@@ -198,7 +200,7 @@ fn begin_put_all(machine: &mut Producer, items: &[u64])
     }
 }
 
-// Begins a close where no call is under way.
+// Starts a close if no call is under way.
 fn begin_close(machine: &mut Producer)
     requires stands { (calls : Puts) × (made : List Made) × ProducerStands machine.old calls made }
     requires call { (call_of machine.old ≡ None) ⊎ (call_of machine.old ≡ Some Close) }
@@ -211,9 +213,9 @@ fn begin_close(machine: &mut Producer)
 }
 
 impl<'a, O: Oracle + Drop> Putter<'a, O> {
-    /// One step of a put of the item: one event of its accesses. The put begins where no call is under way, and the
-    /// reply comes with its last step. After a close it is answered `Closed` at once, with no step. The item has to fit
-    /// the width, and to be the same until the reply.
+    /// One step of a put of the item: one event of its accesses. The put starts if no call is under way, and the reply
+    /// comes with its last step. After a close it returns `Closed` at once, with no step. The item has to fit the
+    /// width, and to be the same until the reply.
     pub fn step_put(&mut self, item: u64) -> Option<PutReply>
         requires fits { item < 2 ^ width_of self.old.end.ring.shape }
         requires call { (self.old.call ≡ None) ⊎
@@ -273,7 +275,7 @@ impl<'a, O: Oracle + Drop> Putter<'a, O> {
         self.machine.batch_reply()
     }
 
-    /// One step of a close, which begins where no call is under way; true with the last step. A second close is over at
+    /// One step of a close, which starts if no call is under way; true with the last step. A second close is over at
     /// once, with no step.
     pub fn step_close(&mut self) -> bool
         requires call { (self.old.call ≡ None) ⊎ (self.old.call ≡ Some Close) }

@@ -1,4 +1,4 @@
-//! The producer's end of a counter ring apart from its ring.
+//! The producer's end of a counter ring detached from its ring.
 ghost use Rattle.std.specs.Prelude.{◌≡◌};
 ghost use Rattle.ring_ends.specs.Meetings.{ClosesAre};
 
@@ -10,10 +10,10 @@ use ring_seats::{Counting, RestingStepper};
 use std::alloc::Allocator;
 use std::marker::Model;
 
-/// A [`CounterPutter`] apart from its ring. It borrows nothing, so whoever owns the ring too can keep both from one call to
-/// the next. To a contract it is the same end.
+/// A [`CounterPutter`] detached from its ring. It borrows nothing, so an owner of the ring can keep both between calls. To
+/// a contract it is the same end.
 ///
-/// For example, a `ring_held::HeldPutter` keeps one beside its ring.
+/// For example, a `ring_held::HeldPutter` keeps one with its ring.
 #[derive(Drop)]
 pub struct RestingPutter {
     stepper: RestingStepper<Counting>,
@@ -52,7 +52,7 @@ impl<'a> CounterPutter<'a> {
 }
 
 impl RestingPutter {
-    /// The end at its ring, which this has to be. It makes no access.
+    /// The end at its ring, which must be this one. It makes no access.
     pub fn at<'a, A: Allocator>(self, ring: &'a CounterRing<A>) -> CounterPutter<'a>
         requires { self.ring ≡ ring.now }
         ensures { result ≡ self }
@@ -66,7 +66,7 @@ impl RestingPutter {
         }
     }
 
-    /// Whether it has closed the ring: whether a close stands in its list of whole calls.
+    /// Whether it has closed the ring: whether its list of complete calls has a close.
     pub fn is_closed(&self) -> bool
         ensures { ClosesAre self.now.ring.shape self.now.list result }
     {

@@ -1,4 +1,4 @@
-//! The consumer's end of a counter ring apart from its ring.
+//! The consumer's end of a counter ring detached from its ring.
 ghost use Rattle.std.specs.Prelude.{◌≡◌};
 ghost use Rattle.ring_ends.specs.Meetings.{TellsAre};
 
@@ -10,10 +10,10 @@ use ring_seats::{Counting, RestingStepper};
 use std::alloc::Allocator;
 use std::marker::Model;
 
-/// A [`CounterTaker`] apart from its ring, as a [`RestingPutter`](crate::RestingPutter) is a
+/// A [`CounterTaker`] detached from its ring, as a [`RestingPutter`](crate::RestingPutter) is a
 /// [`CounterPutter`](crate::CounterPutter).
 ///
-/// For example, a `ring_held::HeldTaker` keeps one beside its ring.
+/// For example, a `ring_held::HeldTaker` keeps one with its ring.
 #[derive(Drop)]
 pub struct RestingTaker {
     stepper: RestingStepper<Counting>,
@@ -52,7 +52,7 @@ impl<'a> CounterTaker<'a> {
 }
 
 impl RestingTaker {
-    /// The end at its ring, which this has to be. It makes no access.
+    /// The end at its ring, which must be this one. It makes no access.
     pub fn at<'a, A: Allocator>(self, ring: &'a CounterRing<A>) -> CounterTaker<'a>
         requires { self.ring ≡ ring.now }
         ensures { result ≡ self }
@@ -66,7 +66,7 @@ impl RestingTaker {
         }
     }
 
-    /// Whether a take has returned Closed: whether the last of its list of whole takes did.
+    /// Whether a take has returned Closed: whether the last of its list of complete takes did.
     pub fn is_told(&self) -> bool
         ensures { TellsAre self.now.ring.shape self.now.list result }
     {

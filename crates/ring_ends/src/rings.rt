@@ -13,13 +13,13 @@ use ring_seats::{
 use std::alloc::Allocator;
 use std::marker::{Model, PhantomData};
 
-/// Why a ring was not made, or a relay gave no outcome: `OutOfMemory`, where memory for the words of a ring, or for the items
-/// that a relay took, ran out. Its number is 1.
+/// Why a ring was not made, or a relay returned no outcome: `OutOfMemory`, if memory for the words of a ring, or for the
+/// items that a relay took, ran out. Its number is 1.
 ///
 /// In use: `uses::relays::pass_on`.
 pub type RunFault = MemoryFault;
 
-// Unused words on either side of a ring, and of an end: they keep other values off the cache lines of what lies between.
+// Unused words on either side of a ring, and of an end: they keep other values off the cache lines between them.
 #[derive(Drop)]
 pub(crate) struct Pad([u64; 8]);
 
@@ -73,8 +73,9 @@ impl<K: WordKind, A: Allocator> RingIn<K, A> {
         self.shape
     }
 
-    /// The words of the ring, with the rule that holds of them between any two atomic steps of whichever thread. Its
-    /// type says so: a step of a [`Shared`] has to keep the rule of its type, for its key, which is the ring's shape.
+    /// The words of the ring, with the rule that holds of them between any two atomic steps of any thread. Its type
+    /// guarantees this: a step of a [`Shared`] has to preserve the rule of its type, for its key, which is the ring's
+    /// shape.
     pub fn table(&self) -> &Shared<(), View, Shape, RuleOf<K>>
         ensures { (result.now.key ≡ self.now.shape) × (result.now.table_id ≡ self.now.id) ×
             (result.now.table_id.words ≡ K.count self.now.shape) }
@@ -82,9 +83,9 @@ impl<K: WordKind, A: Allocator> RingIn<K, A> {
         &self.table.shared
     }
 
-    /// The words of the ring as they stand, where its run is over: they show the history that is left of it, as this kind of ring
-    /// has it ([`WordKind`]). They are as many as it has. What is left of the run is of this ring; both are gone. It makes no access
-    /// and takes no memory.
+    /// The words of the ring once its run is over: they show the history that remains of it, as this kind of ring does
+    /// ([`WordKind`]). There are as many as the ring has. What remains of the run is of this ring; both are consumed. It makes no
+    /// access and takes no memory.
     ///
     /// In use: `uses::two_threads::pass_through`.
     pub fn close(self, finished: Finished) -> LastWords<A>
@@ -109,13 +110,13 @@ impl<K: WordKind, A: Allocator> RingIn<K, A> {
 /// registers of 1986).
 ///
 /// Each bit has an atomic word of its own: 0 or 1, and 2 while a write of the bit is under way. A read loads the word
-/// twice. Where both loads give 0, or both give 1, that is its answer; else a write may overlap the read, and the
-/// reading end's oracle says what it answers. So a bit is no more than safe: it flickers while it is written.
+/// twice. If both loads return 0, or both return 1, that is its answer; otherwise a write may overlap the read, and
+/// the reading end's oracle answers it. So a bit is only safe: it flickers while it is written.
 ///
 /// In use: `uses::steps::take_amid_put`.
 pub type FlickerRing<A> = RingIn<Flickering, A>;
 
-/// The right to make the two ends of one ring of this kind; with no other can they be made. To a contract it is which ring it is.
+/// The right to make the two ends of one ring of this kind; there is no other way to make them. To a contract it is which ring it is.
 ///
 /// In use: `uses::two_threads::pass_through`, as that of a counter ring.
 #[derive(Drop)]
@@ -139,7 +140,7 @@ impl<K: WordKind> Model for StartIn<K> {
 }
 
 impl<K: WordKind> StartIn<K> {
-    // The start of the ring that this seat is of, which nobody else has.
+    // The start of the ring of this seat, which nobody else has.
     pub(crate) fn of(seat: Seat<(), View>) -> StartIn<K>
         requires { seat.me ≡ (joint [] [] [] [], []) }
         ensures { result ≡ seat.table_id }
@@ -158,8 +159,8 @@ pub type Start = StartIn<Flickering>;
 
 impl<A: Allocator + Copy> FlickerRing<A> {
     /// A ring of this shape with nothing put, and the right to make its ends. It takes memory for one word for each
-    /// bit, and for 16 words behind the close bit, each count and each cell, which keep these apart. `OutOfMemory` is
-    /// answered only where the allocator refused that.
+    /// bit, and for 16 words after the close bit, each count and each cell, which keep these apart. `OutOfMemory` is
+    /// returned only if the allocator refused that.
     pub fn new(alloc: A, shape: Shape) -> Result<(FlickerRing<A>, Start), RunFault>
         ensures { IfOk result (λ r. (r.0.shape ≡ shape) × (r.1 ≡ r.0.id)) }
     {
@@ -169,10 +170,10 @@ impl<A: Allocator + Copy> FlickerRing<A> {
 }
 
 impl<A: Allocator> FlickerRing<A> {
-    /// Loads the word of a bit: 0 or 1, and 2 while a write of the bit is under way. Any thread may do so at any time,
-    /// whatever the two ends are at, and it is no event of theirs. A convenience for who looks on: the word is that of some
-    /// state which keeps the ring's rule ([`FlickerRule`](ring_seats::FlickerRule)), so that there is a lawful history of which its bit shows
-    /// this. That each step keeps the rule, the type of the ring's table says. The bit is one of the ring's shape.
+    /// Loads the word of a bit: 0 or 1, and 2 while a write of the bit is under way. Any thread may do so at any time, whatever the two
+    /// ends are doing, and it is no event of theirs. A convenience for observers: the word is that of some state that satisfies the ring's
+    /// rule ([`FlickerRule`](ring_seats::FlickerRule)), so that there is a lawful history of which its bit shows this. The type of the
+    /// ring's table guarantees that each step preserves the rule. The bit is one of the ring's shape.
     pub fn observe(&self, bit: Bit) -> u64
         requires { belongs self.now.shape bit ≡ true }
         ensures { IsWordFound (KeepsFlickerRule self.now.shape) (word_place self.now.shape bit) result }

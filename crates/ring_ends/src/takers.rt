@@ -24,10 +24,10 @@ use ring_seats::{Flickering, Stepper};
 use std::marker::Model;
 
 /// The consumer's end of a ring. Its calls `take` and `take_all` are those of [`TakeEnd`](crate::TakeEnd); the step calls
-/// here make one atomic step each of such a call.
+/// here make one atomic step of such a call each.
 ///
-/// To a contract it is its list of events, what it knows, and whether a take is under way with the list where that
-/// began and how many items it wants. It takes no memory and waits for nobody.
+/// To a contract it is its list of events, what it knows, and whether a take is under way with the list when that
+/// began and how many items it wants. It takes no memory and never waits.
 ///
 /// In use: `uses::steps::step_taker`.
 #[derive(Drop)]
@@ -36,7 +36,7 @@ pub struct Taker<'a, O: Oracle + Drop> {
     pub(crate) before: Pad,
     pub(crate) stepper: Stepper<'a, Flickering>,
     pub(crate) machine: Consumer,
-    // how many events of the take under way the list has, and 0 where none is under way
+    // how many events of the take under way the list has, or 0 if none is under way
     pub(crate) steps: u64,
     pub(crate) oracle: O,
     pub(crate) after: Pad,
@@ -99,6 +99,7 @@ impl SideMachine for Consumer {
 
     #[inline(always)]
     fn next(&self) -> Option<Access> {
+        // only for the proof: gives the contract of `expects_one` for the due access
         let _expects = self.expects_one();
         self.next()
     }
@@ -115,6 +116,7 @@ impl SideMachine for Consumer {
 
     #[inline(always)]
     fn scan_next(scan: &TakeScan) -> Access {
+        // only for the proof: gives the contract of `expects_one` for the due read
         let _expects = scan.expects_one();
         scan.next()
     }
@@ -167,7 +169,7 @@ impl SideMachine for Consumer {
     }
 }
 
-// Begins a take of at most so many items where none is under way.
+// Starts a take of at most `most` items if none is under way.
 #[inline(always)]
 fn begin_take(machine: &mut Consumer, most: u64)
     requires stands { (calls : Takes) × (made : List Made) × ConsumerStands machine.old calls made }
@@ -193,7 +195,7 @@ fn put_first(items: &[u64], into: &mut [u64])
     into[..items.len()].copy_from_slice(items);
 }
 
-// What the last take was answered, with its items in the first places. During a take none, and the places stay as they were.
+// The reply of the last take, with its items in the first places. `None` during a take, with the places unchanged.
 fn bring(machine: &Consumer, into: &mut [u64]) -> Option<TakeBatchReply>
     requires { IfSome (take_batch_reply machine.now.reply machine.now.items)
         (λ _. length machine.now.items ≤ length into.old) }
@@ -210,8 +212,8 @@ fn bring(machine: &Consumer, into: &mut [u64]) -> Option<TakeBatchReply>
 }
 
 impl<'a, O: Oracle + Drop> Taker<'a, O> {
-    /// One step of a take: one event of its accesses. A take of one begins where none is under way, and the reply comes with
-    /// its last step. Once a take was told `Closed`, each is answered so at once, with no step.
+    /// One step of a take: one event of its accesses. A take of one starts if none is under way, and the reply comes with
+    /// its last step. Once a take has returned `Closed`, each later one does so at once, with no step.
     pub fn step_take(&mut self) -> Option<TakeReply>
         ensures same { IsSameEnd self.old.end self.new.end }
         ensures lawful { StandsAs C self.new.end }
@@ -240,8 +242,8 @@ impl<'a, O: Oracle + Drop> Taker<'a, O> {
         self.machine.reply()
     }
 
-    /// One step of a take of at most as many items as there are places, in the same way: they are written with the reply
-    /// alone. There are 1 to as many places as the shape's take batch, and as many until the reply.
+    /// One step of a take of at most as many items as there are places, in the same way: they are written only with the
+    /// reply. There are 1 to as many places as the shape's take batch, and as many until the reply.
     pub fn step_take_all(&mut self, into: &mut [u64]) -> Option<TakeBatchReply>
         requires some { 1 ≤ length into.old }
         requires few { length into.old ≤ take_batch_of self.old.end.ring.shape }

@@ -8,7 +8,7 @@ use Rattle.ring_seats.specs.Ring.{Ring, RingEnd}
 use Rattle.ring_seats.specs.Steppers.{StandsAs}
 use Rattle.ring_ends.specs.Stored.{HasStored, HasTook}
 
--- what such an end is: the end that it holds
+-- the model of such an end: the end that it holds
 abbrev pub held_end : Ring → Option RingEnd → RingEnd
 held_end ring (Some e) = e
 held_end ring None = record { ring = ring; side = P; list = []; known = []; loads = [] }

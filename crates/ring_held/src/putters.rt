@@ -17,7 +17,7 @@ use std::marker::Model;
 use std::sync::Arc;
 
 /// The producer's end of a counter ring, which owns the ring together with the other end. It may be a field of a struct, and go
-/// to a thread of its own; the ring's memory is given back once both ends are gone. To a contract it is an end, as a
+/// to a thread of its own; the ring's memory is freed once both ends are gone. To a contract it is an end, as a
 /// [`CounterPutter`](ring_ends::CounterPutter) is, and its calls are those of [`PutEnd`].
 #[derive(Drop)]
 #[repr(C)]
@@ -43,7 +43,7 @@ impl<A: Allocator> Model for HeldPutter<A> {
 }
 
 impl<A: Allocator> HeldPutter<A> {
-    /// Whether it has closed the ring: whether a close stands in its list of whole calls.
+    /// Whether it has closed the ring: whether a close stands in its list of complete calls.
     pub fn is_closed(&self) -> bool
         ensures { ClosesAre self.now.ring.shape self.now.list result }
     {
@@ -65,7 +65,7 @@ impl<A: Allocator> PutEnd for HeldPutter<A> {
         self.ring.shape()
     }
 
-    /// As each put; in a queue's words, the items stored are those before and then this one, if it was stored.
+    /// As each put; in terms of a queue, the items stored are those before and then this one, if it was stored.
     fn put(&mut self, item: u64) -> PutReply
         requires fits { item < 2 ^ width_of self.old.ring.shape }
         ensures same { IsSameEnd self.old self.new }
@@ -82,7 +82,7 @@ impl<A: Allocator> PutEnd for HeldPutter<A> {
         reply
     }
 
-    /// As each put of several; the items stored are those before and then the first of these, as many as it answers.
+    /// As each put of several; the items stored are those before and then the first of these, as many as its reply says.
     fn put_all(&mut self, items: &[u64]) -> BatchReply
         requires batch { IsBatch self.old.ring.shape items.now }
         ensures same { IsSameEnd self.old self.new }
@@ -99,7 +99,7 @@ impl<A: Allocator> PutEnd for HeldPutter<A> {
         reply
     }
 
-    /// As each close; the items stored stay.
+    /// As each close; the items stored are the same.
     fn close(&mut self)
         ensures same { IsSameEnd self.old self.new }
         ensures lawful { StandsAs P self.new }

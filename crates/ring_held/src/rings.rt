@@ -15,8 +15,8 @@ use ring_ends::{CounterRing, Finished, RunFault};
 use std::alloc::Allocator;
 use std::sync::Arc;
 
-/// A new counter ring of this shape, by its two ends: the one puts, the other takes. It takes memory for the ring's words and
-/// once for the ring itself. `OutOfMemory` is returned if the allocator refused either, and then all is given back.
+/// A new counter ring of this shape, by its two ends: one puts, the other takes. It takes memory for the ring's words and
+/// once for the ring itself. `OutOfMemory` is returned if the allocator refused either, and then all of it is freed.
 #[tactic(auto, using(ring_ends::proofs::StoredItems::none_stored, ring_ends::proofs::StoredItems::none_took))]
 pub fn hold<A: Allocator + Copy>(
     alloc: A,
@@ -87,9 +87,9 @@ pub fn meet<A: Allocator>(
     )
 }
 
-/// Ends the ring's run, of which one lawful history is left, whose sides are the two lists and which begins with what each end
-/// knew; its calls are linearizable. The items taken are a prefix of the items stored, and all of them if a take has
-/// returned Closed. The ends are those of one ring; they are gone, and the ring with them. It makes no access and takes no memory.
+/// Ends the ring's run, of which one lawful history remains, whose sides are the two lists and which begins with what each end
+/// knew; its calls are linearizable. The items taken are a prefix of the items stored, and all of them if a take has returned
+/// Closed. The ends are those of one ring; they are consumed, and the ring with them. It makes no access and takes no memory.
 pub fn finish<A: Allocator>(putter: HeldPutter<A>, taker: HeldTaker<A>) -> Finished
     requires ring { putter.ring ≡ taker.ring }
     ensures ring { result.id ≡ putter.ring.id }
@@ -100,7 +100,9 @@ pub fn finish<A: Allocator>(putter: HeldPutter<A>, taker: HeldTaker<A>) -> Finis
     ensures prefix { TakesArePrefix putter taker }
     ensures all { TakesAreAll putter taker result.told }
 {
+    // only for the proof: the law of the ring
     ring_law();
+    // only for the proof: what complete calls count
     whole_calls_count();
     let HeldPutter { ring, end: p, .. } = putter;
     let HeldTaker { end: c, .. } = taker;

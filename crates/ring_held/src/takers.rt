@@ -43,7 +43,7 @@ impl<A: Allocator> Model for HeldTaker<A> {
 }
 
 impl<A: Allocator> HeldTaker<A> {
-    /// Whether a take has returned Closed: whether the last of its list of whole takes did.
+    /// Whether a take has returned Closed: whether the last of its list of complete takes did.
     pub fn is_told(&self) -> bool
         ensures { TellsAre self.now.ring.shape self.now.list result }
     {
@@ -65,7 +65,7 @@ impl<A: Allocator> TakeEnd for HeldTaker<A> {
         self.ring.shape()
     }
 
-    /// As each take; in a queue's words, the items taken are those before and then the one that it answers, if it answers one.
+    /// As each take; in terms of a queue, the items taken are those before and then the one that it returns, if it returns one.
     fn take(&mut self) -> TakeReply
         ensures same { IsSameEnd self.old self.new }
         ensures lawful { StandsAs C self.new }
@@ -81,7 +81,7 @@ impl<A: Allocator> TakeEnd for HeldTaker<A> {
         reply
     }
 
-    /// As each take of several; the items taken are those before and then those in the first places, as many as it answers.
+    /// As each take of several; the items taken are those before and then those in the first places, as many as its reply says.
     fn take_all(&mut self, into: &mut [u64]) -> TakeBatchReply
         requires some { 1 ≤ length into.old }
         requires few { length into.old ≤ take_batch_of self.old.ring.shape }

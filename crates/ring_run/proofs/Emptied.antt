@@ -1,4 +1,4 @@
--- What a take that finds the ring empty says of the puts that its taker knows.
+-- What a take that finds the ring empty implies about the puts that its taker knows.
 use Rattle.std.proofs.Common.{◌≡◌, ⊎_elim, ℕ, zero, suc, ◌+◌, ◌-◌, ◌*◌, ◌<◌, ◌≤◌, nat_le, if◌then◌else◌, Bool, true, false, Option, Some, None, List, [], ◌∷◌, ◌++◌, length, take, refl, ap, sym, subst, ◌∙◌, arith, append-nil, append_assoc, length-append}
 use Rattle.std.proofs.lemmas.Bool.{le-leb}
 use Rattle.std.specs.Prelude.{slice_get}
@@ -34,7 +34,7 @@ use Rattle.ring_core.proofs.RingHolds.{there}
 pub use Rattle.ring_core.proofs.CountRow.{past_is}
 use Rattle.ring_core.proofs.Machines.TakeCalls.{reply-push as last-snoc}
 
--- ---- how many items calls store and take that have ended
+-- ---- how many items the calls that have ended store and take
 
 pub by_true : (b : Bool) (xs ys : List ℕ) → b ≡ true → length ((if b then xs else []) ++ ys) ≡ length xs + length ys
 by_true true xs ys e = length-append xs ys
@@ -79,7 +79,7 @@ none_more (x ∷ xs) seen = ap (λ l. taken_of x ++ l) (none_more xs seen)
 
 -- ---- own events
 
--- before a place of a beginning of the history a side has no more events than in that, and behind it no fewer
+-- before a place of a prefix of the history a side has no more events than in the prefix, and after it no fewer
 inside : (s : Side) (known more : List Event) (place : ℕ) → place ≤ length known → clock s (known ++ more) place ≤ length (subhistory s known)
 inside s known more zero l = omega arith
 inside s [] more (suc n) l = absurd (omega (arith, l))
@@ -98,7 +98,7 @@ behind s (e ∷ known) more (suc n) l =
     (λ by. omega (arith, rest, ap length (own_mine s e (take n (known ++ more)) by), ap length (own_mine s e known by)))
     (λ by. omega (arith, rest, ap length (own_theirs s e (take n (known ++ more)) by), ap length (own_theirs s e known by)))
 
--- an own event of a side that is not among those of the known history stands behind it
+-- an own event of a side that is not among those of the known history comes after it
 later_than : (s : Side) (known more h : List Event) (start place : ℕ) → known ++ more ≡ h → clock s h (suc place) ≡ suc start → length (subhistory s known) ≤ start → length known ≤ place
 later_than s known more h start place is number_past long = go (dec_lt place (length known))
   where
@@ -108,21 +108,21 @@ later_than s known more h start place is number_past long = go (dec_lt place (le
         absurd (omega (arith, few, ap (λ l. clock s l (suc place)) is, number_past, long))
     go (no l) = omega (arith, l)
 
--- ---- a call whose events stand behind a history that its side knows
+-- ---- a call whose events come after a history that its side knows
 
 module _ {shape : Shape} {known : List Event} (x : Side) {after : List Event} (st : Stands shape x after known) where
-  -- it began behind what is known, where all its side's events before were those of open calls
+  -- it began after the known history, in which all its side's events are those of complete calls
   pub later : {before : List Event} (phrases ends : List Made) (place : ℕ) → IsPrefix (subhistory x known) before → before ≡ events_of x (phrases ++ ends) → ends ≡ []
       → IsPlaceOf x st.history (events_in phrases) place → length known ≤ place
   later {before} phrases ends place begins is none at =
       later_than x known st.begins.0 st.history (events_in phrases) place st.begins.1 at.past
       (omega (arith, ap length is, length-events_of x (phrases ++ ends), length-append phrases ends, ap length none, ap length begins.1, length-append (subhistory x known) begins.0))
 
-  -- where its list is that of whole calls, all their accesses are made
+  -- if its list is that of complete calls, all their accesses are made
   pub all_made : (phrases : List Made) → after ≡ events_of x (phrases ++ []) → events_in phrases ≤ length (subhistory x st.history)
   all_made phrases is = omega (arith, ap length (st.list_is ∙ is), length-events_of x (phrases ++ []), length-append phrases [])
 
-  -- and what is known of a side's calls begins them
+  -- and the known part of a side's calls is a prefix of them
   pub own_known : (y : Side) → IsPrefix (subhistory y known) (subhistory y st.history)
   own_known y = (subhistory y st.begins.0, sym (subhistory-append y known st.begins.0) ∙ ap (subhistory y) st.begins.1)
 
@@ -212,7 +212,7 @@ empty_of (ItemAfterClose seen again []) e = absurd (cc)
 empty_of (ItemAfterClose seen again (item ∷ items)) e = absurd (cc)
 empty_of (Empty seen) e = (seen, refl)
 
--- the take that was answered so
+-- what the take with this reply adds
 empty_adds :
     (shape : Shape) (wanted : ℕ) (before after : List Event) (calls : Takes) (told : Bool) → TakeAdds told shape wanted calls reply.Empty before after →
     (seen : ℕ) × (calls.end ≡ Open) × HasTakes shape after (and_take calls (Empty seen))
@@ -225,7 +225,7 @@ empty_adds shape wanted before after calls false (more, is_more, replied, has) =
     (λ told. absurd (let q : Some reply.Empty ≡ Some reply.Closed = replied ∙ ap (λ (t : Takes). reply_at_end t.end t.takes) told.2 in cc))
     is_more.is_one_more
 
--- a take of several items, by the first of them
+-- a take of several items, with the first of them
 by_first : (r : Option TakeReply) (items : List ℕ) (y : TakeBatchReply) → Some y ≡ takes.take_batch_reply r items → (x : TakeReply) × (r ≡ Some x)
 by_first None items y is = absurd (cc)
 by_first (Some x) items y is = (x, refl)
@@ -286,7 +286,7 @@ take_phrases-append shape c (x ∷ xs) ys =
     ap (λ l. take_phrase shape c x ++ l) (take_phrases-append shape (count_after shape c x) xs ys) ∙
     sym (append_assoc (take_phrase shape c x) (take_phrases shape (count_after shape c x) xs) (take_phrases shape (taken_count shape (count_after shape c x) xs) ys))
 
--- the accesses of calls that are not over begin those of one take more
+-- the accesses of calls that are not over are a prefix of those with one more take
 one_more : (shape : Shape) (wanted : ℕ) (calls next : Takes) → takes.HasTakeMore shape wanted calls next → (rest : List Made) × (take_program shape next ≡ take_program shape calls ++ rest)
 one_more shape wanted calls next is_more =
     let phrases : List Made = take_phrases shape first_count calls.takes in

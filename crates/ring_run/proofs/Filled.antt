@@ -1,4 +1,4 @@
--- What a put that finds the ring full says of the takes that its putter knows.
+-- What a put that finds the ring full implies about the takes that its putter knows.
 use Rattle.std.proofs.Common.{◌≡◌, ℕ, ◌+◌, ◌-◌, ◌*◌, ◌≤◌, Bool, true, false, Some, List, [], ◌∷◌, ◌++◌, length, refl, ap, sym, subst, ◌∙◌, arith, append-nil, length-append}
 use Rattle.std.proofs.lemmas.Bool.{le-leb}
 use Rattle.std.specs.Prelude.{nat_le}
@@ -34,7 +34,7 @@ stored_is n [] = omega arith
 stored_is n (Full seen ∷ puts) = stored_is n puts
 stored_is n (Stored seen items ∷ puts) = omega (arith, stored_is (number_past n items) puts, past_is n items, length-append items (all_put puts))
 
--- whole takes have ended, also where more follow
+-- complete takes have ended, even if more follow
 all_ended :
     (shape : Shape) (c : Count) (xs more : List Take) (t : ℕ) → events_in (take_phrases shape c xs) ≤ t →
     length (all_taken xs) ≤ length (items_taken shape c (xs ++ more) t)
@@ -98,7 +98,7 @@ module _ (law : InEveryRun FullIsFresh) (first : TakesAreFirst)
   known_long : length (subhistory C known) ≡ 2 * (length (take_phrases shape first_count takes.takes) + length (end_phrase takes.end))
   known_long = omega (arith, ap length whole.list_is, length-events_of C (take_program shape takes), length-append (take_phrases shape first_count takes.takes) (end_phrase takes.end))
 
-  -- the known takes had ended where it began
+  -- the known takes had ended when it began
   pub filled : length (all_taken takes.takes) + capacity_of shape ≤ length (all_put calls.puts)
   filled =
       let t : ℕ = clock C st.history place in
@@ -112,7 +112,7 @@ full_of : (x : Put) → puts.put_reply_to x ≡ reply.Full → (seen : ℕ) × (
 full_of (Stored seen items) e = absurd (cc)
 full_of (Full seen) e = (seen, refl)
 
--- the put that was answered so
+-- what the put with this reply adds
 full_adds :
     (shape : Shape) (before after : List Event) (calls : Puts) (items : List ℕ) (closed : Bool) → PutAdds closed shape calls items reply.Full before after →
     (seen : ℕ) × (closed ≡ false) × HasPuts shape after (and_put calls (Full seen))

@@ -1,4 +1,4 @@
--- A take of one item, told as one of several.
+-- A take of one item, seen as one of several.
 use Rattle.std.proofs.Common.{◌≡◌, ⊎_elim, ℕ, Bool, true, false, Some, None, List, [], take, ap, sym, subst, ◌∙◌}
 use Rattle.bits_core.specs.declared.shapes.Shape.{Shape}
 use Rattle.bits_core.specs.declared.events.Event.{Event}
@@ -13,7 +13,7 @@ use Rattle.ring_core.proofs.Machines.TakeCalls.{reply-push as last-snoc}
 use Rattle.ring_ends.specs.Ends.{HasTaken, HasTakenAll, IsTakeReply, TakeAdds, TakeAllAdds, number_brought}
 use Rattle.ring_run.proofs.RelayTakes.{items_snoc}
 
--- the items of the last take are those that its reply tells
+-- the items of the last take are those of its reply
 items_told :
     TakesOfOne → (shape : Shape) (calls more : Takes) (answer : TakeReply) → HasTakeMore shape 1 calls more → IsTakeReply more answer →
     items_at_end more.end more.takes ≡ reply_items answer
@@ -45,7 +45,7 @@ adds_so one shape calls before after answer said into is brought false adds =
     let replied : Some answer ≡ reply_at_end more.end more.takes = adds.2 in
     (more, adds.1, (is ∙ (λ i. take_batch_reply (replied i) (sym items i)), brought ∙ sym items), adds.3)
 
--- it is answered and brings what a take of several does, at the one place
+-- it returns and brings what a take of several does, at the one place
 pub one_of_several :
     TakesOfOne → (shape : Shape) (before after : List Event) (answer : TakeReply) (said : TakeBatchReply) (into : List ℕ) →
     Some said ≡ take_batch_reply (Some answer) (reply_items answer) → take (number_brought said) into ≡ reply_items answer →

@@ -1,4 +1,4 @@
--- One put or take more of a relay.
+-- One more put or take of a relay.
 use Rattle.std.proofs.Common.{◌≡◌, ◌⊎◌, ⊎_elim, ℕ, zero, suc, ◌+◌, ◌-◌, ◌<◌, ◌≤◌, Bool, false, List, [], ◌∷◌, ◌++◌, length, take, ◌%◌, refl, ap, sym, subst, ◌∙◌, arith, Result, Ok, Err}
 use Rattle.std.specs.Prelude.{IfErr}
 use Rattle.std.proofs.lemmas.List.{length-append, length-drop, length-take-le}
@@ -28,7 +28,7 @@ pub use Rattle.ring_seats.proofs.CounterSteps.{same_end as same_trans}
 
 -- ---- lists
 
--- the first of the first are the first
+-- a prefix of a prefix is a prefix
 first_of : (a b : ℕ) (xs : List ℕ) → (take a (take b xs) ≡ take (length (take a (take b xs))) xs) × (length (take a (take b xs)) ≤ length xs)
 first_of zero zero [] = (refl, omega arith)
 first_of zero zero (x ∷ xs) = (refl, omega arith)
@@ -61,7 +61,7 @@ offers shape items put n all more some few left =
       fit = AllFit-take shape n (drop put items) (AllFit-drop shape put items all);
     }
 
--- what a put is given is a batch of the items left, or all of them
+-- what a put is offered is a batch of the items left, or all of them
 pub given_is : (shape : Shape) (n : ℕ) (xs : List ℕ) → (n ≡ batch_of shape) ⊎ ((n ≡ length xs) × (length xs ≤ batch_of shape)) → take n xs ≡ take (batch_of shape) xs
 given_is shape n xs most = ⊎_elim
     (λ (is : n ≡ batch_of shape). ap (λ k. take k xs) is)
@@ -89,7 +89,7 @@ drop_both zero b xs = ap (λ k. drop k xs) (let e : b ≡ 0 + b = omega arith in
 drop_both (suc a) b [] = drop-nil b ∙ sym (drop-nil (suc a + b))
 drop_both (suc a) b (x ∷ xs) = drop_both a b xs ∙ ap (λ k. drop k (x ∷ xs)) (let e : suc (a + b) ≡ suc a + b = omega arith in e)
 
--- one put more, given the items that those before it left
+-- one more put, offered the items that those before it left
 given_more : (shape : Shape) (n : ℕ) (items : List ℕ) (xs : List Put) (x : Put) → AreGiven shape n items xs →
     IsPutOf shape (puts.stored_in n xs) (take (batch_of shape) (drop (length (all_put xs)) items)) x → AreGiven shape n items (xs ++ x ∷ [])
 given_more shape n items [] x are is = (is, tt)
@@ -123,7 +123,7 @@ module _ (read : PutsAreRead) (shape : Shape) (list list' : List Event) (items :
       let same : h.calls ≡ p.calls = same_puts read shape list h.calls p.calls h.before_is p.list_is in
       subst (λ (z : Puts × Bool). PutAdds z.1 shape z.0 given reply list list') (λ i. (same i, (ap (λ (q : Puts). q.closes) same ∙ p.closes_is) i)) h.adds
 
-  -- the calls with one put more
+  -- the calls with one more put
   more_given : (given : List ℕ) → given ≡ take (batch_of shape) (drop put items) → (x : Put) → IsPutOf shape (put_calls.count_of shape p.calls).number given x → AreGiven shape 0 items (p.calls.puts ++ x ∷ [])
   more_given given is x of =
       let long : put ≡ length (all_put p.calls.puts) = sym (ap length p.in_order ∙ length-take-le put items p.within) in

@@ -1,4 +1,4 @@
--- One take more of a relay.
+-- One more take of a relay.
 use Rattle.std.proofs.Common.{◌≡◌, ◌≢◌, ⊎_elim, ℕ, ◌+◌, ◌-◌, ◌≤◌, Bool, true, false, Some, None, List, [], ◌∷◌, ◌++◌, length, take, refl, ap, sym, subst, ◌∙◌, arith, append-nil}
 use Rattle.std.specs.Prelude.{min}
 use Rattle.std.proofs.lemmas.List.{length-append}
@@ -36,7 +36,7 @@ no_takes_are shape list limit is = record {
 
 -- ---- lists of takes, and one more
 
--- the takes that find the ring empty, of one take, and by the reply
+-- whether a take found the ring empty, by the take and by its reply
 empty_of : Take → ℕ
 empty_of (takes.Item seen items) = 0
 empty_of (takes.ItemAfterClose seen again items) = 0
@@ -82,9 +82,9 @@ asked_more shape k left (y ∷ xs) x are is =
     omega (arith, length-append (taken_of y) (all_taken xs), used_is y, empties_more y xs) in
     (are.0, asked_more shape (taken_after k y) (left - used_by y) xs x are.1 (subst (λ n. IsTakeOf shape (taken_in (taken_after k y) xs) (min (take_batch_of shape) n) x) all is))
 
--- ---- one take more, by its reply
+-- ---- one more take, by its reply
 
--- the reply to a take, and the take: where it took some it tells how many, at least one
+-- the reply to a take, and the take: if it took some, the reply has how many, at least one
 empty_told : (x : Take) (y : replies.TakeBatchReply) → Some y ≡ take_batch_reply (Some (take_reply_to x)) (taken_of x) → empty_of x ≡ empty_one y
 unfolding empty_of empty_one
 empty_told (takes.Item seen []) y is = let e : y ≡ reply.Taken 0 = cc in sym (ap empty_one e)
@@ -107,7 +107,7 @@ never_closed (takes.ItemAfterClose seen again []) e = cc
 never_closed (takes.ItemAfterClose seen again (item ∷ items)) e = cc
 never_closed (takes.Empty seen) e = cc
 
--- a take that is answered so found the ring empty
+-- a take with this reply found the ring empty
 was_one_empty : (x : Take) → Some reply.Empty ≡ take_batch_reply (Some (take_reply_to x)) (taken_of x) → (seen : ℕ) × (x ≡ takes.Empty seen)
 was_one_empty (takes.Item seen []) e = absurd (cc)
 was_one_empty (takes.Item seen (item ∷ items)) e = absurd (cc)
@@ -115,7 +115,7 @@ was_one_empty (takes.ItemAfterClose seen again []) e = absurd (cc)
 was_one_empty (takes.ItemAfterClose seen again (item ∷ items)) e = absurd (cc)
 was_one_empty (takes.Empty seen) e = (seen, refl)
 
--- the take that was made, and what it was answered
+-- the take that was made, and its reply
 record Made (shape : Shape) (list' : List Event) (calls : Takes) (wanted : ℕ) (y : replies.TakeBatchReply) (into : List ℕ) : Type 0 where
   x : Take
   of : IsTakeOf shape (taken_in 0 calls.takes) wanted x

@@ -1,4 +1,4 @@
--- What the law of the ring says of a relay.
+-- What the law of the ring implies about a relay.
 use Rattle.std.proofs.Common.{Bool, false, List, [], ap, append-nil, arith, eqb-true, length, subst, sym, take, true, ℕ, ◌+◌, ◌==◌, ◌∙◌, ◌≡◌, ◌≤◌}
 use Rattle.std.proofs.lemmas.List.{length-append, length-take-le}
 use Rattle.std.proofs.Math.Seq.{take-length}
@@ -89,7 +89,7 @@ module _ (within : InEveryRun IsWithin) (prefix : InEveryRun TakenArePrefix) (cl
       let t = (takes_count shape h takes r.takes.takes.list_is.are r.takes.takes.list_is.list_is).1 in
       omega (arith, w.1, ap (puts_begun shape puts) (clock_at_end P h), ap (takes_begun shape takes) (clock_at_end C h), p, t, ap length r.puts.puts.in_order, length-take-le put items r.puts.puts.within, ap length r.takes.takes.taken_is)
 
--- what a relay's ends and their meeting say, of one history
+-- what a relay's ends and their meeting imply about one history
 pub relayed :
     (shape : Shape) (items : List ℕ) (most_puts most_takes put made full : ℕ) (taken : List ℕ) (made_takes empty : ℕ) (closed : Bool) (p c : RingEnd) → p.ring.shape ≡ shape → c.ring.shape ≡ shape → (h : List Event) → Meets p c h →
     EachReadingIsLinearizable p.ring.shape h → HasRelayedPuts p.ring.shape p.list items most_puts put made full → HasRelayedTakes c.ring.shape c.list most_takes taken made_takes empty closed → IsRelayed shape items most_puts most_takes put made full taken made_takes empty closed

@@ -1,4 +1,4 @@
--- What a caller of the ends may rest on.
+-- What a caller of the ends may rely on.
 use Rattle.std.specs.Prelude.{◌≡◌, ℕ, ◌+◌, ◌≤◌, false, List, length}
 use Rattle.bits_core.specs.declared.shapes.Shape.{Shape}
 use Rattle.bits_core.specs.declared.events.Side.TheVariants.{P, C}
@@ -19,8 +19,8 @@ use Rattle.ring_seats.specs.Rule.{Stands}
 use Rattle.ring_ends.specs.Ends.{HasPuts, HasPut, HasPutAll, HasTakes, HasTaken, HasTakenAll}
 pub use Rattle.ring_seats.specs.Laws.{PutsAreShown, TakesAreShown, WordsAreTold}
 
--- A taker knows a history, whose puts are whole, and has made whole takes, those of that history among them. Where the next take
--- finds the ring empty, each item of these puts was taken before it, and no close stands behind them.
+-- A taker knows a history, whose puts are whole, and has made complete takes, those of that history among them. If the next take
+-- finds the ring empty, each item of these puts was taken before it, and no close follows them.
 abbrev pub EmptyAfterMeeting : Type 0
 EmptyAfterMeeting =
     (shape : Shape) (known before after : List Event) (puts : Puts) (takes : Takes) (wanted : ℕ) (into : List ℕ) →
@@ -28,7 +28,7 @@ EmptyAfterMeeting =
     Stands shape C after known → HasTakenAll shape wanted before after several_take.Empty into →
     (length (all_put puts.puts) ≤ length (all_taken takes.takes)) × (puts.closes ≡ false)
 
--- and so where the next take is one of a single item
+-- the same if the next take is of a single item
 abbrev pub ItemEmptyAfterMeeting : Type 0
 ItemEmptyAfterMeeting =
     (shape : Shape) (known before after : List Event) (puts : Puts) (takes : Takes) →
@@ -36,7 +36,7 @@ ItemEmptyAfterMeeting =
     Stands shape C after known → HasTaken shape before after single_take.Empty →
     (length (all_put puts.puts) ≤ length (all_taken takes.takes)) × (puts.closes ≡ false)
 
--- A putter knows a history, whose takes are whole, and has made whole puts, those of that history among them. Where the next put
+-- A putter knows a history, whose takes are whole, and has made complete puts, those of that history among them. If the next put
 -- finds the ring full, the items of its puts, less those of these takes, are at least the capacity.
 abbrev pub FullAfterMeeting : Type 0
 FullAfterMeeting =
@@ -45,7 +45,7 @@ FullAfterMeeting =
     Stands shape P after known → HasPutAll shape items before after several.Full →
     length (all_taken takes.takes) + capacity_of shape ≤ length (all_put puts.puts)
 
--- and so where the next put is one of a single item
+-- the same if the next put is of a single item
 abbrev pub ItemFullAfterMeeting : Type 0
 ItemFullAfterMeeting =
     (shape : Shape) (known before after : List Event) (takes : Takes) (puts : Puts) (item : ℕ) →
@@ -53,16 +53,16 @@ ItemFullAfterMeeting =
     Stands shape P after known → HasPut shape item before after single.Full →
     length (all_taken takes.takes) + capacity_of shape ≤ length (all_put puts.puts)
 
--- a put leaves the list that was there, and adds to it
+-- a put only adds to the list
 abbrev pub PutsAdd : Type 0
 PutsAdd = (shape : Shape) (items : List ℕ) (before after : List Event) (reply : BatchReply) → HasPutAll shape items before after reply → IsPrefix before after
 
--- a take leaves the list that was there, and adds to it
+-- a take only adds to the list
 abbrev pub TakesAdd : Type 0
 TakesAdd =
     (shape : Shape) (wanted : ℕ) (before after : List Event) (reply : TakeBatchReply) (into : List ℕ) →
     HasTakenAll shape wanted before after reply into → IsPrefix before after
 
--- and so does one of a single item
+-- and so does a take of a single item
 abbrev pub ItemTakesAdd : Type 0
 ItemTakesAdd = (shape : Shape) (before after : List Event) (reply : TakeReply) → HasTaken shape before after reply → IsPrefix before after

@@ -1,4 +1,4 @@
--- What a relay works its two ends to.
+-- The result of a relay's work on its two ends.
 use Rattle.std.specs.Prelude.{◌≡◌, ◌⊎◌, ℕ, ◌+◌, ◌-◌, ◌<◌, ◌≤◌, ◌==◌, Bool, false, List, [], ◌∷◌, length, min, take, drop, if◌then◌else◌}
 use Rattle.bits_core.specs.declared.shapes.Shape.{Shape}
 use Rattle.bits_core.specs.declared.events.Event.{Event}
@@ -16,15 +16,15 @@ use Rattle.ring_core.specs.Over.{fulls, empties}
 use Rattle.ring_core.specs.ConsumerCalls.{and_take, ends_closed, IsTakeOf}
 use Rattle.ring_ends.specs.Ends.{HasPuts, HasTakes}
 
--- These puts, behind n items, were given the items in order: each as many of those not yet stored as the shape's batch has, or
--- all where fewer are left.
+-- These puts, after n items, were offered the items in order: each as many of those not yet stored as the shape's batch has,
+-- or all if fewer are left.
 abbrev pub AreGiven : Shape → ℕ → List ℕ → List Put → Type 0
 AreGiven shape n items [] = Unit {0}
 AreGiven shape n items (x ∷ puts) =
     IsPutOf shape n (take (batch_of shape) items) x × AreGiven shape (number_after n x) (drop (stored_by x) items) puts
 
--- the list is of `made` puts, which were given the items so, stored the first `put` of them in order and of which `full` found
--- the ring full, and perhaps of a close
+-- the list is of `made` puts, which were offered the items in this way, stored the first `put` of them in order and of which
+-- `full` found the ring full, and perhaps of a close
 pub record PutsAre (shape : Shape) (list : List Event) (items : List ℕ) (put made full : ℕ) (closes : Bool) : Type 0 where
   pub calls : Puts
   pub list_is : HasPuts shape list calls
@@ -41,27 +41,28 @@ pub record EndsFull (shape : Shape) (list : List Event) : Type 0 where
   pub seen : ℕ
   pub list_is : HasPuts shape list (and_put before (Full seen))
 
--- all items were stored, or as many puts as the limit were made, or the last one found the ring full; a close stands exactly if all were stored
+-- all items were stored, or as many puts as the limit were made, or the last one found the ring full; there is a close exactly if all were
+-- stored
 pub record HasRelayedPuts (shape : Shape) (list : List Event) (items : List ℕ) (limit put made full : ℕ) : Type 0 where
   pub puts : PutsAre shape list items put made full (put == length items)
   pub most : made ≤ limit
   pub all_or_limit : (put ≡ length items) ⊎ ((made ≡ limit) ⊎ EndsFull shape list)
 
--- how much of a relay's limit a take uses up: one for each item that it took, and one where it found the ring empty
+-- how much of a relay's limit a take uses up: one for each item that it took, and one if it found the ring empty
 abbrev pub used_by : Take → ℕ
 used_by (Item seen items) = length items
 used_by (ItemAfterClose seen again items) = length items
 used_by (Empty seen) = 1
 
--- These takes, behind k items, with so much left of the limit, asked for items in turn: each for as many as the shape's take batch,
--- or for as many as were left where these are fewer.
+-- These takes, after k items, with this much left of the limit, requested items in turn: each for as many as the shape's take
+-- batch, or for as many as were left if these are fewer.
 abbrev pub AreAsked : Shape → ℕ → (left : ℕ) → List Take → Type 0
 AreAsked shape k left [] = Unit {0}
 AreAsked shape k left (x ∷ takes) =
     IsTakeOf shape k (min (take_batch_of shape) left) x × AreAsked shape (taken_after k x) (left - used_by x) takes
 
--- the list is of `made` takes of these items, in order, which asked for them so, of which `empty` found the ring empty, and perhaps one was
--- told that the ring is closed
+-- the list is of `made` takes of these items, in order, which requested them in this way, of which `empty` found the ring empty, and
+-- perhaps one returned Closed
 pub record TakesAre (shape : Shape) (list : List Event) (limit : ℕ) (taken : List ℕ) (made empty : ℕ) (told : Bool) : Type 0 where
   pub calls : Takes
   pub list_is : HasTakes shape list calls
@@ -77,14 +78,14 @@ pub record EndsEmpty (shape : Shape) (list : List Event) : Type 0 where
   pub seen : ℕ
   pub list_is : HasTakes shape list (and_take before (Empty seen))
 
--- The items taken and the takes that brought none are at most as many as the limit, so the takes are. If none was told that the ring is
--- closed, they are as many, or the last take found the ring empty.
+-- The items taken and the takes that brought none are at most as many as the limit, so the takes are. If none returned Closed, they are
+-- as many, or the last take found the ring empty.
 pub record HasRelayedTakes (shape : Shape) (list : List Event) (limit : ℕ) (taken : List ℕ) (made empty : ℕ) (closed : Bool) : Type 0 where
   pub takes : TakesAre shape list limit taken made empty closed
   pub most : length taken + empty + (if closed then 1 else 0) ≤ limit
   pub all : closed ≡ false → (length taken + empty ≡ limit) ⊎ EndsEmpty shape list
 
--- whole takes were made, within the limit; they took more items than this number, and none was told that the ring is closed
+-- complete takes were made, within the limit; they took more items than this number, and none returned Closed
 pub record HasTakenMore (shape : Shape) (list : List Event) (limit number : ℕ) : Type 0 where
   pub taken : List ℕ
   pub made : ℕ
@@ -93,14 +94,14 @@ pub record HasTakenMore (shape : Shape) (list : List Event) (limit number : ℕ)
   pub most : length taken + empty ≤ limit
   pub more : number < length taken
 
--- all that a relay's puts may come to
+-- all possible results of a relay's puts
 pub record HasMadePuts (shape : Shape) (list : List Event) (items : List ℕ) (limit : ℕ) : Type 0 where
   pub put : ℕ
   pub made : ℕ
   pub full : ℕ
   pub puts : HasRelayedPuts shape list items limit put made full
 
--- one lawful history, whose two sides follow their programs, counts so; its calls are linearizable
+-- one lawful history, whose two sides follow their programs, has these counts; its calls are linearizable
 pub record IsRelayed (shape : Shape) (items : List ℕ) (most_puts most_takes put made full : ℕ) (taken : List ℕ) (made_takes empty : ℕ) (closed : Bool) : Type 0 where
   pub history : List Event
   pub ring : IsRing shape history

@@ -13,7 +13,7 @@ use std::sync::atomic::{AtomicU64, Ordering};
 /// In use: `lamport_ring run --record`.
 #[derive(Drop)]
 pub struct Slot {
-    // the ticket, times 32, and the number of the line's word
+    // the ticket times 32, plus the number of the line's word
     mark: AtomicU64,
     number: AtomicU64,
 }
@@ -32,19 +32,19 @@ impl Slot {
     }
 }
 
-// More than the words are.
+// More than there are words.
 const WORDS: u64 = 32;
 
-// What is no ticket.
+// Not a ticket.
 const NEVER: u64 = u64::MAX;
 
-// The lines of one side, which alone writes it while the relay works.
+// The lines of one side, which alone writes it while the relay runs.
 #[derive(Drop)]
 struct Log<'a> {
     slots: &'a [Slot],
     // How many slots are in use.
     used: AtomicU64,
-    // The ticket of the first line that there was no room for.
+    // The ticket of the first line for which there was no room.
     lost: AtomicU64,
 }
 
@@ -62,7 +62,7 @@ impl<'a> Log<'a> {
         self.lost.load(Ordering::SeqCst) != NEVER
     }
 
-    // Records a line with these numbers, one at least, where there is room for it and was for all before it.
+    // Records a line with these numbers, at least one, if there is room for it and was for all before it.
     fn add(&self, ticket: u64, word: Word, numbers: &[u64]) {
         let used = self.used.load(Ordering::SeqCst);
         let free = self.slots.get(used as usize..).unwrap_or(&[]);
@@ -93,14 +93,14 @@ impl<'a> Log<'a> {
     }
 }
 
-/// A gate that records the calls of a relay, where each begins and where it ends, and lets another thread run as a
+/// A gate that records the calls of a relay, the start and the end of each, and lets another thread run as a
 /// `YieldGate` does.
 ///
-/// Each line has a ticket of one counter that both sides share. That of a begin is taken before the call, that of an end
-/// behind it, so by the tickets each call lasts at least as long as it did: where the ticket of an end is below that of a
-/// begin, the one call had ended before the other began, and every operation on a word is sequentially consistent. So a
-/// recording of linearizable calls is linearizable. Where a side has no room for a line, the recording ends before that line,
-/// for both sides; what is left is a first part of the whole.
+/// Each line has a ticket of one counter that both sides share. That of a start is taken before the call, that of an end
+/// after it, so by the tickets each call lasts at least as long as it did: if the ticket of an end is below that of a start,
+/// the first call had ended before the second began, and every operation on a word is sequentially consistent. So a recording
+/// of linearizable calls is linearizable. If a side has no room for a line, the recording ends before that line, for both
+/// sides; what is left is a prefix of the whole.
 ///
 /// In use: `lamport_ring run --record`.
 #[derive(Drop)]
@@ -112,7 +112,7 @@ pub struct Recorder<'a> {
 
 impl<'a> Recorder<'a> {
     /// A recorder that has recorded nothing, with room for the lines of either side. A put takes as many slots as it has
-    /// items, so does the end of a take that brought items, and any other line one.
+    /// items, as does the end of a take that brought items, and any other line takes one.
     pub fn new(puts: &'a [Slot], takes: &'a [Slot]) -> Recorder<'a> {
         Recorder {
             tickets: AtomicU64::new(1),
@@ -125,7 +125,7 @@ impl<'a> Recorder<'a> {
         self.tickets.fetch_add(1, Ordering::SeqCst)
     }
 
-    /// Whether the recording lacks the later calls, as a side had no room for a line. It is for when the relay has ended.
+    /// Whether the recording lacks the later calls, because a side had no room for a line. It is for when the relay has ended.
     pub fn is_cut(&self) -> bool {
         self.puts.has_lost() || self.takes.has_lost()
     }
@@ -167,7 +167,7 @@ impl Gate for Recorder<'_> {
     }
 }
 
-// The ticket of the first of these slots, where there is one.
+// The ticket of the first of these slots, if there is one.
 fn first_ticket(slots: &[Slot]) -> u64 {
     slots.first().map_or(NEVER, Slot::ticket)
 }
@@ -184,13 +184,13 @@ fn slots_of(slots: &[Slot], ticket: u64) -> usize
     slots.len()
 }
 
-// The word of the first of these slots, where it is one that a relay may record.
+// The word of the first of these slots, if it is one that a relay may record.
 fn word_of(slots: &[Slot]) -> Option<Word> {
     let mark = slots.first()?.mark.load(Ordering::SeqCst);
     Word::of_number((mark % WORDS) as u32)
 }
 
-// Reads the numbers of these slots, in place of what was there.
+// Reads the numbers of these slots, replacing what was there.
 fn read_numbers<A: Allocator>(slots: &[Slot], numbers: &mut Vec<u64, A>) -> Result<(), AllocError> {
     numbers.clear();
     'slots: for slot in slots {
@@ -199,7 +199,7 @@ fn read_numbers<A: Allocator>(slots: &[Slot], numbers: &mut Vec<u64, A>) -> Resu
     Ok(())
 }
 
-/// The lines of a recording that were not told yet.
+/// The lines of a recording not yet returned.
 ///
 /// In use: `lamport_ring run --record`.
 #[derive(Drop)]
@@ -213,8 +213,8 @@ pub struct RecordedLines<'r> {
 }
 
 impl RecordedLines<'_> {
-    /// The next line, of the format of recorded calls: its word, and in `numbers` its numbers in place of what was there. It
-    /// is `None` behind the last line, and an error only where memory for the numbers ran out.
+    /// The next line, in the format of recorded calls: its word, with its numbers in `numbers`, replacing what was there. It
+    /// is `None` after the last line, and an error only if memory for the numbers ran out.
     pub fn next<A: Allocator>(
         &mut self,
         numbers: &mut Vec<u64, A>,
@@ -240,7 +240,7 @@ impl RecordedLines<'_> {
         Ok(self.line(word, numbers))
     }
 
-    // The line of this word, whose numbers go where it has none, as where a put stored all that it offered.
+    // The line of this word, whose numbers are dropped if it has none, as when a put stored all that it offered.
     fn line<A: Allocator>(&mut self, word: Word, numbers: &mut Vec<u64, A>) -> Option<Word>
         ensures { IfSome result (λ word. IsFurther (line word numbers.new.items)) }
     {

@@ -1,4 +1,4 @@
-//! The two ends of a ring at work in two threads.
+//! The two ends of a ring running in two threads.
 ghost use Rattle.std.specs.Prelude.{◌≡◌, ◌⊎◌, ℕ, ◌+◌, ◌<◌, ◌≤◌, ◌==◌, true, false, [], ◌∷◌, ◌++◌, IfOk, IfErr, OnOk, OnErr, length, min, take, vec_capacity};
 ghost use Rattle.ring_seats.specs.Steppers.{IsSameEnd};
 ghost use Rattle.bits_core.specs.Made.{IsPrefix};
@@ -22,7 +22,7 @@ use std::thread::{Threads, join_mut};
 pub struct Limits {
     /// The most puts.
     pub puts: u64,
-    /// The most takes, where one that brings several items counts as so many.
+    /// The most takes, where one that brings several items counts once for each.
     pub takes: u64,
 }
 
@@ -35,7 +35,7 @@ impl Limits {
     }
 }
 
-// How many of the items left one put is given: a batch, or all where fewer are left.
+// How many of the items left one put is offered: a batch, or all if fewer are left.
 fn next_batch(shape: &Shape, left: usize) -> usize
     requires some { 0 < left }
     ensures some { 0 < result }
@@ -106,13 +106,14 @@ fn put_in_order<E: PutEnd, G: Gate>(
     (put as u64, made, full)
 }
 
-// How many items one take asks for: a take batch, or all where fewer are left.
+// How many items one take asks for: a take batch, or all if fewer are left.
 fn next_take(shape: &Shape, left: u64) -> usize
     requires some { 0 < left }
     ensures lesser { result ≡ min (take_batch_of shape.now) left }
     ensures some { 0 < result }
     ensures few { result ≤ 64 }
 {
+    // only for the proof: gives the bounds of the capacity, which bound the take batch
     let _capacity = shape.capacity();
     shape.take_batch().min(left) as usize
 }
@@ -137,7 +138,7 @@ fn take_one<E: TakeEnd>(taker: &mut E, place: &mut u64) -> TakeBatchReply
     }
 }
 
-// Takes into these places; into one by a take of one, which costs less.
+// Takes into these places; into one by a take of one, which is cheaper.
 #[inline(always)]
 fn take_into<E: TakeEnd>(taker: &mut E, into: &mut [u64]) -> TakeBatchReply
     requires idle { E.idle taker.old }
@@ -156,7 +157,7 @@ fn take_into<E: TakeEnd>(taker: &mut E, into: &mut [u64]) -> TakeBatchReply
     }
 }
 
-// Adds the items at the end of the list; where room for them is refused it stays as it was.
+// Appends the items to the list; if room for them is refused it is unchanged.
 #[inline(always)]
 fn append<A: Allocator>(items: &mut Vec<u64, A>, more: &[u64]) -> Result<(), AllocError>
     ensures items { OnOk result (items.new.items ≡ items.old.items ++ more.now) }
@@ -174,8 +175,8 @@ fn append<A: Allocator>(items: &mut Vec<u64, A>, more: &[u64]) -> Result<(), All
 
 // Takes until the ring is closed, into a list with no item yet, as many items at a time as the shape's take batch, but no more than
 // are left of the limit. It ends as well with a take that found the ring empty and began when the putter was seen to be over.
-// Returns how many takes were made, how many found the ring empty, and whether one was told that the ring is
-// closed. If the list has no room for the items of a take, and can get none, they are lost, and no more takes are made.
+// Returns how many takes were made, how many found the ring empty, and whether one returned Closed. If the list has no room for the
+// items of a take, and can get none, they are lost, and no more takes are made.
 fn take_all<A: Allocator, E: TakeEnd, G: Gate>(
     items: &mut Vec<u64, A>,
     taker: &mut E,
@@ -234,7 +235,7 @@ fn take_all<A: Allocator, E: TakeEnd, G: Gate>(
     Ok((made, empty, closed))
 }
 
-/// What a relay came to.
+/// The result of a relay.
 ///
 /// In use: `uses::relays::pass_on`.
 #[derive(Drop)]
@@ -247,7 +248,7 @@ pub struct Outcome<A: Allocator> {
     pub taken: Vec<u64, A>,
     /// How many takes were made.
     pub takes: u64,
-    /// Whether the taker was told that the ring is closed.
+    /// Whether a take returned Closed.
     pub closed: bool,
     /// How many puts found the ring full.
     pub full: u64,
@@ -255,7 +256,7 @@ pub struct Outcome<A: Allocator> {
     pub empty: u64,
 }
 
-// Room for as many items as can be taken where no more are taken than were put.
+// Room for as many items as can be taken if no more are taken than were put.
 fn room_for<A: Allocator>(alloc: A, items: &[u64], limits: Limits) -> Result<Vec<u64, A>, RunFault>
     ensures { IfOk result (λ v. (v.items ≡ []) × (min (length items.now) limits.takes ≤ vec_capacity v)) }
 {
@@ -369,25 +370,25 @@ fn relay_into<R: Threads, A: Allocator, E: PutEnd + Send, F: TakeEnd + Send, G: 
     })
 }
 
-/// Works the two ends at the same time, in two threads. The one side puts the items in order, as many at a time as the
-/// shape's batch has, goes on after those that were stored, and closes after the last; so a put that found the ring
-/// full is made again. The other side takes as many items at a time as the shape's take batch, but no more than are left of its
-/// limit, until it is told that the ring is closed. Neither makes more puts or takes than its limit (the close is not counted,
-/// and a take that brings several items counts as so many), and each passes the gate before each of them, with the number that
-/// it has made. The gate is told when each put, each take and the close begins and when it ends, by the thread that makes it; and
-/// after each put that found the ring full, and each take that found it empty, how many have in a row.
+/// Works the two ends at the same time, in two threads. The one side puts the items in order, as many at a time as the shape's
+/// batch has, continues after those that were stored, and closes after the last; so a put that found the ring full is made again.
+/// The other side takes as many items at a time as the shape's take batch, but no more than are left of its limit, until a take
+/// returns Closed. Neither makes more puts or takes than its limit (the close is not counted, and a take that brings several
+/// items counts once for each), and each passes the gate before each of them, with the number that it has made. The gate receives
+/// the start and the end of each put, of each take and of the close, from the thread that makes it; and after each put that found
+/// the ring full, and each take that found it empty, how many have in a row.
 ///
 /// A side that is over ends the other one: a put that found the ring full, or a take that found it empty, is the last if it began
-/// after the first side was over, as nothing can change for the next. So it is if the first side has not begun while the other's calls
-/// were in vain 16,777,216 times in a row, as if no second thread can be had. If the taker was not told that the ring is closed, and
-/// neither side has used up its limit, one of them had not begun when the other ended. No progress is promised.
+/// after the first side was over, as nothing can change for the next. The same applies if the first side has not begun while the
+/// other's calls were in vain 16,777,216 times in a row, as when no second thread can be started. If no take returned Closed, and
+/// neither side has used up its limit, one of them had not begun when the other ended. No progress is guaranteed.
 ///
 /// The ends have made no call yet, and every item has to fit the width. It takes memory for the items that are taken:
-/// before any call it makes room for as many as there are items, or takes by the limit where these are fewer.
-/// `OutOfMemory` is answered only where the allocator refused some. Where it refused that room, no call was made and
-/// both ends are as they were. Ends of two rings may give more items than were put; if it refused room for one of
-/// these, no more takes are made, and both ends keep the whole calls that they have
-/// made. In a relay through one ring that does not occur.
+/// before any call it makes room for as many as there are items, or takes by the limit if these are fewer.
+/// `OutOfMemory` is returned only if the allocator refused some. If it refused that room, no call was made and both
+/// ends are unchanged. The ends of two different rings may bring more items than were put; if it refused room for one
+/// of these, no more takes are made, and both ends keep the complete calls that they have made. In a relay through
+/// one ring that does not occur.
 ///
 /// In use: by [`relay_counter`](crate::relay_counter), over the ends of a new ring.
 pub fn relay<R: Threads, A: Allocator + Copy, E: PutEnd + Send, F: TakeEnd + Send, G: Gate + Sync>(
@@ -416,8 +417,8 @@ pub fn relay<R: Threads, A: Allocator + Copy, E: PutEnd + Send, F: TakeEnd + Sen
     relay_into(rt, taken, putter, taker, items, limits, gate)
 }
 
-// A relay through the two ends of one ring of this kind, whose run it ends. Nothing is refused: there is room for all items
-// that are taken, for by the law of the ring they are no more than were put.
+// A relay through the two ends of one ring of this kind, whose run it ends. It cannot run out of memory: there is room for
+// all items taken, since by the law of the ring they are no more than were put.
 fn relay_through<
     K: RingOf<E, F>,
     R: Threads,
@@ -447,6 +448,7 @@ fn relay_through<
     ensures within { result.put ≤ length result.taken.items + capacity_of (E.end putter).ring.shape }
 {
     let outcome = relay_into(rt, taken, &mut putter, &mut taker, items, limits, gate);
+    // ends the run; by its contract the outcome is that of one lawful history
     let _finished = K::finish(putter, taker);
     match outcome {
         Ok(outcome) => outcome,
@@ -454,13 +456,13 @@ fn relay_through<
     }
 }
 
-/// Makes a ring and its ends, relays, and ends the ring's run. What it came to is counted in one lawful history of
-/// safe bits whose two sides follow their programs, so by the law of the ring (Lamport 1977) the items taken are the
-/// first of those that were stored; where the taker was told that the ring is closed, all items were stored and taken;
-/// and no more were stored and not taken than the ring has cells.
+/// Makes a ring and its ends, relays, and ends the ring's run. Its outcome is counted in one lawful history of safe
+/// bits whose two sides follow their programs, so by the law of the ring (Lamport 1977) the items taken are the first
+/// of those that were stored; if a take returned Closed, all items were stored and taken; and no more were stored and
+/// not taken than the ring has cells.
 ///
 /// Every item has to fit the width. It takes memory for the words of the ring and, before the first put, for all items
-/// that can be taken. `OutOfMemory` is answered only where the allocator refused some: all memory is taken before the ends
+/// that can be taken. `OutOfMemory` is returned only if the allocator refused some: all memory is taken before the ends
 /// are made, so no call was made then, no item put or taken, and no oracle asked.
 ///
 /// In use: `uses::oracles::pass_flickering`.
@@ -493,13 +495,13 @@ pub fn relay_flicker<
     Ok(relay_through(&ring, rt, taken, putter, taker, items, limits, gate))
 }
 
-/// Makes a counter ring and its ends, relays, and ends the ring's run. What it came to is counted in one lawful history
-/// of safe bits whose two sides follow their programs, so by the law of the ring (Lamport 1977) the items taken are the
-/// first of those that were stored; once the taker was told that the ring is closed, all items were put and taken; and
-/// no more were stored and not taken than the ring has cells.
+/// Makes a counter ring and its ends, relays, and ends the ring's run. Its outcome is counted in one lawful history of
+/// safe bits whose two sides follow their programs, so by the law of the ring (Lamport 1977) the items taken are the
+/// first of those that were stored; if a take returned Closed, all items were put and taken; and no more were stored
+/// and not taken than the ring has cells.
 ///
 /// Every item has to fit the width. It takes memory for the words of the ring and, before the first put, for all items
-/// that can be taken. `OutOfMemory` is answered only where the allocator refused some: all memory is taken before the ends
+/// that can be taken. `OutOfMemory` is returned only if the allocator refused some: all memory is taken before the ends
 /// are made, so no call was made then, and no item put or taken.
 ///
 /// In use: `uses::relays::pass_on`.

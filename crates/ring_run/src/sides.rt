@@ -3,17 +3,17 @@ ghost use Rattle.std.specs.Prelude.{◌≡◌, ◌+◌, ◌<◌, ◌^◌, ◌-�
 
 use std::sync::atomic::{AtomicU64, Ordering};
 
-// A side that has not begun, is at work, or is over.
+// A side that has not begun, is running, or is over.
 const BEFORE: u64 = 0;
 
 const AT_WORK: u64 = 1;
 
 const OVER: u64 = 2;
 
-// How many calls in vain, in a row, a side makes while the other one has not begun. A thread that was made begins long before.
+// How many calls in vain, in a row, a side makes while the other one has not begun. A thread that was started begins long before.
 const PATIENCE: u64 = 1 << 24;
 
-/// How far a side of a relay is, for the other side to look at.
+/// The stage of a side of a relay, for the other side to look at.
 #[derive(Drop)]
 pub(crate) struct Stage {
     at: AtomicU64,
@@ -32,12 +32,12 @@ impl Stage {
         self.at.store(AT_WORK, Ordering::SeqCst);
     }
 
-    /// The side is over: it makes no call any more.
+    /// The side is over: it makes no more calls.
     pub fn end(&self) {
         self.at.store(OVER, Ordering::SeqCst);
     }
 
-    // Whether the side makes no call any more, or has not begun though the other one has waited so long for it.
+    // Whether the side makes no more calls, or has not begun although the other one has waited this long for it.
     fn is_over(&self, waits: u64) -> bool {
         match self.at.load(Ordering::SeqCst) {
             BEFORE => waits >= PATIENCE,
@@ -50,12 +50,12 @@ impl Stage {
 #[derive(Drop)]
 pub(crate) struct Watch<'a> {
     other: &'a Stage,
-    // Whether the other side was over when this one looked last.
+    // Whether the other side was over when this one last looked.
     is_over: bool,
     /// How many calls were in vain.
     pub waited: u64,
-    /// How many of them began when the other side was seen to be over. Such a call is the last one: nothing changes any more for the
-    /// next.
+    /// How many of them began when the other side was seen to be over. Such a call is the last one: nothing changes for the next
+    /// one.
     pub vain: u64,
 }
 
@@ -72,7 +72,7 @@ impl<'a> Watch<'a> {
         }
     }
 
-    /// Looks at the other side, before a call; so many calls before it were in vain in a row.
+    /// Looks at the other side before a call; this many calls before it were in vain in a row.
     pub fn look(&mut self, waits: u64)
         ensures { (self.new.waited ≡ self.old.waited) × (self.new.vain ≡ self.old.vain) }
     {

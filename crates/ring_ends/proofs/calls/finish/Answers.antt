@@ -6,11 +6,11 @@ use Rattle.ring_ends.proofs.calls.finish.Given.{Over}
 use Rattle.ring_ends.proofs.calls.finish.Goals.{After-write_count}
 use Rattle.ring_ends.proofs.calls.finish.Goals as goal
 
--- a call that is begun goes on
+-- a call that has started continues
 busy : (g : Over) (c : After-write_count g) → MachineBusy g.M.SideMachine.kind c.args.stepper.now (g.M.SideMachine.state c.args.machine.now)
 busy g c = ready_busy g.M.SideMachine.kind c.args.stepper.now (g.M.SideMachine.state c.args.machine.now) c.requires.0 c.requires.1
 
--- what the accesses came to, scan, word and count
+-- the result of the accesses of scan, word and count
 so_far : (g : Over) (c : After-write_count g) →
     MachineWent g.M.SideMachine.kind c.args.stepper.now (g.M.SideMachine.state c.args.machine.now) c.write_count.new.stepper (g.M.SideMachine.state c.write_count.new.machine) (g.O.Oracle.answers c.args.oracle.now) (g.O.Oracle.answers c.write_count.new.oracle)
 so_far g c =

@@ -19,7 +19,7 @@ looked a b count cell calls into most at opened few (look, found) =
     let long : length (take most into) ≡ most = length-first most into (few_found a.ring.shape (count_taken a.ring.shape calls).number (length into) most look found.finds) in
     (long, record { at = at; opened = opened; few = few; look = look; found = subst (HasFound a b calls (length into) look) (sym long) found })
 
--- so many items are told by their number, and are the first of what they were put into
+-- a number of items is determined by their list, and they are the first of the places that they were put into
 told : (items : List ℕ) (most : ℕ) → 1 ≤ most → length items ≡ most → Some (Taken most) ≡ take_batch_reply (Some (items_reply items)) items
 told [] most some long = absurd (omega (arith, some, long))
 told (item ∷ items) most some long = ap (λ (n : ℕ). Some (Taken n)) (sym long)

@@ -3,7 +3,7 @@ use Rattle.ring_core.specs.ConsumerState.{ConsumerState, due_take, is_taking}
 use Rattle.ring_ends.specs.Ends.{wants_next}
 use Rattle.ring_ends.proofs.takers.begin_take.Goals as goal
 
--- a take that was told of the close is refused, and else it begins
+-- a take after Closed is refused, otherwise it starts
 split : {A B : Type 0} (told : Bool) → (told ≡ false → A) → (told ≡ true → B) → A ⊎ B
 split false a b = inl (a refl)
 split true a b = inr (b refl)

@@ -14,7 +14,7 @@ use Rattle.ring_core.proofs.LawLemmas.{takes_are_read}
 use Rattle.ring_run.proofs.relays.take_all.Goals.{After-take_into}
 use Rattle.ring_run.proofs.relays.take_all.Goals as goal
 
--- how many places a take is given
+-- how many places a take has
 asks : (g : Over) (c : After-take_into g) →
     length (take c.next_take-wanted.result c.takes.room) ≡ min (take_batch_of (g.E.TakeEnd.end c.take_into.new.taker).ring.shape) (c.args.limit - (length c.takes.items.items + c.takes.empty))
 asks g c =
@@ -24,7 +24,7 @@ asks g c =
     let shape = c.takes.invariant.8 ∙ sym (ap (λ (r : Ring). r.shape) c.take_into.ensures.same.ring) in
     long ∙ lesser ∙ (λ i. min (take_batch_of (shape i)) (c.args.limit - (left i + c.takes.empty)))
 
--- what was taken before
+-- the items taken before
 yet : (g : Over) (c : After-take_into g) →
     (let b = g.E.TakeEnd.end c.take_into.new.taker in TakesAre b.ring.shape (g.E.TakeEnd.end c.takes.taker).list c.args.limit c.takes.items.items c.takes.made c.takes.empty false)
 yet g c =

@@ -6,7 +6,7 @@ use Rattle.ring_ends.proofs.TakesAll.{kept_all, kept_within, still_open}
 use Rattle.ring_ends.proofs.counter_takers.CounterTakerTakeEnd.take_all.Goals.{After-take_all_open-reply}
 use Rattle.ring_ends.proofs.counter_takers.CounterTakerTakeEnd.take_all.Goals as goal
 
--- what the take left
+-- the end after the take
 kept : (c : After-take_all_open-reply) → TakeAllKept c.self.inside.stepper c.take_all_open-reply.new.stepper c.take_all_open-reply.new.count c.take_all_open-reply.new.cell c.self.invariant.0 (length c.args.into.now) c.take_all_open-reply.result c.take_all_open-reply.new.into
 kept c = c.take_all_open-reply.ensures.taken c.self.invariant.0 c.self.invariant.1 (still_open (c.self.invariant.0).end (sym c.self.invariant.2 ∙ c.if-self.false))
 

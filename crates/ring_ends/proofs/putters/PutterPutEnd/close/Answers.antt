@@ -9,7 +9,7 @@ use Rattle.ring_ends.proofs.putters.PutterPutEnd.close.Given.{Over}
 use Rattle.ring_ends.proofs.putters.PutterPutEnd.close.Goals.{After-finish}
 use Rattle.ring_ends.proofs.putters.PutterPutEnd.close.Goals as goal
 
--- the call, and what its accesses came to
+-- the call, and the result of its accesses
 abbrev done : (g : Over) (c : After-finish g) → Whole producing Close
 done g c = whole_of producing (put_begun c.self.inside.oracle c.self.inside.stepper c.self.inside.machine c.self.inside.steps c.args.self.now c.self.view_is c.self.invariant Close c.begin_close.new.machine c.begin_close.ensures.begins)
     (call_seen c.self.view_is ∙ c.requires.idle) c.finish.new.stepper c.finish.new.machine c.finish.ensures

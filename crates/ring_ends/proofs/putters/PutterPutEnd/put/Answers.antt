@@ -10,7 +10,7 @@ use Rattle.ring_ends.proofs.putters.PutterPutEnd.put.Given.{Over}
 use Rattle.ring_ends.proofs.putters.PutterPutEnd.put.Goals.{After-finish}
 use Rattle.ring_ends.proofs.putters.PutterPutEnd.put.Goals as goal
 
--- the call, and what its accesses came to
+-- the call, and the result of its accesses
 abbrev done : (g : Over) (c : After-finish g) → Whole producing (Put (c.args.item ∷ []))
 done g c = whole_of producing (put_begun c.self.inside.oracle c.self.inside.stepper c.self.inside.machine c.self.inside.steps c.args.self.now c.self.view_is c.self.invariant (Put (c.args.item ∷ [])) c.begin_put.new.machine c.begin_put.ensures.begins)
     (call_seen c.self.view_is ∙ c.requires.idle) c.finish.new.stepper c.finish.new.machine c.finish.ensures

@@ -10,7 +10,7 @@ use Rattle.ring_ends.proofs.putters.PutterPutEnd.put_all.Given.{Over}
 use Rattle.ring_ends.proofs.putters.PutterPutEnd.put_all.Goals.{After-finish}
 use Rattle.ring_ends.proofs.putters.PutterPutEnd.put_all.Goals as goal
 
--- the call, and what its accesses came to
+-- the call, and the result of its accesses
 abbrev done : (g : Over) (c : After-finish g) → Whole producing (Put c.args.items.now)
 done g c = whole_of producing (put_begun c.self.inside.oracle c.self.inside.stepper c.self.inside.machine c.self.inside.steps c.args.self.now c.self.view_is c.self.invariant (Put c.args.items.now) c.begin_put_all.new.machine c.begin_put_all.ensures.begins)
     (call_seen c.self.view_is ∙ c.requires.idle) c.finish.new.stepper c.finish.new.machine c.finish.ensures

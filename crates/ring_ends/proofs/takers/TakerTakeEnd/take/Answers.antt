@@ -10,7 +10,7 @@ use Rattle.ring_ends.proofs.takers.TakerTakeEnd.take.Given.{Over}
 use Rattle.ring_ends.proofs.takers.TakerTakeEnd.take.Goals.{After-finish}
 use Rattle.ring_ends.proofs.takers.TakerTakeEnd.take.Goals as goal
 
--- the take, and what its accesses came to
+-- the take, and the result of its accesses
 abbrev done : (g : Over) (c : After-finish g) → Whole consuming 1
 done g c = whole_of consuming (take_begun c.self.inside.oracle c.self.inside.stepper c.self.inside.machine c.self.inside.steps c.args.self.now c.self.view_is c.self.invariant 1 c.begin_take.new.machine (begins_seen c.self.view_is c.self.inside.machine c.begin_take.new.machine 1 1 (ap (λ t. wants_next t c.args.self.now.wanted 1) c.requires.idle) c.begin_take.ensures.begins))
     (taking_seen c.self.view_is ∙ c.requires.idle) c.finish.new.stepper c.finish.new.machine c.finish.ensures

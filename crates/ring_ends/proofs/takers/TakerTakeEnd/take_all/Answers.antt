@@ -10,7 +10,7 @@ use Rattle.ring_ends.proofs.takers.TakerTakeEnd.take_all.Given.{Over}
 use Rattle.ring_ends.proofs.takers.TakerTakeEnd.take_all.Goals.{After-finish}
 use Rattle.ring_ends.proofs.takers.TakerTakeEnd.take_all.Goals as goal
 
--- the take, and what its accesses came to
+-- the take, and the result of its accesses
 abbrev done : (g : Over) (c : After-finish g) → Whole consuming (length c.args.into.now)
 done g c = whole_of consuming (take_begun c.self.inside.oracle c.self.inside.stepper c.self.inside.machine c.self.inside.steps c.args.self.now c.self.view_is c.self.invariant (length c.args.into.now) c.begin_take.new.machine (begins_seen c.self.view_is c.self.inside.machine c.begin_take.new.machine (length c.args.into.now) (length c.args.into.now) (ap (λ t. wants_next t c.args.self.now.wanted (length c.args.into.now)) c.requires.idle) c.begin_take.ensures.begins))
     (taking_seen c.self.view_is ∙ c.requires.idle) c.finish.new.stepper c.finish.new.machine c.finish.ensures
