@@ -1,4 +1,4 @@
--- What is kept of a history goes on to agree with what the past tells, and what follows of it.
+-- What is kept of a history keeps agreeing with the past, and what follows from that.
 use Rattle.std.proofs.Common.{◌≡◌, ◌⊎◌, inl, inr, ℕ, ◌+◌, ◌-◌, ◌<◌, ◌≤◌, Bool, true, false, ◌||◌, List, [], ◌∷◌, ◌++◌, map, length, take, drop, reverse, if◌then◌else◌, refl, sym, ap, subst, ◌∙◌, arith, length-append, append_assoc, append-nil}
 use Rattle.std.proofs.lemmas.Bool.{or_left, or_parts}
 use Rattle.std.proofs.lemmas.List.{length-map, map-append, take-map, drop-map, reverse-append}
@@ -41,7 +41,7 @@ ended_grows (CloseEnd ∷ past) e = refl
 ended_grows (TakeBegin wanted ∷ past) e = e
 ended_grows (_ ∷ past) e = ended_grows past e
 
--- the lines of entries are no matter of their items
+-- the items of entries do not depend on their lines
 items_offered : (line : ℕ) (items : List ℕ) → items_of (map (offered_at line) items) ≡ items
 items_offered line [] = refl
 items_offered line (item ∷ items) = ap (λ z. item ∷ z) (items_offered line items)
@@ -53,7 +53,7 @@ items_stored line (o ∷ entries) = ap (λ z. o.item ∷ z) (items_stored line e
 items_both : (s o : List Offered) → items_of (s ++ o) ≡ items_of s ++ items_of o
 items_both s o = map-append (λ (e : Offered). e.item) s o
 
--- a row without so many of its last items, in two ways
+-- a row without so many of its last items, in two forms
 row_cut :
     (gone inside s o : List ℕ) (count : ℕ) → gone ++ inside ≡ s ++ o → count ≤ length o → length o - count ≤ length inside →
     gone ++ without (length o - count) inside ≡ s ++ take count o
@@ -105,7 +105,7 @@ module _ (past : List Event) (k : Kept) (a : Agrees past k) where
   offers_fit (Late n) f g = f.0
   offers_fit (Closes again) f g = f.0
 
-  -- behind a close nothing is offered that may go in
+  -- after a close nothing is offered that may be stored
   pub offers_none : has_begun past ≡ true → offers past ≡ []
   offers_none g = offers_fit k.put a.put_fits g
 
@@ -119,7 +119,7 @@ module _ (past : List Event) (k : Kept) (a : Agrees past k) where
   apart : a.gone ++ k.inside ≡ items_of (stored past) ++ items_of (offers past)
   apart = a.row ∙ items_both (stored past) (offers past)
 
-  -- the put under way ends with so many of its items
+  -- the put under way ends with this many of its items
   cut : (n inside count : ℕ) → k.put ≡ Offers n inside → count ≤ n → n - count ≤ length k.inside → a.gone ++ without (n - count) k.inside ≡ items_of (stored past) ++ take count (items_of (offers past))
   cut n inside count e few some =
       let f = as_put (Offers n inside) e in
@@ -165,7 +165,7 @@ module _ (past : List Event) (k : Kept) (a : Agrees past k) where
         steady = a.steady;
       }
 
-  -- a put that begins where the queue is known to be closed does so behind the end of a close
+  -- a put that begins when the queue is known to be closed begins after the end of a close
   pub is_late : k.put ≡ Free → k.shut ≡ true → has_ended past ≡ true
   is_late free shut = elim (one_of (has_ended past) (has_told past) (sym shut ∙ a.shut)) [ inl g ↦ g | inr g ↦ sym (as_put Free free).1 ∙ (a.told g).1 ]
 
@@ -240,7 +240,7 @@ module _ (past : List Event) (k : Kept) (a : Agrees past k) where
         steady = a.steady;
       }
 
-  -- ends of a put that store nothing tell a past the same
+  -- ends of a put that store nothing all change a past in the same way
   none_stored : (event : Event) (n inside : ℕ) → k.put ≡ Offers n inside → n ≤ length k.inside → (event ≡ PutFull) ⊎ ((event ≡ PutShort) ⊎ (event ≡ PutNothing)) → Then event (kept (without n k.inside) Free k.take k.shut)
   none_stored event n inside e some is =
       let j = full_ends n inside e some in
@@ -396,7 +396,7 @@ module _ (past : List Event) (k : Kept) (a : Agrees past k) where
 pub at_first : Agrees [] (kept [] Free Rests false)
 at_first = record { gone = []; row = refl; count = refl; put_fits = (refl, refl); take_fits = refl; shut = refl; told = λ g. both (([] ≡ []) × (false ≡ true)) false g refl; ended = λ g. g; steady = λ g. omega arith }
 
--- the past of an event more, and of events behind a past
+-- the past with one more event, and with events after a past
 pub turned : (h : List Event) (event : Event) → reverse (h ++ event ∷ []) ≡ event ∷ reverse h
 turned h event = reverse-append h (event ∷ [])
 

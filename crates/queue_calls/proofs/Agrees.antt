@@ -1,4 +1,4 @@
--- What an auditor keeps of a history agrees with what the past tells: it counts by differences what a cause tells in full.
+-- What an auditor keeps of a history agrees with the past: it counts by differences what a cause reports in full.
 use Rattle.std.proofs.Common.{◌≡◌, ℕ, ◌+◌, ◌-◌, ◌≤◌, Bool, true, false, ◌||◌, List, [], ◌++◌, length}
 use Rattle.queue_calls.specs.Calls.{Event}
 use Rattle.queue_calls.specs.Counting.{Kept}
@@ -18,20 +18,20 @@ PutFits (Late n) offered late before count begun ended = (offered ≡ []) × (la
 PutFits (Closes again) offered late before count begun ended = (offered ≡ []) × (begun ≡ true)
 
 -- what the consumer has under way, by how many it wants, how many were stored before, how many are taken, whether a close had ended
--- before the take, and whether one was told that the queue is closed
+-- before the take, and whether one returned Closed
 abbrev pub TakeFits : TakeTurn → (wanted before count : ℕ) → (ended told : Bool) → Type 0
 TakeFits Rests wanted before count ended told = wanted ≡ 0
 TakeFits (Waits wants inside closed) wanted before count ended told = (wanted ≡ wants) × (inside ≡ before - count) × (closed ≡ (ended || told))
 
--- by what a past tells
+-- the same from a past
 abbrev pub PutAgrees : List Event → PutTurn → Type 0
 PutAgrees past put = PutFits put (offers past) (has_ended (before_put past)) (k_of (before_put past)) (n_of past) (has_begun past) (has_ended past)
 
 abbrev pub TakeAgrees : List Event → TakeTurn → Type 0
 TakeAgrees past turn = TakeFits turn (wanted past) (n_of (before_take past)) (k_of past) (has_ended (before_take past)) (has_told past)
 
--- What is kept agrees with a past. The items inside come behind those that are gone, among all that were stored or are offered. Where
--- one was told that the queue is closed nothing is inside, and nothing is stored after a take that began behind the end of a close.
+-- What is kept agrees with a past. The items inside follow those that are gone, among all that were stored or are offered. If a take
+-- returned Closed nothing is inside, and nothing is stored after a take that began after the end of a close.
 pub record Agrees (past : List Event) (k : Kept) : Type 0 where
   pub gone : List ℕ
   pub row : gone ++ k.inside ≡ items_of (stored past ++ offers past)

@@ -1,4 +1,4 @@
--- Nothing speaks against an event behind a past just where the event can be counted.
+-- Nothing contradicts an event after a past exactly if the event can be counted.
 use Rattle.std.proofs.Common.{◌≡◌, ◌↔◌, ◌⊎◌, inl, inr, ℕ, suc, ◌+◌, ◌-◌, ◌<◌, ◌≤◌, nat_lt, Bool, true, false, ◌==◌, not, ◌&&◌, Some, None, List, [], ◌∷◌, ◌++◌, map, length, take, drop, reverse, refl, sym, ap, subst, ◌∙◌, arith, length-append, append_assoc, append-nil}
 use Rattle.std.proofs.lemmas.Bool.{false_from_ne_true, or_left, or_right, or_from, or_parts, not-false, not_from_true, ltb-true, ltb-false, lt-ltb, le-ltb, eqb-true, eqb-false, eq-eqb, ne_eqb, cond-true, cases_Bool}
 use Rattle.std.proofs.lemmas.Option.{none-some}
@@ -23,7 +23,7 @@ use Rattle.queue_calls.proofs.Ends.TakeBegins.{keeps_nothing}
 use Rattle.queue_calls.proofs.TurnLemmas.{last_turn, same_turns}
 pub use Rattle.queue_calls.proofs.CountedHistories.{stands_linear as standing}
 
--- a queue lacks room for as many, told by the sum
+-- a queue lacks room for as many, by the sum
 pub lacks_as : (capacity : Capacity) (a b c d : ℕ) → a + b ≡ c + d → LacksRoom capacity a b → LacksRoom capacity c d
 lacks_as Unbounded a b c d e l = l
 lacks_as (Between full most) a b c d e l = omega (arith, e, l)
@@ -46,7 +46,7 @@ pub take_of : (turn : TakeTurn) (n : ℕ) → call_of_take turn ≡ ATake n → 
 take_of Rests n e = absurd cc
 take_of (Waits wants inside closed) n e = (inside, closed, (let same : wants ≡ n = cc in ap (λ z. Waits z inside closed) same))
 
--- the items that the put under way offers, or that the take wants, are so many
+-- the numbers of items that the put under way offers, or that the take wants
 pub offers_so_many : {n m inside : ℕ} {put : PutTurn} → call_of_put put ≡ APut n → put ≡ Offers m inside → m ≡ n
 offers_so_many {n} {m} turn is = let same : APut m ≡ APut n = ap call_of_put (sym is) ∙ turn in cc
 
@@ -69,7 +69,7 @@ rest_of : (turn : TakeTurn) → call_of_take turn ≡ NoCall → turn ≡ Rests
 rest_of Rests e = refl
 rest_of (Waits wants inside closed) e = absurd cc
 
--- nothing speaks against items just where they are the next ones, and nothing against so few
+-- nothing contradicts items exactly if they are the next ones and nothing contradicts so few
 pub items_next :
     (limit : ℕ) (capacity : Capacity) (why : Bool) (past : List Event) (first items : List ℕ) (rest : List Offered) → items_cause limit capacity why past first items rest ≡ None →
     AreNext items (items_of rest) × (fewer_cause capacity (length first + length items) why past ≡ None)
@@ -97,9 +97,9 @@ items_unspoken limit capacity why past first (item ∷ items) (next ∷ rest) (l
     cond-true _ _ _ (eq-eqb next.item item same) ∙ items_unspoken limit capacity why past (first ++ item ∷ []) items rest (left, others) (subst (λ z. fewer_cause capacity z why past ≡ None) count e)
 
 module _ (capacity : Capacity) (past : List Event) (k : Kept) (a : Agrees past k) where
-  -- the numbers that a cause tells, by what is kept
+  -- the numbers of a cause, by what is kept
 
-  -- how many were inside at most where the put found no room
+  -- how many were inside at most when the put found no room
   pub most_inside : (n inside : ℕ) → k.put ≡ Offers n inside → n_of past - k_of (before_put past) ≡ inside
   most_inside n inside is = let f = as_put past k a (Offers n inside) is in omega (arith, f.2)
 
@@ -107,7 +107,7 @@ module _ (capacity : Capacity) (past : List Event) (k : Kept) (a : Agrees past k
   pub least_stored : (n inside count : ℕ) → k.put ≡ Offers n inside → count ≤ n → (n_of past + count) - (k_of past + wanted past) ≡ (length k.inside - (n - count)) - asked_by k.take
   least_stored n inside count is few = let f = as_put past k a (Offers n inside) is in omega (arith, long past k a, asked_is past k a, f.0, few)
 
-  -- with so many items taken, how many are inside at least
+  -- with this many items taken, how many are inside at least
   pub least_left : (count : ℕ) → n_of past - (k_of past + count) ≡ (length k.inside - count) - offered_by k.put
   least_left count = omega (arith, long past k a, offered_is past k a)
 
@@ -139,7 +139,7 @@ module _ (capacity : Capacity) (past : List Event) (k : Kept) (a : Agrees past k
         λ h. not_from_true (can_hold capacity least) ((can_hold_tells capacity least).1 (subst (λ z. MayHold capacity z) (sym same) h)),
       )
 
-  -- where not all were, there may have been no room for one more
+  -- if not all were, there may have been no room for one more
   some_room :
       (n inside count : ℕ) → k.put ≡ Offers n inside →
       ((nat_lt count (length (offers past)) && not (can_lack capacity (n_of past - k_of (before_put past)) (suc count))) ≡ false) ↔ (count < n → LacksRoom capacity inside (suc count))
@@ -156,14 +156,14 @@ module _ (capacity : Capacity) (past : List Event) (k : Kept) (a : Agrees past k
             not_from_true (can_lack capacity most (suc count)) ((can_lack_tells capacity most (suc count)).1 (lacks_as capacity inside (suc count) most (suc count) (sym same) (h fewer)))),
       )
 
-  -- where the put says why
+  -- if the put says why
   pub some_lack :
       (n inside count : ℕ) (why : Bool) → k.put ≡ Offers n inside →
       ((why && (nat_lt count (length (offers past)) && not (can_lack capacity (n_of past - k_of (before_put past)) (suc count)))) ≡ false) ↔
       (why ≡ true → count < n → LacksRoom capacity inside (suc count))
   some_lack n inside count why is = and_told why _ _ (some_room n inside count is)
 
-  -- where none was, for so many
+  -- if none was stored: no room for this many
   pub none_lack :
       (n inside count : ℕ) → k.put ≡ Offers n inside → (not (can_lack capacity (n_of past - k_of (before_put past)) count) ≡ false) ↔ LacksRoom capacity inside count
   none_lack n inside count is =
@@ -182,7 +182,7 @@ module _ (capacity : Capacity) (past : List Event) (k : Kept) (a : Agrees past k
         λ h. cond-true (can_hold capacity least) None _ ((can_hold_tells capacity least).1 (subst (λ z. MayHold capacity z) (sym (least_left count)) h)),
       )
 
-  -- where the take wanted more, it found no more
+  -- if the take wanted more, it found no more
   none_more :
       (n inside : ℕ) (closed : Bool) (count : ℕ) → k.take ≡ Waits n inside closed →
       ((nat_lt count (wanted past) && nat_lt (k_of past + count) (n_of (before_take past))) ≡ false) ↔ (count < n → inside ≤ count)
@@ -197,7 +197,7 @@ module _ (capacity : Capacity) (past : List Event) (k : Kept) (a : Agrees past k
             le-ltb (k_of past + count) (n_of (before_take past)) (omega (arith, f.1, h fewer))),
       )
 
-  -- where it says why
+  -- if it says why
   pub no_more :
       (n inside : ℕ) (closed : Bool) (count : ℕ) (why : Bool) → k.take ≡ Waits n inside closed →
       ((why && (nat_lt count (wanted past) && nat_lt (k_of past + count) (n_of (before_take past)))) ≡ false) ↔ (why ≡ true → count < n → inside ≤ count)
@@ -221,7 +221,7 @@ module _ (capacity : Capacity) (past : List Event) (k : Kept) (a : Agrees past k
         λ l. le-ltb last (n_of (before_take past)) (omega (arith, f.0, f.1, some, l)),
       )
 
-  -- it found none of a closed queue, where none was told so
+  -- it found a closed queue empty, and no take returned Closed
   pub drained :
       (n inside : ℕ) (closed : Bool) → k.take ≡ Waits n inside closed → has_told past ≡ false →
       ((has_ended (before_take past) && (n_of past == k_of past)) ≡ false) ↔ (closed ≡ true → 0 < inside)
@@ -258,11 +258,11 @@ module _ (capacity : Capacity) (past : List Event) (k : Kept) (a : Agrees past k
   none_inside =
       (λ e. sym (coming_is past k a) ∙ (none_comes (coming past)).0 e, λ e. (none_comes (coming past)).1 (coming_is past k a ∙ e))
 
-  -- of a late put none was taken
+  -- none of a late put was taken
   late_inside : (n : ℕ) → k.put ≡ Late n → nat_lt (n_of past) (k_of past) ≡ false
   late_inside n is = let f = as_put past k a (Late n) is in le-ltb (n_of past) (k_of past) (omega (arith, long past k a, ap length f.0))
 
-  -- a queue of which closed was told has no item, and none is found in it
+  -- after a take returned Closed the queue has no item, and none is found in it
   some_untold : 0 < length k.inside → has_told past ≡ false
   some_untold some = false_from_ne_true (has_told past) (λ e. omega (arith, some, ap length (a.told e).0))
 
@@ -272,7 +272,7 @@ module _ (capacity : Capacity) (past : List Event) (k : Kept) (a : Agrees past k
       false_from_ne_true (has_told past) (λ e.
       omega (arith, found (f.2 ∙ or_right (has_ended (before_take past)) (has_told past) e), f.1, stored_grows past, long past k a, ap length (a.told e).0))
 
-  -- ---- against an event that can be counted nothing speaks
+  -- ---- nothing contradicts an event that can be counted
 
   pub unspoken : (limit : ℕ) (event : Event) (after : Kept) → Counts capacity k event after → cause_of limit capacity event past ≡ None
   unspoken limit (PutBegin items) after c = refl
@@ -320,7 +320,7 @@ module _ (capacity : Capacity) (past : List Event) (k : Kept) (a : Agrees past k
       let same : length k.inside - (offered_by k.put + asked_by k.take) ≡ (length k.inside - n) - asked_by k.take = omega (arith, offered_is past k a, f.0) in
       ((all_inside capacity past k a n inside is).0 e, subst (λ z. MayHold capacity z) same few)
 
-  -- where the put began before a close had ended
+  -- if the put began before a close had ended
   early : {A : Type 0} (n : ℕ) → k.put ≡ Late n → has_ended (before_put past) ≡ false → A
   early {A} n is e = both A (has_ended (before_put past)) (as_put past k a (Late n) is).1 e
 
@@ -457,7 +457,7 @@ module _ (capacity : Capacity) (past : List Event) (k : Kept) (a : Agrees past k
       let (begun, e1) = none_on _ _ _ e in
       (kept [] k.put Rests true, (n, inside, closed, is_take, (none_inside capacity past k a).0 e1, closing past k a begun, refl))
 
-  -- ---- an event in its turn, against which nothing speaks, can be counted
+  -- ---- an event in turn that nothing contradicts can be counted
 
   pub counted : (limit : ℕ) (event : Event) (next : Sides) → MovesSides (sides_of k.put k.take) event next → cause_of limit capacity event past ≡ None → Counted event
   counted limit (PutBegin items) next (free, some, m) e = elim (cases_Bool k.shut) [
@@ -479,11 +479,11 @@ module _ (capacity : Capacity) (past : List Event) (k : Kept) (a : Agrees past k
   counted limit TakeNothing next (n, is, m) e = take_nothing_counted n is e
   counted limit TakeClosed next (n, is, m) e = take_closed_counted limit n is e
 
-  -- against one that cannot be counted something speaks
+  -- something contradicts an event that cannot be counted
   pub spoken : (limit : ℕ) (event : Event) (next : Sides) → MovesSides (sides_of k.put k.take) event next → (Counted event → ⊥) → (cause : Cause) × (cause_of limit capacity event past ≡ Some cause)
   spoken limit event next moves never = some_or (cause_of limit capacity event past) (λ e. never (counted limit event next moves e))
 
--- a history whose events are counted, and what is then kept
+-- a history whose events are counted, and what is kept then
 abbrev pub Arrived : Capacity → List Event → List Event → Type 0
 Arrived capacity h past = (k : Kept) × Agrees past k × Stands capacity h k
 

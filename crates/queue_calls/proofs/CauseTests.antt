@@ -1,4 +1,4 @@
--- What the tests tell by which a cause is found.
+-- What the tests for causes imply.
 use Rattle.std.proofs.Common.{◌≡◌, ◌↔◌, ℕ, ◌+◌, Bool, true, false, ◌&&◌, if◌then◌else◌, Option, Some, None, refl}
 use Rattle.std.proofs.lemmas.Bool.{both_ways, false_from_ne_true, ltb-true, lt-ltb, leb-true, le-leb}
 use Rattle.queue_calls.specs.Queue.{Capacity, Unbounded, Between, LacksRoom}
@@ -27,13 +27,13 @@ pub and_of : (b c : Bool) → (b && c) ≡ false → b ≡ true → c ≡ false
 and_of true c e f = e
 and_of false c e f = absurd cc
 
--- one of a call that says why, or says nothing of it
+-- a test of a call that says why, or does not
 pub and_told : (why b : Bool) (A : Type 0) → (b ≡ false) ↔ A → ((why && b) ≡ false) ↔ (why ≡ true → A)
 and_told true b A tells = (λ e. λ g. tells.0 e, λ h. tells.1 (h refl))
 and_told false b A tells = (λ e. λ g. absurd cc, λ h. refl)
 
 module _ {A : Type 0} where
-  -- where the first of several tests holds, there is something
+  -- if the first of several tests holds, there is something
   pub none_off : (b : Bool) (x : A) (y : Option A) → (if b then Some x else y) ≡ None → (b ≡ false) × (y ≡ None)
   none_off true x y e = absurd cc
   none_off false x y e = (refl, e)
@@ -42,12 +42,12 @@ module _ {A : Type 0} where
   off true x y e f = absurd cc
   off false x y e f = f
 
-  -- where the last one does not, there is something
+  -- if the last one does not, there is something
   pub none_on : (b : Bool) (x : Option A) (y : A) → (if b then x else Some y) ≡ None → (b ≡ true) × (x ≡ None)
   none_on true x y e = (refl, e)
   none_on false x y e = absurd cc
 
-  -- where it does not, there is something of the others
+  -- if it does not, one of the others does
   pub some_else : (b : Bool) (x y : Option A) → (y ≡ None → ⊥) → (if b then x else y) ≡ None → (b ≡ true) × (x ≡ None)
   some_else true x y f e = (refl, e)
   some_else false x y f e = absurd (f e)

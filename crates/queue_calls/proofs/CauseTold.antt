@@ -1,4 +1,4 @@
--- What is told by what is kept is what the past tells.
+-- What is reported from what is kept is what the past says.
 use Rattle.std.proofs.Common.{◌≡◌, ◌≢◌, inl, inr, ℕ, suc, ◌+◌, ◌-◌, ◌<◌, ◌≤◌, nat_lt, Bool, true, false, ◌==◌, not, ◌&&◌, ◌||◌, if◌then◌else◌, Option, Some, None, List, [], ◌∷◌, ◌++◌, length, take, drop, get_or, refl, sym, ap, subst, ◌∙◌, arith, append_assoc, append-nil}
 use Rattle.std.specs.List.{list_any}
 use Rattle.std.specs.Prelude.{unwrap_or, find, map, nat_eq}
@@ -232,7 +232,7 @@ passed limit capacity why past first (item ∷ items) (next ∷ rest) =
       | false ↦ λ e. ap (λ z. items_cause limit capacity why past z (item ∷ items) (next ∷ rest)) (sym (append-nil first))
     ] refl
 
--- and the one behind them is not the next
+-- and the one after them is not the next
 pub not_passed : (items : List ℕ) (rest : List Offered) → agreed (drop (agreed items rest) items) (drop (agreed items rest) rest) ≡ 0
 not_passed [] rest = refl
 not_passed (item ∷ items) [] = refl
@@ -272,7 +272,7 @@ taken_first line item (x ∷ first) more =
       | false ↦ λ e. taken_first line item first more
     ] refl
 
--- what is told behind those that are passed
+-- what is reported after those that are passed
 pub behind_passed :
     (limit : ℕ) (capacity : Capacity) (why : Bool) (past : List Event) (items : List ℕ) (rest : List Offered) (z : Cause) (q item d : ℕ) → q ≡ agreed items rest → q < length items → item ≡ get_or items q d →
     items_cause limit capacity why past [] items rest ≡ Some z →

@@ -1,4 +1,4 @@
--- What becomes of the entries that come next, with their lines, with an event that can be counted. With the others they stay as they are.
+-- The entries that come next, with their lines, after an event that can be counted. Other events leave them unchanged.
 use Rattle.std.proofs.Common.{◌≡◌, ℕ, zero, suc, ◌+◌, ◌-◌, ◌≤◌, Bool, true, false, if◌then◌else◌, List, [], ◌∷◌, ◌++◌, map, length, take, drop, refl, sym, ap, subst, ◌∙◌, arith, length-append, append-nil}
 use Rattle.std.proofs.lemmas.Bool.{or_parts}
 use Rattle.std.proofs.lemmas.List.{length-map, drop-map, drop-take, drop-drop}
@@ -11,7 +11,7 @@ use Rattle.call_causes.specs.declared.entries.Offered.{Offered}
 use Rattle.queue_calls.specs.declared.turns.PutTurn.TheVariants.{Free, Offers, Late}
 use Rattle.queue_calls.proofs.Agreeing.{as_put, long, is_late}
 
--- the entries of a row, of which those behind its first part are changed; and from a place on
+-- the entries of a list, with those after its first part changed; and from a place on
 all_changed : {A : Type 0} (f : A → A) (s o : List A) → s ++ map f o ≡ take (length s) (s ++ o) ++ map f (drop (length s) (s ++ o))
 all_changed f [] o = refl
 all_changed f (x ∷ s) o = ap (λ z. x ∷ z) (all_changed f s o)
@@ -28,7 +28,7 @@ changed f [] o (suc gone) rest e =
 changed f (x ∷ s) o (suc gone) rest e = changed f s o gone rest (omega (arith, e))
 
 module _ (past : List Event) (k : Kept) (a : Agrees past k) where
-  -- a put begins: its items come behind the others, or none do where the queue is known to be closed
+  -- a put begins: its items follow the others, or none do if the queue is known to be closed
   pub open_begins : (items : List ℕ) → k.put ≡ Free → k.shut ≡ false → coming (PutBegin items ∷ past) ≡ coming past ++ map (offered_at (line_behind past)) items
   open_begins items free open' =
       let f = as_put past k a Free free in
@@ -50,7 +50,7 @@ module _ (past : List Event) (k : Kept) (a : Agrees past k) where
       let F : Bool → Type 0 = λ z. drop (k_of past) (stored past ++ (if z then [] else map (offered_at (line_behind past)) items)) ≡ coming past in
       subst F (sym (is_late past k a free shut)) (ap (λ z. drop (k_of past) (stored past ++ z)) (sym f.0))
 
-  -- the put under way ends with so many of its items stored: the others go, and those that are not taken yet have this line
+  -- the put under way ends with this many of its items stored: the others are removed, and those that are not taken yet have this line
   left_over : (n inside count : ℕ) → k.put ≡ Offers n inside → count ≤ n → n - count ≤ length k.inside → drop (k_of past) (stored past ++ take count (offers past)) ≡ take (length k.inside - (n - count)) (coming past)
   left_over n inside count is few some =
       let f = as_put past k a (Offers n inside) is in

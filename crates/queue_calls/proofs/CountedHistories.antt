@@ -20,7 +20,7 @@ use Rattle.queue_calls.proofs.Ends.TakeEnds.{take_items, take_empty, take_short,
 abbrev pub Stands : Capacity → List Event → Kept → Type 0
 Stands capacity h k = Keeps capacity h k.inside k.put k.take k.shut
 
--- what is kept, where it is told otherwise
+-- what is kept, stated differently
 stands_as : (capacity : Capacity) (h : List Event) (k told : Kept) → k ≡ told → Stands capacity h told → Stands capacity h k
 stands_as capacity h k told e j = let F : Kept → Type 0 = λ z. Stands capacity h z in subst F (sym e) j
 
@@ -37,7 +37,7 @@ module _ (capacity : Capacity) (h : List Event) (k : Kept) (j : Stands capacity 
   of_none : (turn : TakeTurn) → k.take ≡ turn → k.inside ≡ [] → Keeps capacity h [] k.put turn k.shut
   of_none turn e f = let F : List ℕ → Type 0 = λ z. Keeps capacity h z k.put turn k.shut in subst F f (of_take turn e)
 
-  -- an event that can be counted leaves what is kept
+  -- an event that can be counted results in a state that describes the history
   pub counts_keeps : (event : Event) (after : Kept) → Counts capacity k event after → Stands capacity (h ++ event ∷ []) after
   counts_keeps (PutBegin items) after (free, items_come, begins) = elim begins [
     | inl b ↦
@@ -87,11 +87,11 @@ module _ (capacity : Capacity) (h : List Event) (k : Kept) (j : Stands capacity 
       stands_as capacity (h ++ TakeClosed ∷ []) after _ e
       (take_closed capacity h k.put wanted before ended k.shut (of_none (Waits wanted before ended) is none) closed).0
 
--- it can lead somewhere
+-- the history can lead somewhere
 pub stands_linear : (capacity : Capacity) (h : List Event) (k : Kept) → Stands capacity h k → IsLinearizable capacity h
 stands_linear capacity h k j = let (t, d, told) = some capacity k.inside k.put k.take k.shut j.few in (t, j.sound t d (told j.late))
 
--- events that can be counted behind a history
+-- events that can be counted after a history
 counted : (capacity : Capacity) (events h : List Event) (k : Kept) → Stands capacity h k → AreCounted capacity k events → IsLinearizable capacity (h ++ events)
 counted capacity [] h k j c = subst (λ z. IsLinearizable capacity z) (sym (append-nil h)) (stands_linear capacity h k j)
 counted capacity (event ∷ events) h k j (after, now, later) =

@@ -18,7 +18,7 @@ use Rattle.queue_calls.proofs.Ends.TakeBegins.{keeps_nothing}
 use Rattle.queue_calls.proofs.Ends.TakeEnds.{closed_left}
 use Rattle.queue_calls.proofs.CountedHistories.{Stands, counts_keeps, counted_is_linearizable}
 
--- a reason that was found, of a put that left some of its items, and of a take that wanted more than it took
+-- the reason found, for a put that left some of its items, and for a take that wanted more than it took
 pub lacks_room : (capacity : Capacity) (before count : ℕ) → 0 < count → MayLack capacity before count → LacksRoom capacity before count
 lacks_room capacity before count l f = elim f [ inl e ↦ absurd (omega (arith, e, l)) | inr g ↦ g ]
 
@@ -29,7 +29,7 @@ pub short_of_more : (count left : ℕ) → 0 < left → short_of true count left
 short_of_more count zero l = absurd (omega (arith, l))
 short_of_more count (suc left) l = refl
 
--- what a put that is under way tells of what is kept: it began before a close had ended, or after
+-- what a put under way implies about what is kept: it began before a close had ended, or after
 abbrev Tells : Capacity → List ℕ → PutTurn → TakeTurn → (lacked done : ℕ) → List ℕ → Type 0
 Tells capacity inside put take lacked done left =
     ((offered before : ℕ) × (put ≡ Offers offered before) × (done + length left ≡ offered) × MayLack capacity before lacked ×
@@ -97,7 +97,7 @@ can_end_take capacity inside put take shut q p lacked took left d =
           (omega (arith, ap length d.items, length-append took (q.items ++ left_by put p), length-append q.items (left_by put p), few)) d.room,
     )
 
--- an event that leads on from a point that is described can be counted
+-- an event that leads from a point that is described can be counted
 module _ (capacity : Capacity) (k : Kept) (sound : IsSoundPut (length k.inside) k.put k.shut) (s t : Point) (d : Describes capacity k.inside k.put k.take k.shut s) where
   abbrev CanCount : Event → Type 0
   CanCount event = (after : Kept) × Counts capacity k event after
@@ -114,7 +114,7 @@ module _ (capacity : Capacity) (k : Kept) (sound : IsSoundPut (length k.inside) 
   free : s.producer ≡ Idle → k.put ≡ Free
   free e = idle_tells capacity k.inside k.take k.shut s.queue k.put s.queue.closed (as_put Idle e).producer
 
-  -- a put ends, told by how many items it has left
+  -- a put ends, by how many items it has left
   ends_put : (rest left : ℕ) → left ≡ rest → CanEndPut capacity (length k.inside) (asked_by k.take) left → CanEndPut capacity (length k.inside) (asked_by k.take) rest
   ends_put rest left e f = let F : ℕ → Type 0 = λ z. CanEndPut capacity (length k.inside) (asked_by k.take) z in subst F e f
 
@@ -233,7 +233,7 @@ module _ (capacity : Capacity) (k : Kept) (sound : IsSoundPut (length k.inside) 
       let empty : k.inside ≡ [] = d'.items ∙ (ap (λ z. z ++ left_by k.put s.producer) drained.0 ∙ left) in
       (kept [] k.put Rests true, (wanted, before, ended, is, empty, begun, refl))
 
--- the last event of a linearizable history leads on from a point that is described
+-- the last event of a linearizable history leads from a point that is described
 abbrev LeadsOn : Capacity → Kept → Event → Type 0
 LeadsOn capacity k event = (s t : Point) × Describes capacity k.inside k.put k.take k.shut s × Leads capacity s (Happens event) t
 

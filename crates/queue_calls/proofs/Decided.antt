@@ -1,4 +1,4 @@
--- What follows of what an auditor decides: it reads the event.
+-- What follows from an auditor's decision: it reads the event.
 use Rattle.std.proofs.Common.{◌≡◌, ◌∙◌, ap, ℕ, false, List, [], ◌∷◌, ◌++◌, Result, Ok, Err, sym, subst}
 use Rattle.queue_calls.specs.Queue.{Capacity}
 use Rattle.queue_calls.specs.Calls.{Event}
@@ -19,7 +19,7 @@ use Rattle.queue_calls.proofs.CountedHistories.{Stands, counts_keeps, stands_lin
 use Rattle.queue_calls.proofs.CountsFollow.{leads_on, leads_counts}
 use Rattle.queue_calls.proofs.FullLists.{more_items}
 
--- what an auditor keeps, where its parts are those of another
+-- what an auditor keeps, if its parts are those of another
 pub kept_as :
     {Q E : Type 0} (items : Q → List ℕ) (old new : CallAuditor Q E) → items new.inside ≡ items old.inside → new.put ≡ old.put → new.take ≡ old.take → new.shut ≡ old.shut →
     kept_by items new ≡ kept_by items old
@@ -27,7 +27,7 @@ kept_as items old new inside put take shut =
     ap (λ z. kept z new.put new.take new.shut) inside ∙
     (ap (λ z. kept (items old.inside) z new.take new.shut) put ∙ (ap (λ z. kept (items old.inside) old.put z new.shut) take ∙ ap (λ z. kept (items old.inside) old.put old.take z) shut))
 
--- what is refused, of a history behind which this is kept
+-- what is refused, for a history after which this is kept
 refuses : (room : ℕ) (capacity : Capacity) (h : List Event) (k : Kept) (event : Event) (fault : Fault) → Stands capacity h k → RefusesCount room capacity k event fault → RefusesEvent room fault capacity h event
 refuses room capacity h k event OutOfTurn j r = (turn_away capacity h event k.inside k.put k.take k.shut j r).1
 refuses room capacity h k event NotLinearizable j (turn, not) = (
@@ -44,7 +44,7 @@ refuses room capacity h k event OutOfMemory j (items, is, free, not_shut, some, 
     ((items, is), subst H (sym is) (more_items capacity h k.inside items k.take j' some room full))
 
 module _ {Q E : Type 0} (items : Q → List ℕ) (room : Q → ℕ) (old : CallAuditor Q E) (event : Event) (new : CallAuditor Q E) where
-  -- what is kept now, behind a history
+  -- what is kept now, after a history
   kept_now : (h : List Event) → new.capacity ≡ old.capacity → Stands (meant old.capacity) h (kept_by items new) → Audits items new h
   kept_now h same j = subst (λ z. Stands (meant z) h (kept_by items new)) (sym same) j
 

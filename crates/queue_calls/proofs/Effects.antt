@@ -1,4 +1,4 @@
--- Where an operation takes effect, what an auditor keeps describes the point that follows.
+-- If an operation takes effect, what an auditor keeps describes the point that follows.
 use Rattle.std.proofs.Common.{◌≡◌, inr, ℕ, suc, ◌+◌, ◌<◌, ◌≤◌, Bool, true, false, List, [], ◌∷◌, ◌++◌, length, refl, sym, ap, subst, ◌∙◌, arith, length-append, append_assoc}
 use Rattle.queue_calls.specs.Queue.{Capacity, HasRoom, LacksRoom, Enqueue, FindNoRoom, FindShut, Close, Dequeue, FindFewer, FindClosed, Queue, queue, IsDrained}
 use Rattle.queue_calls.specs.Calls.{Producer, Idle, Putting, FoundShut, Closing, Consumer, Resting, Taking, FoundClosed, Point, point}
@@ -10,7 +10,7 @@ use Rattle.queue_calls.specs.State.{taken_by, left_by, FitsPut, FitsTake, Descri
 use Rattle.queue_calls.proofs.Rooms.{holds_fewer, holds_one_more, lacks_with_more}
 use Rattle.queue_calls.proofs.Points.{Stays}
 
--- a point, told by its parts
+-- a point, by its parts
 pub described_at :
     (capacity : Capacity) (inside : List ℕ) (put : PutTurn) (take : TakeTurn) (shut : Bool) (t : Point) (q : Queue) (p : Producer) (c : Consumer) →
     t.queue ≡ q → t.producer ≡ p → t.consumer ≡ c → Describes capacity inside put take shut (point q p c) → Describes capacity inside put take shut t
@@ -28,7 +28,7 @@ described_as capacity inside put take shut s p c ep ec d =
     let d1 = subst (λ z. D (point s.queue z s.consumer)) ep d in
     subst (λ z. D (point s.queue p z)) ec d1
 
--- what the consumer found of an open queue stays so
+-- what the consumer found of an open queue is unchanged
 pub fits_while_open : (take : TakeTurn) (c : Consumer) (q q' : Queue) → q.closed ≡ false → FitsTake take c q → FitsTake take c q'
 fits_while_open Rests Resting q q' o f = tt
 fits_while_open Rests (Taking lacked took left) q q' o f = absurd f
@@ -103,7 +103,7 @@ module _ (capacity : Capacity) (inside : List ℕ) (take : TakeTurn) (shut : Boo
   close (Late offered) q c d = absurd d.producer
   close (Closes again) q c d = record { items = d.items; room = d.room; producer = ((λ _. refl), (λ _. refl)); consumer = close_found c q d.consumer }
 
-  -- what stays of the producer where the queue is as open or closed as it was
+  -- the producer's state is unchanged if the queue is as open or closed as it was
   fits_put : (put : PutTurn) (p : Producer) (a b : Bool) → b ≡ a → FitsPut capacity put shut p a → FitsPut capacity put shut p b
   fits_put put p a b e f = subst (FitsPut capacity put shut p) (sym e) f
 

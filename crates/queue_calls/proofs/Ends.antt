@@ -1,4 +1,4 @@
--- What the begins and the ends of calls do to what an auditor keeps.
+-- What starts and ends of calls do to what an auditor keeps.
 pub mod Batches
 pub mod Closing
 pub mod EndLemmas

@@ -4,7 +4,7 @@ use Rattle.queue_calls.specs.Queue.{Unbounded, Between, exactly, Enqueue, FindNo
 use Rattle.queue_calls.specs.Calls.{PutBegin, PutStored, TakeBegin, TakeItems}
 use Rattle.queue_calls.specs.Reporting.{begun, full_ends, overlapped, under_way}
 
--- these come one after the other at a queue of one cell
+-- these come one after the other at a queue of capacity 1
 some_legal : IsLegal (exactly 1) (queue [] false) (FindEmpty ∷ Enqueue 1 ∷ FindFull ∷ FindFewer 2 ∷ Close ∷ FindShut ∷ Dequeue 1 ∷ FindClosed ∷ [])
 some_legal = (
   queue [] false,
@@ -40,8 +40,8 @@ between_legal = (
   ),
 )
 
--- and these do not: two items in one cell, a queue with no bound that lacks room, one that is found empty with an item in it, and one
--- that is closed and empty and is found to have fewer than it may have
+-- and these do not: two items with capacity 1, an unbounded queue that lacks room, one found empty with an item in it, and one closed
+-- and empty that is found to have fewer than wanted
 too_many : ¬ IsLegal (exactly 1) (queue [] false) (Enqueue 1 ∷ Enqueue 2 ∷ [])
 too_many r = omega (arith, r.2.1.0, ap (λ (q : Queue). length q.items) r.1.2)
 
@@ -55,7 +55,7 @@ drained : ¬ IsLegal (exactly 1) (queue [] true) (FindFewer 2 ∷ [])
 drained r = r.1.1 (refl, refl)
 
 -- a put within a take: both calls have overlapped one of the other side; a second put within the same take: three have; takes that come
--- behind a put: none have
+-- after a put: none have
 within_one : overlapped (PutStored 1 true ∷ PutBegin (7 ∷ []) ∷ TakeBegin 1 ∷ []) ≡ 2
 within_one = refl
 
@@ -65,7 +65,7 @@ within_both = refl
 one_behind : overlapped (TakeBegin 1 ∷ TakeItems (7 ∷ []) true ∷ TakeBegin 1 ∷ PutStored 1 true ∷ PutBegin (7 ∷ []) ∷ []) ≡ 0
 one_behind = refl
 
--- a put of which only some items were stored ends as a full one does
+-- a put of which only some items were stored counts as one that ended full
 some_stored : full_ends (PutStored 1 true ∷ PutBegin (7 ∷ 8 ∷ []) ∷ []) ≡ 1
 some_stored = refl
 

@@ -1,4 +1,4 @@
--- What a list that is full says of the history.
+-- What a full list implies about the history.
 use Rattle.std.proofs.Common.{◌≡◌, ℕ, ◌+◌, ◌<◌, false, List, [], ◌∷◌, ◌++◌, length, refl, ap, ◌∙◌, arith, length-append}
 use Rattle.queue_calls.specs.Queue.{Capacity}
 use Rattle.queue_calls.specs.Calls.{Event, PutBegin, Producer, Idle, Putting, FoundShut, Closing}
@@ -14,7 +14,7 @@ left_same offered before (Putting lacked done left) = refl
 left_same offered before FoundShut = refl
 left_same offered before (Closing done) = refl
 
--- a put begins whose items do not fit behind those inside
+-- a put begins whose items do not fit after those inside
 pub more_items :
     (capacity : Capacity) (h : List Event) (inside items : List ℕ) (take' : TakeTurn) → Keeps capacity h inside Free take' false → 0 < length items → (room : ℕ) →
     room < length inside + length items → HasMoreItems room capacity (h ++ PutBegin items ∷ [])

@@ -1,4 +1,4 @@
--- One more line behind lines, and lines that cannot stand behind them.
+-- One more line after lines, and lines that cannot come after them.
 use Rattle.std.proofs.Common.{◌≡◌, ◌≢◌, ℕ, suc, ◌+◌, Bool, true, false, Option, Some, None, List, [], ◌∷◌, ◌++◌, length, refl, ap, sym, subst, ◌∙◌, arith}
 use Rattle.std.specs.Prelude.{All}
 use Rattle.std.proofs.lemmas.List.Elements.{All-append, All-cons, All-head, All-nil, All-tail}
@@ -22,7 +22,7 @@ use Rattle.call_lines.proofs.LineLemmas.{line_same}
 abbrev pub IsFirst : Word → Type 0
 IsFirst w = (is_cut : Bool) × (w ≡ first_word is_cut)
 
--- a line behind the first tells an event
+-- a line after the first has an event
 no_event : (b : Begun) (w : Word) (numbers : List ℕ) → event_told b w numbers ≡ None → IsFirst w
 no_event b Queue numbers e = (false, refl)
 no_event b Cut numbers e = (true, refl)
@@ -42,7 +42,7 @@ no_event b TakeShort numbers e = absurd (none-some _ (sym e))
 no_event b TakeNothing numbers e = absurd (none-some _ (sym e))
 no_event b TakeClosed numbers e = absurd (none-some _ (sym e))
 
--- the first line tells none
+-- the first line has none
 first_tells_none : (b : Begun) (is_cut : Bool) (numbers : List ℕ) → event_told b (first_word is_cut) numbers ≡ None
 first_tells_none b true numbers = refl
 first_tells_none b false numbers = refl
@@ -79,7 +79,7 @@ events_more b (x ∷ lines) l =
 
 -- ---- lines
 
--- the last of lines is of the format, and behind the first it is no other one
+-- the last of the lines is of the format, and after the first it is a further one
 All-last : (further : List Line) (l : Line) → All IsFurther (further ++ l ∷ []) → IsFurther l
 All-last [] l all = All-head IsFurther l [] all
 All-last (x ∷ further) l all = All-last further l (All-tail IsFurther x (further ++ l ∷ []) all)
@@ -97,16 +97,16 @@ is_line before bytes l on =
       small = format.1;
     }
 
--- the word of a line that goes on with lines is the one that was read of it
+-- the word of a line that continues lines is the one that was read
 same_word : (before : List Line) (bytes numbers : List ℕ) (w : Word) (l : Line) → IsLine bytes w numbers → ContinuesLines before bytes l → w ≡ l.word
 same_word before bytes numbers w l is on = (line_same bytes w l.word numbers l.numbers is (is_line before bytes l on)).0
 
--- no line that goes on with none has another word than the first
+-- no line that comes first has another word than a first line's
 pub not_the_first : (before : List Line) (bytes numbers : List ℕ) (w : Word) (l : Line) → before ≡ [] → ¬ IsFirst w → IsLine bytes w numbers → ¬ (ContinuesLines before bytes l)
 not_the_first [] bytes numbers w l none other is on = other (on.0.0.0, same_word [] bytes numbers w l is on ∙ on.0.0.1)
 not_the_first (x ∷ before) bytes numbers w l none other is on = absurd (omega (arith, ap length none))
 
--- no line that goes on with others tells no event
+-- no line that continues others is without an event
 pub not_further : (before : List Line) (bytes numbers told : List ℕ) (b : Begun) (w : Word) (l : Line) → before ≢ [] → event_told b w told ≡ None → IsLine bytes w numbers → ¬ (ContinuesLines before bytes l)
 not_further [] bytes numbers told b w l some none is on = some refl
 not_further (x ∷ further) bytes numbers told b w l some none is on =

@@ -27,7 +27,7 @@ use Rattle.queue_calls.proofs.InsideMoments.{perhaps_follows, surely_follows}
 use Rattle.queue_calls.proofs.Remembering.{kept_of, linear, stands}
 use Rattle.queue_calls.proofs.TalliesFollow.{last_count, sides_fit, tells}
 
--- the numbers of a first line tell a capacity that a queue may have
+-- the numbers of a first line have a capacity that a queue may have
 pub proper_told : (numbers : List ℕ) → AllowsQueue numbers → IsProper (capacity_told numbers)
 proper_told [] allowed = tt
 proper_told (most ∷ []) allowed = (omega (arith, allowed), omega arith)
@@ -47,7 +47,7 @@ stops_before capacity events event number Says at = record {
   says = at.says;
 }
 
--- an event with which the history is not linearizable
+-- an event with which the history is not linearizable is the first fault
 pub stops_here : (capacity : Capacity) (events : List Event) (event : Event) (number : ℕ) (Says : List Event → Event → Type 0) → IsLinearizable capacity events
     → ¬ (IsLinearizable capacity (events ++ event ∷ [])) → Says events event → length events + 2 ≡ number → StopsAt capacity (events ++ event ∷ []) number Says
 stops_here capacity events event number Says so_far stops says is = record {
@@ -61,7 +61,7 @@ stops_here capacity events event number Says so_far stops says is = record {
   says = says;
 }
 
--- the report of what was counted, where these calls are under way
+-- the report of what was counted, if these calls are under way
 pub report_of : {S O T N B : Type 0} → Witness S O T N B → Tally → CallsReport
 report_of w tally = record tally.report { under_way = as_number (has_put w.auditor.put) + as_number (has_take w.auditor.take) }
 
@@ -87,7 +87,7 @@ module _ {S O T N B : Type 0} (offered : O → List Offered) (last : T → List 
   unheard None w tally none is = is
   unheard (Some fault) w tally none is = absurd (false≢true (sym none))
 
-  -- an event more is counted
+  -- one more event is counted
   pub heard_more :
       (w after : Witness S O T N B) (tally : Tally) (counted : Tally) (event : Event) → Remembers offered last w capacity events → Remembers offered last after capacity (events ++ event ∷ []) →
       IsTallied capacity events tally →
@@ -134,7 +134,7 @@ module _ {S O T N B : Type 0} (offered : O → List Offered) (last : T → List 
         under_way = omega (arith, under, ap as_number fit.0, ap as_number fit.1);
       }
 
-  -- where no fault was heard, it is linearizable, and this is told of it
+  -- if no fault was heard, it is linearizable, and this is its report
   pub heard_lawful : (limit : ℕ) (w : Witness S O T N B) (tally : Tally) → Remembers offered last w capacity events → IsTallied capacity events tally → IsFoundWithin limit capacity events (Lawful (report_of w tally))
   unfolding report_of
   heard_lawful limit w tally r t = (

@@ -1,4 +1,4 @@
--- What a witness remembers behind one event more.
+-- What a witness remembers after one more event.
 use Rattle.std.proofs.Common.{◌≡◌, inl, inr, ℕ, zero, suc, ◌+◌, ◌-◌, ◌≤◌, Bool, true, false, if◌then◌else◌, Option, Some, None, List, [], ◌∷◌, ◌++◌, map, length, take, drop, reverse, refl, sym, ap, subst, ◌∙◌, arith, length-append, append-nil}
 use Rattle.std.proofs.lemmas.List.{length-map, length-reverse, length-take-le, take_all}
 use Rattle.std.specs.Option.{option_or}
@@ -41,7 +41,7 @@ take_same (suc m) (suc n) (x ∷ xs) e = ap (λ z. x ∷ z) (take_same m n xs (o
 long_entries : (entries : List Offered) (inside : List ℕ) → items_of entries ≡ inside → length entries ≡ length inside
 long_entries entries inside e = sym (length-map entries (λ o. o.item)) ∙ ap length e
 
--- so many first entries are those that are kept
+-- the first entries are those that are kept
 first_ones :
     (kept count : ℕ) (entries left : List Offered) (inside : List ℕ) → left ≡ take kept entries → items_of left ≡ take count inside → length entries ≡ length inside → count ≤ length inside →
     left ≡ take count entries
@@ -82,7 +82,7 @@ module _ (past : List Event) (k : Kept) (a : Agrees past k) (capacity : Capacity
   inside_is : (after told : Kept) → after ≡ told → after.inside ≡ told.inside
   inside_is after told e = ap (λ z. z.inside) e
 
-  -- what comes next behind an event, but for the end of a put that stored some
+  -- what comes next after an event, except for the end of a put that stored some
   pub moved :
       (event : Event) (after : Kept) (entries left : List Offered) → entries ≡ coming past → items_of left ≡ after.inside → Counts capacity k event after → MovesSo event entries left →
       ((count : ℕ) (why : Bool) → event ≡ PutStored count why → ⊥) → left ≡ coming (event ∷ past)
@@ -107,7 +107,7 @@ module _ (past : List Event) (k : Kept) (a : Agrees past k) (capacity : Capacity
   moved (TakeItems items why) after entries left come are c moves other = moves ∙ ap (λ z. drop (length items) z) come ∙ sym (took past k a items why)
   moved event after entries left come are c moves other = moves ∙ come
 
-  -- and behind that one, where its line is written
+  -- and after that one, with its line written
   pub moved_stored :
       (count : ℕ) (why : Bool) (after : Kept) (entries left : List Offered) → entries ≡ coming past → items_of left ≡ after.inside → Counts capacity k (PutStored count why) after →
       MovesSo (PutStored count why) entries left → mark_last (line_behind past) count left ≡ coming (PutStored count why ∷ past)
@@ -121,7 +121,7 @@ module _ (past : List Event) (k : Kept) (a : Agrees past k) (capacity : Capacity
 
 -- ---- what is remembered
 
--- of what a past tells
+-- what is remembered of a past
 pub next_remembers :
     {S O T N B : Type 0} (offered : O → List Offered) (last : T → List Taken) (w next : Witness S O T N B) (capacity : Capacity) (events : List Event) (event : Event) →
     Remembers offered last w capacity events → next.auditor.capacity ≡ w.auditor.capacity → Counts capacity (kept_of offered w) event (kept_of offered next) →
@@ -146,13 +146,13 @@ next_remembers offered last w next capacity events event r same counts inside ta
       stored_at = subst (λ z. next.stored_at ≡ line_behind (before_stored z)) back stored_at_is;
     }
 
--- where the event is told otherwise
+-- the same with the event stated differently
 pub told_so :
     {S O T N B : Type 0} (offered : O → List Offered) (last : T → List Taken) (w : Witness S O T N B) (capacity : Capacity) (events : List Event) (event told : Event) → told ≡ event →
     Remembers offered last w capacity (events ++ event ∷ []) → Remembers offered last w capacity (events ++ told ∷ [])
 told_so offered last w capacity events event told e r = subst (λ z. Remembers offered last w capacity (events ++ z ∷ [])) (sym e) r
 
--- what is kept of the items taken last is as it was
+-- what is kept of the items taken last is unchanged
 abbrev pub KeepsTaken : {S O T N B : Type 0} → Witness S O T N B → Witness S O T N B → Type 0
 KeepsTaken w next = (next.taken ≡ w.taken) × (next.limit ≡ w.limit) × (next.last_taken ≡ w.last_taken)
 
@@ -160,7 +160,7 @@ pub taken_kept :
     {S O T N B : Type 0} (last : T → List Taken) (w next : Witness S O T N B) (all : List Taken) → KeepsTaken w next → last w.taken ≡ last_of w.limit all → last next.taken ≡ last_of next.limit all
 taken_kept last w next all t is = ap last t.0 ∙ is ∙ ap (λ n. last_of n all) (sym t.1)
 
--- an event whose line no cause tells, and that takes nothing
+-- an event whose line no cause reports, and that takes nothing
 abbrev pub IsQuiet : Event → Type 0
 IsQuiet (PutBegin items) = ⊥
 IsQuiet (PutStored count why) = ⊥
@@ -206,7 +206,7 @@ module _ {S O T N B : Type 0} {offered : O → List Offered} {last : T → List 
   pub counted_so : (event : Event) (after : Kept) → Counts (meant w.auditor.capacity) (kept_of offered w) event after → Counts capacity (kept_of offered w) event after
   counted_so event after c = subst (λ z. Counts z (kept_of offered w) event after) r.capacity_is c
 
-  -- the entries behind an event of this line
+  -- the entries after an event of this line
   pub inside_after :
       (event : Event) (line : ℕ) (after : Kept) (left : List Offered) → length events + 2 ≡ line → items_of left ≡ after.inside → Counts (meant w.auditor.capacity) (kept_of offered w) event after →
       Moves (offered_at line) w.auditor.shut event (offered w.auditor.inside.list) left → ((count : ℕ) (why : Bool) → event ≡ PutStored count why → ⊥) → left ≡ coming (event ∷ reverse events)
@@ -252,7 +252,8 @@ module _ {S O T N B : Type 0} {offered : O → List Offered} {last : T → List 
   refuses next o t event NotLinearizable still f = (still, f.0, subst (λ z. ¬ IsLinearizable z (events ++ event ∷ [])) r.capacity_is f.1)
   refuses next o t event OutOfMemory still f = inl (subst (λ z. HasMoreItems o z (events ++ event ∷ [])) r.capacity_is f.1)
 
-  -- what is remembered behind an event of this line, but for the end of a put that stored some, where it leaves what is kept beside the auditor so
+  -- what is remembered after an event of this line, except for the end of a put that stored some, if it leaves what is kept besides the
+  -- auditor like this
   pub heard :
       {next : Witness S O T N B} {line : ℕ} {told' event : Event} → told' ≡ event → length events + 2 ≡ line → ((count : ℕ) (why : Bool) → event ≡ PutStored count why → ⊥) →
       next.auditor.capacity ≡ w.auditor.capacity → Counts (meant w.auditor.capacity) (kept_of offered w) told' (kept_of offered next) →
@@ -268,7 +269,7 @@ module _ {S O T N B : Type 0} {offered : O → List Offered} {last : T → List 
       (next_remembers offered last w next capacity events event r same (counted_so event (kept_of offered next) counts')
       (inside_after event line (kept_of offered next) (offered next.auditor.inside.list) number refl counts' moves' other) t l e d p s)
 
-  -- and behind one whose line no cause tells, and that takes nothing
+  -- and after one whose line no cause reports, and that takes nothing
   pub quiet_heard :
       {next : Witness S O T N B} {line : ℕ} (event : Event) → IsQuiet event → length events + 2 ≡ line → next.auditor.capacity ≡ w.auditor.capacity →
       Counts (meant w.auditor.capacity) (kept_of offered w) event (kept_of offered next) →

@@ -1,4 +1,4 @@
--- How many items a queue has, of the points that are described by what an auditor keeps; and what is told of them at each moment.
+-- How many items a queue has, at the points described by what an auditor keeps; and what is reported of them at each moment.
 use Rattle.std.proofs.Common.{◌≡◌, ◌⊎◌, inl, inr, ℕ, ◌+◌, ◌-◌, ◌≤◌, Bool, true, false, List, [], ◌∷◌, ◌++◌, length, take, drop, refl, sym, ap, subst, ◌∙◌, arith, length-append, length-drop, append_assoc}
 use Rattle.std.specs.Prelude.{max}
 use Rattle.std.proofs.lemmas.List.{append-nil, take-append-drop, length-take, length-take-le}
@@ -18,7 +18,7 @@ use Rattle.queue_calls.proofs.Ends.TakeBegins.{keeps_nothing}
 
 -- ---- the points that are described
 
--- the put under way has no more left than it offered
+-- the put under way offers no more than at its start
 left_few : (capacity : Capacity) (put : PutTurn) (shut : Bool) (p : Producer) (closed : Bool) → FitsPut capacity put shut p closed → length (left_by put p) ≤ offered_by put
 left_few capacity Free shut p closed f = omega arith
 left_few capacity (Offers offered before) shut Idle closed f = absurd f
@@ -63,7 +63,7 @@ three xs t q few =
     )
 
 module _ (capacity : Capacity) (h : List Event) (k : Kept) (j : Stands capacity h k) where
-  -- each number of items that leaves no more than the calls under way may have taken, and not have stored
+  -- each number of items that is possible, given how many the calls under way may have taken and not have stored
   reach : (q : ℕ) → q ≤ length k.inside → length k.inside ≤ q + (offered_by k.put + asked_by k.take) → MayHold capacity q → Perhaps capacity (λ inside. inside ≡ q) h
   reach q less few holds =
       let t : ℕ = (length k.inside - q) - offered_by k.put in
@@ -84,7 +84,7 @@ module _ (capacity : Capacity) (h : List Event) (k : Kept) (j : Stands capacity 
       ap length d.items ∙ (length-append (taken_by s.consumer) (s.queue.items ++ left_by k.put s.producer) ∙
       ap (λ z. length (taken_by s.consumer) + z) (length-append s.queue.items (left_by k.put s.producer)))
 
-  -- no fewer than the least, which may be
+  -- at least the least, which is possible
   pub least_surely : Surely capacity (λ inside. least_kept k ≤ inside) h
   least_surely s r =
       let d = j.complete s r in
@@ -100,7 +100,7 @@ module _ (capacity : Capacity) (h : List Event) (k : Kept) (j : Stands capacity 
   most_few Unbounded s less holds = less
   most_few (Between full most) s less holds = omega (arith, less, holds)
 
-  -- no more than the most, which may be
+  -- at most the most, which is possible
   pub most_surely : Surely capacity (λ inside. inside ≤ most_kept capacity k) h
   most_surely s r =
       let d = j.complete s r in
@@ -121,9 +121,9 @@ module _ (capacity : Capacity) (h : List Event) (k : Kept) (j : Stands capacity 
   pub most_perhaps : Perhaps capacity (λ inside. inside ≡ most_kept capacity k) h
   most_perhaps = reach (most_kept capacity k) (most_less capacity) (most_far capacity j.few) (most_holds capacity)
 
--- ---- the beginnings of a history
+-- ---- the prefixes of a history
 
--- a beginning of a history with one event more is the whole or one of the history
+-- a prefix of a history with one more event is the whole or a prefix of the history
 one_or_before :
     (events before rest : List Event) (event : Event) → events ++ event ∷ [] ≡ before ++ rest → (before ≡ events ++ event ∷ []) ⊎ ((more : List Event) × (events ≡ before ++ more))
 one_or_before events [] rest event e = inr (events, refl)
@@ -149,7 +149,7 @@ some_more Holds events event (before, rest, parts, holds) = (before, rest ++ eve
 some_here : (Holds : List Event → Type 0) (events : List Event) → Holds events → AtSome Holds events
 some_here Holds events holds = (events, [], sym (append-nil events), holds)
 
--- of a number that is no less
+-- the same for a number that is no less
 perhaps_more : (capacity : Capacity) (h : List Event) (n m : ℕ) → n ≤ m → Perhaps capacity (λ inside. inside ≤ n) h → Perhaps capacity (λ inside. inside ≤ m) h
 perhaps_more capacity h n m less (s, r, few) = (s, r, omega (arith, less, few))
 
@@ -159,7 +159,7 @@ surely_more capacity h n m less few s r = omega (arith, less, few s r)
 at_most_or_more : (a b : ℕ) → (a ≤ b) ⊎ (b ≤ a)
 at_most_or_more a b = grind arith
 
--- ---- with one event more
+-- ---- with one more event
 
 module _ (capacity : Capacity) (events : List Event) (event : Event) (before after : Kept) (j : Stands capacity events before) (j' : Stands capacity (events ++ event ∷ []) after) where
   pub surely_follows : (n : ℕ) → IsSurelyInside capacity events n → IsSurelyInside capacity (events ++ event ∷ []) (max n (least_kept after))
@@ -177,7 +177,7 @@ module _ (capacity : Capacity) (events : List Event) (event : Event) (before aft
             (λ b rest e. perhaps_more capacity b n (max n l) (omega arith) (each b rest e)) (s, r, omega (arith, is)),
       )
 
-  -- where no more came in
+  -- if no more came in
   perhaps_stays : (n : ℕ) → length after.inside ≤ length before.inside → IsPerhapsInside capacity events n → IsPerhapsInside capacity (events ++ event ∷ []) n
   perhaps_stays n less (each, some) =
       let h : List Event = events ++ event ∷ [] in
@@ -207,7 +207,7 @@ module _ (capacity : Capacity) (events : List Event) (event : Event) (before aft
         is_some,
       )
 
--- more come in where a put begins alone
+-- more come in only when a put begins
 no_longer : (k after it : Kept) → after ≡ it → length it.inside ≤ length k.inside → length after.inside ≤ length k.inside
 no_longer k after it e less = omega (arith, ap (λ (z : Kept). length z.inside) e, less)
 

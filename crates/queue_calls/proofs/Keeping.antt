@@ -15,7 +15,7 @@ use Rattle.queue_calls.proofs.TurnLemmas.{one_turn_more, last_turn, same_turns, 
 use Rattle.queue_calls.proofs.Points.{last_event}
 use Rattle.queue_calls.proofs.Effects.{stays}
 
--- a list's first part, and its last part of so many
+-- a list's first part, and its last part, of this many
 pub record Split (xs : List ℕ) (n : ℕ) : Type 0 where
   pub front : List ℕ
   pub back : List ℕ
@@ -34,7 +34,7 @@ split xs n l = record {
 abbrev pub Some : Capacity → List ℕ → PutTurn → TakeTurn → Bool → Type 0
 Some capacity inside put take shut = (s : Point) × Describes capacity inside put take shut s × ((late : List ℕ) → TellsPoint late put s.producer)
 
--- where nothing that is left of the put is behind the queue
+-- if nothing of the put is still offered after the queue
 whole_queue :
     (capacity : Capacity) (inside rest : List ℕ) (put : PutTurn) (take : TakeTurn) (shut closed : Bool) (p : Producer) (c : Consumer) → ((q : Queue) → FitsTake take c q) →
     inside ≡ taken_by c ++ rest → MayHold capacity (length rest - 0) → left_by put p ≡ [] → FitsPut capacity put shut p closed → Describes capacity inside put take shut (point (queue rest closed) p c)
@@ -92,14 +92,14 @@ some capacity inside put (Waits wanted before ended) shut l = elim (cases_lt (le
       (holds_fewer capacity (0 - offered_by put) 0 (omega arith) (holds_none capacity))
 ]
 
--- what an auditor says of a history with one event more
+-- what an auditor decides about a history with one more event
 abbrev pub Accepts : Capacity → List Event → Event → List ℕ → PutTurn → TakeTurn → Bool → Type 0
 Accepts capacity h e inside put take shut = Keeps capacity (h ++ e ∷ []) inside put take shut × IsLinearizable capacity (h ++ e ∷ [])
 
 abbrev pub TurnedAway : Capacity → List Event → Event → List ℕ → PutTurn → TakeTurn → Bool → Type 0
 TurnedAway capacity h e inside put take shut = Keeps capacity h inside put take shut × (¬ CallsAreInTurn (h ++ e ∷ []) × ¬ IsLinearizable capacity (h ++ e ∷ []))
 
--- it accepts where what it keeps describes just the points that follow
+-- it accepts if what it keeps describes exactly the points that follow
 pub accept :
     (capacity : Capacity) (h : List Event) (e : Event) (inside inside' : List ℕ) (put put' : PutTurn) (take take' : TakeTurn) (shut shut' : Bool) (late : List ℕ) →
     Keeps capacity h inside put take shut → MovesSides (sides_of put take) e (sides_of put' take') → MayHold capacity (length inside' - (offered_by put' + asked_by take')) →

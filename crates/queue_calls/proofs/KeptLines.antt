@@ -1,4 +1,4 @@
--- The bytes of a line that has not ended: what is kept of them, and where they begin no line.
+-- The bytes of a line that has not ended: what is kept of them, and when they begin no line.
 use Rattle.std.proofs.Common.{◌≡◌, ◌≢◌, ◌⊎◌, inl, inr, Bool, true, false, ℕ, ◌+◌, ◌*◌, ◌<◌, ◌≤◌, List, [], ◌∷◌, ◌++◌, length, get_or, drop, take, refl, ap, sym, subst, ◌∙◌, append_assoc, length-append, arith}
 use Rattle.std.specs.Prelude.{◌==◌, All}
 use Rattle.std.proofs.Math.Seq.{take-length}
@@ -20,7 +20,7 @@ use Rattle.queue_calls.proofs.HeardLines.{is_line}
 use Rattle.line_parts.proofs.LineFeeds.{feed_nowhere}
 use Rattle.queue_calls.proofs.RecordingLemmas.{line_and}
 
--- not many bytes more
+-- only a few more bytes
 pub still_begins : (is_first : Bool) (begun : ℕ) (cut bytes : List ℕ) → KeepsBeginning is_first begun cut → length (cut ++ bytes) < 2 * begun + 65536 → KeepsBeginning is_first begun (cut ++ bytes)
 still_begins is_first begun cut bytes keeps few =
     let within : begun ≤ length cut = keeps.within in
@@ -61,7 +61,7 @@ other_tells word.Queue other = absurd (other false refl)
 other_tells word.Cut other = absurd (other true refl)
 other_tells w other = refl
 
--- the first line says what queue it is, and no other one
+-- the first line has the capacity, and no other one
 place_of : (before : List Line) (l : Line) → AreLines (before ++ l ∷ []) → tells_queue l.word ≡ (length before == 0)
 place_of [] l are = ap tells_queue are.0.1 ∙ first_tells are.0.0
 place_of (first ∷ further) l are =

@@ -21,7 +21,7 @@ module _ {X : Type 0} (p : X → Bool) (xs : List X) (i : ℕ) (d : X) (h : i < 
   find_on : p (get_or xs i d) ≡ false → find p (drop i xs) ≡ find p (drop (i + 1) xs)
   find_on e = rw (drop_more xs i d h, e) refl
 
-  -- the last one that does, before a place
+  -- the last one that passes it, before a place
   last_here : p (get_or xs i d) ≡ true → find p (reverse (take (i + 1) xs)) ≡ Some (get_or xs i d)
   last_here e = rw (take_more xs i d h, reverse-append (take i xs) (get_or xs i d ∷ []), e) refl
 
@@ -47,7 +47,7 @@ module _ (item place i : ℕ) (entries : List Offered) (same : comes item (drop 
 
 -- ---- how many of the first items are the next ones
 
--- the entry that is got at a place stands there
+-- the entry that is got at a place is there
 pub entry_at : (entries : List Offered) (i : ℕ) (next : Offered) → true ≡ nat_lt i (length entries) → next ≡ get_or entries i next → (i < length entries) × (next ≡ at entries i)
 entry_at entries i next within is =
     let few : i < length entries = grind (arith, nat_tests, within) in
@@ -99,7 +99,7 @@ module _ (item i : ℕ) (all : List Taken) (same : last_taken_of item all ≡ la
   pub last_none : i ≡ 0 → None ≡ last_taken_of item all
   last_none none = sym (same ∙ ap (λ z. last_taken_of item (take z all)) none)
 
--- ---- the last ones of a list, of which so many are kept
+-- ---- the last ones of a list, of which `limit` are kept
 
 module _ {A : Type 0} (limit : ℕ) (xs : List A) where
   length_last : length (last_of limit xs) ≡ length xs - (length xs - limit)
@@ -119,11 +119,11 @@ module _ {A : Type 0} (limit : ℕ) (xs : List A) where
         let cut : length (xs ++ x ∷ []) - limit ≡ 0 = omega (arith, length-append xs (x ∷ []), room, length_last) in
         ap (λ n. drop n (xs ++ x ∷ [])) cut ∙ ap (λ n. drop n xs ++ x ∷ []) (sym few)
 
--- where none is kept there are none
+-- if none is kept there are none
 pub last_none_kept : {A : Type 0} (limit : ℕ) (xs : List A) → limit ≡ 0 → last_of limit xs ≡ []
 last_none_kept limit xs none = drop_all (length xs - limit) xs (omega (arith, none))
 
--- the last one of earlier ones and those of a line is the last of the line, where this has one
+-- the last one of earlier ones and those of a line is the last of the line, if this has one
 module _ (earlier : List Taken) (line : ℕ) (items : List ℕ) where
   pub last_in_line : (item : ℕ) → 0 < length items → item ≡ get_or items (length items - 1) 0 → taken_at line item ≡ last_in (earlier ++ map (taken_at line) items)
   last_in_line item some is =
@@ -141,7 +141,7 @@ module _ (earlier : List Taken) (line : ℕ) (items : List ℕ) where
       let all : earlier ++ map (taken_at line) items ≡ earlier = ap (λ l. earlier ++ map (taken_at line) l) (nil_from_length items (omega (arith, none))) ∙ append-nil earlier in
       is ∙ ap last_in (sym all)
 
--- the first one goes where so many are kept
+-- the first one is removed if `limit` are kept
 abbrev pub MakesRoom : {A : Type 0} → ℕ → List A → List A → Type 0
 MakesRoom limit before kept = ((limit ≤ length before) × (kept ≡ drop 1 before)) ⊎ ((length before < limit) × (kept ≡ before))
 
@@ -152,7 +152,7 @@ last_more limit some xs x kept room = elim room [
   | inr f ↦ last_room limit xs some x f.0 ∙ ap (λ l. l ++ x ∷ []) (sym f.1)
 ]
 
--- what was taken last, behind earlier ones and these of the line
+-- what was taken last, after earlier ones and these of the line
 abbrev pub taken_behind : (limit : ℕ) → (earlier : List Taken) → (line : ℕ) → List ℕ → List Taken
 taken_behind limit earlier line items = last_of limit (earlier ++ map (taken_at line) items)
 
@@ -182,7 +182,7 @@ module _ (limit : ℕ) (some : 0 < limit) (earlier : List Taken) (line : ℕ) (i
               (omega (arith, same, f.0), omega (arith, same, long, sum, h)))
         ]
 
--- ---- entries changed in their places, from one on and before another
+-- ---- entries changed from one place on and before another
 
 abbrev pub changed : {A : Type 0} → (A → A) → (from index : ℕ) → List A → List A
 changed f from index xs = take from xs ++ (map f (drop from (take index xs)) ++ drop index xs)
@@ -227,7 +227,7 @@ module _ {A : Type 0} (f : A → A) (from : ℕ) (xs : List A) (index : ℕ) (lo
       ap (λ l. map f l ++ rest) more
       ∙ (ap (λ l. l ++ rest) (map_push f (drop from (take index xs)) x) ∙ append_assoc (map f (drop from (take index xs))) (f x ∷ []) rest)))))
 
--- one entry more, as the line stores it
+-- one more entry, as the line stores it
 pub stores_more :
     (line from i : ℕ) (old now after : List Offered) (entry : Offered) → from ≤ i → i < length old → now ≡ changed (stored_at line) from i old → entry ≡ at now i →
     after ≡ set now i (stored_at line entry) → after ≡ changed (stored_at line) from (i + 1) old

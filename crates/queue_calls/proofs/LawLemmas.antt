@@ -1,4 +1,4 @@
--- The laws of src/laws.rt as lemmas, each under its name: what proofs cite, here and in the crates above.
+-- The laws of src/laws.rt as lemmas, each under its name: cited by proofs, here and in the crates above.
 pub use Rattle.queue_calls.proofs.Points.{beginning as beginning_is_linearizable}
 pub use Rattle.queue_calls.proofs.CountedHistories.{counted_is_linearizable}
 pub use Rattle.queue_calls.proofs.CountsFollow.{counts_are_exact}

@@ -38,7 +38,7 @@ among_side s (o ∷ order) z rest e =
     picked (λ l. l ≡ z ∷ rest → IsAmong z (o ∷ order)) s o.side (o ∷ recorded_of_side s order) (recorded_of_side s order)
     (λ is f. let first : o ≡ z = cc in inl (sym first)) (λ not f. inr (among_side s order z rest f)) e
 
--- an operation of the one side that stands behind one of the other, whose call begins later, does not come before this event
+-- an operation of one side that comes after one of the other, whose call begins later, does not come before this event
 clash :
     (s s' : Side) (end n start k : ℕ) (e : Event) (h : List Event) (o : RecordedOperation) (order rest : List RecordedOperation) (calls calls' : List OwnStep) (d : Operation) →
     numbered n e ∷ own_events s (suc n) h ≡ numbered_in calls → own_events s' (suc n) h ≡ numbered_in calls' → suc n ≤ k → o ∷ rest ≡ recorded_operations s' end k calls' →
@@ -51,13 +51,13 @@ clash s s' end n start k e h o order rest calls calls' d ev ev' l first mine kee
     let ends : next_event end calls ≡ n = next_is end calls (numbered n e) (own_events s (suc n) h) (sym ev) in
     keeps z i (omega (arith, later, ends))
 
--- where a side is, since which event, and its calls that are to come
+-- the state of a side, since which event, and its calls that are to come
 record Own (y : Side) : Type 0 where
   place : Where y
   since : ℕ
   calls : List OwnStep
 
--- the same of both sides, with another of one side
+-- the same for both sides, with another of one side
 abbrev with_own : (y : Side) → Own y → ((x : Side) → Own x) → (x : Side) → Own x
 with_own P o own P = o
 with_own P o own C = own C
@@ -73,7 +73,7 @@ with_holds Q C o own mine others C = mine
 abbrev point_of : Queue → ((y : Side) → Own y) → Point
 point_of q own = point q (own P).place (own C).place
 
--- a mark of one side, which may move that one alone
+-- a mark of one side, which moves only that side
 moves_one :
     (capacity : Capacity) (q q' : Queue) (m : Mark) (y : Side) (o : Own y) (own : (x : Side) → Own x) → QueueStep capacity q m q' → Steps y (own y).place m o.place →
     ((x : Side) → (y ≡ x → ⊥) → Steps x (own x).place m (own x).place) → Leads capacity (point_of q own) m (point_of q' (with_own y o own))
@@ -81,13 +81,13 @@ moves_one capacity q q' m y o own step mine others =
     let both = with_holds (λ x w. Steps x (own x).place m w.place) y o own mine others in
     record { queue = step; producer = both P; consumer = both C }
 
--- what is to come of an order on a side, behind the first n events
+-- what is to come of an order on a side, after the first n events
 record ToCome (y : Side) (end n : ℕ) (h : List Event) (order : List RecordedOperation) (o : Own y) : Type 0 where
   events : own_events y n h ≡ numbered_in o.calls
   are : AreCalls y o.place o.calls
   makes : recorded_of_side y order ≡ recorded_operations y end o.since o.calls
 
--- and on both
+-- and for both
 record Rest (capacity : Capacity) (end n : ℕ) (h : List Event) (q : Queue) (own : (y : Side) → Own y) (order : List RecordedOperation) : Type 0 where
   sides : (y : Side) → ToCome y end n h order (own y)
   legal : IsLegal capacity q (recorded_does order)

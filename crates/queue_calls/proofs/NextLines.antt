@@ -1,4 +1,4 @@
--- One more line that is told to a hearing.
+-- One more line for a hearing.
 use Rattle.std.proofs.Common.{◌≡◌, ◌≢◌, ◌∙◌, ℕ, ◌+◌, ◌<◌, ◌^◌, Bool, false, Option, Some, None, List, [], ◌∷◌, ◌++◌, length, get_or, refl, sym, ap, subst, arith, append-nil}
 use Rattle.std.specs.Prelude.{is_some}
 use Rattle.std.proofs.lemmas.Bool.{false≢true}
@@ -31,7 +31,7 @@ pub are_small : (numbers : List ℕ) → ((i : ℕ) → get_or numbers i 0 < 2 ^
 are_small numbers small = All-from_get_or (λ n. n < 2 ^ 64) numbers 0 (λ i l. small i)
 
 module _ {S O T N B : Type 0} (offered : O → List Offered) (last : T → List Taken) where
-  -- what becomes of the first fault with one event more
+  -- the first fault after one more event
   pub fault_next :
       (old new : Hearing S O T N B) (number : ℕ) (event : Event) (capacity : Capacity) (events : List Event) (found : Option CallsFinding) → HearsNext offered last old number event found new →
       HasHeardAll offered last old capacity events → length events + 2 ≡ number → IsFaultSoFar offered last found new.witness new.tally capacity (events ++ event ∷ [])
@@ -63,7 +63,7 @@ module _ {S O T N B : Type 0} (offered : O → List Offered) (last : T → List 
     some_line : before ≢ []
     some_line none = omega (arith, ap length follows.1.2, ap length none)
 
-    -- a line that cannot stand there
+    -- a line that cannot come there
     pub not_allowed : (word : Word) (numbers : List ℕ) → ¬ Allows word numbers → ¬ AreLines (before ++ line word numbers ∷ [])
     not_allowed word numbers not are = not (is_line before (line_text word numbers) (line word numbers) (are, refl)).allowed
 
@@ -106,7 +106,7 @@ module _ {S O T N B : Type 0} (offered : O → List Offered) (last : T → List 
         tells_events = sym (events_more begun.Nothing follows.1.1 (line word numbers) ∙ ap (λ (o : Option Event). events_are ++ and_then o []) told_so);
       }
 
-      -- it is at fault, and all is as it was
+      -- it is at fault, and everything is unchanged
       pub line_at_fault :
           (new : Hearing S O T N B) (finding : CallsFinding) (number : ℕ) → length before + 1 ≡ number → new.begun ≡ old.begun → new.fault ≡ None → new.witness.limit ≡ old.witness.limit →
           HearsNext offered last old number event (Some finding) new →

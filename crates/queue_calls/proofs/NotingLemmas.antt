@@ -1,4 +1,4 @@
--- Where a list of a recording is too short: for a line, and for the text.
+-- The cases in which a list of a recording is too short: for a line, and for the text.
 use Rattle.std.proofs.Common.{◌≡◌, ◌⊎◌, inl, inr, Bool, ℕ, Option, Some, List, [], ◌∷◌, ◌++◌, refl, sym, ap, subst, ◌∙◌, append_assoc}
 use Rattle.std.proofs.lemmas.List.{append-nil}
 use Rattle.queue_calls.specs.Calls.{Event}
@@ -12,7 +12,7 @@ use Rattle.queue_calls.specs.declared.hearings.Begun.TheVariants as begun
 use Rattle.queue_calls.proofs.HeardLines.{events_more}
 use Rattle.queue_calls.proofs.RecordingLemmas.{lines_more}
 
--- ---- a text that goes on
+-- ---- a text that continues
 
 pub long_on : (limit offered taken : ℕ) (text more : List ℕ) → HasLongHistory limit offered taken text → HasLongHistory limit offered taken (text ++ more)
 long_on limit offered taken text more has = record {
@@ -56,7 +56,7 @@ too_short_on rooms text more (inr (inr has)) = inr (inr (long_line_on rooms.byte
 
 -- ---- a line
 
--- a line that tells the event for which a list is too short
+-- a line with the event for which a list is too short
 pub line_long :
     (limit offered taken : ℕ) (before : List Line) (is_cut : Bool) (bytes first : List ℕ) (further : List Line) (w : Word) (numbers : List ℕ) (event : Event) → before ≡ line (first_word is_cut) first ∷ further →
     AreLines (before ++ line w numbers ∷ []) → bytes ≡ line_text w numbers → event_told (begun_behind begun.Nothing further) w numbers ≡ Some event →

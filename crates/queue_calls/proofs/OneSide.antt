@@ -1,4 +1,4 @@
--- One of the two sides: where it is, the marks that move it, and what is picked by it.
+-- One of the two sides: its state, the marks that move it, and what is picked by it.
 use Rattle.std.proofs.Common.{◌≡◌, ◌↔◌, ℕ, List, [], ◌∷◌, refl, subst}
 use Rattle.queue_calls.specs.Queue.{Capacity, Operation, Dequeue, FindFewer, FindClosed}
 use Rattle.queue_calls.specs.Calls.{TakeBegin, TakeItems, TakeEmpty, TakeShort, TakeNothing, TakeClosed, Mark, Happens, Effect, Producer, Consumer, ProducerStep, ConsumerStep, Point, Leads}
@@ -19,7 +19,7 @@ pick_of f P C same other = refl
 pick_of f C P same other = refl
 pick_of f C C same other = refl
 
--- where the same is picked, it is that of both sides
+-- if the same is picked, it is that of both sides
 pub pick_by : {A : Type 0} (f : Side → A) (y x : Side) (other : A) → pick y x (f x) other ≡ pick y x (f y) other
 pick_by f P P other = refl
 pick_by f P C other = refl
@@ -32,7 +32,7 @@ pick_same y same other = picked (λ z. z ≡ same) y y same other (λ is. refl) 
 pub pick_other : {A : Type 0} (y x : Side) (same other : A) → (x ≡ y → ⊥) → pick y x same other ≡ other
 pick_other y x same other not = picked (λ z. z ≡ other) y x same other (λ is. absurd (not is)) (λ differs. refl)
 
--- ---- where a side is
+-- ---- the state of a side
 
 abbrev pub Where : Side → Type 0
 Where P = Producer
@@ -59,7 +59,7 @@ pub step_of : (y : Side) (capacity : Capacity) (s t : Point) (m : Mark) → Lead
 step_of P capacity s t m l = l.producer
 step_of C capacity s t m l = l.consumer
 
--- a mark of the other side leaves a side where it is
+-- a mark of the other side leaves a side unchanged
 pub others_mark : (y : Side) (m : Mark) (w after : Where y) → (mark_side m ≡ y → ⊥) → Steps y w m after ↔ (after ≡ w)
 others_mark P (Happens (TakeBegin wanted)) w after not = ((λ f. f), (λ f. f))
 others_mark P (Happens (TakeItems items why)) w after not = ((λ f. f), (λ f. f))

@@ -6,7 +6,7 @@ use Rattle.queue_calls.specs.Calls.{Event, Mark, Happens, Effect, Idle, Resting,
 use Rattle.queue_calls.specs.Order.{Side, P, C, pick, side_of, doer_of, numbered, own_events, OwnStep, Comes, Makes, numbered_in, RecordedOperation, recorded_operation, next_event, recorded_operations, recorded_of_side, recorded_does, IsAmong, KeepsRecordedTime, Linearization}
 use Rattle.queue_calls.proofs.OneSide.{AreCalls, mark_before, no_calls, pick_by, pick_of, picked, step_of, where_of}
 
--- marks lead on from a point
+-- marks lead from a point
 abbrev Way : Capacity → Point → List Mark → Type 0
 Way capacity s [] = Unit {0}
 Way capacity s (m ∷ marks) = (t : Point) × Leads capacity s m t × Way capacity t marks
@@ -46,7 +46,7 @@ calls_of y capacity n (Happens e ∷ w) s (t, m, l) =
     mark_before y n (Happens e) (own y (suc n) w) (where_of y s) (where_of y t) (step_of y capacity s t (Happens e) m) (calls_of y capacity (suc n) w t l)
 calls_of y capacity n (Effect d ∷ w) s (t, m, l) = mark_before y n (Effect d) (own y n w) (where_of y s) (where_of y t) (step_of y capacity s t (Effect d) m) (calls_of y capacity n w t l)
 
--- an order of the operations of these calls, behind the events of these numbers of both sides
+-- an order of the operations of these calls, after the events of these numbers of both sides
 record Ordered (capacity : Capacity) (end : ℕ) (since : Side → ℕ) (n : ℕ) (q : Queue) (calls : Side → List OwnStep) : Type 0 where
   order : List RecordedOperation
   of_side : (y : Side) → recorded_of_side y order ≡ recorded_operations y end (since y) (calls y)

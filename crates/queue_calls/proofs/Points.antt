@@ -1,10 +1,10 @@
--- The points to which a history can lead, and how one event more changes them.
+-- The points to which a history can lead, and how one more event changes them.
 use Rattle.std.proofs.Common.{◌≡◌, false, List, [], ◌∷◌, ◌++◌, length, refl, sym, ap, subst, arith, length-append, append_assoc}
 use Rattle.std.proofs.lemmas.List.{append-nil}
 use Rattle.queue_calls.specs.Queue.{Capacity, Operation, queue}
 use Rattle.queue_calls.specs.Calls.{Event, Mark, Happens, Effect, Idle, Resting, Point, point, Leads, LeadTo, events_among, CanLeadTo, IsLinearizable}
 
--- where there is no event yet
+-- the point before any event
 pub start : (capacity : Capacity) → CanLeadTo capacity [] (point (queue [] false) Idle Resting)
 start capacity = record { marks = []; events = refl; lead = refl }
 
@@ -18,7 +18,7 @@ pub happens :
     CanLeadTo capacity (h ++ e ∷ []) t
 happens capacity h s t e r l = record { marks = Happens e ∷ r.marks; events = ap (λ z. z ++ e ∷ []) r.events; lead = (s, r.lead, l) }
 
--- what holds of points stays where operations take effect
+-- what holds of points is preserved when operations take effect
 abbrev pub Stays : Capacity → (Point → Type 0) → Type 0
 Stays capacity P = (s t : Point) (d : Operation) → P s → Leads capacity s (Effect d) t → P t
 
@@ -54,7 +54,7 @@ last_event_marks capacity h e P stays step (Happens x ∷ marks) t f (s, l, m) =
     step s t (record { marks = marks; events = before; lead = l }) (subst (λ z. Leads capacity s (Happens z) t) last m)
 last_event_marks capacity h e P stays step (Effect d ∷ marks) t f (s, l, m) = stays s t d (last_event_marks capacity h e P stays step marks s f l) m
 
--- behind one event more
+-- after one more event
 pub last_event :
     (capacity : Capacity) (h : List Event) (e : Event) (P : Point → Type 0) → Stays capacity P →
     ((s t : Point) → CanLeadTo capacity h s → Leads capacity s (Happens e) t → P t) → (t : Point) → CanLeadTo capacity (h ++ e ∷ []) t → P t
@@ -63,7 +63,7 @@ last_event capacity h e P stays step t r = last_event_marks capacity h e P stays
 one_less : (capacity : Capacity) (h : List Event) (e : Event) → IsLinearizable capacity (h ++ e ∷ []) → IsLinearizable capacity h
 one_less capacity h e (t, r) = last_event capacity h e (λ z. IsLinearizable capacity h) (λ s u d p l. p) (λ s u q l. (s, q)) t r
 
--- and so of each beginning
+-- and so after each prefix
 pub beginning : (capacity : Capacity) (h rest : List Event) → IsLinearizable capacity (h ++ rest) → IsLinearizable capacity h
 beginning capacity h [] l = subst (IsLinearizable capacity) (append-nil h) l
 beginning capacity h (e ∷ rest) l =

@@ -21,7 +21,7 @@ use Rattle.call_lines.proofs.LineLemmas.{line_same, line_no_feed}
 use Rattle.line_parts.proofs.LineFeeds.{feed_nowhere, feed_once}
 use Rattle.queue_calls.proofs.RecordingLemmas.{line_and}
 
--- lines as they have to be are of the format
+-- well-formed lines are of the format
 are_of_format : (lines : List Line) → AreLines lines → All IsOfFormat lines
 are_of_format [] are = All-nil IsOfFormat
 are_of_format (first ∷ further) are = All-cons IsOfFormat first further are.1 (λ k d inside. (are.2 k d inside).1)
@@ -81,7 +81,7 @@ recording_is_one bytes capacity other events others one two =
 
 -- ---- the first line
 
--- whether the first of lines tells that calls are missing
+-- whether the first line says that calls are missing
 cut_of : Word → Bool
 cut_of word.Cut = true
 cut_of _ = false
@@ -107,7 +107,7 @@ module _ {S O T N B : Type 0} (offered : O → List Offered) (last : T → List 
       let lines = heard (λ e. absurd (omega (arith, ap length e))) in
       sym (cut_is lacks) ∙ sym (ap cut_first lines.2) ∙ sym (ap cut_first parts) ∙ cut_is is_cut
 
--- it tells what every recording that the bytes are says
+-- it says what every recording with these bytes says
 pub told_cut :
     {S O T N B : Type 0} (offered : O → List Offered) (last : T → List Taken) (bytes_of : B → List ℕ) (recording : RecordingIn S O T N B) (bytes : List ℕ) → HasRead offered last bytes_of recording bytes →
     (capacity : Capacity) (events : List Event) (is : IsRecording bytes capacity events) → recording.lines.lacks_calls ≡ is.is_cut
@@ -118,7 +118,7 @@ told_cut offered last bytes_of recording bytes has capacity events is =
 
 -- ---- no bad line
 
--- the first ones of lines as they have to be
+-- the first ones of well-formed lines
 all_first : (xs ys : List Line) → All IsFurther (xs ++ ys) → All IsFurther xs
 all_first [] ys all = All-nil IsFurther
 all_first (x ∷ xs) ys all = All-cons IsFurther x xs (All-head IsFurther x (xs ++ ys) all) (all_first xs ys (All-tail IsFurther x (xs ++ ys) all))

@@ -29,7 +29,7 @@ use Rattle.queue_calls.proofs.HearingLemmas.{report_of, heard_lawful}
 
 -- ---- lines
 
--- the text of a line, and what is behind it
+-- the text of a line, and what comes after it
 pub line_and : (l : Line) (more : List ℕ) → text_of l ++ more ≡ line_text l.word l.numbers ++ 10 ∷ more
 line_and l more = append_assoc (line_text l.word l.numbers) (10 ∷ []) more
 
@@ -51,7 +51,7 @@ too_long before bytes more text long =
 
 -- ---- a line that ends
 
--- the bytes of a line that ends, behind lines
+-- the bytes of a line that ends, after lines
 pub ended_text : (before : List Line) (bytes cut end more : List ℕ) → bytes ≡ lines_text before ++ cut → bytes ++ (end ++ 10 ∷ more) ≡ lines_text before ++ ((cut ++ end) ++ 10 ∷ more)
 ended_text before bytes cut end more text =
     ap (λ (t : List ℕ). t ++ (end ++ 10 ∷ more)) text ∙ append_assoc (lines_text before) cut (end ++ 10 ∷ more)

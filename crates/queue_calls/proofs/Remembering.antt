@@ -1,4 +1,4 @@
--- What is counted of a history agrees with its past, and stands for it.
+-- What is counted of a history agrees with its past, and represents it.
 use Rattle.std.proofs.Common.{◌≡◌, inl, inr, ℕ, true, false, Some, List, [], ◌∷◌, ◌++◌, reverse, refl, sym, subst, append_assoc, append-nil}
 use Rattle.std.specs.Prelude.{unwrap_or}
 use Rattle.queue_calls.specs.Queue.{Capacity}
@@ -21,7 +21,7 @@ use Rattle.queue_calls.proofs.CountedHistories.{Stands, counts_keeps}
 use Rattle.queue_calls.proofs.Ends.TakeBegins.{keeps_nothing}
 use Rattle.queue_calls.proofs.TurnLemmas.{last_turn, same_turns}
 
--- one event more
+-- one more event
 pub count_more :
     (capacity : Capacity) (k : Kept) (events : List Event) (event : Event) (last after : Kept) → CountTo capacity k events last → Counts capacity last event after →
     CountTo capacity k (events ++ event ∷ []) after
@@ -71,7 +71,7 @@ module _ {S O T N B : Type 0} {offered : O → List Offered} {last : T → List 
   pub ended_is : has_ended (reverse events) ≡ true → unwrap_or w.ended_at 0 ≡ ended_line (reverse events)
   ended_is on = is_line _ _ w.ended_at r.ended on
 
-  -- a put under way that does not offer its items began behind a close
+  -- a put under way that does not offer its items began after a close
   pub was_late : {n : ℕ} → call_of_put w.auditor.put ≡ APut n → ((m inside : ℕ) → w.auditor.put ≡ Offers m inside → ⊥) →
       (w.auditor.put ≡ Late n) × (unwrap_or w.ended_at 0 ≡ ended_line (reverse events))
   was_late {n} turn not = elim (put_of w.auditor.put n turn) [
@@ -79,7 +79,7 @@ module _ {S O T N B : Type 0} {offered : O → List Offered} {last : T → List 
     | inr is ↦ (is, ended_is (late_ends capacity agrees_of is))
   ]
 
-  -- no take was told that the queue is closed
+  -- no take has returned Closed
   pub not_told : ((line : ℕ) → w.told_at ≡ Some line → ⊥) → has_told (reverse events) ≡ false
   not_told none = no_line _ _ w.told_at r.told none
 
@@ -88,7 +88,7 @@ pub linear_of :
     Remembers offered last w capacity events → IsLinearizable capacity events
 linear_of offered last w capacity events r = linear capacity events (kept_of offered w) r.proper r.counted
 
--- an event in its turn moves what is kept of the sides
+-- an event in turn changes what is kept of the sides
 pub in_turn :
     {S O T N B : Type 0} (offered : O → List Offered) (last : T → List Taken) (w : Witness S O T N B) (capacity : Capacity) (events : List Event) (event : Event) →
     Remembers offered last w capacity events → CallsAreInTurn (events ++ event ∷ []) → (t : Sides) × MovesSides (sides_of w.auditor.put w.auditor.take) event t

@@ -1,4 +1,4 @@
--- What follows of capacities.
+-- What follows from capacities.
 use Rattle.std.proofs.Common.{ℕ, suc, ◌-◌, ◌≤◌, arith}
 use Rattle.queue_calls.specs.Queue.{Capacity, Unbounded, Between, HasRoom, LacksRoom}
 use Rattle.queue_calls.specs.State.{IsProper, MayHold}
@@ -27,7 +27,7 @@ pub lacks_with_more : (capacity : Capacity) (a b count : ℕ) → a ≤ b → La
 lacks_with_more Unbounded a b count l h = h
 lacks_with_more (Between full most) a b count l h = omega (arith, l, h)
 
--- of so many items, how many the queue cannot have inside
+-- how many of a number of items the queue cannot have inside
 abbrev pub over : Capacity → ℕ → ℕ
 over Unbounded n = 0
 over (Between full most) n = n - most

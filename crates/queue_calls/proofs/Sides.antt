@@ -1,4 +1,4 @@
--- What the side of a call under way may be in, and the points that an event leaves.
+-- The states of a side with a call under way, and the points after an event.
 use Rattle.std.proofs.Common.{◌≡◌, ℕ, Bool, true, false, List, refl, subst}
 use Rattle.queue_calls.specs.Queue.{Capacity, Queue}
 use Rattle.queue_calls.specs.Calls.{Producer, Idle, Putting, FoundShut, Closing, Consumer, Resting, Taking, FoundClosed, Point, point}
@@ -27,7 +27,7 @@ rests_resting Resting q f = refl
 rests_resting (Taking lacked took left) q f = absurd f
 rests_resting FoundClosed q f = absurd f
 
--- a described point, told by what its sides are in
+-- a described point, by the states of its sides
 module _ (capacity : Capacity) (inside : List ℕ) (put : PutTurn) (take : TakeTurn) (shut : Bool) (s : Point) (d : Describes capacity inside put take shut s) where
   pub with_producer : (p : Producer) → s.producer ≡ p → Describes capacity inside put take shut (point s.queue p s.consumer)
   with_producer p e = let D : Point → Type 0 = λ z. Describes capacity inside put take shut z in subst (λ z. D (point s.queue z s.consumer)) e d

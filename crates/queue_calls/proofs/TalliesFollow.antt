@@ -1,4 +1,4 @@
--- What is told of an event for the report, from what is counted of a history.
+-- What the report needs to know about an event, from what is counted of a history.
 use Rattle.std.proofs.Common.{◌≡◌, inl, inr, false, List, [], ◌∷◌, ◌++◌, reverse, refl, sym, ap, subst, ◌∙◌, append-nil, arith}
 use Rattle.queue_calls.specs.Queue.{Capacity}
 use Rattle.queue_calls.specs.Calls.{Event, PutBegin, PutStored, PutFull, PutShort, PutNothing, PutClosed, CloseBegin, CloseEnd, TakeBegin, TakeItems, TakeEmpty, TakeShort, TakeNothing, TakeClosed}
@@ -17,7 +17,7 @@ abbrev SidesFit : List Event → Kept → Type 0
 SidesFit past k = (has_put k.put ≡ put_is_open past) × (has_take k.take ≡ take_is_open past)
 
 module _ (capacity : Capacity) (past : List Event) (k : Kept) (f : SidesFit past k) where
-  -- a side that has a call under way then, or none
+  -- a side that then has a call under way, or none
   put_is : (after it : Kept) → after ≡ it → it.take ≡ k.take → (has_put after.put ≡ has_put it.put) × (has_take after.take ≡ take_is_open past)
   put_is after it e same = (ap (λ (z : Kept). has_put z.put) e, ap (λ (z : Kept). has_take z.take) e ∙ (ap has_take same ∙ f.1))
 
@@ -83,7 +83,7 @@ module _ (capacity : Capacity) (events : List Event) (k : Kept) (proper : IsProp
       let F : List Event → Type 0 = λ z. SidesFit z k in
       subst F (append-nil (reverse events)) (sides_behind capacity [] events (kept [] Free Rests false) k (refl, refl) counted)
 
-  -- what is told of an event more
+  -- what is known about one more event
   pub tells : (event : Event) (after : Kept) → CountTo capacity (kept [] Free Rests false) (events ++ event ∷ []) after → IsToldOf event (reverse events) (offered_by k.put) after.put after.take
   tells event after more =
       let (before, there, now) = last_count capacity (kept [] Free Rests false) events event after more in

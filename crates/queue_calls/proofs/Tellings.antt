@@ -1,4 +1,4 @@
--- The lines that tell a well-formed history are a recording of it.
+-- The lines of a well-formed history are a recording of it.
 use Rattle.std.proofs.Common.{◌≡◌, ℕ, ◌^◌, ◌<◌, ◌≤◌, Bool, true, false, nat_lt, if◌then◌else◌, Some, List, [], ◌∷◌, length, refl, ap, sym, subst, ◌∙◌, arith}
 use Rattle.std.specs.Prelude.{All}
 use Rattle.std.proofs.lemmas.Bool.{ltb-true, ltb-false}
@@ -13,14 +13,14 @@ use Rattle.queue_calls.specs.declared.hearings.Begun.{Begun}
 use Rattle.queue_calls.specs.declared.hearings.Begun.TheVariants as begun
 use Rattle.queue_calls.proofs.HeardLines.{not_first}
 
--- what the producer has under way it began last
+-- what the producer has under way is what it began last
 abbrev BeganLast : Begun → UnderWay → Type 0
 BeganLast b NoCall = Unit {0}
 BeganLast b (APut offered) = b ≡ begun.Put offered
 BeganLast b AClose = b ≡ begun.Close
 BeganLast b (ATake wanted) = Unit {0}
 
--- a line of the format tells an event
+-- a line of the format has this event
 abbrev Tells : Begun → Line → Event → Type 0
 Tells b l event = (event_told b l.word l.numbers ≡ Some event) × IsOfFormat l
 
@@ -29,7 +29,7 @@ none_small = All-nil (λ n. n < 2 ^ 64)
 
 -- ---- one event
 
--- a put that stored so many: where it tells why they are no more, the line tells how many only where they are fewer than it offered
+-- a put that stored this many: if it says why they are no more, the line has the number only if they are fewer than it offered
 stored_tells : (count offered : ℕ) (why : Bool) → 0 < count → count ≤ offered → AreSmall (count ∷ []) → Tells (begun.Put offered) (line_of (begun.Put offered) (PutStored count why)) (PutStored count why)
 stored_tells count offered false some most small = (refl, (some, small))
 stored_tells count offered true some most small =
@@ -41,7 +41,7 @@ stored_tells count offered true some most small =
           (ap (λ (n : ℕ). Some (PutStored n true)) all, (tt, none_small))
     ] refl
 
--- a take: the line tells how many it wants only where they are several
+-- a take: the line has the number it wants only if that is more than one
 take_tells : (b : Begun) (wanted : ℕ) → 0 < wanted → AreSmall (wanted ∷ []) → Tells b (line_of b (TakeBegin wanted)) (TakeBegin wanted)
 take_tells b wanted some small =
     elim (nat_lt 1 wanted) as (λ t. nat_lt 1 wanted ≡ t → Tells b (line word.Take (if t then wanted ∷ [] else [])) (TakeBegin wanted)) [
@@ -52,7 +52,7 @@ take_tells b wanted some small =
           (ap (λ (n : ℕ). Some (TakeBegin n)) one, (tt, none_small))
     ] refl
 
--- the line of an event in its turn tells it
+-- the line of an event in turn has that event
 line_tells : (b : Begun) (event : Event) (s t : Sides) → BeganLast b s.producer → MovesSides s event t → AreSmall (numbers_in event) → Tells b (line_of b event) event
 line_tells b (PutBegin []) s t began turn small = absurd (omega (arith, turn.1))
 line_tells b (PutBegin (item ∷ items)) s t began turn small = (refl, (tt, small))
@@ -78,7 +78,7 @@ line_tells b TakeShort s t began turn small = (refl, (tt, none_small))
 line_tells b TakeNothing s t began turn small = (refl, (tt, none_small))
 line_tells b TakeClosed s t began turn small = (refl, (tt, none_small))
 
--- behind it the producer again began last what it has under way
+-- after it what the producer has under way is again what it began last
 began_behind : (b : Begun) (event : Event) (s t : Sides) → BeganLast b s.producer → MovesSides s event t → BeganLast (begun_after b (line_of b event).word (line_of b event).numbers) t.producer
 began_behind b (PutBegin items) s t began turn = subst (λ (x : Sides). BeganLast (begun.Put (length items)) x.producer) (sym turn.2) refl
 began_behind b (PutStored count true) s t began turn = subst (λ (x : Sides). BeganLast b x.producer) (sym turn.4) tt

@@ -1,4 +1,4 @@
--- Well-formed histories: one event more, and the calls that are under way behind a history.
+-- Well-formed histories: one more event, and the calls that are under way after a history.
 use Rattle.std.proofs.Common.{◌≡◌, ℕ, suc, ◌+◌, Bool, true, false, List, [], ◌∷◌, ◌++◌, length, refl, sym, ap, subst, ◌∙◌, arith, length-append}
 use Rattle.queue_calls.specs.Queue.{Capacity, Operation, Enqueue, FindNoRoom, FindShut, Close, Dequeue, FindFewer, FindClosed}
 use Rattle.queue_calls.specs.Calls.{Event, PutBegin, PutStored, PutFull, PutShort, PutNothing, PutClosed, CloseBegin, CloseEnd, TakeBegin, TakeItems, TakeEmpty, TakeShort, TakeNothing, TakeClosed, Mark, Happens, Effect, Producer, Idle, Putting, FoundShut, Closing, Consumer, Resting, Taking, FoundClosed, short_of, ProducerStep, ConsumerStep, Point, LeadTo, events_among, IsLinearizable}
@@ -27,7 +27,7 @@ same_turns (x ∷ h) s t u (m, f, a) (n, g, b) =
     let same : m ≡ n = same_turn x s m n f g in
     same_turns h n t u (subst (λ z. Turns z h t) same a) b
 
--- what both sides have under way at a point: a side that found the queue closed no longer tells of how many items its call is
+-- what both sides have under way at a point: a side that found the queue closed no longer determines the number of items of its call
 abbrev HasPut : Producer → UnderWay → Type 0
 HasPut Idle NoCall = Unit {0}
 HasPut (Putting lacked done left) (APut offered) = done + length left ≡ offered
@@ -91,7 +91,7 @@ record Next (e : Event) (s : Sides) (p : Producer) (c : Consumer) : Type 0 where
   take : HasTake c to.consumer
 
 module _ (s : Sides) (p p' : Producer) (c c' : Consumer) (hp : HasPut p s.producer) (hc : HasTake c s.consumer) where
-  -- the producer's side is what the event leaves, and the consumer's as it was; and the other way round
+  -- the producer's side is the event's result, and the consumer's is unchanged; and vice versa
   by_put : (e : Event) (call : UnderWay) → MovesSides s e (sides call s.consumer) → HasPut p' call → c' ≡ c → Next e s p' c'
   by_put e call turn f same = record { to = sides call s.consumer; turn = turn; put = f; take = subst (λ z. HasTake z s.consumer) (sym same) hc }
 
@@ -134,7 +134,7 @@ module _ (s : Sides) (p p' : Producer) (c c' : Consumer) (hp : HasPut p s.produc
   in_turn TakeNothing f (wanted, a, b) = by_take TakeNothing NoCall (0 + wanted, taking_has 0 [] wanted s.consumer (has_c (Taking 0 [] wanted) a), refl) (left_c Resting NoCall b tt) f
   in_turn TakeClosed f (a, b) = let (n, g) = told_has s.consumer (has_c FoundClosed a) in by_take TakeClosed NoCall (n, g, refl) (left_c Resting NoCall b tt) f
 
-  -- an operation leaves each side in its call
+  -- an operation leaves each side's call unchanged
   same_sides : (d : Operation) → ProducerStep p (Effect d) p' → ConsumerStep c (Effect d) c' → HasPut p' s.producer × HasTake c' s.consumer
   same_sides (Enqueue item) (lacked, done, left, a, b) f =
       let g = putting_has lacked done (item ∷ left) s.producer (has_p (Putting lacked done (item ∷ left)) a) in

@@ -1,4 +1,4 @@
--- What an auditor says of a history, event by event.
+-- What an auditor decides about a history, event by event.
 use Rattle.std.specs.Prelude.{ℕ, ◌≡◌, ◌<◌, length, List, [], ◌∷◌, ◌++◌, Result, MatchResult}
 use Rattle.queue_calls.specs.Queue.{Capacity}
 use Rattle.queue_calls.specs.Calls.{Event, PutBegin, Producer, Putting, Point, CanLeadTo, IsLinearizable}
@@ -13,28 +13,28 @@ use Rattle.queue_calls.specs.declared.faults.Fault.TheVariants.{OutOfTurn, NotLi
 abbrev pub Audits : {Q E : Type 0} → (items : Q → List ℕ) → CallAuditor Q E → List Event → Type 0
 Audits items a h = Keeps (meant a.capacity) h (items a.inside) a.put a.take a.shut
 
--- the items that a put under way has left
+-- the items that a put under way still offers
 abbrev pub left_at : Producer → List ℕ
 left_at (Putting lacked done left) = left
 left_at _ = []
 
--- the items of a point: those that the take under way took, those in the queue, and those that the put under way has left
+-- the items of a point: those that the take under way took, those in the queue, and those that the put under way still offers
 abbrev pub items_at : Point → List ℕ
 items_at s = taken_by s.consumer ++ (s.queue.items ++ left_at s.producer)
 
--- a linearizable history: at each point to which it can lead there are more items than so many
+-- a linearizable history: at each point to which it can lead there are more than `room` items
 abbrev pub HasMoreItems : ℕ → Capacity → List Event → Type 0
 HasMoreItems room capacity h = IsLinearizable capacity h × ((s : Point) → CanLeadTo capacity h s → room < length (items_at s))
 
--- what a refusal says of the history with the event, where a list has room for so many items
+-- what a refusal implies about the history with the event, if a list has room for this many items
 abbrev pub RefusesEvent : ℕ → Fault → Capacity → List Event → Event → Type 0
 RefusesEvent room OutOfTurn capacity h event = ¬ CallsAreInTurn (h ++ event ∷ []) × ¬ IsLinearizable capacity (h ++ event ∷ [])
 RefusesEvent room NotLinearizable capacity h event = CallsAreInTurn (h ++ event ∷ []) × ¬ IsLinearizable capacity (h ++ event ∷ [])
 RefusesEvent room OutOfMemory capacity h event = ((items : List ℕ) × (event ≡ PutBegin items)) × HasMoreItems room capacity (h ++ event ∷ [])
 
--- Behind each history that it has read, an auditor reads an event: it accepts where the history with the event is linearizable, and
--- has then read that; it refuses where it is not, and has then read what it had; or at a put's begin for want of room, where more items
--- are there than its list has room for.
+-- After each history that it has read, an auditor reads an event: it accepts if the history with the event is linearizable, and has
+-- then read that; otherwise it refuses, and has then read what it had before; or it refuses the start of a put because there are more
+-- items than its list has room for.
 abbrev pub Reads : {Q E : Type 0} → (items : Q → List ℕ) → (room : Q → ℕ) → CallAuditor Q E → Event → Result Unit Fault → CallAuditor Q E → Type 0
 Reads items room old event result new =
     (new.capacity ≡ old.capacity) ×

@@ -1,5 +1,6 @@
--- Lawful by counting: what an auditor keeps of a history, and what each event needs it to be and makes of it. It keeps the items that
--- are inside, with those offered by the put under way, which may have been stored; a history is lawful where each event can be counted.
+-- Linearizability by counting: what an auditor keeps of a history, and what each event needs of it and makes of it. It keeps the items
+-- that are inside, with those offered by the put under way, which may have been stored; a history is linearizable if each event can be
+-- counted.
 use Rattle.std.specs.Prelude.{◌≡◌, ◌⊎◌, ℕ, suc, ◌-◌, ◌<◌, ◌≤◌, Bool, true, false, List, [], ◌∷◌, ◌++◌, length, take, drop, ◌↔◌}
 use Rattle.queue_calls.specs.Queue.{Capacity, LacksRoom}
 use Rattle.queue_calls.specs.Calls.{Event, PutBegin, PutStored, PutFull, PutShort, PutNothing, PutClosed, CloseBegin, CloseEnd, TakeBegin, TakeItems, TakeEmpty, TakeShort, TakeNothing, TakeClosed, IsLinearizable}
@@ -17,26 +18,27 @@ pub record Kept : Type 0 where
   pub take : TakeTurn
   pub shut : Bool
 
+-- what is kept, from its parts
 abbrev pub kept : List ℕ → PutTurn → TakeTurn → Bool → Kept
 kept inside put take shut = record { inside = inside; put = put; take = take; shut = shut }
 
--- what an auditor keeps, whose list has these items
+-- what an auditor keeps, if its list has these items
 abbrev pub kept_by : {Q E : Type 0} → (items : Q → List ℕ) → CallAuditor Q E → Kept
 kept_by items a = kept (items a.inside) a.put a.take a.shut
 
--- the items inside without so many of the last
+-- the items inside without the last `rest`
 abbrev pub without : ℕ → List ℕ → List ℕ
 without rest inside = take (length inside - rest) inside
 
--- a put ends with so many of its items not stored
+-- a put ends with `rest` of its items not stored
 abbrev pub EndsPut : Capacity → Kept → ℕ → Kept → Type 0
 EndsPut capacity k rest after = CanEndPut capacity (length k.inside) (asked_by k.take) rest × (after ≡ kept (without rest k.inside) Free k.take k.shut)
 
--- a take ends with so many items
+-- a take ends with `count` items
 abbrev pub EndsTake : Capacity → Kept → ℕ → Kept → Type 0
 EndsTake capacity k count after = CanEndTake capacity (length k.inside) (offered_by k.put) count × (after ≡ kept (drop count k.inside) k.put Rests k.shut)
 
--- an event can be counted: what was kept, and what is then
+-- an event can be counted: what was kept before, and what is kept after
 abbrev pub Counts : Capacity → Kept → Event → Kept → Type 0
 Counts capacity k (PutBegin items) after =
     (k.put ≡ Free) × (0 < length items) ×
@@ -73,15 +75,15 @@ abbrev pub AreCounted : Capacity → Kept → List Event → Type 0
 AreCounted capacity k [] = Unit {0}
 AreCounted capacity k (event ∷ h) = (after : Kept) × Counts capacity k event after × AreCounted capacity after h
 
--- they lead from what is kept to this
+-- counting them leads from one kept state to another
 abbrev pub CountTo : Capacity → Kept → List Event → Kept → Type 0
 CountTo capacity k [] last = last ≡ k
 CountTo capacity k (event ∷ h) last = (after : Kept) × Counts capacity k event after × CountTo capacity after h last
 
--- what can be counted from nothing on is linearizable
+-- a history that can be counted from the start is linearizable
 abbrev pub CountedIsLinearizable : Type 0
 CountedIsLinearizable = (capacity : Capacity) (h : List Event) → IsProper capacity → AreCounted capacity (kept [] Free Rests false) h → IsLinearizable capacity h
 
--- and what is linearizable can be counted: the rules accept just those histories
+-- and a linearizable history can be counted: the rules accept exactly these histories
 abbrev pub CountsAreExact : Type 0
 CountsAreExact = (capacity : Capacity) (h : List Event) → IsProper capacity → AreCounted capacity (kept [] Free Rests false) h ↔ IsLinearizable capacity h

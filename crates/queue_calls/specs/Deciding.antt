@@ -1,4 +1,4 @@
--- What an auditor decides of an event, by what it keeps alone.
+-- What an auditor decides of an event, from what it keeps alone.
 use Rattle.std.specs.Prelude.{◌≡◌, ℕ, ◌+◌, ◌-◌, ◌<◌, nat_lt, nat_le, ◌&&◌, Bool, false, if◌then◌else◌, List, length, Option, Some, None, Result, MatchResult}
 use Rattle.queue_calls.specs.Queue.{Capacity}
 use Rattle.queue_calls.specs.Calls.{Event, PutBegin, PutStored, PutFull, PutShort, PutNothing, TakeItems, TakeEmpty, TakeShort, TakeNothing, short_of}
@@ -11,12 +11,12 @@ use Rattle.queue_calls.specs.declared.faults.Fault.{Fault}
 use Rattle.queue_calls.specs.declared.faults.Fault.TheVariants.{OutOfTurn, NotLinearizable, OutOfMemory}
 use Rattle.queue_calls.specs.declared.turns.PutTurn.TheVariants.{Free}
 
--- a call of so many items passed so many of them, and says why not more or does not: these, and the number for which it found no room or
--- no items, 0 where it tells none; nothing where it cannot have passed them
+-- the outcome of a call that passed `count` of at most `most` items, and says why not more or does not: that number, and the number for
+-- which it found no room or no items, 0 if it reports none; nothing if it cannot have passed them
 abbrev pub passed : Bool → (count most : ℕ) → Option (ℕ × ℕ)
 passed why count most = if nat_lt 0 count && nat_le count most then Some (count, short_of why count (most - count)) else None
 
--- the same of the end of a put or a take of so many items that found the queue open
+-- the same for the end of a put or a take of at most `most` items that found the queue open
 abbrev pub outcome_of : Event → (most : ℕ) → Option (ℕ × ℕ)
 outcome_of (PutStored count why) most = passed why count most
 outcome_of (TakeItems items why) most = passed why (length items) most
@@ -28,7 +28,7 @@ outcome_of PutNothing most = Some (0, 0)
 outcome_of TakeNothing most = Some (0, 0)
 outcome_of _ most = None
 
--- it is the end of a put, or of a take
+-- the event is the end of a put that found the queue open
 abbrev pub EndsAPut : Event → Type 0
 EndsAPut (PutStored count why) = Unit {0}
 EndsAPut PutFull = Unit {0}
@@ -36,6 +36,7 @@ EndsAPut PutShort = Unit {0}
 EndsAPut PutNothing = Unit {0}
 EndsAPut _ = ⊥
 
+-- the event is the end of a take, other than Closed
 abbrev pub EndsATake : Event → Type 0
 EndsATake (TakeItems items why) = Unit {0}
 EndsATake TakeEmpty = Unit {0}
@@ -43,14 +44,14 @@ EndsATake TakeShort = Unit {0}
 EndsATake TakeNothing = Unit {0}
 EndsATake _ = ⊥
 
--- an event is refused that is out of turn; that is in its turn and cannot be counted; or a put that begins, whose items do not fit
+-- an event is refused if it is out of turn; if it is in turn and cannot be counted; or if it starts a put whose items do not fit
 abbrev pub RefusesCount : (room : ℕ) → Capacity → Kept → Event → Fault → Type 0
 RefusesCount room capacity k event OutOfTurn = (t : Sides) → ¬ (MovesSides (sides_of k.put k.take) event t)
 RefusesCount room capacity k event NotLinearizable = ((t : Sides) × MovesSides (sides_of k.put k.take) event t) × ((after : Kept) → ¬ (Counts capacity k event after))
 RefusesCount room capacity k event OutOfMemory =
     (items : List ℕ) × (event ≡ PutBegin items) × (k.put ≡ Free) × (k.shut ≡ false) × (0 < length items) × (room < length k.inside + length items)
 
--- an event is counted, or refused, and then all that is kept is as it was
+-- an event is counted, or refused, and then all that is kept is unchanged
 abbrev pub Decides : {Q E : Type 0} → (items : Q → List ℕ) → (room : Q → ℕ) → CallAuditor Q E → Event → Result Unit Fault → CallAuditor Q E → Type 0
 Decides items room old event result new =
     (new.capacity ≡ old.capacity) ×

@@ -1,24 +1,25 @@
 -- Well-formed histories: each side has at most one call under way, a put offers an item and a take wants one, and a call ends with an
--- answer of its kind, within what it offered or wanted.
+-- end of its kind, within what it offered or wanted.
 use Rattle.std.specs.Prelude.{◌≡◌, ℕ, ◌<◌, ◌≤◌, List, [], ◌∷◌, length}
 use Rattle.queue_calls.specs.Calls.{Event, PutBegin, PutStored, PutFull, PutShort, PutNothing, PutClosed, CloseBegin, CloseEnd, TakeBegin, TakeItems, TakeEmpty, TakeShort, TakeNothing, TakeClosed}
 
--- what a side has under way: a put that offered so many items, a take that wants so many
+-- what a side has under way: a put that offered this many items, a take that wants this many
 pub data UnderWay : Type 0 where
   NoCall : UnderWay
   APut : (offered : ℕ) → UnderWay
   AClose : UnderWay
   ATake : (wanted : ℕ) → UnderWay
 
--- what both sides have
+-- what both sides have under way
 pub record Sides : Type 0 where
   pub producer : UnderWay
   pub consumer : UnderWay
 
+-- what both sides have under way, from its parts
 abbrev pub sides : UnderWay → UnderWay → Sides
 sides p c = record { producer = p; consumer = c }
 
--- an event in its turn: it needs the one side to have this under way, and leaves it that; the other side stays as it is
+-- an event in turn: it needs its side to have this under way, and results in that; the other side is unchanged
 abbrev pub MovesSides : Sides → Event → Sides → Type 0
 MovesSides s (PutBegin items) t = (s.producer ≡ NoCall) × (0 < length items) × (t ≡ sides (APut (length items)) s.consumer)
 MovesSides s (PutStored count why) t = (offered : ℕ) × (s.producer ≡ APut offered) × (0 < count) × (count ≤ offered) × (t ≡ sides NoCall s.consumer)

@@ -1,4 +1,4 @@
--- What follows of the text of recorded calls.
+-- What follows from the text of recorded calls.
 use Rattle.std.specs.Prelude.{◌≡◌, ℕ, List}
 use Rattle.queue_calls.specs.Queue.{Capacity}
 use Rattle.queue_calls.specs.Calls.{Event}

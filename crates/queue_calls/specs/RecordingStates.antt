@@ -22,7 +22,7 @@ use Rattle.queue_calls.specs.declared.hearings.Hearing.{Hearing}
 use Rattle.queue_calls.specs.declared.recordings.Lines.{Lines}
 use Rattle.queue_calls.specs.declared.recordings.RecordingIn.{RecordingIn}
 
--- the first fault of a history, or none so far, and what is kept of it for its report
+-- the first fault of a history, or none so far, and what is kept for its report
 abbrev pub IsFaultSoFar : {S O T N B : Type 0} → (offered : O → List Offered) → (last : T → List Taken) → Option CallsFinding → Witness S O T N B → Tally → Capacity → List Event → Type 0
 IsFaultSoFar offered last None w tally capacity events = Remembers offered last w capacity events × IsTallied capacity events tally
 IsFaultSoFar offered last (Some (Lawful report)) w tally capacity events = ⊥
@@ -32,13 +32,13 @@ IsFaultSoFar offered last (Some fault) w tally capacity events = IsFoundWithin w
 abbrev pub HasHeard : {S O T N B : Type 0} → (offered : O → List Offered) → (last : T → List Taken) → Hearing S O T N B → Capacity → List Event → Type 0
 HasHeard offered last hearing capacity events = IsFaultSoFar offered last hearing.fault hearing.witness hearing.tally capacity events
 
--- lines were heard, a first one, of a recording that lacks calls or does not, and others
+-- lines were heard, a first one, of a recording that lacks calls or not, and others
 abbrev pub HeardLines : {S O T N B : Type 0} → (offered : O → List Offered) → (last : T → List Taken) → Hearing S O T N B → Bool → List Line → Type 0
 HeardLines offered last hearing is_cut lines = (first : List ℕ) × (further : List Line) × (lines ≡ line (first_word is_cut) first ∷ further)
     × (hearing.begun ≡ begun_behind Nothing further) × HasHeard offered last hearing (capacity_told first) (events_told Nothing further)
 
--- these lines have ended; where there are none, there is no fault of them; and as many of the items taken last are kept
--- as a recording keeps
+-- these lines have ended; if there are none, they have no fault; and as many of the items taken last are kept as a
+-- recording keeps
 pub record HasLines {S O T N B : Type 0} (offered : O → List Offered) (last : T → List Taken) (lines : Lines S O T N B) (ended : List Line) : Type 0 where
   pub are : AreLines ended
   pub count : lines.count ≡ length ended
@@ -46,18 +46,18 @@ pub record HasLines {S O T N B : Type 0} (offered : O → List Offered) (last : 
   pub unheard : ended ≡ [] → lines.hearing.fault ≡ None
   pub heard : ended ≢ [] → HeardLines offered last lines.hearing lines.lacks_calls ended
 
--- bytes without a line feed are a line that goes on with lines
+-- bytes without a line feed are a line that continues these lines
 abbrev pub ContinuesLines : List Line → List ℕ → Line → Type 0
 ContinuesLines before bytes l = AreLines (before ++ l ∷ []) × (bytes ≡ line_text l.word l.numbers)
 
--- why a line is refused behind lines
+-- why a line is refused after lines
 abbrev pub RefusesLine : RecordingFault → List Line → List ℕ → Type 0
 RefusesLine (BadLine number) before bytes = (length before + 1 ≡ number) × ((l : Line) → ¬ (ContinuesLines before bytes l))
 RefusesLine TooLong before bytes = length before ≡ 2 ^ 64 - 1
 RefusesLine OutOfMemory before bytes = Unit {0}
 
--- The first `begun` bytes of a line that has not ended begin a line that may stand there: the first one if none has ended, else a further
--- one. All of its bytes are fewer than twice as many and 65,536 more.
+-- The first `begun` bytes of a line that has not ended begin a line that may come there: the first one if none has ended, otherwise a
+-- further one. All of its bytes are fewer than twice as many plus 65,536.
 pub record KeepsBeginning (is_first : Bool) (begun : ℕ) (bytes : List ℕ) : Type 0 where
   pub within : begun ≤ length bytes
   pub begins : BeginsLine is_first (take begun bytes)

@@ -1,4 +1,4 @@
--- The text of recorded calls, and what is found of it: a first line that tells the capacity, and further lines that tell the events.
+-- The text of recorded calls, and the finding on it: a first line with the capacity, and further lines with the events.
 use Rattle.std.specs.Prelude.{◌≡◌, ◌≢◌, ℕ, ◌+◌, ◌-◌, ◌^◌, ◌≤◌, nat_lt, if◌then◌else◌, List, [], ◌∷◌, ◌++◌, Bool, true, false, Option, Some, None, length, codes, All, flat_map}
 use Rattle.queue_calls.specs.Queue.{Capacity, Unbounded, Between, exactly}
 use Rattle.queue_calls.specs.Calls.{Event, PutBegin, PutStored, PutFull, PutShort, PutNothing, PutClosed, CloseBegin, CloseEnd, TakeBegin, TakeItems, TakeEmpty, TakeShort, TakeNothing, TakeClosed, IsLinearizable}
@@ -22,13 +22,15 @@ pub record Line : Type 0 where
   pub word : Word
   pub numbers : List ℕ
 
+-- a line, from its parts
 abbrev pub line : Word → List ℕ → Line
 line word numbers = record { word = word; numbers = numbers }
 
--- its text, with its line feed, and that of lines
+-- its text, with its line feed
 abbrev pub text_of : Line → List ℕ
 text_of l = line_text l.word l.numbers ++ codes "\n"
 
+-- the text of lines
 abbrev pub lines_text : List Line → List ℕ
 lines_text lines = flat_map text_of lines
 
@@ -36,28 +38,28 @@ lines_text lines = flat_map text_of lines
 abbrev pub IsOfFormat : Line → Type 0
 IsOfFormat l = Allows l.word l.numbers × AreSmall l.numbers
 
--- the word of the first line, of a recording that lacks the later calls or does not
+-- the word of the first line, of a recording that lacks the later calls or not
 abbrev pub first_word : Bool → Word
 first_word true = word.Cut
 first_word false = word.Queue
 
--- it may stand behind the first line
+-- it may come after the first line
 abbrev pub IsFurther : Line → Type 0
 IsFurther l = ((is_cut : Bool) → l.word ≢ first_word is_cut) × IsOfFormat l
 
--- lines as they have to be: the first one tells the capacity, and no other one does
+-- well-formed lines: the first one has the capacity, and no other one does
 abbrev pub AreLines : List Line → Type 0
 AreLines [] = Unit {0}
 AreLines (first ∷ further) = ((is_cut : Bool) × (first.word ≡ first_word is_cut)) × IsOfFormat first × All IsFurther further
 
--- the capacity that the numbers of the first line tell
+-- the capacity in the numbers of the first line
 abbrev pub capacity_told : List ℕ → Capacity
 capacity_told [] = Unbounded
 capacity_told (most ∷ []) = exactly most
 capacity_told (full ∷ most ∷ more) = Between full most
 
--- how many items a put stored that began last and has ended: all that it offered, or fewer; a number that says not fewer is out of
--- turn, as 0 is
+-- how many items were stored by the put that began last and has ended: all that it offered, or fewer; a number that is not less
+-- than those offered is out of turn, as 0 is
 abbrev pub stored_told : Begun → List ℕ → ℕ
 stored_told (begun.Put offered) [] = offered
 stored_told (begun.Put offered) (count ∷ more) = if nat_lt count offered then count else 0
@@ -78,7 +80,7 @@ abbrev pub closed_told : Begun → Event
 closed_told begun.Close = CloseEnd
 closed_told _ = PutClosed
 
--- the event that a line behind the first tells, where the producer began this last
+-- the event of a line after the first, if the producer began this last
 abbrev pub event_told : Begun → Word → List ℕ → Option Event
 event_told b word.Queue numbers = None
 event_told b word.Cut numbers = None
@@ -98,23 +100,23 @@ event_told b word.TakeShort numbers = Some TakeShort
 event_told b word.TakeNothing numbers = Some TakeNothing
 event_told b word.TakeClosed numbers = Some TakeClosed
 
--- what the producer began last, behind a line
+-- what the producer began last, after a line
 abbrev pub begun_after : Begun → Word → List ℕ → Begun
 begun_after b word.Put numbers = begun.Put (length numbers)
 begun_after b word.Close numbers = begun.Close
 begun_after b _ numbers = b
 
--- behind lines
+-- and after lines
 abbrev pub begun_behind : Begun → List Line → Begun
 begun_behind b [] = b
 begun_behind b (l ∷ lines) = begun_behind (begun_after b l.word l.numbers) lines
 
--- an event, where there is one, and others behind it
+-- an event, if there is one, and others after it
 abbrev pub and_then : Option Event → List Event → List Event
 and_then None events = events
 and_then (Some event) events = event ∷ events
 
--- the events that lines tell
+-- the events of lines
 abbrev pub events_told : Begun → List Line → List Event
 events_told b [] = []
 events_told b (l ∷ lines) = and_then (event_told b l.word l.numbers) (events_told (begun_after b l.word l.numbers) lines)
@@ -129,8 +131,8 @@ pub record IsRecording (bytes : List ℕ) (capacity : Capacity) (events : List E
   pub tells_capacity : capacity ≡ capacity_told first
   pub tells_events : events ≡ events_told begun.Nothing further
 
--- the line of this number is the first that is missing, unfinished, or not as it has to be: lines before it, and something behind
--- them, or nothing before the first one, that does not begin with a line that may stand there
+-- the line of this number is the first that is missing, unfinished, or malformed: lines before it, and something after them, or
+-- nothing before the first one, that does not begin with a line that may come there
 pub record IsBadLine (bytes : List ℕ) (number : ℕ) : Type 0 where
   pub before : List Line
   pub rest : List ℕ
@@ -140,7 +142,7 @@ pub record IsBadLine (bytes : List ℕ) (number : ℕ) : Type 0 where
   pub is_bad : (l : Line) (more : List ℕ) → AreLines (before ++ l ∷ []) → rest ≢ text_of l ++ more
   pub is_there : rest ≡ [] → before ≡ []
 
--- why bytes are no recording that is read to its end: a bad line; or so many bytes that their lines may be too many to be counted
+-- why bytes are not a recording that is read to its end: a bad line; or too many bytes for their lines to be counted
 abbrev pub RefusesText : RecordingFault → List ℕ → Type 0
 RefusesText (BadLine number) bytes = IsBadLine bytes number
 RefusesText TooLong bytes = 2 ^ 64 - 1 ≤ length bytes
@@ -157,26 +159,27 @@ pub record StopsAt (capacity : Capacity) (events : List Event) (number : ℕ) (S
   pub stops : ¬ (IsLinearizable capacity (before ++ event ∷ []))
   pub says : Says before event
 
--- what is found of a history, with so many of the items taken last kept: it is linearizable, and what is told of it; or its first fault is
--- out of turn, or in its turn, with what speaks against it
+-- the finding on a history, with the last `limit` items taken kept: it is linearizable, with its report; or its first fault is out of
+-- turn, or in turn, with what contradicts it
 abbrev pub IsFoundWithin : (limit : ℕ) → Capacity → List Event → CallsFinding → Type 0
 IsFoundWithin limit capacity events (Lawful report) = IsLinearizable capacity events × IsReport capacity events report
 IsFoundWithin limit capacity events (OutOfTurn number) = StopsAt capacity events number (λ before event. ¬ CallsAreInTurn (before ++ event ∷ []))
 IsFoundWithin limit capacity events (NotLinearizable number cause) =
     StopsAt capacity events number (λ before event. CallsAreInTurn (before ++ event ∷ []) × IsCause limit capacity before event cause)
 
--- what is found of a text
+-- the finding on a text
 abbrev pub IsFindingWithin : (limit : ℕ) → List ℕ → CallsFinding → Type 0
 IsFindingWithin limit bytes finding = (capacity : Capacity) × (events : List Event) × IsRecording bytes capacity events × IsFoundWithin limit capacity events finding
 
--- where as many are kept as a recording keeps
+-- the finding with as many items kept as a recording keeps
 abbrev pub IsFoundOf : Capacity → List Event → CallsFinding → Type 0
 IsFoundOf = IsFoundWithin TAKEN_LIMIT
 
+-- the finding on a text with as many items kept as a recording keeps
 abbrev pub IsFindingOf : List ℕ → CallsFinding → Type 0
 IsFindingOf = IsFindingWithin TAKEN_LIMIT
 
--- the first fault that is found of a text of lines that have ended, or none: it is linearizable, or there is no line
+-- the first fault that is found in a text of lines that have ended, or none: it is linearizable, or there is no line
 abbrev pub IsFaultOf : List ℕ → Option CallsFinding → Type 0
 IsFaultOf bytes None = bytes ≢ [] → (report : CallsReport) × IsFindingOf bytes (Lawful report)
 IsFaultOf bytes (Some (Lawful report)) = ⊥

@@ -18,24 +18,26 @@ abbrev pub has_put : PutTurn → Bool
 has_put Free = false
 has_put _ = true
 
+-- the same for the consumer
 abbrev pub has_take : TakeTurn → Bool
 has_take Rests = false
 has_take _ = true
 
--- how many items are inside whatever the calls under way have done; and at most
+-- at least how many items are inside, whatever the calls under way have done
 abbrev pub least_kept : Kept → ℕ
 least_kept k = (length k.inside - offered_by k.put) - asked_by k.take
 
+-- and at most how many items are inside
 abbrev pub most_kept : Capacity → Kept → ℕ
 most_kept Unbounded k = length k.inside
 most_kept (Between full most) k = min (length k.inside) most
 
--- no more were inside than so many, behind an event more, at which there are at most so many: more come in where a put begins alone
+-- the most items ever inside after one more event, from the most before and the most at it: it can only grow when a put begins
 abbrev pub most_behind : Event → (before most : ℕ) → ℕ
 most_behind (PutBegin items) before most = max before most
 most_behind _ before most = before
 
--- a report has the numbers of another, but for those of calls and of the moment
+-- a report has the numbers of another, except for the number of calls, of overlaps and of calls under way
 pub record HaveOtherNumbersOf (old new : CallsReport) : Type 0 where
   pub stored : new.stored ≡ old.stored
   pub taken : new.taken ≡ old.taken
@@ -46,7 +48,7 @@ pub record HaveOtherNumbersOf (old new : CallsReport) : Type 0 where
   pub surely_inside : new.surely_inside ≡ old.surely_inside
   pub perhaps_inside : new.perhaps_inside ≡ old.perhaps_inside
 
--- and but for those of the moment alone
+-- a report has the numbers of another, except for the number of calls under way
 pub record HaveNumbersOf (old new : CallsReport) : Type 0 where
   pub calls : new.calls ≡ old.calls
   pub overlapped : new.overlapped ≡ old.overlapped
@@ -63,7 +65,7 @@ abbrev pub StoresWithin : Event → List Event → Type 0
 StoresWithin (PutStored count why) past = count ≤ length (offers past)
 StoresWithin _ past = Unit {0}
 
--- what is told of an event behind a past: how many items were offered before it, and which sides have a call under way then
+-- what is known about an event after a past: how many items were offered before it, and which sides have a call under way then
 abbrev pub IsToldOf : Event → List Event → (offered : ℕ) → PutTurn → TakeTurn → Type 0
 IsToldOf event past offered put take =
     (offered ≡ length (offers past)) × StoresWithin event past × (has_put put ≡ put_is_open (event ∷ past)) × (has_take take ≡ take_is_open (event ∷ past))

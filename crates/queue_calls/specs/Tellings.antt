@@ -1,4 +1,4 @@
--- The lines that tell a history: each well-formed history has a recording.
+-- The lines of a history: each well-formed history has a recording.
 use Rattle.std.specs.Prelude.{◌≡◌, ℕ, Bool, true, false, ◌^◌, ◌<◌, nat_lt, if◌then◌else◌, List, [], ◌∷◌}
 use Rattle.queue_calls.specs.Queue.{Capacity, exactly}
 use Rattle.queue_calls.specs.Calls.{Event, PutBegin, PutStored, PutFull, PutShort, PutNothing, PutClosed, CloseBegin, CloseEnd, TakeBegin, TakeItems, TakeEmpty, TakeShort, TakeNothing, TakeClosed, IsLinearizable}
@@ -14,15 +14,15 @@ abbrev pub offered_last : Begun → ℕ
 offered_last (begun.Put offered) = offered
 offered_last _ = 0
 
--- a number, where it is less than another
+-- a number, if it is less than another
 abbrev pub if_fewer : ℕ → ℕ → List ℕ
 if_fewer count whole = (if nat_lt count whole then count ∷ [] else [])
 
--- a number, where it is more than one
+-- a number, if it is more than one
 abbrev pub if_several : ℕ → List ℕ
 if_several count = (if nat_lt 1 count then count ∷ [] else [])
 
--- the line that tells an event, where the producer began this last
+-- the line of an event, if the producer began this last
 abbrev pub line_of : Begun → Event → Line
 line_of b (PutBegin items) = line word.Put items
 line_of b (PutStored count true) = line word.Stored (if_fewer count (offered_last b))
@@ -41,12 +41,12 @@ line_of b TakeShort = line word.TakeShort []
 line_of b TakeNothing = line word.TakeNothing []
 line_of b TakeClosed = line word.TakeClosed []
 
--- the lines that tell events
+-- the lines of events
 abbrev pub lines_of : Begun → List Event → List Line
 lines_of b [] = []
 lines_of b (event ∷ h) = line_of b event ∷ lines_of (begun_after b (line_of b event).word (line_of b event).numbers) h
 
--- the numbers that an event tells
+-- the numbers of an event
 abbrev pub numbers_in : Event → List ℕ
 numbers_in (PutBegin items) = items
 numbers_in (PutStored count why) = count ∷ []
@@ -54,12 +54,12 @@ numbers_in (TakeBegin wanted) = wanted ∷ []
 numbers_in (TakeItems items why) = items
 numbers_in _ = []
 
--- those of a history fit 64 bits
+-- the numbers of a history fit 64 bits
 abbrev pub TellsSmall : List Event → Type 0
 TellsSmall [] = Unit {0}
 TellsSmall (event ∷ h) = AreSmall (numbers_in event) × TellsSmall h
 
--- a well-formed history of a queue of just so many is told by a recording, whether it lacks the later calls or not
+-- a well-formed history of a queue of an exact capacity has a recording, whether it lacks the later calls or not
 abbrev pub HistoryHasARecording : Type 0
 HistoryHasARecording =
     (is_cut : Bool) (most : ℕ) (h : List Event) → 0 < most → most < 2 ^ 64 → CallsAreInTurn h → TellsSmall h →

@@ -1,4 +1,4 @@
--- What is told to an auditor: a capacity, and events.
+-- How capacities and events of the code are those of the specification.
 use Rattle.std.specs.Prelude.{ℕ, List, true, false}
 use Rattle.std.specs.Borrow.{Bor}
 use Rattle.queue_calls.specs.Queue as queues
@@ -32,6 +32,6 @@ event_by offers took TakeShort = calls.TakeShort
 event_by offers took TakeNothing = calls.TakeNothing
 event_by offers took TakeClosed = calls.TakeClosed
 
--- one whose items are listed
+-- the same, with items in lists
 abbrev pub told : CallEvent (Bor (List ℕ)) (Bor (List ℕ)) → calls.Event
 told event = event_by (λ items. items.now) (λ items. items.now) event

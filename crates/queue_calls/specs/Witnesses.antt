@@ -16,8 +16,8 @@ use Rattle.queue_calls.specs.declared.turns.PutTurn.TheVariants.{Free}
 use Rattle.queue_calls.specs.declared.turns.TakeTurn.TheVariants.{Rests}
 use Rattle.queue_calls.specs.declared.witnesses.Witness.{Witness}
 
--- what is kept of a history: what its events counted one after the other leave; what comes next; so many of the items taken last as
--- its limit says, and the last one in any case; and the lines that a cause tells
+-- what is kept of a history: the state after counting its events one after the other; what comes next; the last `limit` items
+-- taken, and the last one in any case; and the lines that a cause reports
 pub record Remembers {S O T N B : Type 0} (offered : O → List Offered) (last : T → List Taken) (w : Witness S O T N B) (capacity : Capacity) (events : List Event) : Type 0 where
   pub proper : IsProper capacity
   pub capacity_is : meant w.auditor.capacity ≡ capacity
@@ -30,7 +30,7 @@ pub record Remembers {S O T N B : Type 0} (offered : O → List Offered) (last :
   pub put_at : w.put_at ≡ line_behind (before_put (reverse events))
   pub stored_at : w.stored_at ≡ line_behind (before_stored (reverse events))
 
--- what a refusal says of an event behind those that are remembered, where the lists have room for so many
+-- what a refusal implies about an event after those remembered, if the lists have room for this many
 abbrev pub RefusesNext : {S O T N B : Type 0} → (offered : O → List Offered) → (last : T → List Taken) → (offered_room taken_room : ℕ) → Witness S O T N B → Capacity → List Event → Event → Fault → Type 0
 RefusesNext offered last o t w capacity events event OutOfTurn =
     Remembers offered last w capacity events × ¬ CallsAreInTurn (events ++ event ∷ []) × ¬ IsLinearizable capacity (events ++ event ∷ [])
@@ -38,7 +38,7 @@ RefusesNext offered last o t w capacity events event NotLinearizable =
     Remembers offered last w capacity events × CallsAreInTurn (events ++ event ∷ []) × ¬ IsLinearizable capacity (events ++ event ∷ [])
 RefusesNext offered last o t w capacity events event OutOfMemory = OutgrowsLists w.limit o t capacity (events ++ event ∷ [])
 
--- the last so many entries, as this line stores them
+-- the last `count` entries, as this line stores them
 abbrev pub mark_last : (line count : ℕ) → List Offered → List Offered
 mark_last line count entries = take (length entries - count) entries ++ map (stored_at line) (last_of count entries)
 
@@ -48,9 +48,10 @@ agreed [] rest = 0
 agreed (item ∷ items) [] = 0
 agreed (item ∷ items) (next ∷ rest) = if next.item == item then suc (agreed items rest) else 0
 
--- an item comes; and as what it was taken last
+-- an item is to come
 abbrev pub comes : ℕ → List Offered → Bool
 comes item rest = is_some (find (λ o. o.item == item) rest)
 
+-- the last take of an item among those taken, if there is one
 abbrev pub last_taken_of : ℕ → List Taken → Option Taken
 last_taken_of item all = find (λ t. t.item == item) (reverse all)

@@ -10,18 +10,18 @@ use std::alloc::Allocator;
 use std::collections::VecDeque;
 
 /// An auditor of a recorded history of calls of a first-in first-out queue that can be closed, of one producer and one
-/// consumer, whatever queue it is: bounded or not, of a capacity that it tells exactly or not.
+/// consumer, whatever queue it is: bounded or not, with its capacity known exactly or as a range.
 ///
-/// It reads the history event by event. It accepts an event where the history up to and with it is
-/// linearizable, and refuses it where it is not, so the first event that it refuses is the first place at
-/// which the history is not linearizable; nothing behind it mends that
-/// ([`beginning_is_linearizable`](crate::laws::beginning_is_linearizable)). A put of several items stores
-/// them one by one, and a take of several takes them one by one; a second close changes nothing. A put that stores
-/// fewer items than it offered found no room for one more before it stored the first, and a take that takes fewer than
-/// it wanted found no more than these before it took the first; but for one that tells no reason.
+/// It reads the history event by event. It accepts an event if the history up to and including it is linearizable, and
+/// refuses it otherwise, so the first event that it refuses is the first place at which the history is not
+/// linearizable; nothing after it can repair that
+/// ([`beginning_is_linearizable`](crate::laws::beginning_is_linearizable)). A put of several items stores them one by
+/// one, and a take of several takes them one by one; a second close changes nothing. A put that stores fewer items
+/// than it offered found no room for one more before it stored the first, and a take that takes fewer than it wanted
+/// found no more than these before it took the first; unless they report no reason.
 ///
-/// An event takes constant time, amortized, for each item that it tells, and the memory is that of the
-/// items inside and of those offered by the put under way: of an allocator, or slots that the caller gives.
+/// An event takes constant time, amortized, for each item of the event, and the memory is that of the items
+/// inside and of those offered by the put under way: from an allocator, or in slots supplied by the caller.
 ///
 /// In use: `uses::calls::first_at_fault`.
 #[derive(Drop)]
@@ -31,13 +31,13 @@ pub struct CallAuditor<Q: Inside> {
     pub(crate) inside: Q,
     pub(crate) put: PutTurn,
     pub(crate) take: TakeTurn,
-    // a close has ended, or a take was told that the queue is closed
+    // a close has ended, or a take has returned Closed
     pub(crate) shut: bool,
 }
 
-/// What an auditor keeps beside its list.
+/// What an auditor keeps besides its list.
 ///
-/// For example, `CallAuditor::resume` goes on from it, as `queue_calls_c` does between two calls of C.
+/// For example, `CallAuditor::resume` continues from it, as `queue_calls_c` does between two calls of C.
 #[derive(Clone, Copy, PartialEq, Eq, Debug)]
 pub struct AuditorState {
     /// How many items the queue may hold.
@@ -46,7 +46,7 @@ pub struct AuditorState {
     pub put: PutTurn,
     /// What the consumer has under way.
     pub take: TakeTurn,
-    /// A close has ended, or a take was told that the queue is closed.
+    /// A close has ended, or a take has returned Closed.
     pub shut: bool,
 }
 
@@ -55,8 +55,8 @@ impl<A: Allocator> CallAuditor<VecDeque<u64, A>> {
     ghost use Rattle.queue_calls.specs.Audits.{Audits};
     ghost use Rattle.queue_calls.specs.Told.{meant};
 
-    /// An auditor of a queue of this capacity that has read no event yet. A capacity between two numbers has a second one of
-    /// at least 1, and a first one that is no more.
+    /// An auditor of a queue of this capacity that has read no event yet. For a capacity between two numbers, the second
+    /// must be at least 1, and the first at most the second.
     pub fn new(alloc: A, capacity: Capacity) -> CallAuditor<VecDeque<u64, A>>
         requires { IsProper (meant capacity) }
         ensures capacity { result.capacity ≡ capacity }
@@ -79,8 +79,8 @@ impl<Q: Inside> CallAuditor<Q> {
     ghost use Rattle.queue_calls.specs.declared.turns.PutTurn.TheVariants.{Free, Offers};
     ghost use Rattle.queue_calls.specs.declared.turns.TakeTurn.TheVariants.{Rests};
 
-    /// As [`new`](CallAuditor::new), with a list of the caller's to keep the items in, which may be in slots. What it holds is
-    /// taken away.
+    /// As [`new`](CallAuditor::new), with a list supplied by the caller to keep the items in, which may be in slots. Its
+    /// contents are removed.
     pub fn with(list: Q, capacity: Capacity) -> CallAuditor<Q>
         requires { IsProper (meant capacity) }
         ensures capacity { result.capacity ≡ capacity }
@@ -99,7 +99,7 @@ impl<Q: Inside> CallAuditor<Q> {
         }
     }
 
-    /// Forgets what it has read, and audits a history of a queue of this capacity from its begin, in the same list.
+    /// Forgets what it has read, and audits a history of a queue of this capacity from its start, in the same list.
     pub fn restart(&mut self, capacity: Capacity)
         requires { IsProper (meant capacity) }
         ensures capacity { self.new.capacity ≡ capacity }
@@ -114,7 +114,7 @@ impl<Q: Inside> CallAuditor<Q> {
         self.shut = false;
     }
 
-    /// An auditor that goes on from what one kept, and from what its list held then.
+    /// An auditor that continues from what another kept, and from the contents of its list then.
     pub fn resume(state: AuditorState, inside: Q) -> CallAuditor<Q>
         ensures { result ≡ auditor_of state inside }
     {
@@ -127,7 +127,7 @@ impl<Q: Inside> CallAuditor<Q> {
         }
     }
 
-    /// What it keeps beside its list, and this.
+    /// What it keeps besides its list, and the list.
     pub fn keep(self) -> (AuditorState, Q)
         ensures { self ≡ auditor_of result.0 result.1 }
     {
@@ -145,11 +145,11 @@ impl<Q: Inside> CallAuditor<Q> {
         ensures { (h : List calls.Event) → Audits Q.items self.now h → IsLinearizable (meant self.now.capacity) h }
     {}
 
-    /// Reads the next event of the history. It tells `OutOfTurn` where the event begins a call while one of
-    /// its side is under way, answers a call that is not, or tells a number out of its range; else `NotLinearizable`
-    /// where the history with it is not linearizable; and `OutOfMemory` where a put begins and its items do not fit behind those
-    /// inside: the history with it is linearizable, and at each point to which it can lead there are more items than the list has
-    /// room for. Of a refused event nothing is kept.
+    /// Reads the next event of the history. It returns `OutOfTurn` if the event starts a call while one of its side is under way,
+    /// ends a call that is not, or has a number out of range; otherwise `NotLinearizable` if the history with it is not
+    /// linearizable; and `OutOfMemory` if a put starts and its items do not fit after those inside: then the history with it is
+    /// linearizable, and at each point to which it can lead there are more items than the list has room for. A refused event
+    /// changes nothing.
     pub fn feed(&mut self, event: Event<'_>) -> Result<(), Fault>
         ensures reads { Reads Q.items Q.room self.old (told event.entry) result self.new }
         ensures room { Q.room self.new.inside ≡ Q.room self.old.inside }
@@ -157,7 +157,7 @@ impl<Q: Inside> CallAuditor<Q> {
         self.feed_at(0, event)
     }
 
-    // As `feed`, of an event of this line, which is kept with each item that the event offers.
+    // As `feed`, for an event of this line, which is kept with each item that the event offers.
     pub(crate) fn feed_at(&mut self, line: u64, event: Event<'_>) -> Result<(), Fault>
         ensures decides { Decides Q.items Q.room self.old (told event.entry) result self.new }
         ensures room { Q.room self.new.inside ≡ Q.room self.old.inside }
@@ -181,7 +181,7 @@ impl<Q: Inside> CallAuditor<Q> {
         }
     }
 
-    // A put of these items begins, of one at least.
+    // A put of these items begins; there must be at least one.
     fn put_begins(&mut self, line: u64, items: &[u64]) -> Result<(), Fault>
         ensures decides { Decides Q.items Q.room self.old (PutBegin items.now) result self.new }
         ensures room { Q.room self.new.inside ≡ Q.room self.old.inside }
@@ -214,7 +214,7 @@ impl<Q: Inside> CallAuditor<Q> {
         Ok(())
     }
 
-    // Puts the items behind those inside, or none of them where memory ran out.
+    // Appends the items to those inside, or none of them if memory ran out.
     fn holds(&mut self, line: u64, items: &[u64]) -> bool
         ensures full { result ≡ false → Q.room self.old.inside < length (Q.items self.old.inside) + length items.now }
         ensures room { Q.room self.new.inside ≡ Q.room self.old.inside }
@@ -237,7 +237,7 @@ impl<Q: Inside> CallAuditor<Q> {
         true
     }
 
-    // The put ends so, with some of its first items stored or none.
+    // The put ends with this event, with some of its first items stored or none.
     #[inline(always)]
     fn put_ends(&mut self, event: Event<'_>) -> Result<(), Fault>
         requires { EndsAPut (told event) }
@@ -272,7 +272,7 @@ impl<Q: Inside> CallAuditor<Q> {
         }
     }
 
-    // Ends the put without so many of its last items, where that can be.
+    // Ends the put without its last `rest` items, if that is possible.
     fn ends_put(&mut self, rest: usize) -> bool
         ensures room { Q.room self.new.inside ≡ Q.room self.old.inside }
         ensures ends { IsTrue result ↔
@@ -347,7 +347,7 @@ impl<Q: Inside> CallAuditor<Q> {
         }
     }
 
-    // A take of up to so many items begins, of one at least.
+    // A take of up to `wanted` items begins; there must be at least one.
     fn take_begins(&mut self, wanted: usize) -> Result<(), Fault>
         ensures decides { Decides Q.items Q.room self.old (TakeBegin wanted) result self.new }
         ensures room { Q.room self.new.inside ≡ Q.room self.old.inside }
@@ -370,7 +370,7 @@ impl<Q: Inside> CallAuditor<Q> {
         }
     }
 
-    // The take ends so, with these items.
+    // The take ends with this event and these items.
     #[inline(always)]
     fn take_ends(&mut self, event: Event<'_>, items: &[u64]) -> Result<(), Fault>
         requires { EndsATake (told event) × (items.now ≡ items_got (told event)) }
@@ -392,7 +392,7 @@ impl<Q: Inside> CallAuditor<Q> {
         if lacked > 0 && lacked <= before {
             return Err(Fault::NotLinearizable);
         }
-        // (it found none, where a close had ended)
+        // (it found none after a close had ended)
         if lacked > 0 && taken == 0 && ended && before == 0 {
             return Err(Fault::NotLinearizable);
         }
@@ -419,7 +419,7 @@ impl<Q: Inside> CallAuditor<Q> {
         true
     }
 
-    // Ends the take with so many items, the next ones, where that can be.
+    // Ends the take with this many items, the next ones, if that is possible.
     fn ends_take(&mut self, count: usize) -> bool
         ensures room { Q.room self.new.inside ≡ Q.room self.old.inside }
         ensures ends { IsTrue result ↔

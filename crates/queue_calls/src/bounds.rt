@@ -1,4 +1,4 @@
-//! What an auditor tells of the calls under way, and of how many items may be inside.
+//! What an auditor knows of the calls under way, and of how many items may be inside.
 ghost use Rattle.std.specs.Prelude.{◌≡◌, ◌↔◌, IsTrue, length};
 
 use crate::auditors::CallAuditor;
@@ -13,7 +13,7 @@ impl<Q: Inside> CallAuditor<Q> {
     ghost use Rattle.queue_calls.specs.Tallying.{least_kept, most_kept, has_put, has_take};
     ghost use Rattle.queue_calls.specs.Told.{meant};
 
-    // Whether a queue with so many items inside may tell that it has no room for so many more.
+    // Whether a queue with this many items inside may report that it has no room for `count` more.
     pub(crate) fn may_lack(&self, inside: usize, count: usize) -> bool
         ensures { IsTrue result ↔ LacksRoom (meant self.now.capacity) inside count }
     {
@@ -23,7 +23,7 @@ impl<Q: Inside> CallAuditor<Q> {
         }
     }
 
-    // Whether a queue may have so many items inside.
+    // Whether a queue may have this many items inside.
     pub(crate) fn may_hold(&self, inside: usize) -> bool
         ensures { IsTrue result ↔ MayHold (meant self.now.capacity) inside }
     {
@@ -43,7 +43,7 @@ impl<Q: Inside> CallAuditor<Q> {
         }
     }
 
-    // How many items the put under way offered, where it began before a close had ended.
+    // How many items the put under way offered, if it began before a close had ended.
     pub(crate) fn offered(&self) -> usize
         ensures { result ≡ offered_by self.now.put }
     {
@@ -66,7 +66,7 @@ impl<Q: Inside> CallAuditor<Q> {
         !matches!(self.take, TakeTurn::Rests)
     }
 
-    // How many items are inside whatever the calls under way have done; and at most.
+    // How many items are inside whatever the calls under way have done; and at most how many.
     pub(crate) fn least_inside(&self) -> usize
         ensures { result ≡ least_kept (kept_by Q.items self.now) }
     {

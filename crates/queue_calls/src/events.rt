@@ -8,24 +8,24 @@ ghost use Rattle.queue_calls.specs.declared.hearings.Begun.{Begun};
 
 use call_lines::Word;
 
-/// An event of a history of calls: a call begins, or it ends with an answer. A `P` tells the items that a put offers, and a `T` those
-/// that a take took.
+/// An event of a history of calls: a call begins, or it ends with an answer. A `P` represents the items that a put offers, and a `T`
+/// those that a take took.
 ///
-/// For example, `CallEvent::PutStored(2)` is what `P stored 2` tells in a recording.
+/// For example, `CallEvent::PutStored(2)` is `P stored 2` in a recording.
 #[derive(Clone, Copy, PartialEq, Eq, Debug)]
 pub enum CallEvent<P, T> {
     /// A put of these items begins.
     PutBegins(P),
-    /// The put ends: so many of its first items were stored. Where these are fewer than it offered, the queue had no room
+    /// The put ends: this many of its first items were stored. If these are fewer than it offered, the queue had no room
     /// for one more before the first of them.
     PutStored(usize),
-    /// The put ends: so many of its first items were stored, and no reason is told where these are fewer than it offered.
+    /// The put ends: this many of its first items were stored; if these are fewer than it offered, no reason is reported.
     PutSome(usize),
     /// The put ends: the queue had no room for one item, and none was stored.
     PutFull,
     /// The put of several items ends: the queue had no room for all of them, and none was stored.
     PutShort,
-    /// The put ends: none of its items was stored, and no reason is told.
+    /// The put ends: none of its items was stored, and no reason is reported.
     PutNothing,
     /// The put ends: the queue was closed, and none of its items was stored.
     PutClosed,
@@ -33,19 +33,19 @@ pub enum CallEvent<P, T> {
     CloseBegins,
     /// The close ends.
     CloseEnds,
-    /// A take of up to so many items begins.
+    /// A take of up to this many items begins.
     TakeBegins(usize),
-    /// The take ends: it took these items. Where these are fewer than it wanted, the queue had no more than these before
+    /// The take ends: it took these items. If these are fewer than it wanted, the queue had no more than these before
     /// the first of them.
     TakeItems(T),
-    /// The take ends: it took these items, and no reason is told where they are fewer than it wanted.
+    /// The take ends: it took these items; if they are fewer than it wanted, no reason is reported.
     TakeSome(T),
-    /// The take ends: the queue had no item, and some may come.
+    /// The take ends: the queue had no item, and was not closed.
     TakeEmpty,
     /// The take of several items ends: the queue had fewer than it wanted, though it was not empty and closed, and none was
     /// taken.
     TakeShort,
-    /// The take ends: no item was taken, and no reason is told.
+    /// The take ends: no item was taken, and no reason is reported.
     TakeNothing,
     /// The take ends: the queue was empty and closed.
     TakeClosed,
@@ -53,12 +53,12 @@ pub enum CallEvent<P, T> {
 
 /// An event of a history of calls, with its items.
 ///
-/// For example, `Event::PutBegins(&[5, 6])` is what `P put 5 6` tells in a recording. In use:
+/// For example, `Event::PutBegins(&[5, 6])` is `P put 5 6` in a recording. In use:
 /// `uses::calls::first_at_fault`.
 pub type Event<'a> = CallEvent<&'a [u64], &'a [u64]>;
 
-// A call of so many items passed so many of them, and says why not more or does not: these, and the number for which it found no room or
-// no items, 0 where it tells none. `None` where it cannot have passed them.
+// The outcome of a call that passed this many of its items, and says why not more or does not: that number, and the number for which it
+// found no room or no items, 0 if it reports none. `None` if it cannot have passed them.
 #[inline(always)]
 fn passed(why: bool, count: usize, most: usize) -> Option<(usize, usize)>
     ensures { result ≡ passed why count most }
@@ -74,7 +74,7 @@ fn passed(why: bool, count: usize, most: usize) -> Option<(usize, usize)>
 }
 
 impl<P, T> CallEvent<P, T> {
-    /// The word of the line that tells it in a recording.
+    /// The word of its line in a recording.
     ///
     /// For example, that of `CallEvent::CloseEnds` is `P closed`, as it is that of `CallEvent::PutClosed`.
     pub fn word(&self) -> Word
@@ -119,7 +119,7 @@ impl<P, T> CallEvent<P, T> {
 }
 
 impl Event<'_> {
-    // The same of the end of a put or a take of so many items.
+    // The same for the end of a put or a take of at most `most` items.
     #[inline(always)]
     pub(crate) fn outcome(self, most: usize) -> Option<(usize, usize)>
         ensures { result ≡ outcome_of (told self.entry) most }

@@ -1,4 +1,4 @@
-//! Why an auditor refuses an event, and why bytes are no recording.
+//! Why an auditor refuses an event, and why bytes are not a recording.
 ghost use Rattle.std.specs.Prelude.{◌≡◌, Some};
 
 use std::alloc::AllocError;
@@ -32,7 +32,7 @@ impl Fault {
     }
 }
 
-/// Why bytes are no recording.
+/// Why bytes are not a recording.
 ///
 /// In use: `uses::findings::found_in`.
 #[derive(Clone, Copy, PartialEq, Eq, Debug)]

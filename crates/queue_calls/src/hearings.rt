@@ -1,4 +1,4 @@
-//! A history of calls that is told event by event or line by line, and what is found of it so far.
+//! A history of calls that comes event by event or line by line, and what is found so far.
 ghost use Rattle.std.specs.Prelude.{◌≡◌, ℕ, ◌+◌, ◌∷◌, ◌++◌, [], List, IfErr, IfOk, IfSome, None, OnErr, OnOk, length, option_map};
 ghost use Rattle.queue_calls.specs.Calls as calls;
 ghost use Rattle.queue_calls.specs.Hearings.{HasHeardAll, HearsLine, HearsNext, IsNotLawful, hearing_of};
@@ -21,22 +21,23 @@ use crate::witnesses::Witness;
 use call_causes::Taken;
 use call_lines::{Word, allows};
 
-/// What the producer began last: it tells apart the two ends `P closed`, and how many items `P stored` says.
+/// What the producer began last: it distinguishes the two ends `P closed`, and gives the number of items of `P stored`.
 ///
-/// For example, behind `P put 5 6` it is `Begun::Put(2)`, and still behind `P stored`.
+/// For example, after `P put 5 6` it is `Begun::Put(2)`, and still so after `P stored`.
 #[derive(Clone, Copy, PartialEq, Eq, Debug)]
 pub enum Begun {
     /// Nothing so far.
     Nothing,
-    /// A put of so many items.
+    /// A put of this many items.
     Put(usize),
     /// A close.
     Close,
 }
 
-/// A history of calls, with what is found of it so far: a recording that is told line by line, with no text between.
+/// A history of calls, with what is found of it so far: a recording that comes line by line, not as one text.
 ///
-/// It keeps the items inside, and so many of the items taken last as it is told at first, in lists of an allocator or of the caller's.
+/// It keeps the items inside, and as many of the items taken last as requested at its start, in lists of an allocator or supplied by the
+/// caller.
 ///
 /// In use: `uses::hearings::of_queue`.
 #[derive(Drop)]
@@ -48,26 +49,26 @@ pub struct Hearing<S: Storage> {
     pub(crate) fault: Option<CallsFinding>,
 }
 
-/// What is kept of a hearing that has found no fault, beside its lists.
+/// What is kept of a hearing that has found no fault, besides its lists.
 ///
-/// For example, of one that has heard `queue 8` and `P put 5` the last put began at line 2, and `auditor` has it under way.
+/// For example, after `queue 8` and `P put 5` the last put began at line 2, and `auditor` has it under way.
 #[derive(Clone, Copy, PartialEq, Eq, Debug)]
 pub struct HearingState {
     /// What its auditor keeps.
     pub auditor: AuditorState,
     /// How many of the items taken last are kept.
     pub limit: usize,
-    /// The item taken last, with the line that ended its take; where none was taken item 0 of line 0.
+    /// The item taken last, with the line that ended its take; if none was taken, item 0 of line 0.
     pub last_taken: Taken,
     /// The line that ended the first close.
     pub ended_at: Option<u64>,
-    /// The line of the first take that was told that the queue is closed.
+    /// The line of the first take that returned Closed.
     pub told_at: Option<u64>,
     /// The line that began the last put.
     pub put_at: u64,
     /// The line that ended the last put that stored items.
     pub stored_at: u64,
-    /// The report so far, but for the calls under way.
+    /// The report so far, except for the calls under way.
     pub report: CallsReport,
     /// Whether the last call of the producer has overlapped one of the consumer.
     pub put_overlaps: bool,
@@ -77,7 +78,7 @@ pub struct HearingState {
     pub begun: Begun,
 }
 
-// The capacity that the first line tells.
+// The capacity that the first line states.
 fn capacity_told(numbers: &[u64]) -> Capacity
     ensures { meant result ≡ capacity_told numbers.now }
 {
@@ -91,9 +92,9 @@ fn capacity_told(numbers: &[u64]) -> Capacity
     }
 }
 
-/// The event that a line behind the first tells, where the producer began this last.
+/// The event of a line after the first, if the producer began this last.
 ///
-/// For example, `P closed` tells the end of a put, or behind `P close` that of the close.
+/// For example, `P closed` is the end of a put, or after `P close` that of the close.
 pub fn event_told(begun: Begun, word: Word, numbers: &[u64]) -> Option<Event<'_>>
     ensures { option_map told result ≡ event_told begun word numbers.now }
 {
@@ -120,7 +121,7 @@ pub fn event_told(begun: Begun, word: Word, numbers: &[u64]) -> Option<Event<'_>
     })
 }
 
-// How many items were stored: all that the put offered, or fewer; a number that says not fewer is out of turn, as 0 is.
+// How many items were stored: all that the put offered, or fewer; a number that is not less than those offered is out of turn, as 0 is.
 fn stored_told(begun: Begun, numbers: &[u64]) -> usize
     ensures { result ≡ stored_told begun numbers.now }
 {
@@ -145,7 +146,7 @@ fn some_told(numbers: &[u64]) -> usize
     }
 }
 
-// How many items a take wants: 1 where the line has no number.
+// How many items a take wants: 1 if the line has no number.
 fn wanted_told(numbers: &[u64]) -> usize
     ensures { result ≡ wanted_told numbers.now }
 {
@@ -155,9 +156,9 @@ fn wanted_told(numbers: &[u64]) -> usize
     }
 }
 
-/// What the producer began last, behind this line.
+/// What the producer began last, after this line.
 ///
-/// For example, `Begun::Close` behind `P close`.
+/// For example, `Begun::Close` after `P close`.
 pub fn begun_after(begun: Begun, word: Word, numbers: &[u64]) -> Begun
     ensures { result ≡ begun_after begun word numbers.now }
 {
@@ -173,10 +174,10 @@ impl<S: Storage> Hearing<S> {
     ghost use Rattle.queue_calls.specs.declared.recordings.CallsFinding.TheVariants.{Lawful};
     ghost use Rattle.queue_calls.specs.declared.faults.RecordingFault.TheVariants.{OutOfMemory};
 
-    /// Nothing was heard, and of what queue is not told. What the lists hold is taken away.
+    /// Nothing has been heard, and the queue's capacity is not known yet. The contents of the lists are removed.
     ///
-    /// The last `limit` items taken are kept, and looked through for one that comes again: where it is not among them, nor was taken
-    /// earlier in the same line, it is told as one that was not inside. With 0 none is kept, and `taken` needs no room.
+    /// The last `limit` items taken are kept, and searched for one that comes again: if it is not among them, and was not taken
+    /// earlier in the same line, it is reported as one that was not inside. With 0 none is kept, and `taken` needs no room.
     pub fn new(offered: S::Offered, taken: S::Taken, limit: usize) -> Hearing<S>
         ensures no_fault { result.fault ≡ None }
         ensures limit { result.witness.limit ≡ limit }
@@ -191,7 +192,7 @@ impl<S: Storage> Hearing<S> {
         }
     }
 
-    /// Forgets all, and hears of a queue of the capacity that these numbers of a first line tell.
+    /// Forgets all, and starts a queue of the capacity in these numbers of a first line.
     pub fn begins(&mut self, numbers: &[u64])
         requires { AllowsQueue numbers.now }
         ensures heard { HasHeard S.Offered.items S.Taken.items self.new (capacity_told numbers.now) [] }
@@ -208,7 +209,7 @@ impl<S: Storage> Hearing<S> {
         self.fault = None;
     }
 
-    // Hears the event of a line; behind a fault nothing is asked of it.
+    // Hears the event of a line; after a fault it is ignored.
     pub(crate) fn hear(&mut self, line: u64, event: Event<'_>) -> Result<(), RecordingFault>
         ensures heard { OnOk result ((capacity : queues.Capacity) (events : List calls.Event) →
             HasHeard S.Offered.items S.Taken.items self.old capacity events → length events + 2 ≡ line
@@ -230,8 +231,8 @@ impl<S: Storage> Hearing<S> {
         self.next(line, event)
     }
 
-    // Hears the event of a line, where there is no fault yet: it is heard; or it is the first at fault, which is kept, and all else is
-    // as it was.
+    // Hears the event of a line, if there is no fault yet: it is heard, or it is the first at fault, which is kept, and all else is
+    // unchanged.
     #[inline(always)]
     fn next(&mut self, line: u64, event: Event<'_>) -> Result<(), RecordingFault>
         ensures heard { OnOk result (self.old.fault ≡ None →
@@ -268,11 +269,11 @@ impl<S: Storage> Hearing<S> {
         }
     }
 
-    /// Hears the next line, of this number, behind those of a recording of which no fault was found: the fault that it has with
-    /// this one, which is not kept then.
+    /// Hears the next line, of this number, after those of a recording in which no fault was found. Returns the fault that the
+    /// recording has with this line; the line is then not kept.
     ///
-    /// `BadLine` where a line of this word and these numbers cannot stand there, and it is not kept either; `OutOfMemory` where room
-    /// was refused for the items inside or for those taken last, and then the hearing is of no further use.
+    /// `BadLine` if a line with this word and these numbers cannot come there; it is not kept either. `OutOfMemory` if room was
+    /// refused for the items inside or for those taken last; then the hearing is of no further use.
     pub fn hear_line(
         &mut self,
         line: u64,
@@ -310,7 +311,7 @@ impl<S: Storage> Hearing<S> {
         }
     }
 
-    /// A hearing that goes on from what one kept, and from what its lists held then.
+    /// A hearing that continues from what another kept, and from the contents of its lists then.
     pub fn resume(state: HearingState, offered: S::Offered, taken: S::Taken) -> Hearing<S>
         ensures { result ≡ hearing_of state offered taken }
     {
@@ -335,7 +336,7 @@ impl<S: Storage> Hearing<S> {
         }
     }
 
-    /// What is kept of it beside its lists, and these. A fault that it has found is not kept.
+    /// What is kept of it besides its lists, and these. A fault that it has found is not kept.
     pub fn keep(self) -> (HearingState, S::Offered, S::Taken)
         ensures kept { self.fault ≡ None → self ≡ hearing_of result.0 result.1 result.2 }
         ensures lists { (result.1 ≡ self.witness.auditor.inside.list) × (result.2 ≡ self.witness.taken) }
@@ -358,7 +359,7 @@ impl<S: Storage> Hearing<S> {
         (state, inside.list, witness.taken)
     }
 
-    /// What is found of what was heard.
+    /// The finding on what was heard.
     pub fn finding(&self) -> CallsFinding
         ensures { (capacity : queues.Capacity) (events : List calls.Event) →
             HasHeard S.Offered.items S.Taken.items self.now capacity events →
@@ -370,7 +371,7 @@ impl<S: Storage> Hearing<S> {
         }
     }
 
-    /// The report on what was heard, where no fault was found.
+    /// The report on what was heard, if no fault was found.
     pub fn report(&self) -> CallsReport
         ensures { (capacity : queues.Capacity) (events : List calls.Event) →
             HasHeardAll S.Offered.items S.Taken.items self.now capacity events →

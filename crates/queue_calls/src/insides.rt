@@ -1,4 +1,4 @@
-//! The items inside of a queue that is audited, each with what is to be known of it.
+//! The items inside of a queue that is audited, each with what has to be known about it.
 ghost use Rattle.std.specs.Prelude.{map};
 
 use call_causes::Offered;
@@ -24,7 +24,7 @@ pub trait Inside: Drop {
     // The items.
     ghost items: { Self → List ℕ };
 
-    // It has room for so many items in all, or for more. Of memory of an allocator nothing is known: 0.
+    // For how many items in all it surely has room. Nothing is known about an allocator: 0.
     ghost room: { Self → ℕ };
 
     /// How many items it holds.
@@ -32,11 +32,11 @@ pub trait Inside: Drop {
         ensures items { result ≡ length (items self.now) }
         ensures entries { result ≡ length (entries self.now) };
 
-    /// The item of this place, counted from the front; none past the end.
+    /// The item of this place, counted from the front; `None` past the end.
     fn item(&self, index: usize) -> Option<u64>
         ensures { result ≡ slice_get (items self.now) index };
 
-    /// Adds an item, which this line offered, at the back. Where room for it is refused all stays as it was.
+    /// Adds an item, which this line offered, at the back. If room for it is refused everything is unchanged.
     fn push_back(&mut self, item: u64, line: u64) -> Result<(), AllocError>
         ensures items { items self.new ≡ (if is_ok result then items self.old ++ item ∷ [] else items self.old) }
         ensures entries { entries self.new ≡ (if is_ok result then entries self.old ++ entry item line ∷ [] else entries
@@ -44,13 +44,13 @@ pub trait Inside: Drop {
         ensures full { OnErr result (room self.old ≤ length (items self.old)) }
         ensures kept { room self.new ≡ room self.old };
 
-    /// Takes the item at the front away, where there is one.
+    /// Removes the item at the front, if there is one.
     fn pop_front(&mut self)
         ensures items { items self.new ≡ drop 1 (items self.old) }
         ensures entries { entries self.new ≡ drop 1 (entries self.old) }
         ensures kept { room self.new ≡ room self.old };
 
-    /// Keeps so many items from the front, or all where there are no more.
+    /// Keeps this many items from the front, or all if there are no more.
     fn truncate(&mut self, count: usize)
         ensures items { items self.new ≡ take count (items self.old) }
         ensures entries { entries self.new ≡ take count (entries self.old) }
@@ -83,6 +83,7 @@ impl<Q: Fifo<u64>> Inside for Q {
     }
 
     fn pop_front(&mut self) {
+        // the removed item is not needed
         let _item = Fifo::pop_front(self);
     }
 
@@ -127,6 +128,7 @@ impl<O: Fifo<Offered>> Inside for Lined<O> {
     }
 
     fn pop_front(&mut self) {
+        // the removed item is not needed
         let _item = self.list.pop_front();
     }
 

@@ -1,43 +1,43 @@
 //! What follows of the queue and of histories of its calls. Each law is the contract of a function that does nothing: a body
-//! that calls it has the statement at hand in its proof.
+//! calls it to have the statement in its proof.
 //!
-//! - `moments_are_orders`, `counts_are_exact`, `counted_is_linearizable`: linearizable said in three ways. For who proves that
-//!   calls of his own queue are linearizable: the rules of counting need neither moments nor an order to be found.
-//! - `beginning_is_linearizable`, `linearizable_is_in_turn`, `operations_lead_one_way`: for who reads a finding.
-//! - `cause_is_reason`, `fault_has_a_cause`: what a told cause says of the history, and that there is one.
-//! - `history_has_a_recording` and the laws of the text: for who writes recordings.
+//! - `moments_are_orders`, `counts_are_exact`, `counted_is_linearizable`: linearizability in three forms. For a proof that the
+//!   calls of a queue are linearizable: the counting rules need neither moments nor an order to be found.
+//! - `beginning_is_linearizable`, `linearizable_is_in_turn`, `operations_lead_one_way`: for code that reads a finding.
+//! - `cause_is_reason`, `fault_has_a_cause`: what a reported cause implies about the history, and that there is one.
+//! - `history_has_a_recording` and the laws of the text: for code that writes recordings.
 ghost use Rattle.queue_calls.specs.RecordingLaws.{RecordingHasNoBadLine, RecordingIsOne};
 ghost use Rattle.queue_calls.specs.Counting.{CountedIsLinearizable, CountsAreExact};
 ghost use Rattle.queue_calls.specs.Tellings.{HistoryHasARecording, LinearizableIsInTurn};
 ghost use Rattle.queue_calls.specs.Reasons.{CauseIsReason, FaultHasACause};
 ghost use Rattle.queue_calls.specs.Laws.{BeginningIsLinearizable, MomentsAreOrders, OperationsLeadOneWay};
 
-/// An operation leaves one queue: the sequential specification lets it answer or not, and chooses nothing else. So
-/// operations that come one after the other tell what is in the queue after each of them.
+/// An operation results in one queue: the sequential specification either allows it or not, and leaves no other
+/// choice. So operations that come one after the other determine what is in the queue after each of them.
 pub fn operations_lead_one_way()
     ensures { OperationsLeadOneWay }
 {}
 
-/// A history is linearizable where it is so with one event more: an event with which it is not is
-/// the first one, and none behind it mends that.
+/// A history is linearizable if it is with one more event: an event with which it is not is the
+/// first such, and nothing after it can repair that.
 pub fn beginning_is_linearizable()
     ensures { BeginningIsLinearizable }
 {}
 
-/// Two forms of linearizability are one: each operation of a call takes effect at a moment between
-/// its begin and its end, or (Herlihy and Wing 1990) all operations have an order that is legal and
-/// keeps real time.
+/// Two forms of linearizability agree: each operation of a call takes effect at a moment between
+/// its start and its end, or (Herlihy and Wing 1990) all operations have an order that is legal and
+/// respects real time.
 pub fn moments_are_orders()
     ensures { MomentsAreOrders }
 {}
 
-/// A history whose events can be counted one after the other is linearizable: the rules by which an auditor decides, said of
-/// histories, in place of moments or orders that have to be found.
+/// A history whose events can be counted one after the other is linearizable: the rules by which an auditor decides, stated
+/// for histories, with no moments or orders to be found.
 pub fn counted_is_linearizable()
     ensures { CountedIsLinearizable }
 {}
 
-/// The events of a history can be counted one after the other just where it is linearizable: the rules refuse no history that
+/// The events of a history can be counted one after the other exactly if it is linearizable: the rules refuse no history that
 /// has moments at which its operations can take effect.
 pub fn counts_are_exact()
     ensures { CountsAreExact }
@@ -58,20 +58,19 @@ pub fn linearizable_is_in_turn()
     ensures { LinearizableIsInTurn }
 {}
 
-/// Each well-formed history has a recording: the lines that tell its events, behind that of the
-/// capacity.
+/// Each well-formed history has a recording: the lines of its events, after that of the capacity.
 pub fn history_has_a_recording()
     ensures { HistoryHasARecording }
 {}
 
-/// A cause is a reason: the history with the event that it speaks against is not linearizable, however many of the items taken last
-/// are looked through.
+/// A cause is a reason: the history with the event that it contradicts is not linearizable, however many of the items taken last
+/// are searched.
 pub fn cause_is_reason()
     ensures { CauseIsReason }
 {}
 
-/// Where a history stops being linearizable, at an event that comes in its turn, there is a cause: something speaks against the
-/// event, however many of the items taken last are looked through.
+/// If a history stops being linearizable at an event that comes in turn, there is a cause: something contradicts the event,
+/// however many of the items taken last are searched.
 pub fn fault_has_a_cause()
     ensures { FaultHasACause }
 {}

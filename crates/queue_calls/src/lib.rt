@@ -1,6 +1,6 @@
-//! The bounded first-in first-out queue with close, one operation after the other; and whether a recorded history of
-//! calls of such a queue, of one producer and one consumer, is linearizable (Herlihy and Wing 1990), told event by
-//! event.
+//! The sequential specification of a bounded first-in first-out queue with close; and an online check whether a
+//! recorded history of calls of such a queue, by one producer and one consumer, is linearizable (Herlihy and Wing
+//! 1990).
 #![tactic(auto)]
 
 mod auditors;

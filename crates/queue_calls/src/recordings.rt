@@ -1,4 +1,4 @@
-//! The text of recorded calls, read in pieces, and what is found.
+//! The text of recorded calls, read in pieces, and the finding.
 ghost use Rattle.std.specs.Prelude.{◌≡◌, ◌≢◌, ◌+◌, ◌⊎◌, List, [], ◌∷◌, ℕ, ◌++◌, None, IfErr, IfOk, OnOk, MatchOption, IfSome, ◌↔◌, true};
 ghost use Rattle.queue_calls.specs.Calls as calls;
 ghost use Rattle.queue_calls.specs.Queue as queues;
@@ -21,7 +21,7 @@ use lists::Store;
 use std::alloc::Allocator;
 use std::collections::VecDeque;
 
-/// What is found of a recording.
+/// The finding on a recording.
 ///
 /// In use: `uses::findings::line_at_fault`.
 #[derive(Clone, Copy, PartialEq, Eq, Debug)]
@@ -35,9 +35,9 @@ pub enum CallsFinding {
     NotLinearizable { line: u64, cause: Cause },
 }
 
-/// How many bytes of a line that has not ended are kept before the recording looks whether they may begin a line.
+/// How many bytes of a line that has not ended are kept before the recording checks whether they may begin a line.
 ///
-/// It looks again when the line has grown to twice as many as it found to begin one, and by as many as this.
+/// It checks again when the line has grown to twice the length found to begin one, plus this number.
 ///
 /// In use: the tests of recordings in pieces.
 pub const UNSEEN_LIMIT: usize = 65_536;
@@ -49,9 +49,9 @@ struct Lines<S: Storage> {
     numbers: S::Numbers,
     // how many there are
     count: u64,
-    // whether the first one tells that later calls are missing
+    // whether the first one says that later calls are missing
     lacks_calls: bool,
-    // what was heard of those behind the first one, which tells of what queue it is
+    // what was heard of those after the first one, which states the queue's capacity
     hearing: Hearing<S>,
 }
 
@@ -101,10 +101,10 @@ impl<S: Storage> Lines<S> {
 
 /// A recording of the calls of a queue, as far as it was read.
 ///
-/// The text comes in pieces, cut anywhere, and is not kept: the memory is that of the items inside, of the longest line and of
-/// the last [`TAKEN_LIMIT`](crate::TAKEN_LIMIT) items taken; in lists of an allocator, or of the caller. Of a line that has not ended
-/// less than twice as many bytes are kept, and [`UNSEEN_LIMIT`](crate::UNSEEN_LIMIT) more, as begin a line. The pieces of a text take
-/// time linear in its bytes.
+/// The text comes in pieces, cut anywhere, and is not kept: the memory is that of the items inside, of the longest line and of the
+/// last [`TAKEN_LIMIT`](crate::TAKEN_LIMIT) items taken; in lists of an allocator, or supplied by the caller. Of a line that has not
+/// ended, less than twice as many bytes as begin a line plus [`UNSEEN_LIMIT`](crate::UNSEEN_LIMIT) are kept. The pieces of a text
+/// take time linear in its bytes.
 ///
 /// In use: `uses::findings::found_in`.
 #[derive(Drop)]
@@ -124,7 +124,7 @@ pub struct RecordingIn<S: Storage> {
 pub type Recording<A> = RecordingIn<Owned<A>>;
 
 impl<A: Allocator + Copy> RecordingIn<Owned<A>> {
-    /// A recording of which nothing was read.
+    /// A recording of which nothing has been read.
     pub fn new(alloc: A) -> Recording<A>
         ensures { HasRead (λ q. q.items) (λ q. q.items) (λ v. v.items) result [] }
     {
@@ -140,7 +140,7 @@ impl<A: Allocator + Copy> RecordingIn<Owned<A>> {
 impl<S: Storage> RecordingIn<S> {
     ghost use Rattle.queue_calls.specs.declared.faults.RecordingFault.TheVariants.{OutOfMemory};
 
-    /// A recording of which nothing was read, with these lists to read it in. What they hold is taken away.
+    /// A recording of which nothing has been read, with these lists to read it in. Their contents are removed.
     pub fn within(lists: Lists<S>) -> RecordingIn<S>
         ensures read { HasRead S.Offered.items S.Taken.items S.Bytes.items result [] }
         ensures rooms { rooms_in S.Offered.room S.Taken.room S.Numbers.room S.Bytes.room result ≡ rooms_of
@@ -170,11 +170,11 @@ impl<S: Storage> RecordingIn<S> {
 
     /// Reads the next piece of the text.
     ///
-    /// `BadLine` at the first line that is not of the format, whatever comes behind it, and though the history has a fault before it: at
-    /// its end, or before its end if it outgrew what is kept of a line that has not ended; `TooLong` past 2^64 - 1 lines; `OutOfMemory`
-    /// where a growth was refused, or a list in slots is too short: for the items that are inside or offered, for the last
-    /// [`TAKEN_LIMIT`](crate::TAKEN_LIMIT) taken, for the numbers of a line, or for its bytes. A recording that gave one of these is of no
-    /// further use.
+    /// `BadLine` at the first line that is not of the format, whatever comes after it, even if the history has a fault before it: at its
+    /// end, or before its end if it outgrew what is kept of a line that has not ended; `TooLong` after 2^64 - 1 lines; `OutOfMemory` if a
+    /// growth was refused, or a list in slots is too short: for the items that are inside or offered, for the last
+    /// [`TAKEN_LIMIT`](crate::TAKEN_LIMIT) taken, for the numbers of a line, or for its bytes. A recording that has returned one of these
+    /// is of no further use.
     pub fn read(&mut self, piece: &[u8]) -> Result<(), RecordingFault>
         ensures read { OnOk result ((bytes : List ℕ) →
             HasRead S.Offered.items S.Taken.items S.Bytes.items self.old bytes →
@@ -197,8 +197,8 @@ impl<S: Storage> RecordingIn<S> {
         self.keep(rest)
     }
 
-    // Keeps the bytes of a line that has not ended. If it has grown to twice what was found to begin a line, and by UNSEEN_LIMIT,
-    // looks whether all of it begins one.
+    // Keeps the bytes of a line that has not ended. If it has grown to twice what was found to begin a line, plus UNSEEN_LIMIT,
+    // checks whether all of it begins one.
     fn keep(&mut self, bytes: &[u8]) -> Result<(), RecordingFault>
         requires { HasNoFeed bytes.now }
         ensures read { OnOk result ((text : List ℕ) →
@@ -279,8 +279,8 @@ impl<S: Storage> RecordingIn<S> {
         Some(self.cut.as_slice())
     }
 
-    /// Whether its first line tells that the calls behind the last line are missing, as a log was full. It is told of a text that has a
-    /// first line.
+    /// Whether its first line says that the calls after the last line are missing, because a log was full. Meaningful for a text that
+    /// has a first line.
     pub fn is_cut(&self) -> bool
         ensures { (bytes : List ℕ) → HasRead S.Offered.items S.Taken.items S.Bytes.items self.now bytes →
             (capacity : queues.Capacity) (events : List calls.Event) (is : IsRecording bytes capacity events) →
@@ -297,7 +297,7 @@ impl<S: Storage> RecordingIn<S> {
         self.lines.hearing.fault
     }
 
-    /// What is found, where the text ends here: `BadLine` where its last line has not ended, or there is none. No memory is taken.
+    /// The finding if the text ends here: `BadLine` if its last line has not ended, or there is none. No memory is taken.
     pub fn finding(&self) -> Result<CallsFinding, RecordingFault>
         ensures found { IfOk result (λ finding. (bytes : List ℕ) →
             HasRead S.Offered.items S.Taken.items S.Bytes.items self.now bytes → IsFindingOf bytes finding) }

@@ -1,4 +1,4 @@
-//! What is told of a history that is linearizable.
+//! What is reported of a linearizable history.
 ghost use Rattle.std.specs.Prelude.{◌≡◌, ℕ, ◌+◌, ◌∷◌, [], List, max};
 ghost use Rattle.queue_calls.specs.Calls as calls;
 ghost use Rattle.queue_calls.specs.Calls.{CloseBegin, TakeBegin};
@@ -11,9 +11,9 @@ use crate::auditors::CallAuditor;
 use crate::events::Event;
 use crate::insides::Inside;
 
-/// What is told of a history that is linearizable: how much of what an author wanted to try it has reached.
+/// What is reported of a linearizable history: how much of what an author wanted to test it has reached.
 ///
-/// Numbers past the largest stay at the largest.
+/// Numbers saturate at the largest value.
 ///
 /// In use: `uses::findings::found_in`.
 #[repr(C)]
@@ -29,13 +29,13 @@ pub struct CallsReport {
     pub full: usize,
     /// Takes that ended empty or short.
     pub empty: usize,
-    /// Calls that ended with nothing done and no reason told.
+    /// Calls that ended with nothing done and no reason reported.
     pub nothing: usize,
-    /// Whether a take was told that the queue is closed.
+    /// Whether a take returned Closed.
     pub told: bool,
-    /// So many items were inside at some moment, whatever the order of the operations.
+    /// At some moment this many items were inside, whatever the order of the operations.
     pub surely_inside: usize,
-    /// More items than so many were never inside, whatever the order.
+    /// There were never more items inside than this, whatever the order.
     pub perhaps_inside: usize,
     /// Calls that overlapped one of the other side.
     pub overlapped: usize,
@@ -63,7 +63,7 @@ impl Tally {
         }
     }
 
-    // The report, of an auditor that has read the events.
+    // The report, for an auditor that has read the events.
     pub fn report<Q: Inside>(&self, auditor: &CallAuditor<Q>) -> CallsReport
         ensures under_way { result.under_way ≡ as_number (has_put auditor.now.put) + as_number
             (has_take auditor.now.take) }
@@ -74,7 +74,7 @@ impl Tally {
         report
     }
 
-    // Counts an event that an auditor has read; before it so many items were offered.
+    // Counts an event that an auditor has read; before it this many items were offered.
     pub fn count<Q: Inside>(&mut self, event: Event<'_>, offered: usize, auditor: &CallAuditor<Q>)
         ensures tallies { (past : List calls.Event) → Tallies past self.old →
             IsToldOf (told event.entry) past offered auditor.now.put auditor.now.take →
@@ -88,7 +88,7 @@ impl Tally {
         self.report.surely_inside = self.report.surely_inside.max(auditor.least_inside());
     }
 
-    // Counts all of an event but what was inside whatever the order.
+    // Counts everything of an event except what was inside whatever the order.
     fn adds<Q: Inside>(&mut self, event: Event<'_>, offered: usize, auditor: &CallAuditor<Q>)
         ensures tallies { (past : List calls.Event) → Tallies past self.old →
             IsToldOf (told event.entry) past offered auditor.now.put auditor.now.take →

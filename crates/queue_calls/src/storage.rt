@@ -1,4 +1,4 @@
-//! Where the lists of a recording lie.
+//! Where the lists of a recording are stored.
 
 use call_causes::{Offered, Taken};
 use lists::{Fifo, Filled, Slots, Store};
@@ -6,13 +6,13 @@ use std::alloc::Allocator;
 use std::collections::VecDeque;
 use std::marker::PhantomData;
 
-/// Where the lists of a recording lie: in [`Owned`] of an allocator, or [`Lent`] by the caller.
+/// Where the lists of a recording are stored: with [`Owned`] in memory of an allocator, with [`Lent`] in slots of the caller.
 ///
 /// In use: `uses::findings::found_in_slots`.
 pub trait Storage {
-    /// The items that were offered and not taken, with the lines of their put.
+    /// The items that were offered and not taken, with the lines of their puts.
     type Offered: Fifo<Offered>;
-    /// The items taken last, with the lines of their take.
+    /// The items taken last, with the lines of their takes.
     type Taken: Fifo<Taken>;
     /// The numbers of a line.
     type Numbers: Store<u64>;
@@ -20,7 +20,7 @@ pub trait Storage {
     type Bytes: Store<u8>;
 }
 
-/// Lists in memory of an allocator, which grow as they have to.
+/// Lists in memory of an allocator, which grow as needed.
 ///
 /// In use: `uses::findings::found_in`.
 #[derive(Drop)]

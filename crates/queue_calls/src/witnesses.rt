@@ -1,4 +1,4 @@
-//! What is kept of a history to judge the next event, and to say what speaks against it.
+//! What is kept of a history to judge the next event, and to report what contradicts it.
 ghost use Rattle.std.specs.Prelude.{◌≡◌, ℕ, Bool, ◌<◌, ◌≤◌, ◌+◌, ◌++◌, ◌∷◌, [], List, IfErr, OnOk, Some, length, map, drop, reverse, unwrap_or};
 ghost use Rattle.queue_calls.specs.Queue as queues;
 ghost use Rattle.queue_calls.specs.Calls as calls;
@@ -27,18 +27,18 @@ pub(crate) struct Witness<S: Storage> {
     // the items taken last, and how many of them are kept
     pub(crate) taken: S::Taken,
     pub(crate) limit: usize,
-    // the last one, kept in any case; where none was taken item 0 of line 0
+    // the last one, kept in any case; if none was taken, item 0 of line 0
     pub(crate) last_taken: Taken,
-    // the lines that ended the first close, and the first take that was told that the queue is closed
+    // the lines that ended the first close, and the first take that returned Closed
     pub(crate) ended_at: Option<u64>,
     pub(crate) told_at: Option<u64>,
-    // those that began the last put, and ended the last one that stored items; where there was none the first line of an event
+    // those that began the last put, and ended the last one that stored items; if there was none, the first line of an event
     pub(crate) put_at: u64,
     pub(crate) stored_at: u64,
 }
 
 impl<S: Storage> Witness<S> {
-    // Nothing of a queue of which no capacity is told. So many of the items taken last are kept.
+    // Nothing, of a queue whose capacity is not known yet. This many of the items taken last are kept.
     pub fn new(offered: S::Offered, taken: S::Taken, limit: usize) -> Witness<S>
         ensures limit { result.limit ≡ limit }
         ensures rooms { (S.Offered.room result.auditor.inside.list ≡ S.Offered.room offered) ×
@@ -59,7 +59,7 @@ impl<S: Storage> Witness<S> {
         }
     }
 
-    // Forgets all, and has nothing of a queue of this capacity.
+    // Forgets all, and starts with a queue of this capacity.
     pub fn restart(&mut self, capacity: Capacity)
         requires { IsProper (meant capacity) }
         ensures limit { self.new.limit ≡ self.old.limit }
@@ -79,7 +79,7 @@ impl<S: Storage> Witness<S> {
         self.stored_at = 2;
     }
 
-    // Reads the next event, of this line, or refuses it.
+    // Reads the next event, at this line, or refuses it.
     pub fn hear(&mut self, line: u64, event: Event<'_>) -> Result<(), Fault>
         ensures kept { OnOk result ((capacity : queues.Capacity) (events : List calls.Event) →
             Remembers S.Offered.items S.Taken.items self.old capacity events → length events + 2 ≡ line →
@@ -112,7 +112,7 @@ impl<S: Storage> Witness<S> {
         Ok(())
     }
 
-    // This line stored the last so many of the items inside.
+    // This line stored the last `count` of the items inside.
     fn stores(&mut self, line: u64, count: usize)
         ensures inside { S.Offered.items self.new.auditor.inside.list ≡ mark_last line count
             (S.Offered.items self.old.auditor.inside.list) }
@@ -166,6 +166,7 @@ impl<S: Storage> Witness<S> {
         }
         for item in items {
             if self.limit <= self.taken.len() {
+                // the removed item is not needed
                 let _ = self.taken.pop_front();
             }
             let taken = Taken {
@@ -179,7 +180,7 @@ impl<S: Storage> Witness<S> {
         Ok(())
     }
 
-    // The entry of this place among those inside.
+    // The entry at this place among those inside.
     fn at(&self, place: usize) -> Offered
         ensures { result ≡ at (S.Offered.items self.now.auditor.inside.list) place }
     {
@@ -193,7 +194,7 @@ impl<S: Storage> Witness<S> {
         }
     }
 
-    // What speaks against an event of this line that comes in its turn, and with which the history is not linearizable.
+    // What contradicts an event of this line that comes in turn, and with which the history is not linearizable.
     pub fn cause(&self, line: u64, event: Event<'_>) -> Cause
         ensures { (capacity : queues.Capacity) (events : List calls.Event) →
             Remembers S.Offered.items S.Taken.items self.now capacity events → length events + 2 ≡ line →
@@ -214,7 +215,7 @@ impl<S: Storage> Witness<S> {
             Event::TakeShort => self.take_short_cause(),
             Event::TakeNothing => self.not_taken_cause(0),
             Event::TakeClosed => self.closed_cause(),
-            // A call that begins takes nothing back, and a close may always end: nothing speaks against these.
+            // A call that begins takes nothing back, and a close may always end: nothing contradicts these.
             Event::PutBegins(_) | Event::CloseBegins | Event::CloseEnds | Event::TakeBegins(_) =>
                 Cause::ClosedBeforeClose,
         }
@@ -325,7 +326,7 @@ impl<S: Storage> Witness<S> {
         items.len()
     }
 
-    // Of an item that is not the next behind these, which are.
+    // The cause for an item that is not the next after these, which are.
     fn astray_cause(&self, line: u64, first: &[u64], item: u64) -> Cause
         ensures { (capacity : queues.Capacity) (events : List calls.Event) (cause : Cause) (items : List ℕ)
             (why : Bool) → Remembers S.Offered.items S.Taken.items self.now capacity events → length events + 2 ≡ line →
@@ -345,7 +346,7 @@ impl<S: Storage> Witness<S> {
         }
     }
 
-    // Whether an item comes from this place on.
+    // Whether an item is to come from this place on.
     fn comes_from(&self, place: usize, item: u64) -> bool
         ensures { result ≡ comes item (drop place (S.Offered.items self.now.auditor.inside.list)) }
     {
@@ -357,7 +358,7 @@ impl<S: Storage> Witness<S> {
         false
     }
 
-    // Of an item that does not come any more.
+    // The cause for an item that does not come any more.
     fn gone_cause(&self, line: u64, first: &[u64], item: u64, next: Option<Offered>) -> Cause
         ensures { (capacity : queues.Capacity) (events : List calls.Event) →
             Remembers S.Offered.items S.Taken.items self.now capacity events → length events + 2 ≡ line →
@@ -378,7 +379,7 @@ impl<S: Storage> Witness<S> {
         }
     }
 
-    // Where the item is among those taken last, as it was taken last.
+    // The item among those taken last, with its last take, if it is there.
     fn last_taken_of(&self, item: u64) -> Option<Taken>
         ensures { result ≡ last_taken_of item (S.Taken.items self.now.taken) }
     {
@@ -392,7 +393,7 @@ impl<S: Storage> Witness<S> {
         None
     }
 
-    // Of a take that gave the next items, so many, and tells why they are not more, or not.
+    // The cause for a take that took the next `count` items, and says why they are not more, or not.
     fn fewer_cause(&self, count: usize, why: bool) -> Cause
         ensures { (capacity : queues.Capacity) (events : List calls.Event) (cause : Cause) →
             Remembers S.Offered.items S.Taken.items self.now capacity events → (n : ℕ) →
@@ -408,7 +409,7 @@ impl<S: Storage> Witness<S> {
         self.not_taken_cause(count)
     }
 
-    // Of a take that took too few: so many.
+    // The cause for a take that took too few: `count`.
     fn not_taken_cause(&self, count: usize) -> Cause
         ensures { (capacity : queues.Capacity) (events : List calls.Event) (cause : Cause) →
             Remembers S.Offered.items S.Taken.items self.now capacity events →

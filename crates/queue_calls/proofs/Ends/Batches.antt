@@ -7,7 +7,7 @@ use Rattle.queue_calls.specs.State.{IsProper, MayHold}
 use Rattle.queue_calls.proofs.Rooms.{holds_fewer, room_for_one, room_at_first}
 use Rattle.queue_calls.proofs.Points.{goes}
 
--- what stands inside and is offered is also what is in the queue and left: some first items of the put are in the queue
+-- what is inside and offered is also what is in the queue and left: some first items of the put are in the queue
 pub record Stored (inside offered items left : List ℕ) : Type 0 where
   pub done : List ℕ
   pub items_are : items ≡ inside ++ done

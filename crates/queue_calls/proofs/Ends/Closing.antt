@@ -31,7 +31,7 @@ as_closed : (q : Queue) (b : Bool) → q.closed ≡ b → q ≡ queue q.items b
 as_closed q b e = let F : Bool → Type 0 = λ z. queue q.items z ≡ queue q.items b in subst F (sym e) refl
 
 module _ (capacity : Capacity) (h : List Event) (inside : List ℕ) (take' : TakeTurn) where
-  -- the close took effect already, behind the begin
+  -- the close took effect already, after its start
   took_effect :
       Keeps capacity h inside Free take' false → (t : Point) → t.producer ≡ Closing true → t.queue.closed ≡ true →
       Describes capacity inside (Closes false) take' false (point t.queue (Closing true) t.consumer) →

@@ -33,7 +33,7 @@ passes why count most x e =
 passes_so : (why : Bool) (count most : ℕ) → 0 < count → count ≤ most → passed why count most ≡ Some (count, short_of why count (most - count))
 passes_so why count most some few = if_true (nat_lt 0 count && nat_le count most) _ (and_from (nat_lt 0 count) (nat_le count most) (lt-ltb 0 count some) (le-leb count most few))
 
--- the number that is lacked: of a call that says why and left some, one more than it passed; else none
+-- the number that is lacked: for a call that says why and left some, one more than it passed; otherwise 0
 lacked_more : (why : Bool) (count left : ℕ) → 0 < short_of why count left → (why ≡ true) × (0 < left) × (short_of why count left ≡ suc count)
 lacked_more why count zero l = absurd (omega (arith, l))
 lacked_more false count (suc left) l = absurd (omega (arith, l))
@@ -41,7 +41,7 @@ lacked_more true count (suc left) l = (refl, omega arith, refl)
 
 -- ---- puts
 
--- where a put ends with none of its entries kept, the others stay
+-- if a put ends with none of its entries kept, the others are unchanged
 pub none_moves : {E : Type 0} (entry : ℕ → E) (shut : Bool) (e : Event) → EndsAPut e → (entries : List E) → Moves entry shut e entries entries
 none_moves entry shut (PutStored count why) ends entries = (length entries, sym (take-length entries))
 none_moves entry shut PutFull ends entries = (length entries, sym (take-length entries))
@@ -50,7 +50,7 @@ none_moves entry shut PutNothing ends entries = (length entries, sym (take-lengt
 none_moves entry shut _ ends entries = absurd ends
 
 module _ (capacity : Capacity) (k : Kept) where
-  -- a put that can end so
+  -- a put that can end in this way
   pub put_counts :
       (e : Event) (offered before : ℕ) (x : ℕ × ℕ) (after : Kept) → EndsAPut e → k.put ≡ Offers offered before → outcome_of e offered ≡ Some x → MayLack capacity before x.1 →
       EndsPut capacity k (offered - x.0) after → Counts capacity k e after
@@ -89,7 +89,7 @@ module _ (capacity : Capacity) (k : Kept) where
       inl (offered, before, is, subst E (omega (arith, none)) fits)
   put_counts _ offered before x after ends is says lacks fits = absurd ends
 
-  -- what is so of a put that can be counted
+  -- what holds of a put that can be counted
   abbrev PutWas : Event → Type 0
   PutWas e =
       ((offered before : ℕ) × (x : ℕ × ℕ) × (k.put ≡ Offers offered before) × (outcome_of e offered ≡ Some x) × MayLack capacity before x.1 ×
@@ -125,7 +125,7 @@ module _ (capacity : Capacity) (k : Kept) where
       ]
   put_was _ after ends c = absurd ends
 
-  -- so it cannot be counted where it lacks no room, or cannot end; nor where it began after a close
+  -- so it cannot be counted if it lacks no room, or cannot end; nor if it began after a close
   pub put_had :
       (e : Event) (offered before : ℕ) (x : ℕ × ℕ) (after : Kept) → EndsAPut e → k.put ≡ Offers offered before → outcome_of e offered ≡ Some x → Counts capacity k e after →
       MayLack capacity before x.1 × CanEndPut capacity (length k.inside) (asked_by k.take) (offered - x.0)
@@ -153,7 +153,7 @@ module _ (capacity : Capacity) (k : Kept) where
         sym (same_Some (0, 0) x (sym says' ∙ (ap (λ n. outcome_of e n) same_o ∙ says))))
   ]
 
-  -- in its turn, or out of it
+  -- in turn, or out of turn
   pub put_in_turn : (e : Event) (offered : ℕ) (x : ℕ × ℕ) → EndsAPut e → call_of_put k.put ≡ APut offered → outcome_of e offered ≡ Some x → (t : Sides) × MovesSides (sides_of k.put k.take) e t
   put_in_turn (PutStored count why) offered x ends is says =
       let (some, few, same) = passes why count offered x says in (sides NoCall (call_of_take k.take), (offered, is, some, few, refl))
@@ -163,7 +163,7 @@ module _ (capacity : Capacity) (k : Kept) where
   put_in_turn PutNothing offered x ends is says = (sides NoCall (call_of_take k.take), (offered, is, refl))
   put_in_turn _ offered x ends is says = absurd ends
 
-  -- an event that is in its turn ends a put that offered so many
+  -- an event in turn ends a put that offered this many
   put_turn : (e : Event) (t : Sides) → EndsAPut e → MovesSides (sides_of k.put k.take) e t → (offered : ℕ) × (x : ℕ × ℕ) × (call_of_put k.put ≡ APut offered) × (outcome_of e offered ≡ Some x)
   put_turn (PutStored count why) t ends (offered, is, some, few, m) = (offered, (count, short_of why count (offered - count)), is, passes_so why count offered some few)
   put_turn PutFull t ends (offered, is, m) = (offered, (0, 1), is, refl)
@@ -173,7 +173,7 @@ module _ (capacity : Capacity) (k : Kept) where
 
   -- ---- takes
 
-  -- a take finds fewer than so many, where it tells a number, and was not drained, where it took none
+  -- a take finds fewer than a number, if it reports one, and the queue was not drained, if it took none
   abbrev pub FoundFewer : (before : ℕ) (ended : Bool) → ℕ × ℕ → Type 0
   FoundFewer before ended x = (0 < x.1 → before < x.1) × (0 < x.1 → x.0 ≡ 0 → ended ≡ true → 0 < before)
 

@@ -14,7 +14,7 @@ use Rattle.queue_calls.proofs.Keeping.{Accepts, accept}
 use Rattle.queue_calls.proofs.Sides.{with_producer}
 use Rattle.queue_calls.proofs.Ends.Batches.{enqueues, moves, Stored, stored}
 
--- two lists that go on alike have the same first items
+-- two lists with equal continuations have the same first items
 record Cut (n : ℕ) (a b c d : List ℕ) : Type 0 where
   front : List ℕ
   rest : List ℕ
@@ -42,7 +42,7 @@ cut (suc n) (x ∷ a) b (y ∷ c) d e l m =
       others = r.others;
     }
 
--- no take was told that an open queue is closed
+-- no take has returned Closed of an open queue
 open_not_told : (take : TakeTurn) (q : Queue) → q.closed ≡ false → FitsTake take FoundClosed q → ⊥
 open_not_told Rests q o f = f
 open_not_told (Waits wanted before ended) q o (e, f) = cc
@@ -51,14 +51,14 @@ module _ (capacity : Capacity) (h : List Event) (inside items : List ℕ) (take'
   abbrev After : Point → Type 0
   After t = CanLeadTo capacity (h ++ PutBegin items ∷ []) t
 
-  -- a point before the put, and that behind its begin
+  -- a point before the put, and that after its start
   begun : (xs : List ℕ) (c : Consumer) → inside ≡ taken_by c ++ xs → MayHold capacity (length xs) → FitsTake take' c (queue xs false) → After (point (queue xs false) (Putting 0 0 items) c)
   begun xs c e l f =
       happens capacity h (point (queue xs false) Idle c) (point (queue xs false) (Putting 0 0 items) c) (PutBegin items)
       (k.sound (point (queue xs false) Idle c) (record { items = e ∙ ap (λ z. taken_by c ++ z) (sym (append-nil xs)); room = l; producer = refl; consumer = f }) tt)
       (record { queue = refl; producer = (refl, some, refl); consumer = refl })
 
-  -- it found no room for so many, or did not look
+  -- it found no room for this many, or did not look
   lacking : (xs : List ℕ) (c : Consumer) (lacked : ℕ) → MayLack capacity (length xs) lacked → After (point (queue xs false) (Putting 0 0 items) c) → After (point (queue xs false) (Putting lacked 0 items) c)
   lacking xs c lacked lacks r = elim lacks [
     | inl e ↦ subst (λ z. After (point (queue xs false) (Putting z 0 items) c)) (sym e) r
@@ -85,7 +85,7 @@ module _ (capacity : Capacity) (h : List Event) (inside items : List ℕ) (take'
       subst (λ z. After (point (queue xs false) (Putting lacked z left) Resting)) count
       (subst (λ z. After (point (queue z false) (Putting lacked (0 + length s.done) left) Resting)) (sym s.items_are) r2)
 
-  -- as many were inside the queue as it can have
+  -- the same lack of room with only as many inside as the queue can have
   may_lack_over : (n lacked : ℕ) → MayLack capacity n lacked → MayLack capacity (n - over capacity n) lacked
   may_lack_over n zero lacks = inl refl
   may_lack_over n (suc count) lacks = elim lacks [ inl e ↦ absurd (omega (arith, e)) | inr l ↦ inr (over_lacks capacity n count k.proper l) ]
@@ -156,7 +156,7 @@ module _ (capacity : Capacity) (h : List Event) (inside items : List ℕ) (take'
           let short : inside ≡ a ++ b = e ∙ ap (λ z. a ++ z) (append-nil b) in
           ap (λ z. z ++ items) short ∙ append_assoc a b items
 
--- a put that begins after a close had ended, or a take was told of it
+-- a put that begins after a close had ended, or a take has returned Closed
 module _ (capacity : Capacity) (h : List Event) (inside items : List ℕ) (take' : TakeTurn) (k : Keeps capacity h inside Free take' true) (some : 0 < length items) where
   abbrev Leading : Point → Type 0
   Leading t = CanLeadTo capacity (h ++ PutBegin items ∷ []) t

@@ -22,7 +22,7 @@ front_of xs a b c n e l =
     let long : n ≡ length (a ++ b) = omega (arith, l, ap length whole, length-append (a ++ b) c) in
     ap (λ z. take n z) whole ∙ (ap (λ z. take z ((a ++ b) ++ c)) long ∙ (take-append_seam (a ++ b) c ∙ ap (λ z. a ++ z) (sym (append-nil b))))
 
--- and whole again
+-- and joined again
 whole_of : (xs a b : List ℕ) (n : ℕ) → take n xs ≡ a ++ (b ++ []) → xs ≡ a ++ (b ++ drop n xs)
 whole_of xs a b n e =
     let front : take n xs ≡ a ++ b = e ∙ ap (λ z. a ++ z) (append-nil b) in
@@ -36,7 +36,7 @@ few_taken (Waits wanted before ended) Resting q f = absurd f
 few_taken (Waits wanted before ended) (Taking lacked took left) q f = omega (arith, f.0)
 few_taken (Waits wanted before ended) FoundClosed q f = omega arith
 
--- an end of a put that stored so many items, where it found no room for the number that goes with those left
+-- the end of a put that stored this many items, and found no room for the number that goes with those left
 record Ends (e : Event) (done : ℕ) (lack : ℕ → ℕ) : Type 0 where
   ends : (p p' : Producer) → ProducerStep p (Happens e) p' → (left : List ℕ) × (p ≡ Putting (lack (length left)) done left) × (p' ≡ Idle)
   idle : (c c' : Consumer) → ConsumerStep c (Happens e) c' → c' ≡ c
@@ -95,7 +95,7 @@ module _ (capacity : Capacity) (h : List Event) (inside : List ℕ) (take' : Tak
         }) tt)
         (record { queue = refl; producer = step; consumer = ends.rests t.consumer }))
 
-  -- a put of which items are left found no room for one more than it stored, and one of which none is left has no reason to tell
+  -- a put with items left found no room for one more than it stored, and one with none left has no reason to report
   reason : (before offered count : ℕ) (why : Bool) → count ≤ offered → (why ≡ true → count < offered → MayLack capacity before (suc count)) → MayLack capacity before (short_of why count (offered - count))
   reason before offered count why l f = by_rest why (offered - count) refl f
     where

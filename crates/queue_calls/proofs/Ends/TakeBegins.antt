@@ -15,7 +15,7 @@ use Rattle.queue_calls.proofs.Keeping.{Accepts, accept, split, Split}
 use Rattle.queue_calls.proofs.Sides.{free_idle, rests_resting, with_consumer}
 use Rattle.queue_calls.proofs.Ends.Batches.{dequeues, moves}
 
--- items may come to an open queue, and are in one that is closed with some inside
+-- items may still come to an open queue, or are inside a closed one
 not_drained : (xs : List ℕ) (closed : Bool) → (closed ≡ true → 0 < length xs) → ¬ IsDrained (queue xs closed)
 not_drained xs closed f (none, c) = omega (arith, f c, ap length none)
 
@@ -24,14 +24,14 @@ module _ (capacity : Capacity) (h : List Event) (inside : List ℕ) (shut : Bool
   After t = CanLeadTo capacity (h ++ TakeBegin wanted ∷ []) t
 
   module _ (put : PutTurn) (k : Keeps capacity h inside put Rests shut) where
-    -- a point before the take, and that behind its begin
+    -- a point before the take, and that after its start
     begun : (q : Queue) (p : Producer) → inside ≡ q.items ++ left_by put p → MayHold capacity (length q.items) → FitsPut capacity put shut p q.closed → TellsPoint k.late put p → After (point q p (Taking 0 [] wanted))
     begun q p e l f told =
         happens capacity h (point q p Resting) (point q p (Taking 0 [] wanted)) (TakeBegin wanted)
         (k.sound (point q p Resting) (record { items = e; room = l; producer = f; consumer = tt }) told)
         (record { queue = refl; producer = refl; consumer = (refl, some, refl) })
 
-    -- it found fewer than so many, or did not look
+    -- it found fewer than this many, or did not look
     lacking :
         (q : Queue) (p : Producer) (found : ℕ) → (found ≡ 0) ⊎ ((length q.items < found) × (¬ IsDrained q)) → After (point q p (Taking 0 [] wanted)) → After (point q p (Taking found [] wanted))
     lacking q p found lacks r = elim lacks [
@@ -41,7 +41,7 @@ module _ (capacity : Capacity) (h : List Event) (inside : List ℕ) (shut : Bool
           (record { queue = (l.0, l.1, refl); producer = refl; consumer = (wanted, refl, refl) })
     ]
 
-    -- it was told that the queue is closed
+    -- it returned Closed
     told_closed :
         (q : Queue) (p : Producer) → inside ≡ q.items ++ left_by put p → MayHold capacity (length q.items) → FitsPut capacity put shut p q.closed → TellsPoint k.late put p → IsDrained q →
         After (point q p FoundClosed)
@@ -49,7 +49,7 @@ module _ (capacity : Capacity) (h : List Event) (inside : List ℕ) (shut : Bool
         goes capacity (h ++ TakeBegin wanted ∷ []) (point q p (Taking 0 [] wanted)) (point q p FoundClosed) FindClosed (begun q p e l f told)
         (record { queue = (none, refl); producer = refl; consumer = (wanted, refl, refl) })
 
-    -- no item can come: all that is inside is in the queue
+    -- if no item can come, all that is inside is in the queue
     took_inside :
         (xs : List ℕ) (closed : Bool) (p : Producer) (found : ℕ) (taken : List ℕ) (left : ℕ) → offered_by put ≡ 0 → left_by put p ≡ [] → inside ≡ taken ++ (xs ++ left_by put p) →
         FitsPut capacity put shut p closed → TellsPoint k.late put p → length taken + left ≡ wanted → (found ≡ 0) ⊎ ((length inside < found) × (closed ≡ true → 0 < length inside)) →
@@ -103,7 +103,7 @@ module _ (capacity : Capacity) (h : List Event) (inside : List ℕ) (shut : Bool
   abbrev Before : PutTurn → ℕ
   Before put = length inside - offered_by put
 
-  -- it found fewer than so many in a queue that is open, or that was closed when it began
+  -- it found fewer than this many in a queue that is open, or that was closed when it began
   finds_open : (put : PutTurn) (found : ℕ) (closed : Bool) → offered_by put ≡ 0 → (closed ≡ true → shut ≡ true) → MayFindFewer (Before put) shut found → (found ≡ 0) ⊎ ((length inside < found) × (closed ≡ true → 0 < length inside))
   finds_open put found closed none f lacks = elim lacks [ inl z ↦ inl z | inr l ↦ inr (omega (arith, l.0, none), λ c. let more : 0 < length inside - offered_by put = l.1 (f c) in omega (arith, more)) ]
 
@@ -153,7 +153,7 @@ module _ (capacity : Capacity) (h : List Event) (inside : List ℕ) (shut : Bool
     points xs closed p (Taking found taken left) d told = took_at put k xs closed p found taken left d.items d.room d.producer told d.consumer.0 d.consumer.1
     points xs closed p FoundClosed d told = told_closed put k (queue xs closed) p d.items d.room d.producer told d.consumer
 
-    -- all that is inside was there before, where a close had ended
+    -- all that is inside was there before, if a close had ended
     all_before : (turn : PutTurn) → IsSoundPut (length inside) turn shut → shut ≡ true → length inside ≤ length inside - offered_by turn
     all_before Free ok s = omega arith
     all_before (Offers offered before) ok s = let o : shut ≡ false = ok.0 in absurd (cc)

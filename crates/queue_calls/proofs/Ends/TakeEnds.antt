@@ -15,12 +15,12 @@ use Rattle.queue_calls.proofs.Effects.{described_at, shut_closed}
 use Rattle.queue_calls.proofs.Keeping.{Accepts, accept}
 use Rattle.queue_calls.proofs.Sides.{rests_resting, with_consumer}
 
--- what comes behind the same items is the same
+-- what comes after the same items is the same
 behind : (xs ys zs : List ℕ) → xs ++ ys ≡ xs ++ zs → ys ≡ zs
 behind [] ys zs e = e
 behind (x ∷ xs) ys zs e = behind xs ys zs (let f : xs ++ ys ≡ xs ++ zs = cc in f)
 
--- an end of a take that took these items, where it found fewer than the number that goes with how many more it wanted
+-- the end of a take that took these items, and found fewer than the number that goes with how many more it wanted
 record Ends (e : Event) (took : List ℕ) (lack : ℕ → ℕ) : Type 0 where
   ends : (c c' : Consumer) → ConsumerStep c (Happens e) c' → (left : ℕ) × (c ≡ Taking (lack left) took left) × (c' ≡ Resting)
   idle : (p p' : Producer) → ProducerStep p (Happens e) p' → p' ≡ p
@@ -39,7 +39,7 @@ nothing_ends : Ends TakeNothing [] (λ _. 0)
 nothing_ends = record { ends = λ c c' m. m; idle = λ p p' m. m; rests = λ p. refl }
 
 module _ (capacity : Capacity) (h : List Event) (put : PutTurn) (shut : Bool) where
-  -- items fewer inside
+  -- fewer items inside
   put_stays : (n m : ℕ) (p : PutTurn) → m ≤ n → IsSoundPut n p shut → IsSoundPut m p shut
   put_stays n m Free l f = tt
   put_stays n m (Offers offered before) l f = (f.0, omega (arith, l, f.1))
@@ -69,7 +69,7 @@ module _ (capacity : Capacity) (h : List Event) (put : PutTurn) (shut : Bool) wh
         (record { items = ap (λ z. took ++ z) d'.items; room = d.room; producer = d.producer; consumer = (sum, lacks) }) told)
         (record { queue = refl; producer = ends.rests t.producer; consumer = step }))
 
-  -- a take that took fewer than it wanted found fewer than one more, and one that took all has no reason to tell
+  -- a take that took fewer than it wanted found fewer than one more, and one that took all has no reason to report
   reason :
       (before count wanted : ℕ) (ended why : Bool) → count ≤ wanted → (why ≡ true → count < wanted → MayFindFewer before ended (suc count)) →
       MayFindFewer before ended (short_of why count (wanted - count))
@@ -198,7 +198,7 @@ module _ (capacity : Capacity) (h : List Event) (put : PutTurn) (wanted before :
       }) told)
       (record { queue = refl; producer = refl; consumer = (refl, ec) }))
 
--- one item more is next
+-- one more item is next
 pub next_one :
     (items inside : List ℕ) (i : ℕ) → i < length items → i < length inside → slice_index_or inside i 0 ≡ slice_index_or items i 0 → AreNext (take i items) inside →
     AreNext (take (i + 1) items) inside

@@ -21,7 +21,7 @@ use Rattle.queue_calls.proofs.recordings.Lines.read.Goals.{else-ne-via-then-ne+e
 read_is : (bytes numbers : List ℕ) (r : Option Word) (w : Word) → r ≡ Some w → IfSome r (λ v. IsLine bytes v numbers) → IsLine bytes w numbers
 read_is bytes numbers r w is h = let P : Option Word → Type 0 = λ o. IfSome o (λ v. IsLine bytes v numbers) in subst P is h
 
--- one line more has ended, that was heard
+-- one more line has ended, which was heard
 has_more :
     {S O T N B : Type 0} (offered : O → List Offered) (last : T → List Taken) (lines : Lines S O T N B) (before : List Line) (l : Line) (count : ℕ) → count ≡ length before → lines.count ≡ count + 1 →
     lines.hearing.witness.limit ≡ TAKEN_LIMIT → AreLines (before ++ l ∷ []) → HeardLines offered last lines.hearing lines.lacks_calls (before ++ l ∷ []) → HasLines offered last lines (before ++ l ∷ [])

@@ -9,12 +9,12 @@ use Rattle.queue_calls.specs.Recordings.{RefusesText}
 use Rattle.queue_calls.specs.RecordingStates.{HasRead}
 use Rattle.queue_calls.proofs.recordings.RecordingIn.read.Goals as goal
 
--- a piece of which so much was read, and then a line
+-- a piece of which a part was read, and then a line
 line_read : (piece read rest end more : List ℕ) → piece ≡ read ++ rest → rest ≡ end ++ 10 ∷ more → piece ≡ (read ++ (end ++ 10 ∷ [])) ++ more
 line_read piece read rest end more one two =
     one ∙ ap (λ (t : List ℕ). read ++ t) (two ∙ sym (append_assoc end (10 ∷ []) more)) ∙ sym (append_assoc read (end ++ 10 ∷ []) more)
 
--- the bytes before and behind what ends a line
+-- the bytes before and after what ends a line
 line_refused : (bytes piece read rest end left more : List ℕ) → piece ≡ read ++ rest → rest ≡ end ++ 10 ∷ left → (bytes ++ read) ++ (end ++ 10 ∷ (left ++ more)) ≡ bytes ++ (piece ++ more)
 line_refused bytes piece read rest end left more one two =
     append_assoc bytes read (end ++ 10 ∷ (left ++ more))

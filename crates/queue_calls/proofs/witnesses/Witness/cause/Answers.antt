@@ -19,7 +19,7 @@ use Rattle.queue_calls.proofs.CauseTold.{told_else, told_last}
 use Rattle.queue_calls.proofs.Remembering.{in_turn, linear_of}
 use Rattle.queue_calls.proofs.witnesses.Witness.cause.Goals as goal
 
--- what a witness tells against such an event is a cause, where it is the one that the past tells
+-- what a witness reports against such an event is a cause, if it is the one that the past determines
 heard :
     {S O T N B : Type 0} {event so : CallEvent (Bor (List ℕ)) (Bor (List ℕ))} (offered : O → List Offered) (last : T → List Taken) (w : Witness S O T N B) (line : ℕ) (result : Cause) → event ≡ so →
     ((capacity : Capacity) (events : List Event) (cause : Cause) → Remembers offered last w capacity events → length events + 2 ≡ line → (t : Sides) →

@@ -14,7 +14,7 @@ use Rattle.queue_calls.proofs.Points.{start}
 use Rattle.queue_calls.proofs.witnesses.Witness.restart.Goals as goal
 use Rattle.queue_calls.proofs.CountsFollow.{resting_tells as rests}
 
--- what is kept where there is no event yet
+-- what is kept when there is no event yet
 free : (capacity : Capacity) (put : PutTurn) (shut : Bool) → FitsPut capacity put shut Idle false → (put ≡ Free) × (shut ≡ false)
 free capacity Free shut f = (refl, sym f)
 free capacity (Offers offered before) shut f = absurd f

@@ -5,7 +5,7 @@ use Rattle.queue_calls.proofs.LastOnes.{MakesRoom, last_in_line, last_in_none, l
 use Rattle.queue_calls.proofs.witnesses.Witness.takes.Goals as goal
 use Rattle.queue_calls.proofs.witnesses.Witness.takes.Goals.{then-self-len, else-self-len, in-Some, in-None}
 
--- what is said of a refusal
+-- what a refusal implies
 refused : {A E : Type 0} (P : Type 0) (r : Result A E) → true ≡ is_err r → OnErr r P → P
 refused P (Ok x) e f = cc
 refused P (Err x) e f = f
@@ -81,7 +81,7 @@ loop-item-init g c = record {
   stored_at = search rules;
 }
 
--- where none is kept
+-- if none is kept
 pub returns-then-self-eq0-clause-last : goal.returns-then-self-eq0-clause-last
 returns-then-self-eq0-clause-last g c earlier is = elim c.match-last.branch [
   | in-Some w ↦ w.self-is ∙ last_in_line earlier c.args.line c.args.items.now w.in-Some.item.now w.in-Some.ensures.item.3.0 (w.in-Some.ensures.item.3.1 0)
