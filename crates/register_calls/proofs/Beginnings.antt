@@ -1,4 +1,4 @@
--- A history and a beginning of it; and the read that a reader has under way.
+-- A history and a prefix of it; and the read that a reader has under way.
 use Rattle.std.proofs.Common.{◌≡◌, inl, inr, ℕ, suc, ◌≤◌, ◌<◌, Bool, true, false, Option, Some, List, [], ◌∷◌, length, refl, ap, sym, subst, ◌∙◌, arith}
 use Rattle.std.specs.Prelude.{◌==◌, if◌then◌else◌}
 use Rattle.std.proofs.lemmas.Bool.{cases_lt}
@@ -26,7 +26,7 @@ beginning_in s b [] is that = subst (λ (z : List RegisterEvent). IsBeginning s 
 beginning_in s b (e ∷ c) is (inl that) = subst (λ (z : List RegisterEvent). IsBeginning s z) that is
 beginning_in s b (e ∷ c) is (inr that) = inr (beginning_in s b c is that)
 
--- the events before a reader's last read are a beginning
+-- the events before a reader's last read are a prefix
 beginning_one : (t : Bool) (h s : List RegisterEvent) → IsBeginning s h → IsBeginning (if t then h else s) h
 beginning_one true h s is = beginning_all h
 beginning_one false h s is = is
@@ -38,7 +38,7 @@ before_read-beginning i (WriteEnds ∷ b) = inr (before_read-beginning i b)
 before_read-beginning i (ReadBegins j ∷ b) = inr (beginning_one (i == j) b (before_read i b) (before_read-beginning i b))
 before_read-beginning i (ReadEnds j v ∷ b) = inr (before_read-beginning i b)
 
--- what a history has of such a beginning
+-- what a history has of such a prefix
 module _ (s : List RegisterEvent) where
   pub length-beginning : (h : List RegisterEvent) → IsBeginning s h → length s ≤ length h
   length-beginning [] is = let k = ap length is in omega (arith, k)
@@ -95,7 +95,7 @@ module _ (s : List RegisterEvent) where
       let le = finished-started r s mine in
       ends_here h w is (all_ended r s w n mine some few (sym (code-beginning h n is (omega (arith, le, few))) ∙ coded))
 
--- a reader's read under way began at this place, and no event of the reader came since
+-- a reader's read under way began at this place, and no event of the reader has come since
 pub record Began (i : ℕ) (h : List RegisterEvent) (start : ℕ) : Type 0 where
   pub begins : placed_event h start ≡ Some (ReadBegins i)
   pub within : start < length h
@@ -158,7 +158,7 @@ one_start i v e b start other began is =
       ]
     ]
 
--- a read of a history is one of the history with one more event, and the other way round
+-- a read of a history is one of the history with one more event, and vice versa
 pub read_still : (i start stop v : ℕ) (e : RegisterEvent) (b : List RegisterEvent) → IsReadFrom b i start stop v → IsReadFrom (e ∷ b) i start stop v
 read_still i start stop v e b is =
     let within = placed_event-within b stop (ReadEnds i v) is.ends in
@@ -177,7 +177,7 @@ read_before i start stop v e b within is = record {
   none = (λ p after before of. is.none p after before (subst (λ (o : Option RegisterEvent). IsOfReader i o) (sym (placed_event-before e b p (omega (arith, before, within)))) of));
 }
 
--- what ends with the last event is of its reader and its value, and began with the reader's read under way
+-- a read that ends with the last event is of its reader and its value, and began with the reader's read under way
 pub record IsLastRead (b : List RegisterEvent) (j u i start stop v : ℕ) : Type 0 where
   pub reader : i ≡ j
   pub from : start ≡ length (before_read j b)

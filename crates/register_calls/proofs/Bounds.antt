@@ -56,7 +56,7 @@ begins_kept h places base n is low some few =
     ap (λ (xs : List ℕ). get_or xs (n - base) 0) is ∙ get_or-drop base (begin_places h) (n - base) 0 ∙ ap (λ (k : ℕ). get_or (begin_places h) k 0) same in
     begins_at h n (slice_index_or places (n - base) 0) some (slice_get-get_or (begin_places h) n 0 (omega (arith, few, long)) ∙ ap Some (sym kept))
 
--- a write begins: its place is added, and some at the front are taken away
+-- a write begins: its place is added, and some at the front are removed
 pub places_more :
     (h : List RegisterEvent) (places pushed now : List ℕ) (base next count : ℕ) → places ≡ drop base (begin_places h) → count ≡ length h → base ≤ started h → base ≤ next →
     pushed ≡ places ++ count ∷ [] → now ≡ drop (next - base) pushed → now ≡ drop next (begin_places h ++ length h ∷ [])
@@ -68,7 +68,7 @@ places_more h places pushed now base next count is counted few up more gone =
     let same : base + (next - base) ≡ next = omega (arith, up) in
     gone ∙ ap (λ (xs : List ℕ). drop (next - base) xs) all ∙ drop_twice base (next - base) (begin_places h ++ length h ∷ []) ∙ ap (λ (k : ℕ). drop k (begin_places h ++ length h ∷ [])) same
 
--- it is refused
+-- the event is refused
 pub places_back :
     (h : List RegisterEvent) (places pushed now : List ℕ) (base next count : ℕ) → places ≡ drop base (begin_places h) → base ≤ next →
     pushed ≡ places ++ count ∷ [] → now ≡ drop (next - base) (take (length places) pushed) → now ≡ drop next (begin_places h)
@@ -136,7 +136,7 @@ module _ (s : Scope) (first i v l : ℕ) (h : List RegisterEvent) (chain leaning
         | inr late ↦ least.2 k (omega (arith, ge, late)) less
       ]
 
-  -- a read ends, to which a reader keeps
+  -- a read ends that a reader has to respect
   seen_bound :
       (any found : Option ℕ) (j floor top : ℕ) (by next : Chain) → leaning ≡ leaning_chain any l chain → IsFirstPlace (written_values first h) (finished (before_read i h)) v any →
       IsFirstPlace (written_values first h) l v found → ShownLow s first i l (before_read i h) chain → count ≡ length h →

@@ -104,13 +104,13 @@ module _ (first : ℕ) (r : Register) (s b : List RegisterEvent) (part : IsBegin
         | inr ge ↦ omega (arith, e, g, ge)
       ]
 
-  -- and where none does, it is of the last one
+  -- and if none does, it is of the last one
   pub of_quiet : finished s ≡ started b → (v n : ℕ) → IsOf first s b v n → IsOf first s b v (started b)
   of_quiet quiet v n is =
       let p = is.0 in let q = is.1 in let same : n ≡ started b = omega (arith, p, q, quiet) in
       subst (λ (m : ℕ). IsOf first s b v m) same is
 
--- with one more event, what was before it is as it was
+-- with one more event, what was before it is unchanged
 module _ (e : RegisterEvent) (b : List RegisterEvent) where
   pub ends_more : (w place : ℕ) → place ≤ length b → WriteHasEnded b w place → WriteHasEnded (e ∷ b) w place
   ends_more w place le (q, after, before, is) = (q, after, before, placed_event-before e b q (omega (arith, before, le)) ∙ is)

@@ -1,4 +1,4 @@
--- The classes of a history: each is in the weaker ones, and each beginning has them.
+-- The classes of a history: each is in the weaker ones, and each prefix has them.
 use Rattle.std.proofs.Common.{◌≡◌, ℕ, Some, List, [], ◌∷◌, length, refl, sym, subst, ◌∙◌, inl, inr, arith}
 use Rattle.std.specs.Prelude.{slice_get}
 use Rattle.std.proofs.lemmas.Option.{none-some}

@@ -8,7 +8,7 @@ use Rattle.register_calls.specs.Histories.{started, finished, IsWellFormed}
 use Rattle.register_calls.specs.Intervals.{WriteHasEnded}
 use Rattle.register_calls.proofs.Places.{placed_event-here, placed_event-before, placed_event-cases, code, stands, code-last, code-less}
 
--- no more writes have ended than have begun
+-- the number of ended writes is at most that of the writes begun
 pub finished-started : (r : Register) (h : List RegisterEvent) → IsWellFormed r h → finished h ≤ started h
 finished-started r [] formed = omega arith
 finished-started r (WriteBegins v ∷ b) formed = let k = finished-started r b formed.0 in omega (arith, k)
@@ -16,7 +16,7 @@ finished-started r (WriteEnds ∷ b) formed = let k = formed.2 in omega (arith, 
 finished-started r (ReadBegins i ∷ b) formed = finished-started r b formed.0
 finished-started r (ReadEnds i v ∷ b) formed = finished-started r b formed.0
 
--- the end of a write, where the last event ends none
+-- the end of a write, if the last event ends none
 ended_before : (e : RegisterEvent) (b : List RegisterEvent) (w : ℕ) → e ≢ WriteEnds → WriteHasEnded (e ∷ b) w (suc (length b)) → WriteHasEnded b w (length b)
 ended_before e b w other (q, after, before, is) = elim (placed_event-cases e b q WriteEnds is) [
   | inl here ↦ absurd (other here.1)

@@ -1,4 +1,4 @@
--- What a history with the end of one more read has, by what the read may be of; and what a refusal says.
+-- The classes of a history with the end of one more read, by what the read may be of; and what a refusal implies.
 use Rattle.std.proofs.Common.{◌≡◌, ◌↔◌, ◌⊎◌, inl, inr, ℕ, ◌<◌, Bool, true, false, Option, Some, None, List, ◌∷◌, set, refl, sym, subst, ◌∙◌, arith}
 use Rattle.std.specs.Prelude.{IsTrue, if◌then◌else◌, not}
 use Rattle.std.proofs.lemmas.Bool.{cases_lt}
@@ -20,7 +20,7 @@ use Rattle.register_calls.proofs.Readers.{moves_set, open_within}
 use Rattle.register_calls.proofs.Hearing.{read_ends_as}
 use Rattle.register_calls.proofs.ReadLemmas.{few_started}
 
--- what a flag says of what it is kept for
+-- what a flag says about its statement
 pub told_iff : (b : Bool) (P : Type 0) → IsToldBy b P → IsTrue b ↔ P
 told_iff true P told = ((λ e. told), (λ p. refl))
 told_iff false P told = ((λ e. absurd cc), (λ p. absurd (told p)))
@@ -29,7 +29,7 @@ pub lacks_iff : (b : Bool) (P : Type 0) → IsTrue b ↔ P → IsTrue (not b) �
 lacks_iff true P is = ((λ e. absurd cc), (λ lacks. absurd (lacks (is.0 refl))))
 lacks_iff false P is = ((λ e p. (let wrong : false ≡ true = is.1 p in absurd cc)), (λ lacks. refl))
 
--- it held, and holds now
+-- it held, and still holds
 kept_iff : (b c : Bool) (P Q : Type 0) → IsTrue b ↔ P → IsTrue c ↔ Q → IsTrue (if b then c else true) ↔ (P → Q)
 kept_iff true c P Q was is = ((λ e p. is.0 e), (λ keeps. is.1 (keeps (was.0 refl))))
 kept_iff false c P Q was is = ((λ e p. (let wrong : false ≡ true = was.1 p in absurd cc)), (λ keeps. refl))
@@ -74,7 +74,7 @@ module _ (r : Register) (h : List RegisterEvent) (kept : List ℕ) (base begun :
         (read_ends_as r h kept base begun writing readers floor safe regular each all ys i v top own found now (still regular found.of_any) (still each found.of_own) (still all found.of_all) at
         (moves_set readers readers i state (open_within readers i found.read at) (λ j. refl)) finds own_raised raised is refl refl refl k)
 
-    -- the same of a flag and a class by any names
+    -- the same for a flag and a class by any names
     pub has_with_as :
         (c d : Class) (b : Bool) → c ≡ d → b ≡ flag_of d now (still regular found.of_any) (still each found.of_own) (still all found.of_all) → IsTrue b ↔ HasClass c r (ReadEnds i v ∷ h)
     has_with_as c d b class flag =
@@ -107,7 +107,7 @@ module _ (r : Register) (h : List RegisterEvent) (kept : List ℕ) (base begun :
           y_is.1 (c_is ∙ (keeps_this AtomicByReader).1 (keeps AtomicByReader), d_is ∙ (keeps_this Atomic).1 (keeps Atomic)),
         )
 
--- what speaks against an event that an auditor refuses speaks against it in a witness
+-- what contradicts an event that an auditor refuses contradicts it in a witness
 pub refused_is :
     (fault : RegisterFault) (writes readers most : ℕ) (r : Register) (h : List RegisterEvent) (e : RegisterEvent) → RefusesRegisterEvent writes readers most fault r h e →
     RefusesRemembered most fault r h e

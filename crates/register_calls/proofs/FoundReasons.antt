@@ -1,4 +1,4 @@
--- What speaks against a read that ends now, by what a witness keeps.
+-- What contradicts a read that ends now, by what a witness keeps.
 use Rattle.std.proofs.Common.{◌≡◌, inl, inr, ℕ, ◌+◌, ◌-◌, ◌≤◌, Bool, true, false, Option, Some, None, List, [], ◌∷◌, length, drop, refl, ap, sym, subst, ◌∙◌, arith, get_or, get_or-drop}
 use Rattle.std.specs.Prelude.{slice_get, slice_index_or, option_map}
 use Rattle.std.proofs.lemmas.Option.{slice_get_within, slice_get-get_or}
@@ -27,7 +27,7 @@ use Rattle.register_calls.proofs.Hearing.{FirstWrites}
 use Rattle.register_calls.proofs.Bounds.{ShownLow}
 use Rattle.register_calls.proofs.Remembering.{EachBounds, AllBounds}
 
--- what was found from where the read began, or from later on, the read may be of
+-- what was found from when the read began, or from later on, is a write that the read may be of
 found_is_of : (first l : ℕ) (h : List RegisterEvent) (i v n : ℕ) → finished (before_read i h) ≤ l → IsLeast (written_values first h) l v n → IsOf first (before_read i h) h v n
 found_is_of first l h i v n began least =
     let from = least.0 in
@@ -36,14 +36,14 @@ found_is_of first l h i v n began least =
     (omega (arith, from, began), omega (arith, within, long), least.1)
 
 module _ (s : Scope) (first i v l m : ℕ) (h : List RegisterEvent) (floor : ℕ → ℕ) (low : ℕ → Option ℕ) (mine : low i ≡ Some l) (began : finished (before_read i h) ≤ l) where
-  -- the read is of this write, in an order that goes on
+  -- the read is of this write, in an order that continues
   order_more : (n : ℕ) → IsLeast (written_values first h) l v n → KeepsOrder s first h floor low → HasOrder s first (ReadEnds i v ∷ h)
   order_more n least k = (
     changed k.of (length h) n,
     Orders-more s first k.of h i v n k.orders (found_is_of first l h i v n began least) (NoneIsLater-more s k.of i l n (before_read i h) least.0 (k.reached_before i l mine)),
   )
 
-  -- no order goes on: the read is of no write from its low on, but of one before
+  -- no order continues: the read is of no write from its low on, but of one before
   inverted_by :
       (held : Bool) (found : Option ℕ) (chain : Chain) → IsFirstPlace (written_values first h) l v found → IsLeast (written_values first h) (finished (before_read i h)) v m →
       KeepsScope held s first h floor low → HasOrder s first h → (HasOrder s first (ReadEnds i v ∷ h) → ⊥) → ShownLow s first i l (before_read i h) chain →

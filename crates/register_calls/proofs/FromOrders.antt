@@ -16,7 +16,7 @@ use Rattle.register_calls.proofs.OrderByIntervals.{order_is}
 use Rattle.register_calls.proofs.LinearLemmas.{one_operation, ended_next, Holds, may_be}
 use Rattle.register_calls.proofs.ToOrders.{to_order}
 
--- the last write before the read that ends at this place, if k stands for the last one so far
+-- the last write before the read that ends at this place, if k represents the last one so far
 abbrev write_before : (k stop : ℕ) → List RegisterOperation → ℕ
 write_before k stop [] = k
 write_before k stop (AWrite w v ∷ order) = write_before (suc w) stop order
@@ -28,7 +28,7 @@ by_test a b P x y f g = elim (eqb_tells a b) [
   | inr apart ↦ subst P (sym (left (a == b) x y apart.0)) (g apart.1)
 ]
 
--- what is known of the rest of a linearization: k stands for the last write so far, and the register holds its value
+-- what is known of the rest of a linearization: k represents the last write so far, and the register holds its value
 record Reaches (first : ℕ) (h : List RegisterEvent) (k held : ℕ) (order : List RegisterOperation) : Type 0 where
   holds : Holds first h k held
   each : (o : RegisterOperation) → IsOrdered o order → IsOperationOf h o
@@ -38,7 +38,7 @@ record Reaches (first : ℕ) (h : List RegisterEvent) (k held : ℕ) (order : Li
   later : (o : RegisterOperation) → IsOrdered o order → (w : ℕ) → k ≡ suc w → ¬ HasEndedBy h o w
 
 module _ (r : Register) (h : List RegisterEvent) (formed : IsWellFormed r h) where
-  -- the writes come as they began
+  -- the writes come in the order in which they began
   grows : (order : List RegisterOperation) (k held w v : ℕ) → Reaches r.first h k held (AWrite w v ∷ order) → k ≤ suc w
   grows order zero held w v is = omega arith
   grows order (suc x) held w v is = elim (cases_lt w x) [

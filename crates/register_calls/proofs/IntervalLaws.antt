@@ -12,7 +12,7 @@ use Rattle.register_calls.proofs.Beginnings.{before_read-beginning, length-begin
 use Rattle.register_calls.proofs.ByIntervals.{IsQuiet, of_places, of_numbers, quiet_places, quiet_numbers, of_quiet, may_more, may_less, quiet_less, quiet_more}
 
 module _ (r : Register) where
-  -- what a regular history has of a read
+  -- what a regular history implies about a read
   abbrev IsOfSome : List RegisterEvent → (start stop v : ℕ) → Type 0
   IsOfSome h start stop v = (of : ℕ) × MayBeOf r.first h start stop v of
 
@@ -64,7 +64,7 @@ module _ (r : Register) where
         of_numbers r.first r s b part formed.0 u k (may_less (ReadEnds j u) b r.first (length s) (length b) u k (length-beginning s b part) (omega arith) may),
       )
 
-  -- what a safe history has of a read
+  -- what a safe history implies about a read
   abbrev IsSafeRead : List RegisterEvent → (start stop v : ℕ) → Type 0
   IsSafeRead h start stop v = IsValue r v × (IsQuiet h start stop → IsOfSome h start stop v)
 

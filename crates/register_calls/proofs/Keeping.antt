@@ -12,7 +12,7 @@ use Rattle.register_calls.specs.Audits.{KeepsOrder, KeepsScope}
 use Rattle.register_calls.proofs.ReadLemmas.{before_read-begin, before_read-other, length-before_read, length-written}
 use Rattle.register_calls.proofs.OrderLemmas.{NoneIsLater-more, NoneIsLater-same, AreSame-less, changed, changed-here, changed-before, Orders-more}
 
--- the lows of all readers but one stay
+-- the lows of all readers but one are unchanged
 pub record KeepsOthers (i : ℕ) (low low' : ℕ → Option ℕ) : Type 0 where
   pub each : (j : ℕ) → j ≢ i → low' j ≡ low j
 
@@ -150,7 +150,7 @@ module _ (s : Scope) (first : ℕ) where
           reached_before j m there =
               NoneIsLater-same s k.of (changed k.of (length h) n) j m (before_read j h) (AreSame-less k.of (changed k.of (length h) n) (length (before_read j h)) (length h) (length-before_read j h) (changed-before k.of (length h) n)) (k.reached_before j m (still_there j m there))
 
-      -- a read ends, and whether there is an order still
+      -- a read ends, and whether there still is an order
       pub scope_got :
           (held : Bool) (found : Option ℕ) → IsFirstPlace (written_values first h) l v found → ((j : ℕ) → sees s j i ≡ true → IsRaised (floor j) found (floor' j)) →
           KeepsScope held s first h floor low → KeepsScope (still held found) s first (ReadEnds i v ∷ h) floor' low'

@@ -12,7 +12,7 @@ use Rattle.register_calls.proofs.ByIntervals.{ends_more}
 use Rattle.register_calls.proofs.Places.{placed_event-here, placed_event-before, placed_event-within, placed_event-cases}
 use Rattle.register_calls.proofs.Beginnings.{read_still, read_before}
 
--- the place by which an operation is known, and the event there: where a write begins, and where a read ends
+-- the place that identifies an operation, and the event there: where a write begins, and where a read ends
 abbrev pub place_of : RegisterOperation → ℕ
 place_of (AWrite w v) = w
 place_of (ARead i start stop v) = stop
@@ -75,7 +75,7 @@ operation_cases e b o is = elim (placed_event-cases e b (place_of o) (event_of o
   | inr early ↦ inr (operation_before e b o early.0 is)
 ]
 
--- each write has ended where the next one begins
+-- each write has ended when the next one begins
 ended_on : (h : List RegisterEvent) (w place later : ℕ) → place ≤ later → WriteHasEnded h w place → WriteHasEnded h w later
 ended_on h w place later le (q, after, before, is) = (q, after, omega arith, is)
 
@@ -112,7 +112,7 @@ abbrev pub Holds : (first : ℕ) → List RegisterEvent → (number held : ℕ) 
 Holds first h zero held = held ≡ first
 Holds first h (suc w) held = IsWriteFrom h held w
 
--- what it says that a read may be of a write
+-- what it means that a read may be of a write
 module _ (first : ℕ) (h : List RegisterEvent) (start stop v : ℕ) where
   pub may_early : (k : ℕ) → MayBeOf first h start stop v k → k ≤ stop
   may_early zero may = omega arith

@@ -1,4 +1,4 @@
--- The first event with which a history lacks a class, and that there is one at most.
+-- The first event with which a history lacks a class, and that there is at most one.
 use Rattle.std.proofs.Common.{◌≡◌, inl, inr, ℕ, zero, suc, ◌+◌, ◌-◌, ◌≤◌, ◌<◌, Some, None, List, [], ◌∷◌, length, take, reverse, get_or, refl, ap, sym, subst, ◌∙◌, arith}
 use Rattle.std.proofs.Math.Seq.{take-suc}
 use Rattle.std.proofs.Math.Numerals.{add-one}
@@ -22,7 +22,7 @@ pub past_more : (events : List RegisterEvent) (place : ℕ) (e : RegisterEvent) 
 past_more events place e within =
     ap (λ (n : ℕ). reverse (take n events)) (add-one place) ∙ ap reverse (take-suc events place e within) ∙ reverse-append (take place events) (get_or events place e ∷ [])
 
--- a longer beginning has a class only if a shorter one has it
+-- a longer prefix has a class only if a shorter one has it
 shorter : (class : Class) (r : Register) (events : List RegisterEvent) (m k : ℕ) → m + k ≤ length events → HasClass class r (reverse (take (m + k) events)) → HasClass class r (reverse (take m events))
 shorter class r events m zero fits has =
     let same : m + 0 ≡ m = omega arith in subst (λ (n : ℕ). HasClass class r (reverse (take n events))) same has
@@ -58,7 +58,7 @@ one_miss class r events (Some m) (Some n) a b = elim (cases_lt m n) [
   ]
 ]
 
--- the beginnings of a well-formed history are well formed
+-- the prefixes of a well-formed history are well formed
 well_shorter : (r : Register) (events : List RegisterEvent) (m k : ℕ) → m + k ≤ length events → IsWellFormed r (reverse (take (m + k) events)) → IsWellFormed r (reverse (take m events))
 well_shorter r events m zero fits turns =
     let same : m + 0 ≡ m = omega arith in subst (λ (n : ℕ). IsWellFormed r (reverse (take n events))) same turns
@@ -81,7 +81,7 @@ ill_formed r events place d within never well =
     let more : IsWellFormed r (get_or events place d ∷ reverse (take place events)) = subst (λ (h : List RegisterEvent). IsWellFormed r h) (past_more events place d within) some in
     never (more.1, more.2)
 
--- what a refusal of the event at a place says of the whole history
+-- what a refusal of the event at a place implies about the whole history
 pub refused_tells :
     (fault : RegisterFault) (writes readers most : ℕ) (r s : Register) (events : List RegisterEvent) (place : ℕ) (d : RegisterEvent) → r ≡ s → place < length events →
     RefusesRegisterEvent writes readers most fault r (reverse (take place events)) (get_or events place d) → FaultSays fault s (reverse events)

@@ -14,7 +14,7 @@ use Rattle.register_calls.proofs.Places.{placed_event-before, placed_event-cases
 use Rattle.register_calls.proofs.Beginnings.{beginning_all, beginning_tail, beginning_in, before_read-beginning, started-beginning, length-beginning, placed_event-beginning, code-beginning, formed-beginning, reading_began, read_there, read_still, read_before, last_read, of_last}
 use Rattle.register_calls.proofs.ByIntervals.{of_places, of_coded, may_more, may_less}
 
--- what stands for a number is the same with one more event
+-- the code of a number is the same with one more event
 code-more : (e : RegisterEvent) (b : List RegisterEvent) (n : ℕ) → n ≤ started b → code (e ∷ b) n ≡ code b n
 code-more (WriteBegins v) b n le = code-less v b n le
 code-more WriteEnds b n le = refl
@@ -28,7 +28,7 @@ started-more (ReadBegins i) b = omega arith
 started-more (ReadEnds i v) b = omega arith
 
 module _ (scope : Scope) where
-  -- no read that ended, and to which the reader keeps, is of a later write
+  -- no read that ended, and that the reader has to respect, is of a later write
   later_at : (of : Choice) (j n : ℕ) (s : List RegisterEvent) (p i v : ℕ) → NoneIsLater scope of j n s → sees scope j i ≡ true → placed_event s p ≡ Some (ReadEnds i v) → of p ≤ n
   later_at of j n [] p i v none seen is = absurd (none-some (ReadEnds i v) is)
   later_at of j n (WriteBegins u ∷ b) p i v none seen is = elim (placed_event-cases (WriteBegins u) b p (ReadEnds i v) is) [
@@ -92,7 +92,7 @@ module _ (scope : Scope) (r : Register) (of : Choice) where
     | inr early ↦ known_early (ReadEnds j u) b i start stop v early.0 is (known_all b formed.0 orders.0)
   ]
 
-  -- of two reads, one after the other, the later one is of no earlier write, if it keeps to the other
+  -- of two reads, one after the other, the later one is of no earlier write, if it has to respect the other
   abbrev AreOrdered : List RegisterEvent → Type 0
   AreOrdered h = (i start stop v j start' stop' u : ℕ) → IsReadFrom h i start stop v → IsReadFrom h j start' stop' u → sees scope j i ≡ true → stop < start' → of stop ≤ of stop'
 
@@ -136,7 +136,7 @@ order_there scope r h formed (of, orders) = (
   },
 )
 
--- the number of a write, by what stands for it
+-- the number of a write, by its code
 number : List RegisterEvent → ℕ → ℕ
 number [] k = 0
 number (WriteBegins v ∷ b) k = if k == suc (length b) then suc (started b) else number b k
@@ -200,7 +200,7 @@ module _ (scope : Scope) (r : Register) (h : List RegisterEvent) (places : ℕ �
         | inr ge ↦ ge
       ]
 
-  -- the reads that ended in these events, and to which this one keeps, are of no later write
+  -- the reads that ended in these events, and that this one has to respect, are of no later write
   none_later :
       (j start stop u : ℕ) → IsReadFrom h j start stop u → (s : List RegisterEvent) → IsBeginning s h → IsWellFormed r s → length s ≤ start → NoneIsLater scope (λ p. number h (places p)) j (number h (places stop)) s
   none_later j start stop u is [] part formed le = tt

@@ -1,4 +1,4 @@
--- Orders of the reads of a history after one more event, and the numbers below which none goes.
+-- Orders of the reads of a history after one more event, and lower bounds of their numbers.
 use Rattle.std.proofs.Common.{◌≡◌, ◌≢◌, ℕ, suc, ◌≤◌, ◌<◌, List, [], ◌∷◌, length, refl, sym, subst, arith}
 use Rattle.std.specs.Prelude.{◌==◌, if◌then◌else◌}
 use Rattle.std.proofs.lemmas.Bool.{eq-eqb, ne_eqb}

@@ -32,7 +32,7 @@ placed_event-cases e b p f is = elim (eqb_tells p (length b)) [
   | inr apart ↦ (let there : placed_event b p ≡ Some f = sym (left (p == length b) (Some e) (placed_event b p) apart.0) ∙ is in inr (placed_event-within b p f there, there))
 ]
 
--- what stands for a write, by its number: 0 for the first value, and for another one suc of the place where it begins
+-- the code of a write, by its number: 0 for the first value, otherwise suc of the place where it begins
 abbrev pub code : List RegisterEvent → (number : ℕ) → ℕ
 code [] n = 0
 code (WriteBegins v ∷ b) n = if n == suc (started b) then suc (length b) else code b n
@@ -61,7 +61,7 @@ code-zero (WriteEnds ∷ b) = code-zero b
 code-zero (ReadBegins i ∷ b) = code-zero b
 code-zero (ReadEnds i v ∷ b) = code-zero b
 
--- again, since this crate stands on no registers of bits
+-- again, since this crate does not depend on registers of bits
 le_cases : (n m : ℕ) → n ≤ suc m → (n ≡ suc m) ⊎ (n ≤ m)
 le_cases n m le = elim (cases_lt m n) [
   | inl lt ↦ (let k : n ≡ suc m = omega arith in inl k)
@@ -129,7 +129,7 @@ code-le h m n le few = elim (cases_lt m n) [
   | inr ge ↦ (let same : m ≡ n = omega arith in subst (λ (k : ℕ). code h m ≤ code h k) same (omega arith))
 ]
 
--- no two writes have one place
+-- no two writes have the same place
 pub code-one : (h : List RegisterEvent) (m n : ℕ) → m ≤ started h → n ≤ started h → code h m ≡ code h n → m ≡ n
 code-one h m n p q same = elim (cases_lt m n) [
   | inl lt ↦ (let k = code-later h m n lt q in absurd (omega (arith, k, same)))

@@ -1,4 +1,4 @@
--- Lists of readers: what is kept of each, where one is set or added; and the reads under way.
+-- Lists of readers: what is kept of each, when one is set or added; and the reads under way.
 use Rattle.std.proofs.Common.{◌≡◌, ◌<◌, ℕ, zero, suc, Some, List, [], ◌∷◌, ◌++◌, length, refl, ap, arith, get_or-set_other, get_or-set_same}
 use Rattle.std.proofs.Math.ListN.{set}
 use Rattle.std.specs.Prelude.{option_map}
@@ -11,7 +11,7 @@ use Rattle.register_calls.proofs.Keeping.{KeepsOthers}
 pub moves_set : (xs ys : List ReaderState) (i : ℕ) (state : ReaderState) → i < length ys → ((j : ℕ) → reader_at ys j ≡ reader_at xs j) → MovesReader xs (set ys i state) i state
 moves_set xs ys i state within same = record { here = rw get_or-set_same; others = λ j apart. rw get_or-set_other (same j) }
 
--- the lows of the others stay
+-- the lows of the others are unchanged
 pub lows_others : (xs ys : List ReaderState) (i : ℕ) (state : ReaderState) → MovesReader xs ys i state → KeepsOthers i (lows xs) (lows ys)
 lows_others xs ys i state moves = record { each = λ j apart. ap (λ (s : ReaderState). option_map (λ (r : OpenRead). r.low) s.reading) (moves.others j apart) }
 

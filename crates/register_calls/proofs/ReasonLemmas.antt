@@ -1,4 +1,4 @@
--- What speaks against a read is a fact: with it the history lacks the class.
+-- What contradicts a read is a fact: with it the history lacks the class.
 use Rattle.std.proofs.Common.{◌≡◌, inl, inr, ℕ, ◌≤◌, Some, List, [], ◌∷◌, length, sym, subst, ◌∙◌, arith}
 use Rattle.std.specs.Prelude.{slice_get}
 use Rattle.std.proofs.lemmas.Bool.{cases_lt}
@@ -18,7 +18,7 @@ use Rattle.register_calls.proofs.Beginnings.{before_read-beginning}
 use Rattle.register_calls.proofs.ClassLemmas.{order_is_regular, regular_is_safe}
 
 module _ (s : Scope) (first : ℕ) (of : Choice) where
-  -- what is so of a history is so of each beginning of it
+  -- what holds for a history holds for each prefix of it
   orders_beginning : (b h : List RegisterEvent) → IsBeginning b h → Orders s first of h → Orders s first of b
   orders_beginning b [] is orders = subst (λ (z : List RegisterEvent). Orders s first of z) (sym is) orders
   orders_beginning b (e ∷ c) (inl is) orders = subst (λ (z : List RegisterEvent). Orders s first of z) (sym is) orders
@@ -35,7 +35,7 @@ module _ (s : Scope) (first : ℕ) (of : Choice) where
   later_beginning i m b (ReadBegins j ∷ c) (inr is) later = later_beginning i m b c is later
   later_beginning i m b (ReadEnds j v ∷ c) (inr is) later = later_beginning i m b c is later.0
 
-  -- a bound is one, in every order
+  -- a bound holds in every order
   bound_holds : (reads : List EarlierRead) (i n m : ℕ) (h : List RegisterEvent) → Orders s first of h → NoneIsLater s of i m h → IsBound s first reads i h n → n ≤ m
   bound_holds [] i n m h orders later is = omega (arith, is)
   bound_holds (read ∷ reads) i n m h orders later (before, low, begins, seen, ended, written, why, none) =
@@ -60,7 +60,7 @@ inverted_has_none s first reads h i v (n, bound, none) (of, orders) =
     let least = bound_holds s first of reads i n (of (length h)) (before_read i h) (orders_beginning s first of (before_read i h) h (before_read-beginning i h) orders.0) orders.2 bound in
     none (of (length h)) least orders.1.2
 
--- what is not safe has no class, and what is not regular has no stronger one
+-- a history that is not safe has no class, and one that is not regular has no stronger one
 unsafe_has_none : (c : Class) (r : Register) (h : List RegisterEvent) → IsWellFormed r h → ¬ IsSafe r h → ¬ HasClass c r h
 unsafe_has_none Safe r h well unsafe has = unsafe has
 unsafe_has_none Regular r h well unsafe has = unsafe (regular_is_safe r h well has)

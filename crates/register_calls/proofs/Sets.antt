@@ -1,4 +1,4 @@
--- Items of lists: of one with one more, of two, one after the other, and after a beginning that is left out.
+-- Items of lists: of one with one more, of two, one after the other, and after a prefix that is left out.
 use Rattle.std.proofs.Common.{◌≡◌, ◌⊎◌, ◌<◌, inl, inr, ℕ, zero, suc, Some, None, List, [], ◌∷◌, ◌++◌, ◌+◌, drop, length, refl, ap, sym, ◌∙◌, arith}
 use Rattle.std.specs.Prelude.{slice_get}
 use Rattle.std.proofs.lemmas.Option.{none-some, same_Some}
@@ -30,13 +30,13 @@ pub get_nothing : {X : Type 0} (n : ℕ) → slice_get {X = X} [] n ≡ None
 get_nothing zero = refl
 get_nothing (suc n) = refl
 
--- two beginnings are left out, one after the other
+-- two prefixes are left out, one after the other
 pub drop_twice : {X : Type 0} (m n : ℕ) (xs : List X) → drop n (drop m xs) ≡ drop (m + n) xs
 drop_twice zero n xs = ap (λ (k : ℕ). drop k xs) (let e : n ≡ 0 + n = omega arith in e)
 drop_twice (suc m) n [] = drop_none n ∙ sym (drop_none (suc m + n))
 drop_twice (suc m) n (x ∷ xs) = drop_twice m n xs ∙ ap (λ (k : ℕ). drop k (x ∷ xs)) (let e : suc (m + n) ≡ suc m + n = omega arith in e)
 
--- an item after a beginning that is left out
+-- an item after a prefix that is left out
 pub get-drop : {X : Type 0} (m k : ℕ) (xs : List X) → slice_get (drop m xs) k ≡ slice_get xs (m + k)
 get-drop zero k xs = ap (λ (n : ℕ). slice_get xs n) (let e : k ≡ 0 + k = omega arith in e)
 get-drop (suc m) k [] = get_nothing k ∙ sym (get_nothing (suc m + k))

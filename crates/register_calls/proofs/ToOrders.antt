@@ -84,7 +84,7 @@ insert of o (x ∷ order) sorted last = elim (cases_lt (rank of o) (rank of x)) 
     after : rank of x ≤ rank of o → Precedes of x o
     after ge = (ge, λ le. last x (inl refl))
 
--- an event that adds no operation, and one that adds one
+-- an event that adds no operation, or one
 unchanged : (of : ℕ → ℕ) (e : RegisterEvent) (b : List RegisterEvent) → ((o : RegisterOperation) → e ≢ event_of o) → (order : List RegisterOperation) × Arranges of b order → (order : List RegisterOperation) × Arranges of (e ∷ b) order
 unchanged of e b other (order, a) = (
   order,
@@ -133,7 +133,7 @@ arrange of r (ReadEnds i v ∷ b) formed =
     let start = length (before_read i b) in
     added of (ReadEnds i v) b (ARead i start (length b) v) (read_there i v b start (reading_began i b formed.2)) refl (arrange of r b formed.0)
 
--- such an order has no operation twice, keeps real time, and is legal
+-- such an order has no operation twice, respects real time, and is legal
 once : (of : ℕ → ℕ) (order : List RegisterOperation) → IsSorted of order → AreOnce order
 once of [] sorted = tt
 once of (o ∷ order) sorted = ((λ there. (let k = (sorted.0 o there).1 (omega arith) in omega arith)), once of order sorted.1)
@@ -158,7 +158,7 @@ module _ (first : ℕ) (h : List RegisterEvent) (of : ℕ → ℕ) (c : Chooses 
   keep_all [] sorted each = tt
   keep_all (a ∷ order) sorted each = ((λ b there. keeps a b (sorted.0 b there) (each a (inl refl)) (each b (inr there))), keep_all order sorted.1 (λ o there. each o (inr there)))
 
-  -- k stands for the last write so far: each write comes later, or is no later than that one
+  -- k represents the last write so far: each write comes later, or is no later than that one
   legal : (order : List RegisterOperation) (k held : ℕ) → Holds first h k held → IsSorted of order → ((o : RegisterOperation) → IsOrdered o order → IsOperationOf h o) → ((w u : ℕ) → IsWriteFrom h u w → IsOrdered (AWrite w u) order ⊎ (w < k)) → ((o : RegisterOperation) → IsOrdered o order → k ≤ rank of o) → AreLegal held order
   legal [] k held is sorted each passed ahead = tt
   legal (AWrite w v ∷ order) k held is sorted each passed ahead = legal order (suc w) v (each (AWrite w v) (inl refl)) sorted.1 (λ o there. each o (inr there)) passed_on (λ o there. (sorted.0 o there).0)

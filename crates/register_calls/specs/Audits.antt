@@ -1,4 +1,4 @@
--- What an auditor of a register keeps of a history, and what it answers.
+-- What an auditor of a register keeps of a history, and what it returns.
 use Rattle.std.specs.Prelude.{◌≡◌, ◌≢◌, ◌⊎◌, ℕ, suc, ◌-◌, ◌≤◌, ◌<◌, Bool, true, false, Option, Some, None, List, ◌∷◌, length, drop, slice_index_or, option_map, Result, MatchResult, if◌then◌else◌}
 use Rattle.register_calls.specs.declared.events.Register.{Register}
 use Rattle.register_calls.specs.declared.events.RegisterEvent.{RegisterEvent}
@@ -13,14 +13,15 @@ use Rattle.register_calls.specs.Histories.{started, finished, written_values, ha
 use Rattle.register_calls.specs.Judging.{FindsFirst, IsGreater, IsRaised}
 use Rattle.register_calls.specs.Classes.{Scope, Together, EachAlone, Choice, NoneIsLater, Orders, HasOrder, IsSafe, IsRegular}
 
--- what is kept of a reader that has not read yet, and of a reader of a list
+-- the state of a reader that has not read yet
 abbrev pub fresh_reader : ReaderState
 fresh_reader = record { own = 0; reading = None }
 
+-- the state of a reader in a list; that of a reader that has not read if it is past the end
 abbrev pub reader_at : List ReaderState → (reader : ℕ) → ReaderState
 reader_at readers i = slice_index_or readers i fresh_reader
 
--- what is kept of a reader is this now, and of each other one what was
+-- the state of one reader is this now, and that of each other one is unchanged
 pub record MovesReader (xs ys : List ReaderState) (i : ℕ) (state : ReaderState) : Type 0 where
   pub here : reader_at ys i ≡ state
   pub others : (j : ℕ) → j ≢ i → reader_at ys j ≡ reader_at xs j
@@ -45,13 +46,14 @@ pub record EndsRead (found : FoundWrites) (xs ys : List ReaderState) (i floor to
   pub own_raised : IsRaised (reader_at xs i).own found.of_own own
   pub raised : IsRaised floor found.of_all top
 
--- what is kept of the read that a reader has under way: how many writes had ended where it began
+-- what is kept of the read that a reader has under way: how many writes had ended when it began
 abbrev pub KeepsRead : (reader : ℕ) → List RegisterEvent → Option OpenRead → Type 0
 KeepsRead i h None = has_read_open i h ≡ false
 KeepsRead i h (Some r) = (has_read_open i h ≡ true) × (r.before ≡ finished (before_read i h)) × (r.before ≤ r.low) × (r.before ≤ r.own_low)
 
--- The floor of a reader is the least number that no read to which it keeps passes, in any order: one order keeps to the floors, and none
--- goes below one. So is the low of a read under way, of the reads that had ended where it began, and of the writes that had ended there.
+-- The floor of a reader is the least number that no read it has to respect exceeds, in any order: one order stays within the floors, and
+-- none goes below one. The low of a read under way is the same for the reads that had ended when it began, and for the writes that had
+-- ended then.
 pub record KeepsOrder (s : Scope) (first : ℕ) (h : List RegisterEvent) (floor : ℕ → ℕ) (low : ℕ → Option ℕ) : Type 0 where
   pub of : Choice
   pub orders : Orders s first of h
@@ -61,7 +63,7 @@ pub record KeepsOrder (s : Scope) (first : ℕ) (h : List RegisterEvent) (floor 
   pub least_before : (i n : ℕ) → low i ≡ Some n → (other : Choice) (number : ℕ) → Orders s first other h →
       NoneIsLater s other i number (before_read i h) → finished (before_read i h) ≤ number → n ≤ number
 
--- the least of a number and of those of the reads under way of a list of readers
+-- the least of a number and of those of the reads under way in a list of readers
 pub record IsOldestKept (ended : ℕ) (readers : List ReaderState) (number : ℕ) : Type 0 where
   pub within : number ≤ ended
   pub each : (i : ℕ) (read : OpenRead) → (reader_at readers i).reading ≡ Some read → number ≤ read.before
@@ -72,24 +74,26 @@ abbrev pub KeepsScope : Bool → Scope → (first : ℕ) (h : List RegisterEvent
 KeepsScope true s first h floor low = KeepsOrder s first h floor low
 KeepsScope false s first h floor low = ¬ HasOrder s first h
 
--- whether something holds
+-- whether the Bool says that something holds
 abbrev pub IsToldBy : Bool → Type 0 → Type 0
 IsToldBy true P = P
 IsToldBy false P = ¬ P
 
--- the floors and lows that are kept, of all readers together and of each alone
+-- the lows kept for all readers together
 abbrev pub lows : List ReaderState → ℕ → Option ℕ
 lows readers i = option_map (λ r. r.low) (reader_at readers i).reading
 
+-- the lows kept for each reader alone
 abbrev pub own_lows : List ReaderState → ℕ → Option ℕ
 own_lows readers i = option_map (λ r. r.own_low) (reader_at readers i).reading
 
+-- the floors kept for each reader alone
 abbrev pub own_floors : List ReaderState → ℕ → ℕ
 own_floors readers i = (reader_at readers i).own
 
 -- What is kept of a history: the values of the writes from a number on, before which no read under way, and none that begins later, can be;
--- how many have begun, and whether the last one is under way; of each reader, its floor and its read under way; the floor of all; and which
--- classes the history has.
+-- how many have begun, and whether the last one is under way; for each reader, its floor and its read under way; the floor of all; and
+-- which classes the history has.
 pub record KeepsHistory (r : Register) (h : List RegisterEvent) (kept : List ℕ) (base begun : ℕ) (writing : Bool) (readers : List ReaderState) (floor : ℕ) (safe regular by_reader atomic : Bool) : Type 0 where
   pub well_formed : IsWellFormed r h
   pub count : begun ≡ started h
@@ -114,8 +118,8 @@ pub record IsOldest (h : List RegisterEvent) (number : ℕ) : Type 0 where
   pub each : (i : ℕ) → has_read_open i h ≡ true → number ≤ finished (before_read i h)
   pub some : (number ≡ finished h) ⊎ ((i : ℕ) × (has_read_open i h ≡ true) × (number ≡ finished (before_read i h)))
 
--- For want of memory: a write begins, and those that a read may be of, with it, are more than the list of writes has room for; or a read
--- of a reader begins for which the list of readers has no room.
+-- No room: a write begins, and those that a read may be of, with it, are more than the list of writes has room for; or a read of a
+-- reader begins for which the list of readers has no room.
 abbrev pub LacksRoomFor : (writes readers : ℕ) → List RegisterEvent → RegisterEvent → Type 0
 LacksRoomFor writes readers h (WriteBegins v) = (number : ℕ) × IsOldest h number × (writes < suc (suc (started h)) - number)
 LacksRoomFor writes readers h (ReadBegins i) = readers ≤ i
@@ -128,15 +132,15 @@ RefusesRegisterEvent writes readers most OutOfTurn r h e = WritesValue r e × ¬
 RefusesRegisterEvent writes readers most TooMany r h e = WritesValue r e × ComesInTurn h e × ((v : ℕ) × (e ≡ WriteBegins v)) × (started h ≡ most)
 RefusesRegisterEvent writes readers most OutOfMemory r h e = WritesValue r e × ComesInTurn h e × LacksRoomFor writes readers h e
 
--- what holds of an event that a witness refuses after a history, if it counts this many events at most
+-- what holds for an event that a witness refuses after a history, if it counts this many events at most
 abbrev pub RefusesRemembered : (most : ℕ) → RegisterFault → Register → List RegisterEvent → RegisterEvent → Type 0
 RefusesRemembered most NoValue r h e = ¬ WritesValue r e
 RefusesRemembered most OutOfTurn r h e = WritesValue r e × ¬ ComesInTurn h e
 RefusesRemembered most TooMany r h e = most ≤ length h
 RefusesRemembered most OutOfMemory r h e = Unit {0}
 
--- After each history that it has read, an auditor reads an event, and after a write's begin it keeps no write on which no read can be; or it
--- refuses the event, and has then read what it had.
+-- After each history that it has read, an auditor reads an event, and after the start of a write it keeps no write that no read can be of;
+-- or it refuses the event, and has then read what it had before.
 abbrev pub HearsEvent :
     {W R T : Type 0} → (window : W → List ℕ) → (states : R → List ReaderState) → (writes : W → ℕ) → (readers : R → ℕ) → (most : ℕ) →
     RegisterAuditor W R → RegisterEvent → Result T RegisterFault → RegisterAuditor W R → Type 0

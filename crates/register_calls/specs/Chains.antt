@@ -1,4 +1,4 @@
--- The first reads that a reason names, and lists of them.
+-- The first reads that a reason reports, and lists of them.
 use Rattle.std.specs.Prelude.{◌≡◌, ◌≢◌, ◌<◌, ℕ, zero, suc, nat_lt, if◌then◌else◌, Bool, true, false, Option, Some, None, List, [], ◌∷◌, slice_index_or}
 use Rattle.register_calls.specs.declared.reasons.EarlierRead.{EarlierRead}
 use Rattle.register_calls.specs.declared.chains.Chain.{Chain}
@@ -28,27 +28,27 @@ fresh_chain = record { reads = None ∷ None ∷ None ∷ None ∷ None ∷ None
 abbrev pub chain_at : List Chain → (reader : ℕ) → Chain
 chain_at chains i = slice_index_or chains i fresh_chain
 
--- whether a read that ends leans on the reads that bound it: not if the writes that had ended where it began are reason enough, as the first
--- write of its value that it may be of by these, the optional number, does not come before its low
+-- whether a read that ends depends on the reads that bound it: not if the writes that had ended when it began are reason enough, as the
+-- first write of its value that it may be of by these, the optional number, does not come before its low
 abbrev pub leans : Option ℕ → (low : ℕ) → Bool
 leans None low = false
 leans (Some n) low = nat_lt n low
 
--- the chain that says why a read which ends is of no write before its low
+-- the chain that shows why a read that ends is of no write before its low
 abbrev pub leaning_chain : Option ℕ → (low : ℕ) → Chain → Chain
 leaning_chain any low chain = if leans any low then chain else fresh_chain
 
--- a chain after a read that raised its floor, and before which it leans on another
+-- a chain after a read that raised its floor, and which depends on another
 abbrev pub IsLinkedChain : (chain leaning : Chain) → Option EarlierRead → (next : Chain) → Type 0
 IsLinkedChain chain leaning None next = next ≡ chain
 IsLinkedChain chain leaning (Some link) next = (reads : List EarlierRead) → ShowsReads leaning reads → ShowsReads next (link ∷ reads)
 
--- the chain of a reader is so, and each other one is what it was
+-- the chain of a reader is such, and each other one is unchanged
 pub record RaisesChain (cs ds : List Chain) (i : ℕ) (leaning : Chain) (link : Option EarlierRead) : Type 0 where
   pub here : IsLinkedChain (chain_at cs i) leaning link (chain_at ds i)
   pub others : (j : ℕ) → j ≢ i → chain_at ds j ≡ chain_at cs j
 
--- the chain of a reader is this one if its floor lies above the writes that have ended, and each other one is what it was
+-- the chain of a reader is this one if its floor is above the writes that have ended, and each other one is unchanged
 pub record KeepsChain (cs ds : List Chain) (i ended floor : ℕ) (chain : Chain) : Type 0 where
   pub here : ended < floor → chain_at ds i ≡ chain
   pub others : (j : ℕ) → j ≢ i → chain_at ds j ≡ chain_at cs j

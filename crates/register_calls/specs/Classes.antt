@@ -1,4 +1,4 @@
--- The classes of registers of one writer (Lamport, 1986), of histories: safe, regular, atomic; and atomic by reader.
+-- The classes of registers of one writer (Lamport, 1986), for histories: safe, regular, atomic; and atomic by reader.
 use Rattle.std.specs.Prelude.{◌≡◌, ℕ, ◌≤◌, ◌==◌, Bool, true, Option, Some, None, List, [], ◌∷◌, length, slice_get}
 use Rattle.register_calls.specs.declared.events.Register.{Register}
 use Rattle.register_calls.specs.declared.events.RegisterEvent.{RegisterEvent}
@@ -7,8 +7,8 @@ use Rattle.register_calls.specs.declared.events.Class.{Class}
 use Rattle.register_calls.specs.declared.events.Class.TheVariants.{Safe, Regular, AtomicByReader, Atomic}
 use Rattle.register_calls.specs.Histories.{IsValue, started, finished, written_values, before_read}
 
--- A read, before whose begin and before whose end these events come, may be of the write of this number, and returns its value: the
--- last write that had ended where the read began, or one that had begun where it ended and that came after that.
+-- A read, before whose start and before whose end these events come, may be of the write of this number, and returns its value: the
+-- last write that had ended when the read began, or a later one that had begun when it ended.
 abbrev pub IsOf : (first : ℕ) → (start stop : List RegisterEvent) → (value number : ℕ) → Type 0
 IsOf first start stop value number = (finished start ≤ number) × (number ≤ started stop) × (slice_get (written_values first stop) number ≡ Some value)
 
@@ -29,12 +29,12 @@ IsRegular first (WriteEnds ∷ before) = IsRegular first before
 IsRegular first (ReadBegins i ∷ before) = IsRegular first before
 IsRegular first (ReadEnds i v ∷ before) = IsRegular first before × ((number : ℕ) × IsOf first (before_read i before) before v number)
 
--- which reads have to see the writes in one order: those of all readers, or those of each reader by itself
+-- which reads have to see the writes in one order: those of all readers, or those of each reader alone
 pub data Scope : Type 0 where
   Together : Scope
   EachAlone : Scope
 
--- whether a read of the one reader has to keep to what earlier reads of the other saw
+-- whether a read of one reader has to respect what earlier reads of the other saw
 abbrev pub sees : Scope → (reader other : ℕ) → Bool
 sees Together i j = true
 sees EachAlone i j = i == j
@@ -43,7 +43,7 @@ sees EachAlone i j = i == j
 abbrev pub Choice : Type 0
 Choice = ℕ → ℕ
 
--- of the reads that have ended of readers to which this one keeps, none is of a later write than this one
+-- of the ended reads of readers that this one has to respect, none is of a later write than this one
 abbrev pub NoneIsLater : Scope → Choice → (reader number : ℕ) → List RegisterEvent → Type 0
 NoneIsLater s of i number [] = Unit {0}
 NoneIsLater s of i number (WriteBegins v ∷ before) = NoneIsLater s of i number before
@@ -51,7 +51,8 @@ NoneIsLater s of i number (WriteEnds ∷ before) = NoneIsLater s of i number bef
 NoneIsLater s of i number (ReadBegins j ∷ before) = NoneIsLater s of i number before
 NoneIsLater s of i number (ReadEnds j v ∷ before) = NoneIsLater s of i number before × (sees s i j ≡ true → of (length before) ≤ number)
 
--- each read is of the write that was chosen for it, and of no earlier one than a read to which it keeps and that had ended where it began
+-- each read is of the write that was chosen for it, and of no earlier one than a read that it has to respect and that had ended when it
+-- began
 abbrev pub Orders : Scope → (first : ℕ) → Choice → List RegisterEvent → Type 0
 Orders s first of [] = Unit {0}
 Orders s first of (WriteBegins v ∷ before) = Orders s first of before
@@ -60,13 +61,15 @@ Orders s first of (ReadBegins i ∷ before) = Orders s first of before
 Orders s first of (ReadEnds i v ∷ before) =
     Orders s first of before × IsOf first (before_read i before) before v (of (length before)) × NoneIsLater s of i (of (length before)) (before_read i before)
 
+-- the reads have an order in this scope
 abbrev pub HasOrder : Scope → (first : ℕ) → List RegisterEvent → Type 0
 HasOrder s first h = (of : Choice) × Orders s first of h
 
--- atomic: regular by a choice of writes that no two reads invert, one after the other; by reader, no two reads of one reader
+-- atomic: regular by a choice of writes that no two successive reads invert
 abbrev pub IsAtomic : (first : ℕ) → List RegisterEvent → Type 0
 IsAtomic first h = HasOrder Together first h
 
+-- atomic by reader: no two successive reads of one reader invert it
 abbrev pub IsAtomicByReader : (first : ℕ) → List RegisterEvent → Type 0
 IsAtomicByReader first h = HasOrder EachAlone first h
 

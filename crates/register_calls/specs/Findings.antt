@@ -1,4 +1,4 @@
--- Which event is the first with which a history lacks a class, of the events in their order.
+-- Which event is the first with which a history lacks a class, for the events in their order.
 use Rattle.std.specs.Prelude.{◌≡◌, ℕ, ◌+◌, ◌<◌, Bool, true, false, Option, Some, None, List, ◌∷◌, length, take, reverse}
 use Rattle.register_calls.specs.declared.events.Register.{Register}
 use Rattle.register_calls.specs.declared.events.RegisterEvent.{RegisterEvent}
@@ -30,7 +30,7 @@ abbrev pub IsMiss : Class → Register → List RegisterEvent → Option ℕ →
 IsMiss class r events None = HasClass class r (reverse events)
 IsMiss class r events (Some place) = IsFirstMiss class r events place
 
--- a history has each class that it has with one event more
+-- a history has each class that it has with one more event
 abbrev pub BeginningHasClass : Type 0
 BeginningHasClass = (class : Class) (r : Register) (e : RegisterEvent) (h : List RegisterEvent) → HasClass class r (e ∷ h) → HasClass class r h
 
@@ -43,7 +43,7 @@ StrongerHasWeaker =
 abbrev pub OneFirstMiss : Type 0
 OneFirstMiss = (class : Class) (r : Register) (events : List RegisterEvent) (a b : Option ℕ) → IsMiss class r events a → IsMiss class r events b → a ≡ b
 
--- what a fault says of a history: two of them, that it is not well formed
+-- what a fault implies about a history: two of them, that it is not well formed
 abbrev pub FaultSays : RegisterFault → Register → List RegisterEvent → Type 0
 FaultSays NoValue r h = ¬ IsWellFormed r h
 FaultSays OutOfTurn r h = ¬ IsWellFormed r h

@@ -54,12 +54,12 @@ before_read r (WriteEnds ∷ before) = before_read r before
 before_read r (ReadBegins i ∷ before) = if r == i then before else before_read r before
 before_read r (ReadEnds i v ∷ before) = before_read r before
 
--- events with which a history begins
+-- events that a history begins with
 abbrev pub IsBeginning : List RegisterEvent → List RegisterEvent → Type 0
 IsBeginning s [] = s ≡ []
 IsBeginning s (e ∷ before) = (s ≡ e ∷ before) ⊎ IsBeginning s before
 
--- an event comes in its turn: a begin if its side has nothing under way, an end if it has
+-- an event comes in its turn: a start if its side has nothing under way, an end if it has
 abbrev pub ComesInTurn : List RegisterEvent → RegisterEvent → Type 0
 ComesInTurn before (WriteBegins v) = started before ≡ finished before
 ComesInTurn before WriteEnds = started before ≡ suc (finished before)
@@ -73,7 +73,7 @@ WritesValue r WriteEnds = Unit {0}
 WritesValue r (ReadBegins i) = Unit {0}
 WritesValue r (ReadEnds i v) = Unit {0}
 
--- each event comes in its turn, and each write is of a value of the register
+-- each event comes in turn, and each write is of a value of the register
 abbrev pub IsWellFormed : Register → List RegisterEvent → Type 0
 IsWellFormed r [] = IsValue r r.first
 IsWellFormed r (e ∷ before) = IsWellFormed r before × WritesValue r e × ComesInTurn before e

@@ -32,11 +32,11 @@ IsWriteFrom h v w = placed_event h w ≡ Some (WriteBegins v)
 abbrev pub WriteHasEnded : List RegisterEvent → (w place : ℕ) → Type 0
 WriteHasEnded h w place = (q : ℕ) × (w < q) × (q < place) × (placed_event h q ≡ Some WriteEnds)
 
--- a write overlaps a read: neither had ended where the other began
+-- a write overlaps a read: neither had ended when the other began
 abbrev pub WriteOverlaps : List RegisterEvent → (w start stop : ℕ) → Type 0
 WriteOverlaps h w start stop = (w < stop) × ¬ WriteHasEnded h w start
 
--- A read may be of a write: it began before the read ended, and no later one had ended where the read began. So it overlaps the read, or
+-- A read may be of a write: it began before the read ended, and no later one had ended when the read began. So it overlaps the read, or
 -- is the last one that had ended before it. 0 is the first value, suc w the write that begins at w.
 abbrev pub MayBeOf : (first : ℕ) → List RegisterEvent → (start stop v : ℕ) → (of : ℕ) → Type 0
 MayBeOf first h start stop v zero = (v ≡ first) × ((w u : ℕ) → IsWriteFrom h u w → ¬ WriteHasEnded h w start)
@@ -53,24 +53,26 @@ abbrev pub IsRegularByIntervals : (first : ℕ) → List RegisterEvent → Type 
 IsRegularByIntervals first h = (i start stop v : ℕ) → IsReadFrom h i start stop v → (of : ℕ) × MayBeOf first h start stop v of
 
 -- a choice of a write for each read, by the place where the read ends: each may be of it, and of two reads, one after the other, the later
--- one is of no earlier write, if it has to keep to the other
+-- one is of no earlier write, if it has to respect the other
 pub record Chooses (s : Scope) (first : ℕ) (h : List RegisterEvent) (of : ℕ → ℕ) : Type 0 where
   pub may : (i start stop v : ℕ) → IsReadFrom h i start stop v → MayBeOf first h start stop v (of stop)
   pub in_order : (i start stop v j start' stop' u : ℕ) → IsReadFrom h i start stop v → IsReadFrom h j start' stop' u → sees s j i ≡ true → stop < start' → of stop ≤ of stop'
 
--- there is one: atomic, of all readers together
+-- there is such a choice
 abbrev pub HasChoice : Scope → (first : ℕ) → List RegisterEvent → Type 0
 HasChoice s first h = (of : ℕ → ℕ) × Chooses s first h of
 
--- the two definitions of a class are one, of each well-formed history
+-- the two definitions of a class agree on each well-formed history: safe
 pub record SafeIsByIntervals : Type 0 where
   pub there : (r : Register) (h : List RegisterEvent) → IsWellFormed r h → IsSafe r h → IsSafeByIntervals r h
   pub back : (r : Register) (h : List RegisterEvent) → IsWellFormed r h → IsSafeByIntervals r h → IsSafe r h
 
+-- regular
 pub record RegularIsByIntervals : Type 0 where
   pub there : (r : Register) (h : List RegisterEvent) → IsWellFormed r h → IsRegular r.first h → IsRegularByIntervals r.first h
   pub back : (r : Register) (h : List RegisterEvent) → IsWellFormed r h → IsRegularByIntervals r.first h → IsRegular r.first h
 
+-- atomic, and atomic by reader
 pub record OrderIsByIntervals : Type 0 where
   pub there : (s : Scope) (r : Register) (h : List RegisterEvent) → IsWellFormed r h → HasOrder s r.first h → HasChoice s r.first h
   pub back : (s : Scope) (r : Register) (h : List RegisterEvent) → IsWellFormed r h → HasChoice s r.first h → HasOrder s r.first h

@@ -1,11 +1,12 @@
--- Where a value stands in a list, and which of two numbers is the greater or the lesser one.
+-- The position of a value in a list, and the greater or lesser of two numbers.
 use Rattle.std.specs.Prelude.{◌≡◌, ◌≢◌, ◌⊎◌, ℕ, suc, ◌<◌, ◌≤◌, Bool, false, Option, Some, None, List, length, drop, slice_get, MatchOption}
 use Rattle.register_calls.specs.declared.auditors.OpenRead.{OpenRead}
 
--- from a place on the value stands nowhere; or first at this place
+-- from a place on the value does not occur
 abbrev pub HasNone : (values : List ℕ) → (from value : ℕ) → Type 0
 HasNone values from value = (n : ℕ) → from ≤ n → slice_get values n ≢ Some value
 
+-- this is the first place from there on with the value
 abbrev pub IsLeast : (values : List ℕ) → (from value place : ℕ) → Type 0
 IsLeast values from value place = (from ≤ place) × (slice_get values place ≡ Some value) × ((n : ℕ) → from ≤ n → n < place → slice_get values n ≢ Some value)
 
@@ -34,12 +35,12 @@ abbrev pub IsRaised : (floor : ℕ) → Option ℕ → (top : ℕ) → Type 0
 IsRaised floor None top = top ≡ floor
 IsRaised floor (Some number) top = IsGreater floor number top
 
--- the lesser of a number and of the writes that had ended where a read began
+-- the lesser of a number and of the writes that had ended when a read began
 abbrev pub IsOlder : Option OpenRead → (number older : ℕ) → Type 0
 IsOlder None number older = older ≡ number
 IsOlder (Some read) number older = (older ≤ number) × (older ≤ read.before) × ((older ≡ number) ⊎ (older ≡ read.before))
 
--- what held holds still, if there is a number
+-- what held still holds, if there is a number
 abbrev pub still : Bool → Option ℕ → Bool
 still held None = false
 still held (Some number) = held

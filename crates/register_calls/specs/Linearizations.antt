@@ -1,4 +1,4 @@
--- Linearizable, as Herlihy and Wing say it (1990), of a register: an order of its operations that is legal and keeps real time.
+-- Linearizable, as Herlihy and Wing define it (1990), for a register: an order of its operations that is legal and respects real time.
 use Rattle.std.specs.Prelude.{◌≡◌, ◌⊎◌, ℕ, ◌<◌, List, [], ◌∷◌, length}
 use Rattle.register_calls.specs.declared.events.Register.{Register}
 use Rattle.register_calls.specs.declared.events.RegisterEvent.{RegisterEvent}
@@ -16,7 +16,7 @@ abbrev pub IsOperationOf : List RegisterEvent → RegisterOperation → Type 0
 IsOperationOf h (AWrite start v) = IsWriteFrom h v start
 IsOperationOf h (ARead i start stop v) = IsReadFrom h i start stop v
 
--- where it begins
+-- the place where it begins
 abbrev pub operation_start : RegisterOperation → ℕ
 operation_start (AWrite start v) = start
 operation_start (ARead i start stop v) = start
@@ -47,8 +47,8 @@ abbrev pub KeepsRealTime : List RegisterEvent → List RegisterOperation → Typ
 KeepsRealTime h [] = Unit {0}
 KeepsRealTime h (a ∷ order) = ((b : RegisterOperation) → IsOrdered b order → ¬ HasEndedBy h b (operation_start a)) × KeepsRealTime h order
 
--- An order of all operations that have ended, and of the write under way or not: one under way has taken effect or not. A read under way
--- has returned nothing, and is left out.
+-- An order of all operations that have ended, and perhaps of the write under way, which has taken effect or not. A read under way has
+-- returned nothing and is left out.
 pub record RegisterLinearization (first : ℕ) (h : List RegisterEvent) : Type 0 where
   pub order : List RegisterOperation
   pub each : (o : RegisterOperation) → IsOrdered o order → IsOperationOf h o

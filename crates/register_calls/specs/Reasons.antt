@@ -1,4 +1,4 @@
--- What speaks against a read that ends: facts of the history before it, each of which says that the history lacks a class with the read.
+-- What contradicts a read that ends: facts about the history before it, each of which implies that the history lacks a class with the read.
 use Rattle.std.specs.Prelude.{◌≡◌, ◌≢◌, ◌⊎◌, ℕ, suc, ◌<◌, ◌≤◌, true, Option, Some, None, List, [], ◌∷◌, length, slice_get}
 use Rattle.register_calls.specs.declared.events.Register.{Register}
 use Rattle.register_calls.specs.declared.events.RegisterEvent.{RegisterEvent}
@@ -20,8 +20,9 @@ BeginsAt h number place = (before : List RegisterEvent) × (v : ℕ) × IsBeginn
 abbrev pub HasNoneUpTo : (values : List ℕ) → (from to value : ℕ) → Type 0
 HasNoneUpTo values from to value = (n : ℕ) → from ≤ n → n < to → slice_get values n ≢ Some value
 
--- The first of these reads had ended, is one to which the reader keeps, and is of the write of this number or of a later one: it is of none
--- before a lower number, as these had ended where it began, or by the other reads; and from there up to this number no write is of its value.
+-- The first of these reads had ended, is one that the reader has to respect, and is of the write of this number or of a later one: it is of
+-- none before a lower number, as these had ended when it began, or by the other reads; and from there up to this number no write is of its
+-- value.
 abbrev pub IsBound : Scope → (first : ℕ) → List EarlierRead → (reader : ℕ) → List RegisterEvent → (number : ℕ) → Type 0
 IsBound s first [] i h number = number ≡ 0
 IsBound s first (read ∷ reads) i h number =
@@ -29,7 +30,7 @@ IsBound s first (read ∷ reads) i h number =
     BeginsAt before number read.written × ((low ≤ finished (before_read read.reader before)) ⊎ IsBound s first reads read.reader (before_read read.reader before) low) ×
     HasNoneUpTo (written_values first before) low number read.value
 
--- the register holds what it held since the event at this place, the end of the last write; or from the first
+-- the register holds what it held since the event at this place, the end of the last write; or from the start
 abbrev pub IsHeldFrom : List RegisterEvent → Option ℕ → Type 0
 IsHeldFrom h None = started h ≡ 0
 IsHeldFrom h (Some place) = (before : List RegisterEvent) × IsBeginning (WriteEnds ∷ before) h × (place ≡ length before) × (suc (finished before) ≡ started h)
@@ -38,7 +39,7 @@ IsHeldFrom h (Some place) = (before : List RegisterEvent) × IsBeginning (WriteE
 abbrev pub IsInverted : Scope → (first : ℕ) → List EarlierRead → List RegisterEvent → (reader value : ℕ) → Type 0
 IsInverted s first reads h i v = (number : ℕ) × IsBound s first reads i (before_read i h) number × HasNone (written_values first h) number v
 
--- what speaks against a class, after a history in which this reader reads this value
+-- what contradicts a class, after a history in which this reader reads this value
 abbrev pub IsMissReason : Class → Register → List RegisterEvent → (reader value : ℕ) → MissReason (List EarlierRead) → Type 0
 IsMissReason c r h i v NoValue = ¬ IsValue r v
 IsMissReason c r h i v (Held value since) =
@@ -49,7 +50,7 @@ IsMissReason AtomicByReader r h i v (Inverted reads) = IsInverted EachAlone r.fi
 IsMissReason Atomic r h i v (Inverted reads) = IsInverted Together r.first reads h i v
 IsMissReason c r h i v (Inverted reads) = ⊥
 
--- a reason is a fact: where one holds, the history with the read lacks the class
+-- a reason is a fact: if one holds, the history with the read lacks the class
 abbrev pub ReasonIsFact : Type 0
 ReasonIsFact =
     (c : Class) (r : Register) (h : List RegisterEvent) (i v : ℕ) (reason : MissReason (List EarlierRead)) → IsWellFormed r (ReadEnds i v ∷ h) →

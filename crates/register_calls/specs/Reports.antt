@@ -20,7 +20,7 @@ reads_ended (ReadEnds i v ∷ before) = suc (reads_ended before)
 abbrev pub one_more_if : Bool → ℕ → ℕ
 one_more_if b n = if b then suc n else n
 
--- how many of them a write overlapped: fewer writes had ended where the read began than had begun where it ended
+-- how many of them a write overlapped: fewer writes had ended when the read began than had begun when it ended
 abbrev pub overlapped_reads : List RegisterEvent → ℕ
 overlapped_reads [] = 0
 overlapped_reads (WriteBegins v ∷ before) = overlapped_reads before
@@ -57,7 +57,7 @@ is_shown (WriteEnds ∷ before) = false
 is_shown (ReadBegins i ∷ before) = is_shown before
 is_shown (ReadEnds i v ∷ before) = is_shown before || is_value (being_written before) v
 
--- how many reads have begun while a write was under way whose value was shown so
+-- how many reads have begun while a write was under way whose value had been shown in this way
 abbrev pub could_invert : List RegisterEvent → ℕ
 could_invert [] = 0
 could_invert (WriteBegins v ∷ before) = could_invert before

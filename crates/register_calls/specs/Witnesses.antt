@@ -1,4 +1,4 @@
--- What a witness of a register's history keeps, and what it answers.
+-- What a witness of a register's history keeps, and what it returns.
 use Rattle.std.specs.Prelude.{◌≡◌, ◌⊎◌, ℕ, ◌-◌, ◌≤◌, ◌<◌, Option, Some, None, List, [], ◌∷◌, ◌++◌, length, drop, slice_index_or, Result, MatchResult}
 use Rattle.register_calls.specs.declared.events.Register.{Register}
 use Rattle.register_calls.specs.declared.events.RegisterEvent.{RegisterEvent}
@@ -35,8 +35,8 @@ last_end (WriteEnds ∷ before) = Some (length before)
 last_end (ReadBegins i ∷ before) = last_end before
 last_end (ReadEnds i v ∷ before) = last_end before
 
--- The chain of a reader shows reads that bound its next read by its floor; and the writes that had ended where its read under way began bound
--- that by its low, or its chain shows reads that do.
+-- The chain of a reader shows reads that bound its next read by its floor; and the writes that had ended when its read under way began
+-- bound that read by its low, or its chain shows reads that do.
 pub record KeepsBounds (s : Scope) (first : ℕ) (h : List RegisterEvent) (floor : ℕ → ℕ) (by : ℕ → Chain) (low : ℕ → Option ℕ) (low_by : ℕ → Chain) : Type 0 where
   pub floors : (i : ℕ) → (reads : List EarlierRead) × ShowsReads (by i) reads × IsBound s first reads i h (floor i)
   pub lows : (i n : ℕ) → low i ≡ Some n → (n ≤ finished (before_read i h)) ⊎ ((reads : List EarlierRead) × ShowsReads (low_by i) reads × IsBound s first reads i (before_read i h) n)
@@ -53,12 +53,12 @@ pub record RemembersRegister {W R P C : Type 0} (window : W → List ℕ) (state
       (lows (states w.auditor.readers)) (λ i. chain_at (chains w.low) i)
   pub tallies : TalliesRegister w.tally h
 
--- the read that ends now, as a chain names it, with the place where the write of this number began
+-- the read that ends now, as a chain reports it, with the place where the write of this number began
 abbrev pub link_of : (places : List ℕ) (base count reader value number : ℕ) → EarlierRead
 link_of places base count i v n = record { reader = i; ended = count; value = v; written = slice_index_or places (n - base) 0 }
 
 -- The chain of a floor after a read that ends, which is of the write of this number or of a later one: if that write comes after the floor,
--- the read, and after it the chain that says why it is of none before; else the chain stays.
+-- the read, and after it the chain that shows why it is of none before; otherwise the chain is unchanged.
 abbrev pub IsRaisedChain : (chain leaning : Chain) (floor : ℕ) → Option ℕ → (link : ℕ → EarlierRead) → (next : Chain) → Type 0
 IsRaisedChain chain leaning floor None link next = next ≡ chain
 IsRaisedChain chain leaning floor (Some n) link next =
@@ -69,14 +69,14 @@ abbrev pub IsRaisingLink : (floor : ℕ) → Option ℕ → (link : ℕ → Earl
 IsRaisingLink floor None link raising = raising ≡ None
 IsRaisingLink floor (Some n) link raising = (n ≤ floor → raising ≡ None) × (floor < n → raising ≡ Some (link n))
 
--- the chain of the read under way: by the reads of all readers for the class atomic, and else by those of its own
+-- the chain of the read under way: by the reads of all readers for the class atomic, otherwise by its own
 abbrev pub low_chain : Class → (low own_low : Chain) → Chain
 low_chain Safe low own_low = own_low
 low_chain Regular low own_low = own_low
 low_chain AtomicByReader low own_low = own_low
 low_chain Atomic low own_low = low
 
--- after each history that it remembers, a witness reads an event, or refuses it and remembers what it did
+-- after each history that it remembers, a witness reads an event, or refuses it and remembers what it did before
 abbrev pub RemembersEvent :
     {W R P C T : Type 0} → (window : W → List ℕ) → (states : R → List ReaderState) → (places : P → List ℕ) → (chains : C → List Chain) → (most : ℕ) →
     RegisterWitness W R P C → RegisterEvent → Result T RegisterFault → RegisterWitness W R P C → Type 0
@@ -87,6 +87,7 @@ RemembersEvent window states places chains most old event result new =
     (λ fault. RemembersRegister window states places chains new h × RefusesRemembered most fault old.auditor.register h event))
 
 -- after each history that it remembers, a witness reads an event and returns the strongest class, or refuses it and remembers what it did
+-- before
 abbrev pub HearsAndRemembers :
     {W R P C : Type 0} → (window : W → List ℕ) → (states : R → List ReaderState) → (places : P → List ℕ) → (chains : C → List Chain) → (most : ℕ) →
     RegisterWitness W R P C → RegisterEvent → Result (Option Class) RegisterFault → RegisterWitness W R P C → Type 0

@@ -16,9 +16,9 @@ use std::collections::VecDeque;
 /// A read under way, as an auditor keeps it: numbers of writes.
 #[derive(Clone, Copy, PartialEq, Eq, Debug)]
 pub struct OpenRead {
-    // how many writes had ended where it began
+    // how many writes had ended when it began
     pub(crate) before: usize,
-    // the least write that it may be of if all readers together see the writes in their order, and if each alone does
+    // the least write that it may be of if all readers together see the writes in order, and if each does so alone
     pub(crate) low: usize,
     pub(crate) own_low: usize,
 }
@@ -26,16 +26,16 @@ pub struct OpenRead {
 /// What an auditor keeps of a reader.
 #[derive(Clone, Copy, PartialEq, Eq, Debug)]
 pub struct ReaderState {
-    // the least write that its next read may be of, as far as its own reads say
+    // the least write that its next read may be of, according to its own reads
     pub(crate) own: usize,
     pub(crate) reading: Option<OpenRead>,
 }
 
-// What a read under way may be of, if it ends with a value: numbers of writes.
+// The writes that a read under way may be of, if it ends with a value: their numbers.
 #[derive(Clone, Copy)]
 pub(crate) struct FoundWrites {
     pub(crate) read: OpenRead,
-    // the first write of the value from where the read began; and from its lows, by the reads of its reader and by those of all
+    // the first write of the value from when the read began; and from its lows, by the reads of its reader and by those of all
     pub(crate) of_any: Option<usize>,
     pub(crate) of_own: Option<usize>,
     pub(crate) of_all: Option<usize>,
@@ -43,13 +43,13 @@ pub(crate) struct FoundWrites {
 
 /// An auditor of a recorded history of one register, of one writer and any number of readers.
 ///
-/// It reads the history event by event, and returns the strongest class that the history has so far. It takes no choice back: it
-/// gives each read the least write that the read may be of and that is not before one that an earlier read was given, and no other
+/// It reads the history event by event, and returns the strongest class that the history has so far. It never revises a choice: it
+/// gives each read the least write that the read may be of and that is not before one given to an earlier read, and no other
 /// choice does better.
 ///
 /// It keeps the writes that a read under way may be of, or one that begins now, and a few numbers of each reader: in lists of an
-/// allocator, or in slots that the caller gives. A read is compared with
-/// each write that it may be of, once in most cases and at most three times.
+/// allocator, or in slots supplied by the caller. A read is compared with each write that it may be of, once in most cases and
+/// at most three times.
 #[derive(Drop)]
 pub struct RegisterAuditor<W: Fifo<u64>, R: Fifo<ReaderState>> {
     pub(crate) register: Register,
@@ -60,7 +60,7 @@ pub struct RegisterAuditor<W: Fifo<u64>, R: Fifo<ReaderState>> {
     pub(crate) begun: usize,
     pub(crate) is_writing: bool,
     pub(crate) readers: R,
-    // the least write that a read which begins now may be of, as far as the reads that have ended say
+    // the least write that a read which begins now may be of, according to the reads that have ended
     pub(crate) floor: usize,
     // the classes that the history has
     pub(crate) is_safe: bool,
@@ -70,7 +70,7 @@ pub struct RegisterAuditor<W: Fifo<u64>, R: Fifo<ReaderState>> {
 }
 
 impl ReaderState {
-    /// What is kept of a reader that has not read yet: for slots that an auditor is to use.
+    /// The state of a reader that has not read yet: for slots that an auditor will use.
     pub fn new() -> ReaderState
         ensures { result ≡ fresh_reader }
     {
@@ -80,7 +80,7 @@ impl ReaderState {
         }
     }
 
-    // The lesser of a number and of the writes that had ended where the read under way began, if there is one.
+    // The lesser of a number and of the writes that had ended when the read under way began, if there is one.
     fn older(self, number: usize) -> usize
         ensures { IsOlder self.reading number result }
     {
@@ -104,7 +104,7 @@ fn greater(a: usize, b: usize) -> usize
     if a < b { b } else { a }
 }
 
-// Whether what held holds still, of a read that has such a write or none.
+// Whether what held still holds, for a read that has such a write or none.
 fn still(held: bool, number: Option<usize>) -> bool
     ensures { result ≡ still held number }
 {
@@ -114,7 +114,7 @@ fn still(held: bool, number: Option<usize>) -> bool
     }
 }
 
-// Whether what was found from a number on, which is kept, is also what there is from a later one on.
+// Whether what was found from a number on, which is kept, is also the result from a later one on.
 fn serves(base: usize, before: usize, from: usize, earlier: Option<usize>) -> bool
     ensures { IsTrue result → ((base ≤ before) × (before ≤ from) × IsFrom from earlier) }
 {
@@ -148,12 +148,13 @@ fn raised(floor: usize, number: Option<usize>) -> usize
     }
 }
 
-// Takes items at the front of a list away: as many as the count.
+// Removes items from the front of a list: as many as the count.
 fn drop_front<W: Fifo<u64>>(list: &mut W, count: usize)
     ensures items { W.items list.new ≡ drop count (W.items list.old) }
     ensures room { W.room list.new ≡ W.room list.old }
 {
     for _index in 0..count {
+        // the removed item is not needed
         let _ = list.pop_front();
     }
 }
@@ -186,7 +187,7 @@ impl<A: Allocator + Copy> RegisterAuditor<VecDeque<u64, A>, VecDeque<ReaderState
 }
 
 impl<W: Fifo<u64>, R: Fifo<ReaderState>> RegisterAuditor<W, R> {
-    /// As [`new`](RegisterAuditor::new), with lists of the caller's, which may be in slots. What they hold is taken away.
+    /// As [`new`](RegisterAuditor::new), with lists supplied by the caller, which may be in slots. Their contents are removed.
     ///
     /// It is an error if the list of writes has no room for one number.
     pub fn with(
@@ -220,7 +221,7 @@ impl<W: Fifo<u64>, R: Fifo<ReaderState>> RegisterAuditor<W, R> {
         })
     }
 
-    /// Forgets what it has read, and audits a history of this register from its begin, in the same lists. The first value of the
+    /// Forgets what it has read, and audits a history of this register from its start, in the same lists. The first value of the
     /// register is one of its values.
     ///
     /// It is an error if the list of writes has no room for one number; it is of no further use then.
@@ -265,7 +266,7 @@ impl<W: Fifo<u64>, R: Fifo<ReaderState>> RegisterAuditor<W, R> {
         }
     }
 
-    // What is kept of a reader.
+    // The state of a reader.
     pub(crate) fn reader(&self, reader: usize) -> ReaderState
         ensures { result ≡ reader_at (R.items self.now.readers) reader }
     {
@@ -302,7 +303,7 @@ impl<W: Fifo<u64>, R: Fifo<ReaderState>> RegisterAuditor<W, R> {
         }
     }
 
-    // The same, if this is the first one from a number before it: it is looked for again only if that one does not serve.
+    // The same, if this is the first one from a number before it: it is searched again only if that one is not right.
     fn least_later(
         &self,
         from: usize,
@@ -425,7 +426,7 @@ impl<W: Fifo<u64>, R: Fifo<ReaderState>> RegisterAuditor<W, R> {
         Ok(())
     }
 
-    // Whether the history is safe with a read of this value: how many writes had ended where the read began, and the number of a write
+    // Whether the history is safe with a read of this value: how many writes had ended when the read began, and the number of a write
     // that it may be of, if there is one.
     fn is_safe_still(&self, before: usize, value: u64, number: Option<usize>) -> bool
         ensures { (result ≡ true) ↔ ((self.now.is_safe ≡ true) × IsValue self.now.register value ×
@@ -457,7 +458,7 @@ impl<W: Fifo<u64>, R: Fifo<ReaderState>> RegisterAuditor<W, R> {
         }
     }
 
-    // Whether the history has the class with the end of a read under way that returns this value, by what the read may be of.
+    // Whether the history has the class if a read under way ends with this value, by what the read may be of.
     pub(crate) fn has_with(&self, class: Class, value: u64, found: &FoundWrites) -> bool
         ensures { (i : ℕ) (h : List RegisterEvent) → AuditsRegister W.items R.items self.now h →
             (reader_at (R.items self.now.readers) i).reading ≡ Some found.now.read →
@@ -473,8 +474,7 @@ impl<W: Fifo<u64>, R: Fifo<ReaderState>> RegisterAuditor<W, R> {
         }
     }
 
-    // Whether the history has, with the end of a read under way that returns this value, each class that it has so far, by what the read
-    // may be of.
+    // Whether the history keeps each class that it has so far if a read under way ends with this value, by what the read may be of.
     pub(crate) fn keeps_with(&self, value: u64, found: &FoundWrites) -> bool
         ensures { (i : ℕ) (h : List RegisterEvent) → AuditsRegister W.items R.items self.now h →
             (reader_at (R.items self.now.readers) i).reading ≡ Some found.now.read →
@@ -547,13 +547,13 @@ impl<W: Fifo<u64>, R: Fifo<ReaderState>> RegisterAuditor<W, R> {
         }
     }
 
-    /// Reads the next event of the history, and returns the strongest class of the history up to and with it, or `None` if the history
-    /// is not safe.
+    /// Reads the next event of the history, and returns the strongest class of the history up to and including it, or `None` if the
+    /// history is not safe.
     ///
-    /// It returns `NoValue` if the event begins a write of a number that is no value of the register; else `OutOfTurn` if it begins an
-    /// operation while one of its side is under way, or ends one that is not; else `TooMany` if it begins a write and `usize::MAX`
-    /// writes have begun; and `OutOfMemory` if the list of writes has no room for those that a read may be of and this one, or that of
-    /// readers has none for this reader. Nothing of a refused event is kept.
+    /// It returns `NoValue` if the event begins a write of a number that is not a value of the register; otherwise `OutOfTurn` if it
+    /// begins an operation while one of its side is under way, or ends one that is not; otherwise `TooMany` if it begins a write and
+    /// `usize::MAX` writes have begun; and `OutOfMemory` if the list of writes has no room for those that a read may be of and this
+    /// one, or that of readers has none for this reader. A refused event changes nothing.
     pub fn feed(&mut self, event: RegisterEvent) -> Result<Option<Class>, RegisterFault>
         ensures hears { HearsEvent W.items R.items W.room R.room usize.MAX self.old event result self.new }
         ensures class { IfOk result (λ class. (h : List RegisterEvent) → AuditsRegister W.items R.items self.new h →

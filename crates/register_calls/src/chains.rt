@@ -17,7 +17,7 @@ pub struct Chain {
 }
 
 impl Chain {
-    /// No read: for slots that a witness is to use.
+    /// No read: for slots that a witness will use.
     pub fn new() -> Chain
         ensures fresh { result ≡ fresh_chain }
         ensures none { ShowsReads result [] }
@@ -69,7 +69,7 @@ impl Chain {
     }
 }
 
-// The chain of this place; no read past the end.
+// The chain at this place; no read past the end.
 pub(crate) fn chain_of<C: Fifo<Chain>>(chains: &C, reader: usize) -> Chain
     ensures { result ≡ chain_at (C.items chains.now) reader }
 {
@@ -79,7 +79,7 @@ pub(crate) fn chain_of<C: Fifo<Chain>>(chains: &C, reader: usize) -> Chain
     }
 }
 
-// Puts a chain in this place, if the floor that it bounds lies above the writes that have ended.
+// Puts a chain at this place, if the floor that it bounds is above the writes that have ended.
 pub(crate) fn keep_chain<C: Fifo<Chain>>(
     chains: &mut C,
     reader: usize,
@@ -95,7 +95,7 @@ pub(crate) fn keep_chain<C: Fifo<Chain>>(
     }
 }
 
-// The same of the chain of this place in another list.
+// The same for the chain of this place in another list.
 pub(crate) fn keep_own<C: Fifo<Chain>>(
     chains: &mut C,
     own: &C,
@@ -111,8 +111,8 @@ pub(crate) fn keep_own<C: Fifo<Chain>>(
     }
 }
 
-// Whether a read that ends leans on the reads that bound it: not if the first write that it may be of, by the writes that had ended where it
-// began, does not come before its low.
+// Whether a read that ends depends on the reads that bound it: not if the first write that it may be of, by the writes that had ended when
+// it began, does not come before its low.
 pub(crate) fn leans(of_any: Option<usize>, low: usize) -> bool
     ensures { result ≡ leans of_any low }
 {
@@ -122,7 +122,7 @@ pub(crate) fn leans(of_any: Option<usize>, low: usize) -> bool
     }
 }
 
-// The read, and after it those of the chain of this place, if it leans on them.
+// The read, and after it those of the chain of this place, if it depends on them.
 pub(crate) fn linked<C: Fifo<Chain>>(
     bounds: &C,
     reader: usize,
@@ -159,7 +159,7 @@ pub(crate) fn raise_floor<C: Fifo<Chain>>(
     }
 }
 
-// The same of the chain of this place.
+// The same for the chain of this place.
 pub(crate) fn raise_own<C: Fifo<Chain>>(
     chains: &mut C,
     bounds: &C,

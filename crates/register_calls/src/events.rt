@@ -5,7 +5,7 @@ ghost use Rattle.register_calls.specs.Findings.{is_at_least};
 
 /// A register: what it holds before the first write, and how many values it has.
 ///
-/// For example, `register 0 4` in a recording is a register of the values 0 to 3 that holds 0 at first.
+/// For example, `register 0 4` in a recording is a register of the values 0 to 3 that initially holds 0.
 #[derive(Clone, Copy, PartialEq, Eq, Debug)]
 pub struct Register {
     /// What it holds before the first write.
@@ -50,11 +50,11 @@ pub enum Class {
     Safe,
     /// Each read returns the value of the last write before it, or of one that overlaps it.
     Regular,
-    /// Moreover each reader by itself sees the writes in their order. This is no class of Lamport's: it is what a test with one
-    /// reader can see of an atomic register.
+    /// Moreover each reader alone sees the writes in order. This is not a class of Lamport's: it is what a test with one reader
+    /// can see of an atomic register.
     AtomicByReader,
-    /// Moreover all readers together see the writes in their order: of two reads, one of which ended before the other began, the
-    /// later one returns the value of the same write or of a later one.
+    /// Moreover all readers together see the writes in order: of two reads, one of which ended before the other began, the later
+    /// one returns the value of the same write or of a later one.
     Atomic,
 }
 

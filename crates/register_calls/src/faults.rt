@@ -5,11 +5,11 @@ use std::alloc::AllocError;
 /// Why an auditor refuses an event.
 #[derive(Clone, Copy, PartialEq, Eq, Debug)]
 pub enum RegisterFault {
-    /// It begins a write of a number that is no value of the register.
+    /// It begins a write of a number that is not a value of the register.
     NoValue,
     /// It begins an operation while one of its side is under way, or ends one that is not.
     OutOfTurn,
-    /// It begins a write, and as many writes as a `usize` counts have begun.
+    /// It begins a write, and `usize::MAX` writes have begun.
     TooMany,
     /// There is no room for one more write or for one more reader.
     OutOfMemory,

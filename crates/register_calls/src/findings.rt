@@ -11,9 +11,10 @@ use std::alloc::Allocator;
 /// The place, from 0, of the first event with which a history lacks the class; `None` if the history has it. The first value of the
 /// register is one of its values.
 ///
-/// `NoValue` and `OutOfTurn` are returned only of a history that is not well formed: at the first event that begins a write of no value
-/// of the register, begins an operation while one of its side is under way, or ends one that is not. Events after the place that it
-/// returns are not looked at. It takes memory of the allocator for the writes that a read under way may be of, and for the readers.
+/// `NoValue` and `OutOfTurn` are returned only for a history that is not well formed: at the first event that begins a write of a
+/// number that is not a value of the register, begins an operation while one of its side is under way, or ends one that is not. Events
+/// after the place that it returns are not examined. It takes memory from the allocator for the writes that a read under way may be of,
+/// and for the readers.
 pub fn first_miss<A: Allocator + Copy>(
     alloc: A,
     register: Register,

@@ -1,5 +1,5 @@
-//! What follows of the classes of a history. Each law is the contract of a function that does nothing: a body that calls it has the
-//! statement at hand in its proof.
+//! What follows from the classes of a history. Each law is the contract of a function that does nothing: a body calls it to have
+//! the statement in its proof.
 ghost use Rattle.register_calls.specs.Findings.{BeginningHasClass, OneFirstMiss, StrongerHasWeaker};
 ghost use Rattle.register_calls.specs.Reasons.{ReasonIsFact};
 ghost use Rattle.register_calls.specs.Reports.{NoneInvertsIsAtomic};
@@ -11,7 +11,7 @@ pub fn stronger_has_weaker()
     ensures { StrongerHasWeaker }
 {}
 
-/// A history has each class that it has with one event more: no event mends what one before it broke.
+/// A history has each class that it has with one more event: no event repairs what an earlier one broke.
 pub fn beginning_has_class()
     ensures { BeginningHasClass }
 {}
@@ -34,18 +34,18 @@ pub fn regular_is_by_intervals()
 {}
 
 /// A well-formed history is atomic exactly if it is atomic by intervals: each read can be given a write that overlaps it, or the last one
-/// before it, so that of two reads, one after the other, the later one has no earlier write. The same holds of each reader by itself.
+/// before it, so that of two reads, one after the other, the later one has no earlier write. The same holds for each reader alone.
 pub fn order_is_by_intervals()
     ensures { OrderIsByIntervals }
 {}
 
-/// A well-formed history is atomic exactly if it is linearizable as Herlihy and Wing say it (1990): its operations have an order that is
-/// legal for a register and keeps real time.
+/// A well-formed history is atomic exactly if it is linearizable as Herlihy and Wing define it (1990): its operations have an order that
+/// is legal for a register and respects real time.
 pub fn atomic_is_linearizable()
     ensures { AtomicIsLinearizable }
 {}
 
-/// A reason is a fact: if one speaks against the read that ends, the history with it lacks the class, whatever write each read is of.
+/// A reason is a fact: if one contradicts the read that ends, the history with it lacks the class, whatever write each read is of.
 pub fn reason_is_fact()
     ensures { ReasonIsFact }
 {}

@@ -59,7 +59,7 @@ fn either(one: bool, other: bool) -> bool
 }
 
 impl RegisterTally {
-    // Of no event.
+    // Of a history with no event.
     pub(crate) fn new() -> RegisterTally
         ensures { TalliesRegister result [] }
     {
@@ -103,7 +103,7 @@ impl RegisterTally {
         self.report.could_invert = counted(self.report.could_invert, self.is_shown);
     }
 
-    // A read ends, before whose begin this many writes had ended, and before whose end this many have begun.
+    // A read ends, before whose start this many writes had ended, and before whose end this many have begun.
     pub(crate) fn read_ends(&mut self, before: usize, begun: usize, value: u64)
         ensures { (i : ℕ) (h : List RegisterEvent) → length h < usize.MAX → before ≡ finished (before_read i h) →
             begun ≡ started h → TalliesRegister self.old h → TalliesRegister self.new (ReadEnds i value ∷ h) }

@@ -1,4 +1,4 @@
-//! What is kept of a register's history, beside its classes, to say why it lacks one.
+//! What is kept of a register's history, besides its classes, to report why it lacks one.
 ghost use Rattle.std.specs.Prelude.{◌≡◌, ◌-◌, ◌<◌, ◌↔◌, ℕ, suc, List, [], ◌∷◌, IsTrue, IfOk, OnOk, length, drop, take, slice_index_or};
 ghost use Rattle.register_calls.specs.Histories.{IsValue, IsWellFormed};
 ghost use Rattle.register_calls.specs.Classes.{HasClass, IsStrongest};
@@ -18,10 +18,10 @@ use crate::reports::{RegisterReport, RegisterTally};
 use lists::Fifo;
 use std::alloc::AllocError;
 
-/// An auditor of a register's history that can say why the history lacks a class.
+/// An auditor of a register's history that can report why the history lacks a class.
 ///
-/// It keeps, beside what a [`RegisterAuditor`] keeps, the places where the writes that are kept began, and of each reader the first 8 of the
-/// reads that bound its next one.
+/// It keeps, besides what a [`RegisterAuditor`] keeps, the places where the writes that are kept began, and for each reader the first 8 of
+/// the reads that bound its next one.
 #[derive(Drop)]
 pub struct RegisterWitness<W: Fifo<u64>, R: Fifo<ReaderState>, P: Fifo<usize>, C: Fifo<Chain>> {
     pub(crate) auditor: RegisterAuditor<W, R>,
@@ -29,8 +29,8 @@ pub struct RegisterWitness<W: Fifo<u64>, R: Fifo<ReaderState>, P: Fifo<usize>, C
     pub(crate) places: P,
     // of each reader, the reads that bound its next read, by its own reads
     pub(crate) own: C,
-    // of its read under way, those that bound it, by the reads of all readers and by its own, if these do not let it be of the last write
-    // that had ended where it began
+    // for its read under way, those that bound it, by the reads of all readers and by its own, if these do not let it be of the last
+    // write that had ended when it began
     pub(crate) low: C,
     pub(crate) own_low: C,
     // the reads that bound each read that begins now
@@ -47,6 +47,7 @@ fn drop_places<P: Fifo<usize>>(places: &mut P, count: usize)
     ensures { P.items places.new ≡ drop count (P.items places.old) }
 {
     for _index in 0..count {
+        // the removed item is not needed
         let _ = places.pop_front();
     }
 }
@@ -76,7 +77,7 @@ impl<W: Fifo<u64>, R: Fifo<ReaderState>, P: Fifo<usize>, C: Fifo<Chain>> Registe
     P,
     C,
 > {
-    /// A witness of a register that has read no event yet, with these lists. What they hold is taken away.
+    /// A witness of a register that has read no event yet, with these lists. Their contents are removed.
     ///
     /// It is an error if the list of writes or that of places has no room for one number.
     pub fn with(
@@ -146,7 +147,7 @@ impl<W: Fifo<u64>, R: Fifo<ReaderState>, P: Fifo<usize>, C: Fifo<Chain>> Registe
         self.auditor.register()
     }
 
-    // Where the write of this number began, of those that are kept.
+    // The place where the write of this number began, of those kept.
     fn place(&self, number: usize) -> usize
         ensures { result ≡ slice_index_or (P.items self.now.places) (number - self.now.auditor.base) 0 }
     {
@@ -342,9 +343,9 @@ impl<W: Fifo<u64>, R: Fifo<ReaderState>, P: Fifo<usize>, C: Fifo<Chain>> Registe
 
     /// Reads the next event of the history, and returns the strongest class of the history with it, as [`RegisterAuditor::feed`] does.
     ///
-    /// It returns `NoValue` only if the event begins a write of a number that is no value of the register; `OutOfTurn` only if it is of a
-    /// value and begins an operation while one of its side is under way, or ends one that is not; `TooMany` only after `usize::MAX`
-    /// events; and `OutOfMemory` if any of its lists has no room. Nothing of a refused event is kept.
+    /// It returns `NoValue` only if the event begins a write of a number that is not a value of the register; `OutOfTurn` only if it
+    /// writes no other number and begins an operation while one of its side is under way, or ends one that is not; `TooMany` only after
+    /// `usize::MAX` events; and `OutOfMemory` if any of its lists has no room. A refused event changes nothing.
     pub fn feed(&mut self, event: RegisterEvent) -> Result<Option<Class>, RegisterFault>
         ensures hears { HearsAndRemembers W.items R.items P.items C.items usize.MAX self.old event result self.new }
     {
@@ -390,7 +391,7 @@ impl<W: Fifo<u64>, R: Fifo<ReaderState>, P: Fifo<usize>, C: Fifo<Chain>> Registe
         }
     }
 
-    /// Whether the history has, with the end of this read, each class that it has so far.
+    /// Whether the history keeps each class that it has so far with the end of this read.
     pub fn keeps_classes(&self, reader: usize, value: u64) -> bool
         ensures { (h : List RegisterEvent) → RemembersRegister W.items R.items P.items C.items self.now h →
             IsWellFormed self.now.auditor.register (ReadEnds reader value ∷ h) →
@@ -417,7 +418,7 @@ impl<W: Fifo<u64>, R: Fifo<ReaderState>, P: Fifo<usize>, C: Fifo<Chain>> Registe
         }
     }
 
-    // The reads that bound the read under way: by the reads of all readers for the class atomic, and else by those of its own.
+    // The reads that bound the read under way: by the reads of all readers for the class atomic, otherwise by its own.
     fn low_of(&self, class: Class, reader: usize) -> Chain
         ensures { result ≡ low_chain class (chain_at (C.items self.now.low) reader)
             (chain_at (C.items self.now.own_low) reader) }
@@ -430,7 +431,7 @@ impl<W: Fifo<u64>, R: Fifo<ReaderState>, P: Fifo<usize>, C: Fifo<Chain>> Registe
         }
     }
 
-    // What speaks against the class, if the read under way of this reader ends now with this value of the register, by what it may be of.
+    // What contradicts the class, if the read under way of this reader ends now with this value of the register, by what it may be of.
     fn found_reason(
         &self,
         class: Class,
@@ -462,8 +463,8 @@ impl<W: Fifo<u64>, R: Fifo<ReaderState>, P: Fifo<usize>, C: Fifo<Chain>> Registe
         }
     }
 
-    /// What speaks against the class, if this reader ends its read now with this value, and the history has the class so far and would
-    /// lack it then.
+    /// What contradicts the class, if this reader ends its read now with this value, and the history has the class so far and would
+    /// then lose it.
     ///
     /// In the order of [`MissReason`], the first reason that there is.
     pub fn reason(&self, class: Class, reader: usize, value: u64) -> MissReason<Chain>
