@@ -1,4 +1,4 @@
--- The events of a side that are a beginning of those of accesses, one event more.
+-- The events of a side that are a prefix of those of accesses, with one more event.
 use Rattle.std.proofs.Common.{◌≡◌, Bool, Some, List, [], ◌∷◌, ◌++◌, refl, sym, ap, ◌∙◌}
 use Rattle.bits_core.specs.declared.events.Side.{Side}
 use Rattle.bits_core.specs.declared.events.Act.{Act}
@@ -26,7 +26,7 @@ pub begun_of : (s : Side) (a : Access) → begun_by (opening_event s a) ≡ Some
 begun_of s (begins.Read b) = refl
 begun_of s (begins.Write b v) = refl
 
--- an access is known by its begin
+-- an access is determined by its start
 pub same_access : (s : Side) (a : Access) (x : Made) → opening_event s a ≡ begin_event s x → access_of x ≡ a
 same_access s a x e = let both : Some a ≡ Some (access_of x) = sym (begun_of s a) ∙ ap begun_by e ∙ begun_is s x in cc
 
@@ -40,9 +40,9 @@ event_of s b WriteEnd a e = absurd (cc)
 pub begins_so : (s : Side) (e : Event) (a : Access) → e.side ≡ s → begun_by e ≡ Some a → e ≡ opening_event s a
 begins_so s e a by begun = event_of e.side e.bit e.act a begun ∙ ap (λ t. opening_event t a) by
 
--- ---- one event more
+-- ---- one more event
 
--- behind these accesses the program goes on with one that the event begins
+-- after these accesses the program continues with one that the event begins
 pub record GoesOnWith (s : Side) (made whole : List Made) (e : Event) : Type 0 where
   pub next : Made
   pub rest : List Made

@@ -1,4 +1,4 @@
--- The first place up to and with which a history is not of the programs.
+-- The first place up to and including which a history is not of the programs.
 use Rattle.std.proofs.Common.{◌≡◌, ◌↔◌, ℕ, suc, ◌+◌, ◌<◌, Bool, IsTrue, List, [], ◌∷◌, ◌++◌, length, take, drop, get_or, refl, sym, ap, subst, ◌∙◌, arith, append_assoc}
 use Rattle.std.proofs.lemmas.Option.{slice_get_within}
 use Rattle.std.proofs.lemmas.List.{take-append-drop, take_more, take_at}
@@ -29,7 +29,7 @@ both_follow shape h (puts, takes, run) =
 pub lawful_take : (shape : Shape) (h : List Event) (n : ℕ) → IsLawful shape h → IsLawful shape (take n h)
 lawful_take shape h n lawful = beginning_is_lawful shape (take n h) (drop n h) (subst (IsLawful shape) (sym (take-append-drop n h)) lawful)
 
--- where the event behind the first i is not of the programs
+-- if the event after the first i is not of the programs
 pub break_of_program :
     (of shape : Shape) (h : List Event) (i : ℕ) (d : Event) → of ≡ shape → i < length h → IsLawful shape (take i h) → IsLawful shape (take i h ++ get_or h i d ∷ []) →
     BothFollow of (take i h) → (BothFollow of (take i h ++ get_or h i d ∷ []) → ⊥) → IsFirstBreak shape h i NotProgram
@@ -49,7 +49,7 @@ kind_at shape h place OutOfTurn fault = fault
 kind_at shape h place NotPermitted fault = fault
 kind_at shape h place NotProgram fault = absurd fault.fault
 
--- where the bits are at fault first
+-- if the bits are at fault first
 pub break_of_bits :
     (shape : Shape) (h : List Event) (place : ℕ) (kind : Kind) → IsFirstFault shape h place kind → BothFollow shape (take place h) → IsFirstBreak shape h place kind
 break_of_bits shape h place kind fault follow = record {
@@ -97,7 +97,7 @@ begins_take s h n all (rest, e) = (
   sym (append_assoc (subhistory s (take n h)) (subhistory s (drop n h)) rest) ∙ ap (λ l. l ++ rest) (sym (subhistory-append s (take n h) (drop n h)) ∙ ap (subhistory s) (take-append-drop n h)) ∙ e,
 )
 
--- a beginning of a history of the programs is of the programs
+-- a prefix of a history of the programs is of the programs
 pub programs_take : (shape : Shape) (h : List Event) (n : ℕ) → IsOfPrograms shape h → IsOfPrograms shape (take n h)
 programs_take shape h n (puts, takes, run) = (
   puts,

@@ -62,7 +62,7 @@ take_rest shape r es items e st none by wrong of_takes =
 
 -- ---- the events before it
 
--- where the events up to one are not of the programs, no event goes on behind them all
+-- if the events up to one are not of the programs, no event continues after all of them
 pub follow_before : (shape : Shape) (h : List Event) (i : ℕ) (d e : Event) → i < length h → (BothFollow shape (take i h ++ get_or h i d ∷ []) → ⊥) → BothFollow shape (h ++ e ∷ []) → ⊥
 follow_before shape h i d e within stops ((puts, are, events), (takes, are', events')) =
     let one : take (i + 1) (h ++ e ∷ []) ≡ take i h ++ get_or h i d ∷ [] = take-append-le (i + 1) h (e ∷ []) (omega (arith, within)) ∙ take_more h i d within in
@@ -165,7 +165,7 @@ is_event (Some d) e = elim (same_event d e) [
   | inr other ↦ inr (λ same. other (cc))
 ]
 
--- what each event that is told meets, and each that meets it and is among these is told
+-- a statement that each returned event satisfies, and each of these that satisfies it is returned
 pub all_told :
     (shape : Shape) (h : List Event) (s : Side) (candidates told : Dues) →
     ((e : Event) → (told.first ≡ Some e) ↔ ((candidates.first ≡ Some e) × (e.side ≡ s) × GoesOnBehind shape h e)) →
@@ -193,9 +193,9 @@ all_told shape h s candidates told first second third all e = (of_told, back)
           ]
         ]
 
--- ---- in which order they stand
+-- ---- their order
 
--- what was among events in their order stands so too
+-- those kept of events in their order are in their order
 pub kept_in_order :
     (among told : Dues) → ((e : Event) → told.first ≡ Some e → among.first ≡ Some e) → ((e : Event) → told.second ≡ Some e → among.second ≡ Some e) →
     ((e : Event) → told.third ≡ Some e → among.third ≡ Some e) → AreInOrder among → AreInOrder told
@@ -208,7 +208,7 @@ in_order e f one other is is' before e' f' told told' =
     let same' : f ≡ f' = cc in
     subst (λ z. ComesBefore e' z) same' (subst (λ z. ComesBefore z f) same before)
 
--- two events that stand in their order, and no third
+-- two events in their order, and no third
 pub two_in_order : (e f : Event) (dues : Dues) → dues.first ≡ Some e → dues.second ≡ Some f → dues.third ≡ None → ComesBefore e f → AreInOrder dues
 two_in_order e f dues one other none before = (
   in_order e f dues.first dues.second one other before,
@@ -228,7 +228,7 @@ digits_in_order b j i dues cell zero one count =
       λ e f is is'. in_order (opening_event P (begins.Write b true)) f dues.second dues.third one is' (omega (arith, one_rank, count f is')) e f is is',
     )
 
--- the write of a count's bit comes behind them
+-- the write of a count's bit comes after them
 pub counts_last : (row : UnaryState) (due : Option Access) (told : Option Event) → row.side ≡ P → due ≡ due_unary row → ((a : Access) → due ≡ Some a → told ≡ Some (opening_event P a)) →
     (due ≡ None → told ≡ None) → (e : Event) → told ≡ Some e → act_rank e.bit e.act ≡ 2
 counts_last row due told side is opens none e told_is =
@@ -279,7 +279,7 @@ pub decides :
 decides of shape h e true same goes never = (λ t. subst (λ s. GoesOnBehind s h e) same (goes refl), λ on. refl)
 decides of shape h e false same goes never = (λ t. absurd (cc), λ on. absurd (never refl (subst (λ s. GoesOnBehind s h e) (sym same) on)))
 
--- what readers that stand after the events tell, by their own shape
+-- what readers that stand after the events return, for their own shape
 pub dues_behind :
     (of shape : Shape) (h : List Event) (s : Side) (puts : PutReading) (takes : TakeReading) (told : Dues) → of ≡ shape → BothStand shape puts takes h →
     ((g : List Event) → BothStand of puts takes g → (e : Event) → IsDueOf told e ↔ ((e.side ≡ s) × GoesOnBehind of g e)) → (e : Event) →

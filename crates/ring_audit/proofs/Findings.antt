@@ -14,7 +14,7 @@ use Rattle.ring_audit.proofs.Breaks.{programs_take}
 use Rattle.bits_core.proofs.LawLemmas.{fault_breaks, one_verdict}
 use Rattle.ring_core.proofs.LawLemmas.{items_put_are_read, items_taken_are_read}
 
--- ---- what was put, taken and told
+-- ---- what was put and taken, and whether a take returned Closed
 
 same_truth : (a b : Bool) → (IsTrue a → IsTrue b) → (IsTrue b → IsTrue a) → a ≡ b
 same_truth true b on back = sym (on refl)
@@ -40,7 +40,7 @@ not_before :
 not_before shape h p q k l f g below =
     f.breaks (subst (IsOfPrograms shape) (take-take (suc p) q h (omega (arith, below))) (programs_take shape (take q h) (suc p) g.before))
 
--- a fault is the program's, where the bits are lawful, or of the bits
+-- a fault is the program's if the bits are lawful, otherwise of the bits
 of_kind : (shape : Shape) (h : List Event) (place : ℕ) (k : Kind) → IsKindAt shape h place k → (IsLawful shape (take (suc place) h) × (k ≡ NotProgram)) ⊎ IsFirstFault shape h place k
 of_kind shape h place NotProgram is = inl (is, refl)
 of_kind shape h place WrongSide is = inr is

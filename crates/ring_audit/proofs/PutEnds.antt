@@ -1,4 +1,4 @@
--- What was put so far, by calls that the events are a beginning of.
+-- What was put so far, by calls whose events they are a prefix of.
 use Rattle.std.proofs.Common.{◌≡◌, ◌⊎◌, inl, inr, ℕ, zero, suc, ◌+◌, ◌-◌, ◌*◌, ◌%◌, ◌^◌, ◌<◌, ◌≤◌, Bool, true, false, Option, Some, None, List, [], ◌∷◌, ◌++◌, length, map, nat_lt, if◌then◌else◌, refl, sym, ap, subst, ◌∙◌, arith, append_assoc, append-nil, length-append}
 use Rattle.std.proofs.lemmas.Bool.{le-ltb, lt-ltb}
 use Rattle.std.proofs.lemmas.List.{map-append, length-map}
@@ -37,7 +37,7 @@ use Rattle.ring_core.proofs.Machines.ProducerNext.{room_or_none}
 
 -- ---- items
 
--- where a put has ended and its count write has begun, its items are put
+-- if a put has ended and its count write has begun, its items are put
 begun_items :
     (shape : Shape) (c : Count) (seen : ℕ) (items rest : List ℕ) (t : ℕ) → events_in (accesses_before_count shape c.number seen items) < t →
     (if nat_lt (events_in (accesses_before_count shape c.number seen items)) t then items else []) ++ rest ≡ items ++ rest
@@ -49,7 +49,7 @@ AllCount shape c [] = Unit {0}
 AllCount shape c (Stored seen items ∷ puts) = (1 ≤ length (batch_phrase shape P c items)) × AllCount shape (stored_after shape c (Stored seen items)) puts
 AllCount shape c (Full seen ∷ puts) = AllCount shape c puts
 
--- the items of puts that have all ended, and of those behind them
+-- the items of puts that have all ended, and of those after them
 items-behind :
     (shape : Shape) (c : Count) (xs ys : List Put) (t : ℕ) → AllCount shape c xs → events_in (put_phrases shape c xs) ≤ t →
     items_put shape c (xs ++ ys) t ≡ all_put xs ++ items_put shape (stored_count shape c xs) ys (t - events_in (put_phrases shape c xs))
@@ -88,7 +88,7 @@ early shape c seen items t l = begun_items shape c seen items [] t l ∙ append-
 
 -- ---- the events so far
 
--- they are a beginning of the events of a list that begins with the accesses made, and with the open one behind them
+-- they are a prefix of the events of a list that begins with the accesses made, followed by the open one
 pub begins_so :
     (made rest : List Made) (o : Option Access) → ((a : Access) → o ≡ Some a → (x : Made) × (more : List Made) × (rest ≡ x ∷ more) × (access_of x ≡ a)) →
     IsPrefix (events_of P made ++ open_events P o) (events_of P (made ++ rest))
@@ -104,7 +104,7 @@ begins_so made rest (Some a) open_is =
 
 -- ---- counts
 
--- calls that go on with a put that stores, or with one that finds no room, or with nothing but perhaps the close
+-- calls that continue with a put that stores, or with one that finds no room, or with at most the close
 abbrev closes_of : List Put → Bool → Puts
 closes_of puts closes = record { puts = puts; closes = closes }
 
@@ -141,7 +141,7 @@ by_puts shape r es items stored st closes part rest items_are made_is close_is o
           ∙ ap (λ l. items_put shape first_count l (length es)) (append-nil st.puts);
     }
 
--- a put under way, of which the accesses made are a beginning
+-- a put under way, of which the accesses made are a prefix
 by_put :
     (shape : Shape) (r : PutReading) (es : List Event) (items stored : List ℕ) (st : PutsStand shape r es items stored) (x : Put) (part rest : List Made) (more : List ℕ) →
     IsPut shape (count_behind shape st.puts).number x → items ≡ all_put st.puts ++ more → st.made ≡ put_phrases shape first_count st.puts ++ part →
@@ -163,7 +163,7 @@ by_put shape r es items stored st x part rest more is_put items_are made_is phra
           ∙ sym (items-behind shape first_count st.puts (x ∷ []) (length es) (all_count shape first_count st.puts (first_is_count shape) st.are) reached);
     }
 
--- the moment, behind the puts that have ended
+-- the moment, after the puts that have ended
 moment :
     (shape : Shape) (r : PutReading) (es : List Event) (items stored : List ℕ) (st : PutsStand shape r es items stored) (part : List Made) (t : ℕ) →
     st.made ≡ put_phrases shape first_count st.puts ++ part → t ≡ length es - events_in (put_phrases shape first_count st.puts) → (events_in part ≤ t) × (t ≤ suc (events_in part))
@@ -232,7 +232,7 @@ storing_phrase shape c seen stored item first second e =
     ∙ ap (λ l. (scan ++ l) ++ count) (sym (append_assoc words a b)) ∙ ap (λ l. l ++ count) (sym (append_assoc scan (words ++ a) b))
     ∙ append_assoc (scan ++ (words ++ a)) b count
 
--- behind it comes nothing of the count write
+-- after it comes nothing of the count write
 late_word :
     (shape : Shape) (c : Count) (seen : ℕ) (stored : List ℕ) (item t : ℕ) (part behind_it : List Made) (first second : List RowWrite) → t ≤ suc (events_in part) →
     digit_writes item (width_of shape) ≡ first ++ second → 1 ≤ length second →

@@ -1,4 +1,4 @@
--- The reader of puts goes on at the end of a digit and in a count write.
+-- The reader of puts continues at the end of a digit and in a count write.
 use Rattle.std.proofs.Common.{◌≡◌, ℕ, zero, suc, ◌+◌, ◌-◌, ◌%◌, ◌^◌, ◌<◌, Bool, true, Some, None, List, [], ◌∷◌, ◌++◌, length, map, refl, sym, ap, subst, ◌∙◌, arith, append_assoc, append-nil, length-append}
 use Rattle.std.proofs.lemmas.List.{map-append}
 use Rattle.std.proofs.Math.Nat.{suc-mod}
@@ -28,7 +28,7 @@ pub use Rattle.ring_core.proofs.Machines.ConsumerMoves.{item_fits as fit-push}
 
 -- ---- words
 
--- the number and the value of the bit that an access is of, as a write
+-- the number and the value of the bit that an access writes
 number_of : Bit → ℕ
 number_of (S i) = i
 number_of (R i) = i
@@ -45,7 +45,7 @@ reads_as_writes cell a zero = refl
 reads_as_writes cell a (suc n) =
     map-append as_write (digit_reads cell a n) (Read (Cell cell n) (digit n a) ∷ []) ∙ ap (λ l. l ++ record { bit = n; value = digit n a } ∷ []) (reads_as_writes cell a n)
 
--- one digit more
+-- one more digit
 more_digits :
     (cell a b n : ℕ) (v : Bool) → digit_reads cell a n ++ Read (Cell cell n) v ∷ [] ≡ digit_reads cell b (suc n) →
     digit_writes a n ++ record { bit = n; value = v } ∷ [] ≡ digit_writes b (suc n)
@@ -54,7 +54,7 @@ more_digits cell a b n v e =
     ap (λ l. l ++ record { bit = n; value = v } ∷ []) (sym (reads_as_writes cell a n))
     ∙ sym (map-append as_write (digit_reads cell a n) (Read (Cell cell n) v ∷ [])) ∙ ap (map as_write) e ∙ reads_as_writes cell b (suc n)
 
--- the digits of a word read that begins so
+-- the digits of a word read that begins like this
 pub digits_of :
     (cell item w n value : ℕ) (v : Bool) (later : List Made) → (digit_reads cell value n ++ Read (Cell cell n) v ∷ []) ++ later ≡ word_read w cell item →
     digit_writes item w ≡ digit_writes value n ++ record { bit = n; value = v } ∷ map as_write later
@@ -65,7 +65,7 @@ digits_of cell item w n value v later e =
     ∙ ap (λ l. l ++ map as_write later) (map-append as_write (digit_reads cell value n) (Read (Cell cell n) v ∷ []) ∙ ap (λ l. l ++ record { bit = n; value = v } ∷ []) (reads_as_writes cell value n))
     ∙ append_assoc (digit_writes value n) (record { bit = n; value = v } ∷ []) (map as_write later)
 
--- one write more of a word or of a count
+-- one more write of a word or of a count
 writes-push :
     (bit_of : ℕ → Bit) (front scan words : List Made) (ws : List RowWrite) (w : RowWrite) →
     (front ++ (scan ++ (words ++ writes_in bit_of ws))) ++ Write (bit_of w.bit) w.value ∷ [] ≡ front ++ (scan ++ (words ++ writes_in bit_of (ws ++ w ∷ [])))

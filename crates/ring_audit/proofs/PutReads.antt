@@ -1,4 +1,4 @@
--- The reader of puts: where it stops, the events are of no puts.
+-- The reader of puts: if it stops, the events are of no puts.
 use Rattle.std.proofs.Common.{◌≡◌, ◌≢◌, inl, inr, ℕ, zero, suc, ◌+◌, ◌%◌, ◌<◌, ◌≤◌, Bool, true, false, not, is_some, Option, Some, None, List, [], ◌∷◌, ◌++◌, length, if◌then◌else◌, nat_lt, refl, sym, ap, subst, ◌∙◌, arith, append_assoc, append-nil, length-append}
 use Rattle.std.proofs.Math.Path.{fun_ext}
 use Rattle.std.proofs.lemmas.Bool.Decides.{nat_tests}
@@ -34,7 +34,7 @@ use Rattle.ring_audit.proofs.Beginnings.{begin_is, same_access, GoesOnWith, Goes
 pub use Rattle.ring_core.proofs.Machines.ConsumerNext.{read_due}
 use Rattle.ring_core.proofs.LawLemmas.{calls_are_first_puts, last_reads_are_one_puts, puts_go_on_between, puts_go_on_counts, puts_go_on_digits, puts_go_on_scans, puts_go_on_words}
 
--- calls whose events go on so
+-- calls whose events continue like this
 rest_on :
     (shape : Shape) (r : PutReading) (es : List Event) (items stored : List ℕ) (st : PutsStand shape r es items stored) (e : Event) → r.open_access ≡ None →
     (of_puts : AreOfPuts shape (es ++ e ∷ [])) → GoesOnWith P st.made (put_program shape of_puts.0) e
@@ -45,7 +45,7 @@ work_on :
     (of_puts : AreOfPuts shape (es ++ e ∷ [])) → GoesOnBy P st.made (put_program shape of_puts.0) (opening_event P a) e
 work_on shape r es items stored st a e some (calls, are, begins) = readers.work_on P es st.made (put_program shape calls) r.open_access a e st.events_are some begins
 
--- ---- where it stops
+-- ---- when it stops
 
 -- a 0 of the last bit
 pub zero_at_last :
@@ -63,9 +63,9 @@ zero_at_last shape r es items stored a st some scans due last of_puts =
     last_reads_are_one_puts shape of_puts.0 of_puts.1 st.made r.scan.zeros false on.rest (on.whole_is ∙ ap (λ z. st.made ++ z ∷ on.rest) next_reads) (last.1 ∙ scans.modulus_is) in
     absurd (cc)
 
--- ---- where it stops, by the stage
+-- ---- when it stops, by the stage
 
--- the calls go on behind the puts so far
+-- the calls continue after the puts so far
 goes_behind :
     (shape : Shape) (r : PutReading) (es : List Event) (items stored : List ℕ) (st : PutsStand shape r es items stored) (part : List Made) (e : Event) →
     st.made ≡ put_phrases shape first_count st.puts ++ part → (of_puts : AreOfPuts shape (es ++ e ∷ [])) →
@@ -112,7 +112,7 @@ no_read shape r es items stored a st none stage some wrong of_puts =
         let (v, is) = puts_go_on_scans shape st.puts zeros on.next on.rest st.are g in
         wrong (ap (λ n. begins.Read (row_read_by P n)) e ∙ sym (ap access_of is) ∙ is_a)
 
--- where something may be stored there is room
+-- if something may be stored there is room
 pub has_room_then : (shape : Shape) (n seen m : ℕ) → IsMost shape n seen m → LeavesRoom shape (n % modulus_of shape) seen
 has_room_then shape n seen m may = omega (arith, may.room, may.some)
 
@@ -135,7 +135,7 @@ row_bits row bits side h =
     same_row_writes h.writes h.stands.writes (h.stands.made_is ∙ ap (λ s. writes_in (row_bit s) h.stands.writes) side) in
     fun_ext (λ i. h.stands.remembered i ∙ ap (λ ws. bits_after first_bits ws i) (sym same) ∙ ap (λ f. f i) h.left)
 
--- what is due once the count of these items is asked for
+-- what is due once the count of these items is requested
 pub count_due :
     (shape : Shape) (row : UnaryState) (c : Count) (items : List ℕ) (next : ℕ) → row.side ≡ P → RowHolds row c.bits → next ≡ number_past c.number items % modulus_of shape →
     due_writes (record row { value = next }) ≡ count_bits shape c items
@@ -145,7 +145,7 @@ count_due shape row c items next side h e = ap (λ f. unary_phrase f next) (row_
 pub first_due : (row : UnaryState) (w : RowWrite) (more : List RowWrite) → row.side ≡ P → due_writes row ≡ w ∷ more → due_unary row ≡ Some (access_of (count_access w))
 first_due row w more side e = ap (first_access (row_bit row.side)) e ∙ ap (λ s. Some (begins.Write (row_bit s w.bit) w.value)) side
 
--- behind a scan that found room, or a whole word
+-- after a scan that found room, or a complete word
 pub no_word_nor_count :
     (shape : Shape) (r : PutReading) (es : List Event) (items stored : List ℕ) (a : Access) → PutsStand shape r es items stored → r.open_access ≡ None →
     r.stage ≡ Choosing → r.row.side ≡ P → ((v : Bool) → 0 < r.room → a ≡ begins.Write (Cell r.cell 0) v → ⊥) →
@@ -230,7 +230,7 @@ no_bit shape r es items stored a st none stage side due wrong of_puts =
     (s.parts ∙ ap (λ ws. ws ++ due_writes r.row) writes_are ∙ ap (λ ws. (u ∷ writes) ++ ws) due_are) (subst (GoesBehind shape st.puts) parts g) in
     wrong (first_due r.row w more side due_are ∙ ap Some (sym (ap access_of is) ∙ is_a))
 
--- behind the close
+-- after the close
 pub no_more :
     (shape : Shape) (r : PutReading) (es : List Event) (items stored : List ℕ) (a : Access) → PutsStand shape r es items stored → r.open_access ≡ None →
     r.stage ≡ Closed → AreOfPuts shape (es ++ opening_event P a ∷ []) → ⊥
@@ -250,7 +250,7 @@ no_more shape r es items stored a st none stage of_puts =
 pub at_stage : (r : PutReading) (stage : Stage) → IsPutReading r → r.stage ≡ stage → IsReaderAt stage r
 at_stage r stage is e = subst (λ s. IsReaderAt s r) e is.at
 
--- what is read of its fields at a stage, with such an access open, is read of it
+-- what holds for its fields at a stage, with such an access open, holds for it
 pub read_at :
     (r now new : PutReading) (e : Event) (step : PutStep) (stage : Stage) (o : Option Access) → r ≡ now → IsPutReading r → now.stage ≡ stage → now.open_access ≡ o →
     (r.stage ≡ stage → r.open_access ≡ o → IsReaderAt stage r → HasReadPut r.shape r new e step) → HasReadPut now.shape now new e step

@@ -1,4 +1,4 @@
--- The reader of puts goes on: it stands after one event more.
+-- The reader of puts continues: it stands after one more event.
 use Rattle.std.proofs.Common.{◌≡◌, ◌⊎◌, inl, inr, ℕ, suc, ◌+◌, ◌%◌, ◌<◌, ◌≤◌, Bool, true, false, Option, Some, None, List, [], ◌∷◌, ◌++◌, length, if◌then◌else◌, refl, sym, ap, subst, ◌∙◌, arith, append_assoc, append-nil}
 use Rattle.bits_core.specs.declared.events.Side.TheVariants.{P}
 use Rattle.bits_core.specs.declared.events.Bit.TheVariants.{X, Cell}
@@ -24,11 +24,11 @@ use Rattle.ring_core.proofs.Machines.PutCalls.{phrases-push, stored-push, are-pu
 use Rattle.ring_audit.proofs.Readers.{opened, ended}
 use Rattle.ring_audit.proofs.PutReads.{made_at, count_due}
 
--- ---- one put more
+-- ---- one more put
 
--- ---- a begin
+-- ---- a start
 
--- an access begins, by which no access is made
+-- an access begins, with which no access is made yet
 begun :
     {shape : Shape} {r new : PutReading} {es : List Event} {items stored items_on stored_on : List ℕ} (st : PutsStand shape r es items stored) (a : Access) (stage : Stage) →
     r.open_access ≡ None → new.shape ≡ r.shape → new.count ≡ r.count → new.open_access ≡ Some a → new.stage ≡ stage → MadeWhile stage shape new st.puts items_on stored_on st.made →
@@ -101,7 +101,7 @@ begins_count shape r es items stored row a st none stage some side row_is asks =
       made_is ∙ ap (λ l. front ++ (scan ++ l)) (sym (append-nil words)),
     )
 
--- a count write goes on, once these bit writes of it were made
+-- a count write continues, once these bit writes of it were made
 abbrev pub counts_on :
     {shape : Shape} {r : PutReading} {puts : List Put} {items stored : List ℕ} (row : UnaryState) (open_access : Option Access) (s : InCount shape r puts items stored) (writes : List RowWrite) →
     RowHolds row (bits_after (count_behind shape puts).bits writes) → count_bits shape (count_behind shape puts) s.batch ≡ writes ++ due_writes row →
@@ -189,7 +189,7 @@ read_one : (s : ScanState) (v : Bool) (seen : ℕ) → s.found ≡ false → (if
 read_one s true seen e f = (refl, cc)
 read_one s false seen e f = let clash : None ≡ Some seen = sym (ap (λ b. if b then Some (suc s.zeros) else None) e) ∙ f in absurd (cc)
 
--- the accesses once a scan gave its value
+-- the accesses once a scan has returned its value
 scanned :
     (shape : Shape) (r : PutReading) (es : List Event) (items stored : List ℕ) (st : PutsStand shape r es items stored) (scan : ScanState) (a : Access) (v : Bool) (seen : ℕ) →
     a ≡ begins.Read (row_read_by P r.scan.zeros) → r.stage ≡ Scanning → r.scan.found ≡ false → scan ≡ scan_read r.scan v → (if scan.found then Some scan.zeros else None) ≡ Some seen →

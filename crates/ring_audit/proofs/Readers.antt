@@ -1,4 +1,4 @@
--- A reader of one side has read the events of accesses that were made, and the begin of the one that is open: one event more.
+-- A reader of one side has read the events of accesses that were made, and the start of the one that is open: one more event.
 use Rattle.std.proofs.Common.{◌≡◌, suc, ◌*◌, ◌≤◌, Bool, Option, Some, None, List, [], ◌∷◌, ◌++◌, length, sym, ap, subst, ◌∙◌, arith, append_assoc, append-nil, length-append}
 use Rattle.bits_core.specs.declared.events.Side.{Side}
 use Rattle.bits_core.specs.declared.events.Access.{Access}
@@ -16,7 +16,7 @@ use Rattle.ring_audit.proofs.Beginnings.{begin_is, answer_is, begun_is, ended_is
 pub at_rest : (s : Side) (es : List Event) (made : List Made) (o : Option Access) → es ≡ events_of s made ++ open_events s o → o ≡ None → es ≡ events_of s made
 at_rest s es made o is none = is ∙ ap (λ z. events_of s made ++ open_events s z) none ∙ append-nil (events_of s made)
 
--- with one open, and one event more
+-- with one open, and one more event
 at_work :
     (s : Side) (es : List Event) (made : List Made) (o : Option Access) (a : Access) (e : Event) → es ≡ events_of s made ++ open_events s o → o ≡ Some a →
     es ++ e ∷ [] ≡ events_of s made ++ opening_event s a ∷ e ∷ []
@@ -32,9 +32,9 @@ pub open-long : (s : Side) (made : List Made) (o : Option Access) → 2 * length
 open-long s made None = omega (arith, length-append (events_of s made) [], length-events s made)
 open-long s made (Some a) = omega (arith, length-append (events_of s made) (opening_event s a ∷ []), length-events s made)
 
--- ---- where it goes on
+-- ---- when it continues
 
--- with a begin
+-- with a start
 pub opened :
     (s : Side) (es : List Event) (made : List Made) (o : Option Access) (a : Access) → es ≡ events_of s made ++ open_events s o → o ≡ None →
     es ++ opening_event s a ∷ [] ≡ events_of s made ++ open_events s (Some a)
@@ -50,7 +50,7 @@ ended s es made o a v is some =
     ∙ sym (events_of-append s made (answered a v ∷ []))
     ∙ sym (append-nil (events_of s (made ++ answered a v ∷ [])))
 
--- a program whose events begin so goes on with an access that the event begins
+-- a program whose events begin like this continues with an access that the event begins
 pub rest_on :
     (s : Side) (es : List Event) (made whole : List Made) (o : Option Access) (e : Event) → es ≡ events_of s made ++ open_events s o → o ≡ None →
     IsPrefix (es ++ e ∷ []) (events_of s whole) → GoesOnWith s made whole e
@@ -63,9 +63,9 @@ pub work_on :
 work_on s es made whole o a e is some begins =
     next_ends s made whole (opening_event s a) e (subst (λ l. IsPrefix l (events_of s whole)) (at_work s es made o a e is some) begins)
 
--- ---- where it stops
+-- ---- when it stops
 
--- a begin while an access is open
+-- the start of an access while one is open
 pub begin_in_access :
     (s : Side) (es : List Event) (made whole : List Made) (o : Option Access) (a : Access) (e : Event) (b : Access) → es ≡ events_of s made ++ open_events s o → o ≡ Some a →
     begun_by e ≡ Some b → IsPrefix (es ++ e ∷ []) (events_of s whole) → ⊥

@@ -1,4 +1,4 @@
--- Both readers stand after one event more of the history, or it is not of the programs.
+-- Both readers stand after one more event of the history, or it is not of the programs.
 use Rattle.std.proofs.Common.{◌≡◌, ℕ, List, [], ◌∷◌, ◌++◌, length, if◌then◌else◌, sym, ap, subst, ◌∙◌, append_assoc, append-nil}
 use Rattle.bits_core.specs.declared.events.Side.{Side}
 use Rattle.bits_core.specs.declared.events.Side.TheVariants.{P, C}
@@ -14,7 +14,7 @@ use Rattle.ring_audit.specs.TakeReading.{TakeReading, TakesStand, HasReadTake}
 use Rattle.ring_audit.specs.Reading.{Reading, ReadingStands, BothFollow, reading}
 pub use Rattle.ring_core.proofs.OneMore.{own_more}
 
--- both readers stand with the event, where each stands with what of it is its own
+-- both readers stand with the event, if each stands with its own side's events
 stand_with :
     (shape : Shape) (new : Reading) (s : Side) (h : List Event) (e : Event) (items stored : List ℕ) → e.side ≡ s →
     PutsStand shape new.puts (if same_side P s then subhistory P h ++ e ∷ [] else subhistory P h) items stored →

@@ -1,4 +1,4 @@
--- Where the slots are too few.
+-- The cases in which there are too few slots.
 pub use Rattle.lists.proofs.Results.{on_err}
 use Rattle.std.proofs.Common.{◌≡◌, inl, inr, ℕ, suc, ◌+◌, ◌<◌, ◌≤◌, Bool, true, false, List, [], ◌∷◌, ◌++◌, length, take, get_or, if◌then◌else◌, refl, sym, ap, subst, ◌∙◌, arith, length-append}
 use Rattle.std.proofs.lemmas.List.{take_more, take-take, take_at, length-take-le}
@@ -66,7 +66,7 @@ take_short shape puts takes new counted put taken kept e taken_room by read same
     take_takes shape (reading puts takes counted put taken) new e (taken ++ kept) by read (ap (λ l. taken ++ l) same) h st in
     omega (arith, full, length-append taken kept, few_taken shape new (subhistory C (h ++ e ∷ [])) (taken ++ kept) stands.takes_stand, length-own C (h ++ e ∷ []))
 
--- ---- what is told of it
+-- ---- what is returned of it
 
 -- no more items are stored and not counted than one count write may count
 few_at :
@@ -83,7 +83,7 @@ few_at Closed shape r puts items stored made (rests, is) = omega (arith, ap leng
 pub few_stored : (shape : Shape) (r : PutReading) (es : List Event) (items stored : List ℕ) → PutsStand shape r es items stored → length stored ≤ batch_of shape
 few_stored shape r es items stored st = few_at r.stage shape r st.puts items stored st.made st.made_is
 
--- the counted ones are those that stand in front
+-- the counted ones are the first ones
 pub counted_are : (shape : Shape) (puts : PutReading) (takes : TakeReading) (counted : ℕ) (put taken : List ℕ) (h : List Event) (st : ReadingStands shape (reading puts takes counted put taken) h) →
     take counted put ≡ st.items
 counted_are shape puts takes counted put taken h st = ap (λ n. take n put) st.counted_is ∙ ap (take (length st.items)) st.put_is ∙ take_at st.items st.stored (length st.items) refl
@@ -112,7 +112,7 @@ too_few_slots of shape h i d puts takes counted put_room taken_room told same wi
       ];
     }
 
--- the items of the lists stand in the first slots
+-- the items of the lists are in the first slots
 pub in_slots :
     (shape : Shape) (h : List Event) (put_slots taken_slots : List ℕ) (put_used taken_used : ℕ) (found : Found) → put_used ≤ length put_slots → taken_used ≤ length taken_slots →
     FitsIn (length (take put_used put_slots)) (length (take taken_used taken_slots)) found → IsFinding shape h (statement_in (take put_used put_slots) (take taken_used taken_slots) found) →

@@ -1,4 +1,4 @@
--- The sentence of the ring of a history that was found lawful and of the programs.
+-- The main theorem for a history that was found lawful and of the programs.
 use Rattle.std.proofs.Common.{◌≡◌, ℕ, Bool, List, length, sym, ap, subst, ◌∙◌, arith}
 use Rattle.bits_core.specs.declared.events.Side.TheVariants.{P, C}
 use Rattle.bits_core.specs.declared.events.Event.{Event}

@@ -1,4 +1,4 @@
--- What was taken and told so far, by calls that the events are a beginning of.
+-- What was taken so far, and whether a take returned Closed, by calls whose events they are a prefix of.
 use Rattle.std.proofs.Common.{◌≡◌, inl, inr, ℕ, suc, ◌+◌, ◌-◌, ◌*◌, ◌%◌, ◌<◌, ◌≤◌, ◌↔◌, Bool, true, false, Option, Some, None, List, [], ◌∷◌, ◌++◌, length, refl, sym, ap, subst, ◌∙◌, arith, append_assoc, append-nil, length-append, if◌then◌else◌, IsTrue}
 use Rattle.std.proofs.lemmas.Bool.{lt-leb, le-leb}
 use Rattle.bits_core.specs.declared.events.Side.TheVariants.{C}
@@ -38,7 +38,7 @@ not_yet shape k (ItemAfterClose seen again items) t l =
     ap (λ b. if b then items else []) (lt-leb (events_in (take_phrase shape k (ItemAfterClose seen again items))) t l)
 not_yet shape k (Empty seen) t l = refl
 
--- while the one take has not ended it has taken nothing
+-- while the take has not ended it has taken nothing
 late : (shape : Shape) (k : Count) (x : Take) (t : ℕ) → t < events_in (take_phrase shape k x) → items_taken shape k (x ∷ []) t ≡ []
 late shape k x t l = from_first shape k x [] t ∙ append-nil (take_ended shape k x t) ∙ not_yet shape k x t l
 
@@ -52,7 +52,7 @@ ended_take shape k (Empty seen) t l = refl
 pub events_in-append : (xs ys : List Made) → events_in (xs ++ ys) ≡ events_in xs + events_in ys
 events_in-append xs ys = omega (arith, length-append xs ys)
 
--- the items of takes that have all ended, and of those behind them
+-- the items of takes that have all ended, and of those after them
 items-behind :
     (shape : Shape) (k : Count) (xs ys : List Take) (t : ℕ) → events_in (take_phrases shape k xs) ≤ t →
     items_taken shape k (xs ++ ys) t ≡ all_taken xs ++ items_taken shape (taken_count shape k xs) ys (t - events_in (take_phrases shape k xs))
@@ -90,7 +90,7 @@ says_not : (b : Bool) (told : Type 0) → b ≡ false → (told → ⊥) → Say
 says_not true told e no_one = absurd (cc)
 says_not false told e no_one = (λ is. absurd (cc), λ t. absurd (no_one t))
 
--- the reply behind calls that are over
+-- the reply after calls that are over
 told-over : (shape : Shape) (calls : Takes) (end : End) (t : ℕ) → calls.end ≡ end → events_in (take_program shape calls) ≤ t →
     SaysTold (tells_closed (reply_at_end end calls.takes)) (IsTold shape calls t)
 told-over shape calls Open t e l =
@@ -120,7 +120,7 @@ taken-under_way shape wanted calls more t has reached not_ended =
           ∙ ap (λ l. items_taken shape first_count l t) (append-nil calls.takes) ∙ ap (λ (c : Takes). items_taken shape first_count c.takes t) (sym more_is)
     ]
 
--- they are a beginning of the events of a list that goes on with the access
+-- they are a prefix of the events of a list that continues with the access
 open_begins :
     (made rest : List Made) (a : Access) (o : Option Access) → ((b : Access) → o ≡ Some b → b ≡ a) →
     IsPrefix (events_of C made ++ open_events C o) (events_of C (made ++ answered a true ∷ rest))

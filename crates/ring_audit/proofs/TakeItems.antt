@@ -1,4 +1,4 @@
--- The items that a reader of takes was brought are those that the takes took.
+-- The items that a reader of takes has received are those that the takes took.
 use Rattle.std.proofs.Common.{◌≡◌, inl, inr, ℕ, Bool, true, false, Option, Some, None, List, [], ◌∷◌, ◌++◌, refl, sym, ap, ap₂, ◌∙◌, append-nil}
 use Rattle.bits_core.specs.declared.shapes.Shape.{Shape}
 use Rattle.ring_core.specs.declared.replies.TakeReply.{TakeReply}
@@ -9,7 +9,7 @@ use Rattle.ring_core.specs.Items.{taken_of, all_taken}
 use Rattle.ring_audit.specs.TakeReading.{brought, step_by}
 use Rattle.ring_core.proofs.Machines.TakeCalls.{reply-push, items-push, all_taken-push}
 
--- the items that a reply tells of those kept
+-- the items of a reply, among those kept
 abbrev pub replied : Option TakeReply → List ℕ → List ℕ
 replied reply kept = brought (step_by reply) kept
 

@@ -1,4 +1,4 @@
--- The reader of takes: where it stops, the events are of no takes; where it goes on, they are.
+-- The reader of takes: if it stops, the events are of no takes; if it continues, they are.
 use Rattle.std.proofs.Common.{◌≡◌, ◌⊎◌, inl, inr, ℕ, ◌≤◌, Bool, true, false, Option, Some, None, List, [], ◌∷◌, ◌++◌, length, nat_lt, if◌then◌else◌, refl, sym, ap, ap₂, subst, ◌∙◌, arith, append_assoc, append-nil, length-append}
 use Rattle.bits_core.specs.declared.events.Bit.{Bit}
 use Rattle.bits_core.specs.declared.events.Bit.TheVariants.{S, R, X, Cell}
@@ -35,7 +35,7 @@ use Rattle.ring_audit.proofs.Beginnings.{begin_is, same_access, GoesOnWith, Goes
 use Rattle.ring_core.proofs.LawLemmas.{calls_are_first_takes, last_reads_are_one_takes, takes_go_on}
 use Rattle.ring_core.proofs.Machines.TakeCalls.{closed_tells, due_at-takes}
 
--- calls whose events go on so
+-- calls whose events continue like this
 rest_on :
     (shape : Shape) (r : TakeReading) (es : List Event) (items : List ℕ) (st : TakesStand shape r es items) (e : Event) → r.open_access ≡ None →
     (of_takes : AreOfTakes shape (es ++ e ∷ [])) → GoesOnWith C st.made (take_program shape of_takes.0) e
@@ -46,7 +46,7 @@ work_on :
     (of_takes : AreOfTakes shape (es ++ e ∷ [])) → GoesOnBy C st.made (take_program shape of_takes.0) (opening_event C a) e
 work_on shape r es items st a e some (calls, are, begins) = readers.work_on C es st.made (take_program shape calls) r.open_access a e st.events_are some begins
 
--- ---- where it stops
+-- ---- when it stops
 
 -- a 0 of the last bit
 pub zero_at_last :
@@ -124,7 +124,7 @@ no_words front made look made_is (before, j, i, v, e) =
     let last : Read (S c) true ≡ Read (Cell j i) v = last_same (front ++ scans) before (Read (S c) true) (Read (Cell j i) v) (sym whole ∙ e) in
     absurd (cc)
 
--- behind a digit of a cell, the first digit of one is due between words
+-- after a digit of a cell, the first digit of one is due between words
 between_at :
     (st : Stage) (p : ConsumerState) (calls : Takes) (made : List Made) (j : ℕ) → p.stage ≡ st → ConsumerMadeAt st p calls made →
     consumer_due_at st p ≡ Some (begins.Read (Cell j 0)) → EndInCellRead made → IsBetweenWords p
@@ -170,7 +170,7 @@ front_at Rescanning p calls made (rests, seen, none, reads, stands, is) = (_, is
 front_at Loading p calls made (rests, look, finds, fit, reads, stands, is) = (_, is)
 front_at Counting p calls made (look, finds, fit, writes, stands, is) = (_, is)
 
--- the access that begins is the one that is due, or behind a whole word the one reads the next and the other counts
+-- the access that begins is the one that is due, or after a complete word one reads the next and the other counts
 next_or :
     (shape : Shape) (r : TakeReading) (es : List Event) (items : List ℕ) (p : ConsumerState) (due a : Access) (st : TakesStand shape r es items) →
     r.open_access ≡ None → p.shape ≡ shape → ConsumerStands p st.calls st.made → TakeGoesOn p.shape p.wanted st.calls st.made due →
@@ -183,7 +183,7 @@ next_or shape r es items p due a st none same stands goes of_takes =
     subst (λ z. (z ≡ due) ⊎ (EndInCellRead st.made × TakesPart shape p.wanted due z)) is_a
     (takes_go_on shape p.wanted st.calls of_takes.0 st.made due on.next on.rest begins (subst (λ s. TakeGoesOn s p.wanted st.calls st.made due) same goes) of_takes.1 on.whole_is)
 
--- an access that is not due: it counts, behind a whole word
+-- an access that is not due: it counts, after a complete word
 pub not_due :
     (shape : Shape) (r : TakeReading) (es : List Event) (items : List ℕ) (p : ConsumerState) (due : Option Access) (a : Access) →
     (st : TakesStand shape r es items) → r.open_access ≡ None → p.shape ≡ shape → ConsumerStands p st.calls st.made → due ≡ due_take p →
@@ -214,7 +214,7 @@ not_due shape r es items p None a st none same stands due_is goes rests wants ov
         let all : st.calls ≡ of_takes.0 = (calls_are_first_takes shape st.calls of_takes.0 are of_takes.1 (events_of C more, events)).1 tells_end in
         absurd (omega (arith, ap length whole, length-append (take_program shape st.calls) more, ap (λ calls. length (take_program shape calls)) all))
 
--- where the take under way counts, no other write of the count may begin
+-- when the take under way counts, no other write of the count may begin
 pub counts_else :
     (shape : Shape) (r : TakeReading) (es : List Event) (items : List ℕ) (p : ConsumerState) (due : Option Access) (a : Access) (i : ℕ) (v : Bool) →
     (st : TakesStand shape r es items) → r.open_access ≡ None → p.shape ≡ shape → ConsumerStands p st.calls st.made → due ≡ Some (begins.Write (R i) v) →
@@ -227,7 +227,7 @@ counts_else shape r es items p due a i v st none same stands due_is goes wrong (
       | inr (ends, inr (counts, (j, reads), less)) ↦ (let clash : begins.Write (R k) w ≡ begins.Read (Cell j 0) = sym writes ∙ reads in absurd (cc))
     ]
 
--- once a take was begun where none was under way, one is, or the last one was told that the ring is closed
+-- once a take was started when none was under way, one is, or the last one returned Closed
 pub taking_or_told :
     (old new : ConsumerState) (reply : Option TakeReply) (most : ℕ) → (old.told ≡ false → (is_taking new ≡ true) × (new.wanted ≡ most)) →
     (old.told ≡ true → new ≡ record old { reply = reply }) →
@@ -238,7 +238,7 @@ taking_or_told old new reply most begun refused = by_told old.told refl
     by_told false e = inl (begun e).0
     by_told true e = inr (ap (λ (p : ConsumerState). p.told) (refused e) ∙ e)
 
--- and it wants as many items as it was asked for
+-- and it wants as many items as were requested
 pub wants_most :
     (old new : ConsumerState) (reply : Option TakeReply) (most : ℕ) → (old.told ≡ false → (is_taking new ≡ true) × (new.wanted ≡ most)) →
     (old.told ≡ true → new ≡ record old { reply = reply }) → is_taking old ≡ false → is_taking new ≡ true → new.wanted ≡ most
@@ -248,7 +248,7 @@ wants_most old new reply most begun refused idle taking = by_told old.told refl
     by_told false e = (begun e).1
     by_told true e = let clash : true ≡ false = sym taking ∙ ap is_taking (refused e) ∙ idle in absurd (cc)
 
--- the reader stands after the same events once one was begun
+-- the reader stands after the same events once a take was started
 pub begun_stands :
     (p q : ConsumerState) (o : Option Access) (reply : Option TakeReply) (most : ℕ) → (p.told ≡ false → (is_taking q ≡ true) × (q.wanted ≡ most)) →
     (p.told ≡ true → q ≡ record p { reply = reply }) → most ≡ take_batch_of p.shape → q.shape ≡ p.shape →

@@ -1,4 +1,4 @@
--- What an audit of a history says: of its bits and of the programs of its two sides.
+-- What an audit of a history reports: on its bits and of the programs of its two sides.
 use Rattle.std.specs.Prelude.{◌≡◌, ℕ, suc, ◌+◌, ◌<◌, ◌≤◌, ◌⊎◌, ◌↔◌, Bool, true, false, IsTrue, List, length, take}
 use Rattle.bits_core.specs.declared.events.Event.{Event}
 use Rattle.bits_core.specs.declared.faults.Kind.{Kind}
@@ -22,7 +22,7 @@ use Rattle.ring_core.specs.RingLaw.{IsRun, RingLaw}
 abbrev pub IsOfPrograms : Shape → List Event → Type 0
 IsOfPrograms shape h = (puts : Puts) × (takes : Takes) × IsRun shape h puts takes
 
--- by calls that both sides follow, these items were put and these taken, and the consumer was told this
+-- by calls that both sides follow, these items were put and these taken, and a take returned Closed or not
 pub record IsFound (shape : Shape) (h : List Event) (put taken : List ℕ) (told : Bool) : Type 0 where
   pub puts : Puts
   pub takes : Takes
@@ -31,7 +31,7 @@ pub record IsFound (shape : Shape) (h : List Event) (put taken : List ℕ) (told
   pub taken_is : taken ≡ items_taken_in shape h takes
   pub told_is : IsTrue told ↔ ToldIn shape h takes
 
--- the kind of a fault at a place: the program's where the events up to and with it are lawful, else that of the bits
+-- the kind of a fault at a place: the program's if the events up to and including it are lawful, otherwise that of the bits
 abbrev pub IsKindAt : Shape → List Event → ℕ → Kind → Type 0
 IsKindAt shape h place NotProgram = IsLawful shape (take (suc place) h)
 IsKindAt shape h place WrongSide = IsFirstFault shape h place WrongSide
@@ -45,16 +45,17 @@ pub record IsFirstBreak (shape : Shape) (h : List Event) (place : ℕ) (kind : K
   pub breaks : ¬ IsOfPrograms shape (take (suc place) h)
   pub kind_is : IsKindAt shape h place kind
 
--- what a finding says
+-- what a finding states
 pub data Statement : Type 0 where
   Lawful : (put taken : List ℕ) (told : Bool) → Statement
   Fault : (place : ℕ) (kind : Kind) → Statement
 
+-- the statement of a finding with its items in lists
 abbrev pub statement : {A : Type 0} → Finding A → Statement
 statement (findings.Lawful put taken told) = Lawful put.items taken.items told
 statement (findings.Fault place kind) = Fault place kind
 
--- and where the items lie in the first slots
+-- the same for a finding with the items in the first slots
 abbrev pub statement_in : List ℕ → List ℕ → Found → Statement
 statement_in put taken (slots.Lawful put_count taken_count told) = Lawful (take put_count put) (take taken_count taken) told
 statement_in put taken (slots.Fault place kind) = Fault place kind
@@ -64,8 +65,8 @@ abbrev pub FitsIn : ℕ → ℕ → Found → Type 0
 FitsIn put_slots taken_slots (slots.Lawful put taken told) = (put ≤ put_slots) × (taken ≤ taken_slots)
 FitsIn put_slots taken_slots (slots.Fault place kind) = Unit {0}
 
--- By some first events, which are lawful and of the programs, more items were taken than there are slots for them, or more put than
--- there are slots for them and a batch more.
+-- By some prefix of the events, which is lawful and of the programs, more items were taken than there are slots for them, or the
+-- items put plus a batch are more than there are slots for them.
 pub record HasTooFewSlots (shape : Shape) (h : List Event) (put_slots taken_slots : ℕ) : Type 0 where
   pub until : ℕ
   pub put : List ℕ
@@ -74,22 +75,22 @@ pub record HasTooFewSlots (shape : Shape) (h : List Event) (put_slots taken_slot
   pub found : IsFound shape (take until h) put taken told
   pub short : (put_slots < length put + batch_of shape) ⊎ (taken_slots < length taken)
 
--- what may be said of a history
+-- a true statement about a history
 abbrev pub IsFinding : Shape → List Event → Statement → Type 0
 IsFinding shape h (Lawful put taken told) = IsFound shape h put taken told
 IsFinding shape h (Fault place kind) = IsFirstBreak shape h place kind
 
--- and there is one thing that may
+-- and there is only one
 abbrev pub OneFinding : Type 0
 OneFinding = (shape : Shape) (h : List Event) (a b : Statement) → IsFinding shape h a → IsFinding shape h b → a ≡ b
 
--- whether it is said that the history is lawful and of the programs
+-- whether it states that the history is lawful and of the programs
 abbrev pub tells_lawful : Statement → Bool
 tells_lawful (Lawful put taken told) = true
 tells_lawful (Fault place kind) = false
 
--- The sentence of the ring, where these items were put and taken and this was told: those taken are a prefix of those put; once
--- told, all that were put were taken, and in no longer history of the programs are there more; and in whichever way the events
+-- The main theorem, if these items were put and taken and a take returned Closed or not: those taken are a prefix of those put;
+-- after Closed, all that were put were taken, and in no longer history of the programs are there more; and however the events
 -- are read as calls, the law of the ring holds of these.
 pub record MeetsSentence (shape : Shape) (h : List Event) (put taken : List ℕ) (told : Bool) : Type 0 where
   pub prefix : IsPrefix taken put
@@ -99,11 +100,12 @@ pub record MeetsSentence (shape : Shape) (h : List Event) (put taken : List ℕ)
       (put' ≡ put) × (taken' ≡ taken)
   pub law : (puts : Puts) (takes : Takes) → IsRun shape h puts takes → RingLaw shape h puts takes
 
+-- if the statement has lists, they satisfy the main theorem
 abbrev pub SaysSentence : Shape → List Event → Statement → Type 0
 SaysSentence shape h (Lawful put taken told) = MeetsSentence shape h put taken told
 SaysSentence shape h (Fault place kind) = Unit {0}
 
--- whichever calls a history is read as of which lists are told, they are linearizable
+-- if the statement has lists, the calls are linearizable, however the history is read
 abbrev pub SaysLinearizable : Shape → List Event → Statement → Type 0
 SaysLinearizable shape h (Lawful put taken told) = EachReadingIsLinearizable shape h
 SaysLinearizable shape h (Fault place kind) = Unit {0}

@@ -25,7 +25,7 @@ use Rattle.ring_audit.specs.declared.puts.Stage.TheVariants.{Resting, Scanning, 
 use Rattle.ring_audit.specs.Sides.{open_events, AreOfPuts}
 
 -- the shape; the count's remainder by the modulus, and what it will be once the items of the put under way are counted; the
--- cell of the next item; how far the put has come, with its scan, the word whose digits it writes, how many items more it
+-- cell of the next item; how far the put has come, with its scan, the word whose digits it writes, how many more items it
 -- may store and whether it has stored one; the row of the count; the access that is open
 pub record PutReading : Type 0 where
   pub shape : Shape
@@ -59,6 +59,7 @@ IsReaderAt Counting r = (due_unary r.row ≢ None) × ((access : Access) → r.o
 IsReaderAt Closing r = r.open_access ≡ Some (begins.Write X true)
 IsReaderAt Closed r = r.open_access ≡ None
 
+-- what holds of every reader of puts: its counts are in range, its row is the producer's, and its stage's invariant holds
 pub record IsPutReading (r : PutReading) : Type 0 where
   pub count_below : r.count < modulus_of r.shape
   pub next_below : r.next < modulus_of r.shape
@@ -67,7 +68,7 @@ pub record IsPutReading (r : PutReading) : Type 0 where
   pub row_modulus : r.row.modulus ≡ modulus_of r.shape
   pub at : IsReaderAt r.stage r
 
--- behind n items and a scan of this value, m is the most items that may be stored, and some may
+-- after n items and a scan of this value, m is the most items that may be stored, and at least 1
 pub record IsMost (shape : Shape) (n seen m : ℕ) : Type 0 where
   pub below : seen < modulus_of shape
   pub some : 1 ≤ m
@@ -75,13 +76,14 @@ pub record IsMost (shape : Shape) (n seen m : ℕ) : Type 0 where
   pub few : m ≤ batch_of shape
   pub most : (k : ℕ) → LeavesRoomFor shape (n % modulus_of shape) seen k → k ≤ batch_of shape → k ≤ m
 
--- the row holds these bits: its writes left them
+-- the row holds these bits, as the result of its writes
 pub record RowHolds (row : UnaryState) (bits : ℕ → Bool) : Type 0 where
   pub values : List ℕ
   pub writes : List RowWrite
   pub stands : UnaryStands row values (writes_in (row_bit P) writes)
   pub left : bits_after first_bits writes ≡ bits
 
+-- whether there are items
 abbrev pub has_items : List ℕ → Bool
 has_items [] = false
 has_items (item ∷ items) = true
@@ -140,7 +142,7 @@ MadeWhile Closing shape r puts items stored made = AtRest shape r puts items sto
 MadeWhile Closed shape r puts items stored made = AtRest shape r puts items stored × (made ≡ put_phrases shape first_count puts ++ Write X true ∷ [])
 
 -- the reader stands after these events of the producer, in which these items were counted, or their count write has begun,
--- and these were stored behind them
+-- and these were stored after them
 pub record PutsStand (shape : Shape) (r : PutReading) (es : List Event) (items stored : List ℕ) : Type 0 where
   pub puts : List Put
   pub made : List Made
@@ -150,7 +152,7 @@ pub record PutsStand (shape : Shape) (r : PutReading) (es : List Event) (items s
   pub events_are : es ≡ events_of P made ++ open_events P r.open_access
   pub made_is : MadeWhile r.stage shape r puts items stored made
 
--- An event more: where the reader stops, the events are no beginning of those of any calls; else it stands after them.
+-- One more event: if the reader stops, the events are not a prefix of those of any calls; otherwise it stands after them.
 abbrev pub HasReadPut : Shape → PutReading → PutReading → Event → PutStep → Type 0
 HasReadPut shape old new e Stops = (es : List Event) (items stored : List ℕ) → PutsStand shape old es items stored → ¬ AreOfPuts shape (es ++ e ∷ [])
 HasReadPut shape old new e GoesOn = (es : List Event) (items stored : List ℕ) → PutsStand shape old es items stored → PutsStand shape new (es ++ e ∷ []) items stored
@@ -159,7 +161,7 @@ HasReadPut shape old new e (Stores item) =
 HasReadPut shape old new e Counts =
     (es : List Event) (items stored : List ℕ) → PutsStand shape old es items stored → PutsStand shape new (es ++ e ∷ []) (items ++ stored) []
 
--- the events are a beginning of those of calls, by which these items were put
+-- the events are a prefix of those of calls, by which these items were put
 pub record WerePut (shape : Shape) (es : List Event) (items : List ℕ) : Type 0 where
   pub calls : Puts
   pub are : ArePuts shape 0 calls.puts

@@ -8,7 +8,7 @@ use Rattle.ring_audit.specs.Sides.{AreOfPuts, AreOfTakes}
 use Rattle.ring_audit.specs.PutReading.{PutReading, PutsStand}
 use Rattle.ring_audit.specs.TakeReading.{TakeReading, TakesStand}
 
--- both readers, the items that were stored and how many of them are counted, and the items that were taken
+-- both readers, the items stored and how many of them are counted, and the items taken
 pub record Reading : Type 0 where
   pub puts : PutReading
   pub takes : TakeReading
@@ -16,6 +16,7 @@ pub record Reading : Type 0 where
   pub counted : ℕ
   pub taken : List ℕ
 
+-- what both readers have read, from its parts
 abbrev pub reading : PutReading → TakeReading → ℕ → List ℕ → List ℕ → Reading
 reading puts takes counted put taken = record { puts = puts; takes = takes; put = put; counted = counted; taken = taken }
 
@@ -28,13 +29,13 @@ pub record ReadingStands (shape : Shape) (r : Reading) (h : List Event) : Type 0
   pub put_is : r.put ≡ items ++ stored
   pub counted_is : r.counted ≡ length items
 
--- they stand after these, by which more was stored, or taken, than there is room for
+-- they stand after these events, by which more was stored, or taken, than there is room for
 pub record NeedsRoom (shape : Shape) (puts : PutReading) (takes : TakeReading) (counted put_room taken_room : ℕ) (h : List Event) : Type 0 where
   pub put : List ℕ
   pub taken : List ℕ
   pub stands : ReadingStands shape (reading puts takes counted put taken) h
   pub short : (put_room < length put) ⊎ (taken_room < length taken)
 
--- the events of both sides are a beginning of those of calls
+-- the events of both sides are a prefix of those of calls
 abbrev pub BothFollow : Shape → List Event → Type 0
 BothFollow shape h = AreOfPuts shape (subhistory P h) × AreOfTakes shape (subhistory C h)

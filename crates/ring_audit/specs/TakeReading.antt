@@ -28,8 +28,8 @@ pub record TakeReading : Type 0 where
 pub record IsTakeReading (r : TakeReading) : Type 0 where
   pub is_due : (access : Access) → r.open_access ≡ Some access → due_take r.consumer ≡ Some access
 
--- Until it counts, the take under way wants as many items as a take may take. Where it has been had count those that it has read, a write
--- of its count has begun.
+-- Until it counts, the take under way wants as many items as a take may take. If it was made to count those that it has read, a write of
+-- its count has begun.
 pub record WantsAll (shape : Shape) (r : TakeReading) (made : List Made) : Type 0 where
   pub before_count : is_taking r.consumer ≡ true → r.consumer.stage ≢ Counting → r.consumer.wanted ≡ take_batch_of shape
   pub behind_word : is_taking r.consumer ≡ true → r.open_access ≡ None → EndInCellRead made → r.consumer.wanted ≡ take_batch_of shape
@@ -50,27 +50,28 @@ brought Stops kept = []
 brought GoesOn kept = []
 brought TakesItems kept = kept
 
--- what a reply says of a take: whether it took items, and whether it was told that the ring is closed
+-- what a reply implies about a take: whether it took items
 abbrev pub step_by : Option TakeReply → TakeStep
 step_by None = GoesOn
 step_by (Some (replies.Item item)) = TakesItems
 step_by (Some replies.Empty) = GoesOn
 step_by (Some replies.Closed) = GoesOn
 
+-- whether the reply is Closed
 abbrev pub tells_closed : Option TakeReply → Bool
 tells_closed None = false
 tells_closed (Some (replies.Item item)) = false
 tells_closed (Some replies.Empty) = false
 tells_closed (Some replies.Closed) = true
 
--- An event more: where the reader stops, the events are no beginning of those of any calls; else it stands after them.
+-- One more event: if the reader stops, the events are not a prefix of those of any calls; otherwise it stands after them.
 abbrev pub HasReadTake : Shape → TakeReading → TakeReading → Event → TakeStep → Type 0
 HasReadTake shape old new e Stops = (es : List Event) (items : List ℕ) → TakesStand shape old es items → ¬ AreOfTakes shape (es ++ e ∷ [])
 HasReadTake shape old new e GoesOn = (es : List Event) (items : List ℕ) → TakesStand shape old es items → TakesStand shape new (es ++ e ∷ []) items
 HasReadTake shape old new e TakesItems =
     (es : List Event) (items : List ℕ) → TakesStand shape old es items → TakesStand shape new (es ++ e ∷ []) (items ++ new.consumer.items)
 
--- the events are a beginning of those of calls, by which these items were taken and this was told
+-- the events are a prefix of those of calls, by which these items were taken and a take returned Closed or not
 pub record WereTaken (shape : Shape) (es : List Event) (items : List ℕ) (told : Bool) : Type 0 where
   pub calls : Takes
   pub are : AreTakes shape 0 calls.takes calls.end

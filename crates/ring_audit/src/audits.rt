@@ -10,45 +10,45 @@ use crate::takes::{TakeReader, TakeStep};
 use bits_core::{BitAuditor, Event, Filled, Kind, Shape, Side, Store};
 use std::alloc::Allocator;
 
-/// What an audit finds.
+/// What an audit finds: a finding.
 ///
 /// In use: `uses::findings::left_inside`.
 #[derive(Drop)]
 pub enum Finding<A: Allocator> {
-    /// The history is lawful and both sides follow their programs, by which these items were put and
-    /// taken, and the consumer was told that the ring is closed or not.
+    /// The history is lawful and both sides follow their programs, according to which these items
+    /// were put and taken, and a take returned Closed or not.
     Lawful {
         put: Vec<u64, A>,
         taken: Vec<u64, A>,
         told: bool,
     },
-    /// The event at `place`, counted from 0, is the first up to and with which that fails.
+    /// The event at `place`, counted from 0, is the first with which that fails.
     Fault {
         place: usize,
         kind: Kind,
     },
 }
 
-/// What an audit finds, where the items lie in the first slots of two slices of the caller's.
+/// What an audit finds, with the items in the first slots of two caller-supplied slices.
 ///
 /// In use: the page, which has no allocator.
 #[derive(Clone, Copy, PartialEq, Eq, Debug)]
 pub enum Found {
-    /// The history is lawful and both sides follow their programs, by which so many items were put and
-    /// taken, and the consumer was told that the ring is closed or not.
+    /// The history is lawful and both sides follow their programs, according to which these numbers of
+    /// items were put and taken, and a take returned Closed or not.
     Lawful {
         put: usize,
         taken: usize,
         told: bool,
     },
-    /// The event at `place`, counted from 0, is the first up to and with which that fails.
+    /// The event at `place`, counted from 0, is the first with which that fails.
     Fault {
         place: usize,
         kind: Kind,
     },
 }
 
-// One item more, where the store has room for it.
+// One more item, if the store has room for it.
 fn push<S: Store<u64>>(store: &mut S, item: u64) -> Result<(), AuditFault>
     ensures pushed { OnOk result (S.items store.new ≡ S.items store.old ++ item ∷ []) }
     ensures full { OnErr result (S.room store.old ≤ length (S.items store.old)) }
@@ -60,7 +60,7 @@ fn push<S: Store<u64>>(store: &mut S, item: u64) -> Result<(), AuditFault>
     Ok(())
 }
 
-// These items more, where the store has room for them.
+// These items more, if the store has room for them.
 fn push_all<S: Store<u64>>(store: &mut S, items: &[u64]) -> Result<(), AuditFault>
     ensures pushed { OnOk result (S.items store.new ≡ S.items store.old ++ items.now) }
     ensures full { OnErr result (S.room store.old < length (S.items store.old) + length items.now) }
@@ -73,7 +73,7 @@ fn push_all<S: Store<u64>>(store: &mut S, items: &[u64]) -> Result<(), AuditFaul
     Ok(())
 }
 
-// The readers of both sides, and how many of the items that were stored are counted.
+// The readers of both sides, and how many of the items stored are counted.
 #[derive(Drop)]
 struct Readers {
     puts: PutReader,
@@ -94,8 +94,8 @@ impl Readers {
         }
     }
 
-    // Reads the next event: whether it is the next one of its side's program. The items that were stored grow in
-    // the one store, and those that were taken in the other.
+    // Reads the next event: whether it is the next one of its side's program. The items stored are added to one
+    // store, and those taken to the other.
     fn read<S: Store<u64>>(
         &mut self,
         event: Event,
@@ -152,7 +152,7 @@ impl Readers {
         }
     }
 
-    // Whether a take was told that the ring is closed. What was read so far is of the programs.
+    // Whether a take returned Closed. The events read so far are of the programs.
     fn told(&self) -> bool
         requires { self.now.takes.consumer.shape ≡ self.now.puts.shape }
         ensures follow { (h : List Event) (put taken : List ℕ) →
@@ -168,15 +168,15 @@ impl Readers {
 }
 
 /// Whether the events are a lawful history of safe bits of the shape whose two sides follow their programs, with
-/// the items put and taken and whether the consumer was told that the ring is closed; and where they are not, the
-/// least place up to and with which they are not, with the kind of the fault: `NotProgram` where the events up to
-/// and with it are lawful, else the kind that [`audit_bits`](bits_core::audit_bits) tells.
+/// the items put and taken and whether a take returned Closed; and if they are not, the least place up to and
+/// including which they are not, with the kind of the fault: `NotProgram` if the events up to and including it
+/// are lawful, otherwise the kind that [`audit_bits`](bits_core::audit_bits) reports.
 ///
-/// A history has one finding ([`one_finding`](crate::laws::one_finding)). Lists that are told meet the sentence of the ring:
-/// the items taken are a prefix of the items put, and once the end was told they are all of them; and its calls are
+/// A history has one finding ([`one_finding`](crate::laws::one_finding)). Reported lists satisfy the main theorem: the items
+/// taken are a prefix of the items put, and once a take has returned Closed they are all of them; and its calls are
 /// linearizable.
 ///
-/// It goes over the events once, takes memory for the two lists alone, and tells `OutOfMemory` where a growth was refused.
+/// It goes over the events once, takes memory for the two lists only, and returns `OutOfMemory` if a growth was refused.
 ///
 /// In use: `uses::audits::is_of_ring`.
 pub fn audit<A: Allocator + Copy>(
@@ -193,7 +193,7 @@ pub fn audit<A: Allocator + Copy>(
     Ok(found)
 }
 
-// What is found of the events, with the items in lists.
+// The finding on the events, with the items in lists.
 fn find<A: Allocator + Copy>(
     alloc: A,
     shape: &Shape,
@@ -217,7 +217,7 @@ fn find<A: Allocator + Copy>(
     }
 }
 
-// What is found of the events, with the items in slots.
+// The finding on the events, with the items in slots.
 fn find_filled<'a>(
     shape: &Shape,
     events: &[Event],
@@ -244,15 +244,15 @@ fn find_filled<'a>(
     Ok(found)
 }
 
-/// The audit of [`audit`], with the items in the first slots of two slices of the caller's: it tells how many there
-/// are of each. It takes no memory.
+/// The audit of [`audit`], with the items in the first slots of two caller-supplied slices: it returns how many
+/// there are in each. It takes no memory.
 ///
-/// `OutOfMemory` tells that a slice is too short: some first events are lawful and of the programs, and by these more
-/// items were taken than there are slots for them, or more put than there are slots for them and a batch more, since
-/// the items of a batch are kept from the end of their word on, and put once their count is written. As many slots
-/// in each as there are events are always enough.
+/// `OutOfMemory` means that a slice is too short: some prefix of the events is lawful and of the programs, and by it
+/// more items were taken than there are slots for them, or the items put plus a batch are more than there are slots
+/// for them, since the items of a batch are kept from the end of their word on, and count as put once their count is
+/// written. As many slots in each as there are events are always enough.
 ///
-/// The first slots may hold items whatever is told: after a fault those of the events before it.
+/// The first slots may hold items whatever is returned: after a fault those of the events before it.
 ///
 /// In use: the page, which has no allocator.
 pub fn audit_into(
@@ -269,7 +269,7 @@ pub fn audit_into(
         (statement_in put.new taken.new found)) }
     // There are no more items than slots.
     ensures within { IfOk result (λ found. FitsIn (length put.new) (length taken.new) found) }
-    // It is refused only where the slots are too few.
+    // It is refused only if there are too few slots.
     ensures refused { OnErr result (HasTooFewSlots shape.now events.now (length put.new) (length taken.new)) }
     ensures few { OnErr result ((length put.new < length events.now) ⊎ (length taken.new < length events.now)) }
 {
@@ -279,8 +279,7 @@ pub fn audit_into(
     Ok(found)
 }
 
-// What is found of the events. The items that were stored and those that were taken grow in these stores, which
-// are empty.
+// The finding on the events. The items stored and those taken are added to these stores, which are empty.
 fn find_in<S: Store<u64>>(
     shape: &Shape,
     events: &[Event],

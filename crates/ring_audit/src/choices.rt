@@ -1,4 +1,4 @@
-//! The few events of one side of which the next one has to be one.
+//! The few events of one side, one of which has to be the next.
 ghost use Rattle.std.specs.Prelude.{◌≡◌, ◌≢◌, ℕ, Bool, None, Some};
 ghost use Rattle.bits_core.specs.declared.events.Side.TheVariants.{P};
 ghost use Rattle.bits_core.specs.declared.events.Bit.{Bit};

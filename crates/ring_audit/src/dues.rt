@@ -1,4 +1,4 @@
-//! Which events of a side go on with the programs behind a history.
+//! Which events of a side continue the programs after a history.
 ghost use Rattle.std.specs.Prelude.{◌≡◌, ◌↔◌, ◌++◌, ◌∷◌, [], List, Some, IsTrue, IfSome, MatchOption, true, false};
 ghost use Rattle.bits_core.specs.declared.events.Side.TheVariants.{P, C};
 ghost use Rattle.ring_audit.specs.Reading.{BothFollow};
@@ -54,17 +54,18 @@ impl Followers {
         }
     }
 
-    // What was read so far is of the programs.
+    // The events read so far are of the programs.
     fn follow(&self)
         requires { self.now.takes.consumer.shape ≡ self.now.puts.shape }
         ensures { (h : List Event) → BothStand self.now.puts.shape self.now.puts self.now.takes h →
             BothFollow self.now.puts.shape h }
     {
         self.puts.follow();
+        // only for the proof: gives what the readers have read
         let _told = self.takes.told();
     }
 
-    // The same readers once more.
+    // A copy of these readers.
     fn again(&self) -> Followers
         ensures { result ≡ self.now }
     {
@@ -74,7 +75,7 @@ impl Followers {
         }
     }
 
-    // Whether the event goes on with the programs behind what was read so far.
+    // Whether the event continues the programs after what was read so far.
     fn goes_on(&self, event: Event) -> bool
         requires { self.now.takes.consumer.shape ≡ self.now.puts.shape }
         ensures { (h : List Event) → BothStand self.now.puts.shape self.now.puts self.now.takes h →
@@ -86,7 +87,7 @@ impl Followers {
         on
     }
 
-    // The event, where it is of the side and goes on with the programs behind what was read so far.
+    // The event, if it is of the side and continues the programs after what was read so far.
     fn kept(&self, side: Side, event: Option<Event>) -> Option<Event>
         requires { self.now.takes.consumer.shape ≡ self.now.puts.shape }
         ensures kept { (e : Event) → result ≡ Some e → event ≡ Some e }
@@ -105,7 +106,7 @@ impl Followers {
         }
     }
 
-    // Events of which each is one that is of the side and goes on with the programs behind what was read so far.
+    // Events, each of which is of the side and continues the programs after what was read so far.
     fn candidates(&self, side: Side) -> Dues
         requires { self.now.takes.consumer.shape ≡ self.now.puts.shape }
         ensures only { (h : List Event) (e : Event) → BothStand self.now.puts.shape self.now.puts self.now.takes h →
@@ -119,7 +120,7 @@ impl Followers {
         }
     }
 
-    // The events of the side that go on with the programs behind what was read so far.
+    // The events of the side that continue the programs after what was read so far.
     fn dues(&self, side: Side) -> Dues
         requires { self.now.takes.consumer.shape ≡ self.now.puts.shape }
         ensures due { (h : List Event) → BothStand self.now.puts.shape self.now.puts self.now.takes h → (e : Event) →
@@ -135,7 +136,7 @@ impl Followers {
     }
 }
 
-// The readers after these events, where they are of the programs.
+// The readers after these events, if they are of the programs.
 fn read_all(shape: &Shape, events: &[Event]) -> Option<Followers>
     ensures shapes { IfSome result (λ readers. (readers.puts.shape ≡ shape.now) ×
         (readers.takes.consumer.shape ≡ shape.now)) }
@@ -151,16 +152,16 @@ fn read_all(shape: &Shape, events: &[Event]) -> Option<Followers>
     Some(readers)
 }
 
-/// The events of the side that go on with the programs behind these: each event of it with which both sides still
-/// follow their programs is told once, and no other. There are at most three; where these events are not of the
-/// programs, or the side has made its last call, there is none. They stand in one order: a read's answer 0, and 1; the begin of
-/// a scan, and of the close; the write of a digit 0, of 1, and of the count; the read of a word, and the write of the count.
+/// The events of the side that continue the programs after these: each event of the side with which both sides still follow
+/// their programs is returned once, and no other. There are at most three; if these events are not of the programs, or the side
+/// has made its last call, there is none. They come in a fixed order: a read's answer 0, and 1; the start of a scan, and of the
+/// close; the write of a digit 0, of 1, and of the count; the read of a word, and the write of the count.
 ///
-/// Said of the programs alone: whether the bits permit the answer of a read is the audit's to say. Where an audit
-/// tells `NotProgram` at a place, the events before that place are to be passed. It goes over them once and takes
-/// no memory.
+/// This is about the programs alone: whether the bits permit the answer of a read is for the audit to say. If an
+/// audit reports `NotProgram` at a place, pass the events before that place. It goes over them once and takes no
+/// memory.
 ///
-/// For example, behind no event they are `P read r0`, the begin of a put, and `P write x 1`, that of the close. In
+/// For example, after no event they are `P read r0`, the start of a put, and `P write x 1`, that of the close. In
 /// use: `lamport_ring audit --why`.
 pub fn due_behind(shape: &Shape, events: &[Event], side: Side) -> Dues
     ensures due { (e : Event) → IsDueOf result e ↔ ((e.side ≡ side) × GoesOnBehind shape.now events.now e) }
@@ -172,10 +173,10 @@ pub fn due_behind(shape: &Shape, events: &[Event], side: Side) -> Dues
     }
 }
 
-/// The events of each side that go on with the programs behind these, the producer's first, as [`due_behind`] tells
+/// The events of each side that continue the programs after these, the producer's first, as [`due_behind`] returns
 /// them. It goes over the events once for both, and takes no memory.
 ///
-/// In use: the page, where the producer may close and the consumer take behind any history.
+/// In use: the page, where the producer may close and the consumer take after any history.
 pub fn dues_of_both(shape: &Shape, events: &[Event]) -> (Dues, Dues)
     ensures puts { (e : Event) → IsDueOf result.0 e ↔ ((e.side ≡ P) × GoesOnBehind shape.now events.now e) }
     ensures takes { (e : Event) → IsDueOf result.1 e ↔ ((e.side ≡ C) × GoesOnBehind shape.now events.now e) }

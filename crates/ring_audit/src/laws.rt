@@ -1,5 +1,5 @@
-//! What holds of every finding. The law is the contract of a function that does nothing: a body that calls it has the statement
-//! at hand in its proof. For who compares two findings of one history.
+//! What holds for every finding. The law is the contract of a function that does nothing: a body calls it to have the statement
+//! in its proof. For code that compares two findings of one history.
 ghost use Rattle.ring_audit.specs.Audit.{OneFinding};
 
 /// A history has one finding.

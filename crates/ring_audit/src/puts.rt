@@ -16,10 +16,10 @@ use register_core::{UnaryScan, UnaryWriter, WordReader};
 use ring_core::{distance, has_room};
 use std::marker::Model;
 
-/// What an event of the producer came to.
+/// The meaning of an event of the producer.
 #[derive(Clone, Copy)]
 pub(crate) enum PutStep {
-    /// It is not the next one of any puts.
+    /// It is not the next event of any puts.
     Stops,
     /// It is.
     GoesOn,
@@ -41,8 +41,8 @@ enum Stage {
     Closed,
 }
 
-/// Reads the events of a producer as its puts, whose items it learns from the digits that they write, and
-/// their number from the count write. It takes no memory.
+/// Reads the events of a producer as its puts, whose items it derives from the digits written, and their
+/// number from the count write. It takes no memory.
 #[derive(Drop)]
 pub(crate) struct PutReader {
     shape: Shape,
@@ -70,7 +70,7 @@ impl Model for PutReader {
     ghost invariant = { λ r. IsPutReading (put_reading_of r) };
 }
 
-// The most items that may be stored behind a scan of this value, where one may.
+// The most items that may be stored after a scan of this value, if one may.
 fn most_items(shape: &Shape, count: u64, seen: u64) -> u64
     requires count { count < modulus_of shape.now }
     requires seen { seen < modulus_of shape.now }
@@ -108,7 +108,7 @@ impl PutReader {
         }
     }
 
-    /// The same reader once more.
+    /// A copy of this reader.
     pub fn again(&self) -> Self
         ensures { result ≡ self.now }
     {
@@ -118,7 +118,7 @@ impl PutReader {
         }
     }
 
-    /// Reads the producer's next event. Once it has stopped, nothing is said of it.
+    /// Reads the producer's next event. Once it has stopped, nothing is guaranteed.
     pub fn read(&mut self, event: Event) -> PutStep
         requires { event.side ≡ P }
         ensures shape { self.new.shape ≡ self.old.shape }
@@ -198,7 +198,7 @@ impl PutReader {
         }
     }
 
-    // Behind a scan that found room, or a whole word: the next word begins, or the count write.
+    // After a scan that found room, or a whole word: the next word begins, or the count write.
     fn begin_word(&mut self, access: Access) -> PutStep
         requires at { IsAtStage self.old Choosing None }
         ensures shape { self.new.shape ≡ self.old.shape }
@@ -216,7 +216,7 @@ impl PutReader {
         }
     }
 
-    // Behind a whole word: the count write begins, where the access is no write of the next word.
+    // After a whole word: the count write begins, if the access is not a write of the next word.
     fn begin_count(&mut self, access: Access) -> PutStep
         requires at { IsAtStage self.old Choosing None }
         requires some { self.old.some ≡ true }
@@ -230,7 +230,7 @@ impl PutReader {
             self.open_access = Some(access);
             PutStep::Counts
         } else {
-            // it has stopped, with a row that is at rest no more
+            // it has stopped, with a row that is no longer at rest
             self.stage = Stage::Closed;
             PutStep::Stops
         }
@@ -318,7 +318,7 @@ impl PutReader {
         PutStep::GoesOn
     }
 
-    /// The events of which the next one of any puts has to be one. Nothing else is said of the reader then.
+    /// The events, one of which has to be the next of any puts. Nothing else is guaranteed of the reader then.
     pub fn candidates(&mut self) -> Dues
         ensures only { (es : List Event) (items stored : List ℕ) (e : Event) →
             PutsStand self.old.shape self.old es items stored → e.side ≡ P → IsNoneOf result e →
@@ -331,7 +331,7 @@ impl PutReader {
         }
     }
 
-    // While no access is open: the begins of which the next one has to be one.
+    // While no access is open: the starts, one of which has to be the next.
     fn openings(&mut self) -> Dues
         requires { self.old.open_access ≡ None }
         ensures only { (es : List Event) (items stored : List ℕ) (access : Access) →
@@ -354,7 +354,7 @@ impl PutReader {
         }
     }
 
-    // Behind a scan that found room, or a whole word: the begins of the next word, and of the count write.
+    // After a scan that found room, or a whole word: the start of the next word, and of the count write.
     fn word_or_count(&mut self) -> Dues
         requires at { IsAtStage self.old Choosing None }
         ensures only { (es : List Event) (items stored : List ℕ) (access : Access) →
@@ -364,16 +364,17 @@ impl PutReader {
     {
         let word = WordReader::new(&self.shape, self.cell).next();
         self.row.write(self.next);
-        // it has stopped, with a row that is at rest no more
+        // it has stopped, with a row that is no longer at rest
         self.stage = Stage::Closed;
         writes(word, opening(Side::P, self.row.next()))
     }
 
-    /// What was read so far is a beginning of the events of puts.
+    /// What was read so far is a prefix of the events of puts.
     pub fn follow(&self)
         ensures { (es : List Event) (items stored : List ℕ) → PutsStand self.now.shape self.now es items stored →
             WerePut self.now.shape es items }
     {
+        // only for the proof: gives the invariant of the reader
         let _due = self.word.next();
     }
 }

@@ -1,4 +1,4 @@
-//! Events of one side: which access one begins, and which one it ends.
+//! Events of one side: which access an event begins, and which one it ends.
 ghost use Rattle.std.specs.Prelude.{◌≡◌, ◌↔◌, IsTrue, MatchOption, Bool, Some};
 ghost use Rattle.bits_core.specs.Bits as bits;
 ghost use Rattle.ring_audit.specs.Sides.{EndsSo, WritesNext, told_of};
@@ -16,7 +16,7 @@ pub fn begun_by(event: Event) -> Option<Access>
     }
 }
 
-// The answer to the access, where the event ends it. The answer to a write says nothing.
+// The answer to the access, if the event ends it. For a write the answer is ignored.
 pub fn answer_to(access: Access, event: Event) -> Option<bool>
     ensures { MatchOption result ((v : Bool) → ¬ EndsSo access event v) (EndsSo access event) }
 {
@@ -48,7 +48,7 @@ pub fn writes_next(read: Option<Access>, access: Access) -> bool
     }
 }
 
-// What an access tells: the answer of a read, or the value of a write.
+// The value of an access: the answer of a read, or the value of a write.
 pub fn told_by(access: Access, answer: bool) -> bool
     ensures { result ≡ told_of access answer }
 {

@@ -16,19 +16,19 @@ use bits_core::{Access, Event, Shape, Side};
 use ring_core::{Consumer, TakeReply};
 use std::marker::Model;
 
-/// What an event of the consumer came to.
+/// The meaning of an event of the consumer.
 #[derive(Clone, Copy)]
 pub(crate) enum TakeStep {
-    /// It is not the next one of any takes.
+    /// It is not the next event of any takes.
     Stops,
     /// It is, and ends no take of items.
     GoesOn,
-    /// It ends a take of the items that [`TakeReader::items`] tells.
+    /// It ends a take of the items that [`TakeReader::items`] returns.
     Takes,
 }
 
-/// Reads the events of a consumer as its takes: it has a consumer make the same takes, whose number of items it learns
-/// from their count write. It takes no memory.
+/// Reads the events of a consumer as its takes: it drives a consumer through the same takes, whose number of items it
+/// derives from their count write. It takes no memory.
 #[derive(Drop)]
 pub(crate) struct TakeReader {
     consumer: Consumer,
@@ -62,7 +62,7 @@ impl TakeReader {
         }
     }
 
-    /// The same reader once more.
+    /// A copy of this reader.
     pub fn again(&self) -> Self
         ensures { result ≡ self.now }
     {
@@ -72,7 +72,7 @@ impl TakeReader {
         }
     }
 
-    /// Reads the consumer's next event. Once it has stopped, nothing is said of it.
+    /// Reads the consumer's next event. Once it has stopped, nothing is guaranteed.
     pub fn read(&mut self, event: Event) -> TakeStep
         requires { event.side ≡ C }
         ensures shape { self.new.consumer.shape ≡ self.old.consumer.shape }
@@ -96,7 +96,7 @@ impl TakeReader {
         }
     }
 
-    // An access begins: whether it is one that may.
+    // An access begins: whether it is one that may begin.
     fn begin(&mut self, access: Access) -> bool
         ensures shape { self.new.consumer.shape ≡ self.old.consumer.shape }
         ensures goes_on { result ≡ true → (es : List Event) (items : List ℕ) →
@@ -126,8 +126,8 @@ impl TakeReader {
         }
     }
 
-    // The access that is due, once a take was begun where none was under way, of as many items as may be taken. Another
-    // may begin behind a whole word alone: the first write of the count.
+    // The access that is due, once a take was started if none was under way, of as many items as may be taken. Another
+    // access may begin only after a complete word: the first write of the count.
     fn due(&mut self) -> Option<Access>
         requires { self.old.open_access ≡ None }
         ensures shape { self.new.consumer.shape ≡ self.old.consumer.shape }
@@ -149,8 +149,8 @@ impl TakeReader {
         }
     }
 
-    // Behind a whole word: the first write of the count, where the take under way takes no more. Of those writes no
-    // other may begin.
+    // After a whole word: the first write of the count, if the take under way takes no more. No other of these
+    // writes may begin.
     fn count(&mut self) -> Option<Access>
         requires none { self.old.open_access ≡ None }
         requires between { IsBetweenWords self.old.consumer }
@@ -185,14 +185,14 @@ impl TakeReader {
         step_of(self.consumer.reply())
     }
 
-    /// The items that the last take took, in order, and during a take those that it has read so far.
+    /// The items that the last take took, in order, or during a take those that it has read so far.
     pub fn items(&self) -> &[u64]
         ensures { result.now ≡ self.now.consumer.items }
     {
         self.consumer.items()
     }
 
-    /// The events of which the next one of any takes has to be one. Nothing else is said of the reader then.
+    /// The events, one of which has to be the next of any takes. Nothing else is guaranteed of the reader then.
     pub fn candidates(&mut self) -> Dues
         ensures only { (es : List Event) (items : List ℕ) (e : Event) →
             TakesStand self.old.consumer.shape self.old es items → e.side ≡ C → IsNoneOf result e →
@@ -205,7 +205,7 @@ impl TakeReader {
         }
     }
 
-    // While no access is open: the begins of which the next one has to be one.
+    // While no access is open: the starts, one of which has to be the next.
     fn openings(&mut self) -> Dues
         requires { self.old.open_access ≡ None }
         ensures only { (es : List Event) (items : List ℕ) (access : Access) →
@@ -225,17 +225,18 @@ impl TakeReader {
         }
     }
 
-    /// Whether a take was told that the ring is closed, and what was read so far.
+    /// Whether a take returned Closed, and what was read so far.
     pub fn told(&self) -> bool
         ensures { (es : List Event) (items : List ℕ) → TakesStand self.now.consumer.shape self.now es items →
             WereTaken self.now.consumer.shape es items result }
     {
+        // only for the proof: gives the contract of `next` for the consumer
         let _due = self.consumer.next();
         was_told(self.consumer.reply())
     }
 }
 
-// What an access that ended came to, by the reply.
+// The meaning of an access that ended, by the reply.
 fn step_of(reply: Option<TakeReply>) -> TakeStep
     ensures { result ≡ step_by reply }
 {
@@ -245,7 +246,7 @@ fn step_of(reply: Option<TakeReply>) -> TakeStep
     }
 }
 
-// Whether the reply tells that the ring is closed.
+// Whether the reply is Closed.
 fn was_told(reply: Option<TakeReply>) -> bool
     ensures { result ≡ tells_closed reply }
 {

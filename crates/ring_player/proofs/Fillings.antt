@@ -10,7 +10,7 @@ use Rattle.ring_player.specs.Plays.{AreAttempts, offered}
 use Rattle.ring_script.specs.Content.{Content}
 use Rattle.ring_core.proofs.Recorded.RecordedPuts.{took_all as taken_so}
 
--- a put among attempts, behind others, is one of the items that are offered there
+-- a put among attempts, after others, is a put of the items offered there
 attempt_at :
     (script : Content) (n : ℕ) (before after : List Put) (x : Put) → AreAttempts script n (before ++ x ∷ after) →
     IsPutOf script.shape (stored_in n before) (offered script (stored_in n before)) x

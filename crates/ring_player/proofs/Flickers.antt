@@ -58,7 +58,7 @@ module _ (shape : Shape) (h : List Event) (lawful : IsLawful shape h) where
   unfolding HasFlickers
   has_flickers = (λ place. count_below place (is_flicker_at h), numbered_by_marks, refl)
 
-  -- answers in turn by marks are so by intervals
+  -- answers in turn by marks are in turn by intervals
   pub in_turn : (oracle : List Bool) (answers : ℕ → Bool) → IsAtTurn (turn oracle) h answers → AreInTurn oracle h
   unfolding AreInTurn
   in_turn oracle answers t = (λ place. count_below place (is_flicker_at h), numbered_by_marks, by_turn)

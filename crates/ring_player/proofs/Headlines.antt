@@ -1,4 +1,4 @@
--- The sentence of the ring, from its law.
+-- The main theorem, from the law of the ring.
 use Rattle.std.proofs.Common.{◌≡◌, ℕ, zero, suc, ◌+◌, ◌%◌, List, [], ◌∷◌, ◌++◌, length, take, drop, refl, sym, ap, ap₂, subst, ◌∙◌, arith}
 use Rattle.bits_core.specs.declared.events.Side.{Side}
 use Rattle.bits_core.specs.declared.events.Side.TheVariants.{P, C}
@@ -35,7 +35,7 @@ drop-drop m zero xs = let none : m ≡ 0 + m = omega arith in none_first m xs �
 drop-drop m (suc n) [] = drop-nil m ∙ sym (drop-nil (suc n + m))
 drop-drop m (suc n) (x ∷ xs) = let shift : suc (n + m) ≡ suc n + m = omega arith in drop-drop m n xs ∙ ap (λ k. drop k (x ∷ xs)) shift
 
--- the first of some items, and those behind them
+-- the first of some items, and those after them
 pub parts : (r b : ℕ) (xs : List ℕ) → take r (take b xs) ++ drop (length (take r (take b xs))) xs ≡ xs
 parts zero zero [] = refl
 parts zero zero (x ∷ xs) = refl

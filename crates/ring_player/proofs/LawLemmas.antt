@@ -1,4 +1,4 @@
--- The laws of src/laws.rt as lemmas, each under its name, and two more that only proofs ask for: what proofs cite, here and in the
+-- The laws of src/laws.rt as lemmas, each under its name, and two more that only proofs need: cited by proofs, here and in the
 -- crates above.
 use Rattle.std.specs.Prelude.{◌≡◌, ℕ, ◌+◌, Bool, true, false, List, [], ◌∷◌, ◌++◌}
 use Rattle.bits_core.specs.declared.events.Act.TheVariants.{ReadEnd}
@@ -35,7 +35,7 @@ every_play_holds script letters h plays puts takes p q =
 pub every_play_fills : EveryPlayFills
 every_play_fills = fills ring_law_fill
 
--- the overlapped reads so far were answered in turn, with one event more: where it ends such a read, it has the oracle's next answer
+-- the overlapped reads so far were answered in turn, with one more event: if it ends such a read, it has the oracle's next answer
 abbrev pub TurnsGoOn : Type 0
 TurnsGoOn =
     (turns before after : ℕ → Bool) (h : List Event) (e : Event) → IsAtTurn turns h before → (is_flicker h e ≡ false → (i : ℕ) → after i ≡ before i) →
@@ -44,7 +44,7 @@ TurnsGoOn =
 pub turns_go_on : TurnsGoOn
 turns_go_on = more
 
--- answers that are in turn by the marks which a memory keeps are so by intervals
+-- answers that are in turn by the marks of a memory are in turn by intervals
 abbrev pub TurnsAreByInterval : Type 0
 TurnsAreByInterval = (shape : Shape) (h : List Event) (oracle : List Bool) (answers : ℕ → Bool) → IsLawful shape h → IsAtTurn (turn oracle) h answers → AreInTurn oracle h
 

@@ -1,4 +1,4 @@
--- What one event does to the words that a play is stated in.
+-- What one event does to the functions that define a play.
 use Rattle.std.proofs.Common.{◌≡◌, inl, inr, ◌+◌, ◌*◌, ◌<◌, ◌≤◌, Bool, true, false, Option, Some, None, List, [], ◌∷◌, ◌++◌, length, refl, sym, ap, subst, ◌∙◌, append_assoc, append-nil, length-append, arith}
 use Rattle.std.specs.Prelude.{if◌then◌else◌, IfSome}
 use Rattle.bits_core.specs.declared.events.Side.{Side}
@@ -36,12 +36,12 @@ own_other s h e by = subhistory_changes (other s) h e ∙ ap (λ t. if t then su
 
 -- ---- the events of accesses
 
--- an access begins alike whatever it is answered
+-- the start of an access does not depend on its answer
 pub begins_as : (s : Side) (a : Access) (v : Bool) → begin_event s (answered a v) ≡ opening_event s a
 begins_as s (access.Read b) v = refl
 begins_as s (access.Write b w) v = refl
 
--- the events of one access more
+-- the events of one more access
 pub events-more : (s : Side) (list : List Made) (a : Access) (v : Bool) → events_of s (list ++ answered a v ∷ []) ≡ so_far s list (Some a) ++ end_event s (answered a v) ∷ []
 events-more s list a v =
     events_of-append s list (answered a v ∷ []) ∙ ap (λ e. events_of s list ++ (e ∷ end_event s (answered a v) ∷ [])) (begins_as s a v)
@@ -52,7 +52,7 @@ so_far_length s list None = (omega (arith, length-events s list), omega (arith, 
 so_far_length s list (Some a) =
     (omega (arith, length-events s list, length-append (events_of s list) (opening_event s a ∷ [])), omega (arith, length-events s list, length-append (events_of s list) (opening_event s a ∷ [])))
 
--- where the accesses whose events these are go on, those of the whole are more, and begin so
+-- if the accesses of these events continue, those of the whole are more, and begin with these
 pub goes_longer :
     (s : Side) (list done whole rest : List Made) (a : Access) → events_of s list ≡ events_of s done → (list ++ answered a true ∷ []) ++ rest ≡ whole →
     (2 * length done < 2 * length whole) × IsPrefix (events_of s done) (events_of s whole)
@@ -63,15 +63,15 @@ goes_longer s list done whole rest a same e =
       (events_of s more, ap (λ l. l ++ events_of s more) (sym same) ∙ sym (events_of-append s list more) ∙ ap (events_of s) parts),
     )
 
--- the access that is due is of a bit of this shape, by the side that may
+-- the access that is due is of a bit of this shape, by the side that may make it
 pub right : (of shape : Shape) (s : Side) (due : Option Access) (a : Access) → of ≡ shape → IfSome due (IsOpenRight of s) → due ≡ Some a → IsOpenRight shape s a
 right of shape s due a same ok is = subst (λ t. IsOpenRight t s a) same (subst (λ d. IfSome d (IsOpenRight of s)) is ok)
 
--- a beginning of a beginning is one
+-- a prefix of a prefix is a prefix
 pub begins-trans : {A : Type 0} (xs ys zs : List A) → IsPrefix xs ys → IsPrefix ys zs → IsPrefix xs zs
 begins-trans xs ys zs (r, e) (r', f) = (r ++ r', sym (append_assoc xs r r') ∙ ap (λ l. l ++ r') e ∙ f)
 
--- a list and its last element, where others begin it with one element more
+-- a list and its last element, if others are a prefix of it with one more element
 pub split_last : {A : Type 0} (xs ys zs : List A) (x y : A) → xs ++ x ∷ [] ≡ ys ++ y ∷ zs → (ws : List A) × (xs ≡ ys ++ ws)
 split_last xs [] zs x y e = (xs, refl)
 split_last [] (w ∷ []) zs x y e = absurd (cc)
@@ -87,7 +87,7 @@ pub no_open : (o : Option Access) → ((a : Access) → o ≡ Some a → None �
 no_open None f = refl
 no_open (Some a) f = sym (f a refl)
 
--- the events so far begin those with the due access made
+-- the events so far are a prefix of those with the due access made
 pub so_far_begins :
     (s : Side) (list : List Made) (o : Option Access) (a : Access) (v : Bool) → ((b : Access) → o ≡ Some b → Some a ≡ Some b) → IsPrefix (so_far s list o) (events_of s (list ++ answered a v ∷ []))
 so_far_begins s list None a v due = (events_of s (answered a v ∷ []), sym (events_of-append s list (answered a v ∷ [])))
@@ -96,7 +96,7 @@ so_far_begins s list (Some b) a v due =
     let same : a ≡ b = cc in
     (end_event s (answered a v) ∷ [], ap (λ x. so_far s list (Some x) ++ end_event s (answered a v) ∷ []) (sym same) ∙ sym (events-more s list a v))
 
--- an open access is no whole list of accesses
+-- events with an open access are not those of complete accesses
 pub not_whole : (s : Side) (xs ys : List Made) (e : Event) → events_of s xs ++ e ∷ [] ≡ events_of s ys → ⊥
 not_whole s xs ys e same = absurd (omega (arith, ap length same, length-append (events_of s xs) (e ∷ []), length-events s xs, length-events s ys))
 
@@ -109,7 +109,7 @@ open_not_done script s h list a are d =
     let w = done_whole script s (subhistory s h) d in
     not_whole s list w.0 (opening_event s a) (sym are ∙ w.1)
 
--- a beginning of a program is one
+-- a prefix of a program is a program
 pub program_beginning : (script : Content) (s : Side) (xs ys : List Event) → IsProgram script s (xs ++ ys) → IsProgram script s xs
 program_beginning script P xs ys (calls, are, (rest, e)) = (calls, are, (ys ++ rest, sym (append_assoc xs ys rest) ∙ e))
 program_beginning script C xs ys (calls, are, (rest, e)) = (calls, are, (ys ++ rest, sym (append_assoc xs ys rest) ∙ e))

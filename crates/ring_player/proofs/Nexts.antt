@@ -1,4 +1,4 @@
--- What the next access of a machine says, by cases of the call under way and of the access.
+-- What the next access of a machine implies, by cases of the call under way and of the access.
 use Rattle.std.proofs.Common.{◌≡◌, ℕ, Bool, true, false, Option, Some, None, List, refl, sym, subst}
 use Rattle.bits_core.specs.declared.events.Access.{Access}
 use Rattle.bits_core.specs.declared.shapes.Shape.{Shape}
@@ -31,7 +31,7 @@ put_next p (Some a) rest on calls made s =
     let (c, is, goes) = on calls made a s refl in
     subst (λ d. IsNextPut p.shape calls d made (Some a)) (sym is) goes
 
--- of a take of at most so many items
+-- for a take of at most `wanted` items
 abbrev pub IsNextTake : Shape → ℕ → Takes → Bool → List Made → Option Access → Type 0
 IsNextTake shape wanted calls false made None = made ≡ take_program shape calls
 IsNextTake shape wanted calls true made None = ⊥

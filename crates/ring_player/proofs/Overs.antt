@@ -1,4 +1,4 @@
--- The calls that are over, where all but the last are.
+-- The calls that are over, if all but the last are.
 use Rattle.std.proofs.Common.{◌≡◌, ℕ, ◌-◌, ◌*◌, ◌<◌, ◌≤◌, Bool, true, false, cond, List, [], ◌∷◌, ◌++◌, length, refl, ap, ap₂, arith, nat_le}
 use Rattle.std.proofs.lemmas.Bool.{le-leb, leb-true, lt-leb}
 use Rattle.bits_core.specs.declared.shapes.Shape.{Shape}

@@ -131,7 +131,7 @@ calls_asked script Close calls more m asked (more_is, are, o) = record {
   closes = λ e. subst (λ (t : Puts). (script.closes ≡ true) × (stored_in 0 t.puts ≡ length script.items)) (sym more_is) asked;
 }
 
--- what the access that is due, once it is answered so, goes on to
+-- what the due access, with its answer, continues to
 goes_on :
     (script : Content) (c : Option Call) (calls : Puts) (list : List Made) (a : Access) (v : Bool) → AreAttempts script 0 calls.puts → IsAsked script calls c →
     IsNextPut script.shape calls c list (Some a) → (LastBitIsDue script.shape P (Some a) → v ≡ true) → IsProgram script P (events_of P (list ++ answered a v ∷ []))
@@ -148,12 +148,12 @@ StandsOn p p' = (calls : Puts) (made : List Made) → ProducerStands p calls mad
 abbrev HasMovedFrom : ProducerState → ProducerState → List Made → Access → Bool → Type 0
 HasMovedFrom p p' list a v = (calls : Puts) → ProducerStands p calls list → ProducerHasMoved p p' calls (list ++ answered a v ∷ [])
 
--- where none is due, no call is under way, and the accesses are those of the calls
+-- if none is due, no call is under way, and the accesses are those of the calls
 idle : (shape : Shape) (calls : Puts) (c : Option Call) (made : List Made) → IsNextPut shape calls c made None → (c ≡ None) × (made ≡ put_program shape calls)
 idle shape calls None made next = (refl, next)
 idle shape calls (Some c) made next = absurd next
 
--- where no call is under way the accesses are those of the calls
+-- if no call is under way the accesses are those of the calls
 at_rest_is : (shape : Shape) (calls : Puts) (c : Option Call) (made : List Made) (due : Option Access) → c ≡ None → IsNextPut shape calls c made due → made ≡ put_program shape calls
 at_rest_is shape calls None made None e next = next
 at_rest_is shape calls None made (Some a) e next = absurd next
@@ -190,7 +190,7 @@ begins_access script p kept list due a s next is =
     stands_with s p (Some a) s.there s.same_shape s.batched s.asked (program_beginning script P (so_far P list (Some a)) _
     (subst (λ t. IsProgram script P t) (events-more P list a true) (goes_on script (call_of p) s.calls list a true s.made.attempts s.asked n (λ l. refl))))
 
--- ---- where an access is due the side is not done
+-- ---- if an access is due the side is not done
 
 pub unfinished :
     (script : Content) (p : ProducerState) (kept : PutTally) (list : List Made) (due : Option Access) (a : Access) → PutActorStands script p kept list None → NextOf p due →
@@ -231,7 +231,7 @@ unfinished script p kept list due a s next is d =
 
 -- ---- the next call begins
 
--- it has begun one, or it may not
+-- it has started a call, or it may not
 pub began_one :
     (script : Content) (p p' : ProducerState) (kept : PutTally) (list : List Made) (items : List ℕ) → PutActorStands script p kept list None → NextOf p None → kept.stored < length script.items →
     (p.closed ≡ false → (call_of p' ≡ Some (Put items)) × (p'.closed ≡ false)) → call_of p' ≡ None → ⊥
@@ -273,7 +273,7 @@ is_done script p kept list s next over closes =
       sym (closes ∙ s.there.closed_is ∙ ap (closes_with s.calls) none),
     )
 
--- a close that was not asked for was not made
+-- a close that was not requested was not made
 pub not_closed : (script : Content) (p : ProducerState) (kept : PutTally) (list : List Made) → PutActorStands script p kept list None → NextOf p None → script.closes ≡ false → script.closes ≡ p.closed
 not_closed script p kept list s next closes =
     let (none, whole) = idle p.shape s.calls (call_of p) list (next s.calls list s.there) in
@@ -301,7 +301,7 @@ fulls-more [] (Full seen) = refl
 fulls-more (Stored seen items ∷ xs) x = fulls-more xs x
 fulls-more (Full seen ∷ xs) x = omega (arith, fulls-more xs x)
 
--- what the actor has counted is what is stored, and it stands after one access more
+-- what the actor has counted is what is stored, and it stands after one more access
 pub ended :
     (script : Content) (p p' : ProducerState) (kept : PutTally) (list : List Made) (due : Option Access) (a : Access) (v : Bool) → PutActorStands script p kept list (Some a) → NextOf p due → due ≡ due_put p →
     due_put p ≡ Some a → (LastBitIsDue script.shape P (due_put p) → v ≡ true) → HasMovedFrom p p' list a v → p'.shape ≡ p.shape → p'.batched ≡ p.batched → (due' : Option Access) → NextOf p' due' →
@@ -335,7 +335,7 @@ ended script p p' kept list due a v s next due_is is one moved shape batched due
     quiet_full : (p'.reply ≡ None) → kept.full + full_in_reply (batch_reply p') ≡ kept.full
     quiet_full e = let nothing : kept.full + 0 ≡ kept.full = omega arith in ap (λ t. kept.full + full_in_reply t) (none_told e) ∙ nothing
 
-    -- where no put has ended
+    -- if no put has ended
     no_more :
         (more : Puts) → more.puts ≡ s.calls.puts → p'.reply ≡ None → length (put_program script.shape more) ≤ length (list ++ answered a v ∷ []) →
         ArePutsMade script (after_reply kept (batch_reply p')) (list ++ answered a v ∷ []) more
@@ -427,7 +427,7 @@ new_putting script p is there = record {
     closed : false ≡ true → (script.closes ≡ true) × (0 ≡ length script.items)
     closed e = absurd (cc)
 
--- where none is due, no call is under way
+-- if none is due, no call is under way
 pub resting :
     (script : Content) (p : ProducerState) (kept : PutTally) (list : List Made) (due : Option Access) → PutActorStands script p kept list None → NextOf p due → due ≡ None → call_of p ≡ None
 resting script p kept list due s next none = (idle script.shape s.calls (call_of p) list (subst (λ d. IsNextPut script.shape s.calls (call_of p) list d) none (next_in script p kept list None due s next))).0

@@ -38,7 +38,7 @@ open_by s h e by = open_changes s h e ∙ ap (λ t. if t then begun_by e else op
 none_some : {A : Type 0} {G : Type 0} (a : A) → None ≡ Some a → G
 none_some a p = absurd (cc)
 
--- where the side stands, by the access that it has open
+-- the side's state, by the access that it has open
 pub playing :
     (s : Side) (h : List Event) (due : Option Access) (stands : Stands) (list : List Made) (o : Option Access) → open_access s h ≡ o → stands list o → subhistory s h ≡ so_far s list o →
     ((a : Access) → o ≡ Some a → due ≡ Some a) → IsPlaying s h due stands
@@ -55,7 +55,7 @@ there_with s h due stands o p e = subst (stands p.list) e p.there
 pub own_with : (s : Side) (h : List Event) (due : Option Access) (stands : Stands) (o : Option Access) → (p : IsPlaying s h due stands) → open_access s h ≡ o → subhistory s h ≡ so_far s p.list o
 own_with s h due stands o p e = p.own_is ∙ ap (so_far s p.list) e
 
--- an actor whose side stands still
+-- an actor whose side makes no step
 pub playing_on : (s : Side) (h : List Event) (due due' : Option Access) (stands stands' : Stands) → IsPlaying s h due stands → due' ≡ due → ((list : List Made) (o : Option Access) → stands list o → stands' list o) → IsPlaying s h due' stands'
 playing_on s h due due' stands stands' p same on = record { list = p.list; there = on p.list (open_access s h) p.there; own_is = p.own_is; is_due = λ a e. same ∙ p.is_due a e }
 
@@ -100,7 +100,7 @@ all_zero row list before last modulus b e f g =
 row_same : (s : Side) (i j : ℕ) (m : ℕ) → suc i ≡ m → suc j ≡ m → row_read_by s i ≡ row_read_by s j
 row_same s i j m e f = let same : i ≡ j = omega (arith, e, f) in ap (row_read_by s) same
 
--- the other side has not read the last bit as 0 behind reads of 0 in all bits below
+-- the other side has not read the last bit as 0 after reads of 0 in all bits below
 not_missed :
     (shape : Shape) (s : Side) (h : List Event) (list before : List Made) (b : Bit) (last : ℕ) → NeverMisses s shape h → subhistory (other s) h ≡ events_of (other s) (list ++ Read b false ∷ []) →
     list ≡ before ++ zero_reads (row_bit s) last → suc last ≡ modulus_of shape → b ≡ row_bit s last → ⊥
@@ -142,9 +142,9 @@ answers_one script s h h' due stands b false p o is lawful other_is zeros last =
     let others : IsProgram script (other s) (subhistory (other s) h') = subst (λ t. IsProgram script (other s) t) (sym (ap (subhistory (other s)) is ∙ own_other s h e refl)) other_is in
     absurd (never_false script s h' p.list b lawful others there (zeros last) i (same_read b (row_read_by s i) (sym (p.is_due (access.Read b) o) ∙ due_is)) top)
 
--- ---- no more accesses than a count can tell
+-- ---- no more accesses than a number can count
 
--- what has to hold where it ends it
+-- what has to hold when it ends the access
 pub ends_there :
     (s : Side) (h : List Event) (due mid : Option Access) (stands between : Stands) (a : Access) (n : ℕ) → IsPlaying s h due stands → mid ≡ due →
     ((list : List Made) (o : Option Access) → stands list o → between list o) → open_access s h ≡ Some a → n ≡ length h → n < 2 ^ 64 →

@@ -1,4 +1,4 @@
--- What the consumer's actor keeps where an access ends.
+-- What the consumer's actor keeps when an access ends.
 use Rattle.std.proofs.Common.{◌≡◌, ◌⊎◌, inl, inr, ℕ, ◌+◌, ◌<◌, ◌≤◌, Bool, true, false, Option, Some, None, List, [], ◌∷◌, ◌++◌, length, refl, sym, ap, ap₂, subst, ◌∙◌, append-nil, length-append, arith}
 use Rattle.bits_core.specs.declared.events.Side.TheVariants.{C}
 use Rattle.bits_core.specs.declared.events.Access.{Access}
@@ -21,7 +21,7 @@ use Rattle.ring_player.proofs.Nexts.{IsNextTake, NextTake as NextOf}
 use Rattle.ring_player.proofs.TakeLists.{after_is, all-more, all_are, empties-more, take_of_calls, take_within, taken-more}
 use Rattle.ring_player.proofs.Takings.{at_rest_is, goes_on, HasMovedFrom, next_in, one_more}
 
--- what the actor keeps of a reply, by the items that the machine has
+-- what the actor keeps for a reply, by the items that the machine has
 abbrev pub kept_of : Option TakeBatchReply → List ℕ → List ℕ
 kept_of None items = []
 kept_of (Some (batch.Taken count)) items = items
@@ -34,11 +34,11 @@ told_by (Some (batch.Taken count)) told = told
 told_by (Some batch.Empty) told = told
 told_by (Some batch.Closed) told = true
 
--- the machine's answer
+-- the machine's reply
 abbrev pub reply_of : ConsumerState → Option TakeBatchReply
 reply_of p = take_batch_reply p.reply p.items
 
--- a take's answer
+-- a take's reply
 abbrev answer_of : Take → Option TakeBatchReply
 answer_of x = take_batch_reply (Some (take_reply_to x)) (taken_of x)
 
@@ -56,7 +56,7 @@ told_so (ItemAfterClose seen again []) told = refl
 told_so (ItemAfterClose seen again (item ∷ items)) told = refl
 told_so (Empty seen) told = refl
 
--- what the actor has once the access has ended, by the machine's answer
+-- what the actor has once the access has ended, by the machine's reply
 abbrev pub Ended : Content → (p' : ConsumerState) → (taken : List ℕ) → (told : Bool) → (empty : ℕ) → (list : List Made) → (reply : Option TakeBatchReply) → Type 0
 Ended script p' taken told empty list reply =
     TakeActorStands script p' (taken ++ kept_of reply p'.items) (told_by reply told) (empty + empty_in reply) list None × (length (kept_of reply p'.items) ≤ wanted_at script (length taken))

@@ -1,4 +1,4 @@
--- What takes took, and what they told, one after the other.
+-- What takes took, and what they returned, one after the other.
 use Rattle.std.proofs.Common.{◌≡◌, ℕ, ◌+◌, ◌*◌, ◌<◌, ◌≤◌, Bool, false, Some, List, [], ◌∷◌, ◌++◌, length, refl, sym, ap, ap₂, subst, ◌∙◌, append_assoc, append-nil, length-append, arith}
 use Rattle.std.specs.Prelude.{if◌then◌else◌, ◌-◌}
 use Rattle.std.proofs.lemmas.Bool.{le-leb, lt-leb}
@@ -43,16 +43,16 @@ pub all_are : (k : ℕ) (xs : List Take) → k + length (all_taken xs) ≡ taken
 all_are k [] = omega arith
 all_are k (x ∷ xs) = omega (arith, all_are (taken_after k x) xs, after_is k x, length-append (taken_of x) (all_taken xs))
 
--- each of some takes is one
+-- each of these takes is a take
 pub take_at : (shape : Shape) (k : ℕ) (xs : List Take) (x : Take) (ys : List Take) (end : End) → AreTakes shape k (xs ++ x ∷ ys) end → IsTake shape (taken_in k xs) x
 take_at shape k [] x ys end are = are.0
 take_at shape k (y ∷ xs) x ys end are = take_at shape (taken_after k y) xs x ys end are.1
 
--- as it is told of calls
+-- the same in terms of calls
 pub take_of_calls : (shape : Shape) (wanted : ℕ) (calls : Takes) (x : Take) → IsTakeOf shape (count_taken shape calls).number wanted x → IsTakeOf shape (taken_in 0 calls.takes) wanted x
 take_of_calls shape wanted calls x of = subst (λ (k : ℕ). IsTakeOf shape k wanted x) (taken_number shape first_count calls.takes) of
 
--- ---- what they were answered
+-- ---- their replies
 
 pub empties-more : (xs : List Take) (x : Take) → empties xs + empty_in (take_batch_reply (Some (take_reply_to x)) (taken_of x)) ≡ empties (xs ++ x ∷ [])
 empties-more [] (Item seen []) = refl

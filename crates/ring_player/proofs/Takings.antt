@@ -70,7 +70,7 @@ idle :
 idle shape wanted calls false made next = (refl, next)
 idle shape wanted calls true made next = absurd next
 
--- where no take is under way the accesses are those of the calls
+-- if no take is under way the accesses are those of the calls
 pub at_rest_is :
     (shape : Shape) (wanted : ℕ) (calls : Takes) (taking : Bool) (made : List Made) (due : Option Access) → taking ≡ false → IsNextTake shape wanted calls taking made due →
     made ≡ take_program shape calls
@@ -81,7 +81,7 @@ at_rest_is shape wanted calls true made due e next = absurd (true_false e)
     true_false : true ≡ false → ⊥
     true_false e = absurd (cc)
 
--- the take under way wants what the world does
+-- the take under way wants as many items as the world
 of_wanted :
     (shape : Shape) (wanted w : ℕ) (calls : Takes) (taking : Bool) (made : List Made) (due : Option Access) → (taking ≡ true → wanted ≡ w) → IsNextTake shape wanted calls taking made due →
     IsNextTake shape w calls taking made due
@@ -125,7 +125,7 @@ begins_access script p taken told empty list due a s next is =
     stands_with s p (Some a) s.there s.same_shape s.wants s.asked (program_beginning script C (so_far C list (Some a)) _
     (subst (λ t. IsProgram script C t) (events-more C list a true) (goes_on script (is_taking p) s.calls list a true s.takes_are s.asked n (λ l. refl))))
 
--- ---- where an access is due the side is not done
+-- ---- if an access is due the side is not done
 
 pub unfinished :
     (script : Content) (p : ConsumerState) (taken : List ℕ) (told : Bool) (empty : ℕ) (list : List Made) (due : Option Access) (a : Access) → TakeActorStands script p taken told empty list None →
@@ -179,7 +179,7 @@ began_take script p p' taken told empty list s left not_told begun shape on =
     let count : length taken ≡ taken_in 0 s.calls.takes = omega (arith, ap length s.taken_is, all_are 0 s.calls.takes) in
     stands_with s p' None (on s.calls list s.there) (shape ∙ s.same_shape) (λ e. (begun (s.there.told_is ∙ sym s.told_is ∙ not_told)).1 ∙ ap (wanted_at script) count) (λ e. omega (arith, left, count)) s.program
 
--- it has begun one
+-- it has started a take
 pub began_one :
     (script : Content) (p p' : ConsumerState) (taken : List ℕ) (told : Bool) (empty : ℕ) (list : List Made) → TakeActorStands script p taken told empty list None → told ≡ false →
     (p.told ≡ false → is_taking p' ≡ true) → is_taking p' ≡ false → ⊥
@@ -225,7 +225,7 @@ new_taking script p is there = record {
     true_false : true ≡ false → ⊥
     true_false e = absurd (cc)
 
--- where none is due, no take is under way
+-- if none is due, no take is under way
 pub resting :
     (script : Content) (p : ConsumerState) (taken : List ℕ) (told : Bool) (empty : ℕ) (list : List Made) (due : Option Access) → TakeActorStands script p taken told empty list None → NextOf p due → due ≡ None → is_taking p ≡ false
 resting script p taken told empty list due s next none =

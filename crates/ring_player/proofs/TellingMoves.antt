@@ -1,4 +1,4 @@
--- What is told of a history with one event more, whichever calls it is read as.
+-- What is recorded of a history with one more event, whichever calls it is read as.
 use Rattle.std.proofs.Common.{◌≡◌, ℕ, suc, ◌+◌, ◌<◌, Bool, true, false, if◌then◌else◌, Option, Some, None, List, [], ◌∷◌, ◌++◌, length, refl, sym, ap, ap₂, subst, ◌∙◌, arith, append-nil, append_assoc, length-append}
 use Rattle.std.specs.Prelude.{◌↔◌, replicate}
 use Rattle.std.proofs.lemmas.List.{map-append, replicate-append-replicate}
@@ -30,7 +30,7 @@ use Rattle.ring_player.proofs.Moves.{by_side as is_by_side, not_by, own_by, own_
 use Rattle.ring_player.proofs.Overs.{none_over_puts, none_over_takes}
 use Rattle.bits_core.proofs.LawLemmas.{subhistory_changes}
 
--- ---- one event more
+-- ---- one more event
 
 abbrev Telling : Type 0
 Telling = ℕ → List calls.Event
@@ -41,7 +41,7 @@ own_first s x h e = ap (λ (t : Bool). length (if t then x ∷ subhistory s h el
 own_not_first : (s : Side) (x : Event) (h : List Event) → x.side ≡ s → length (subhistory (other s) (x ∷ h)) ≡ length (subhistory (other s) h)
 own_not_first s x h e = ap (λ (t : Bool). length (if t then x ∷ subhistory (other s) h else subhistory (other s) h)) (not_by s x e)
 
--- what the last event tells, behind so many of the two sides
+-- what the last event records, after a number of events of the two sides
 abbrev last_told : Telling → Telling → (p c : ℕ) → List Event → Event → List calls.Event
 last_told f g p c h e = by_side e.side (f (p + length (subhistory P h))) (g (c + length (subhistory C h)))
 
@@ -79,10 +79,10 @@ told-last :
 told-last f g h e =
     told-more f g 0 0 h e ∙ ap (λ l. calls_told f g 0 0 h ++ l) (ap₂ (λ (n : ℕ) (m : ℕ). by_side e.side (f n) (g m)) (omega arith) (omega arith))
 
--- ---- what is told of it
+-- ---- what is recorded of it
 
 module _ (script : Content) (h h' : List Event) (e : Event) (is : h' ≡ h ++ e ∷ []) where
-  -- the events of a side that begin a list begin it without this one
+  -- if the events of a side are a prefix of a list, so are those without this one
   begins_before : (s : Side) (es : List Event) → IsPrefix (subhistory s h') es → IsPrefix (subhistory s h) es
   begins_before s es (rest, f) = by_test (is_by s e) (ap (subhistory s) is ∙ subhistory_changes s h e)
     where
@@ -90,7 +90,7 @@ module _ (script : Content) (h h' : List Event) (e : Event) (is : h' ≡ h ++ e 
       by_test true own = (e ∷ rest, sym (append_assoc (subhistory s h) (e ∷ []) rest) ∙ ap (λ l. l ++ rest) (sym own) ∙ f)
       by_test false own = (rest, ap (λ l. l ++ rest) (sym own) ∙ f)
 
-  -- a reading with the event is one without it
+  -- a reading with the event is a reading without it
   reading_before : (puts : Puts) (takes : Takes) → IsReadingAsked script h' puts takes → IsReadingAsked script h puts takes
   reading_before puts takes r = record {
     asked = r.asked;
@@ -105,7 +105,7 @@ module _ (script : Content) (h h' : List Event) (e : Event) (is : h' ≡ h ++ e 
   few : (s : Side) → e.side ≡ s → (program : List Made) → IsPrefix (subhistory s h') (events_of s program) → length (subhistory s h) < events_in program
   few s by program (rest, b) = omega (arith, one_more s by, ap length b, length-append (subhistory s h') rest, length-events s program)
 
-  -- what is told of the events is told of them with this one, and what is told with it
+  -- what is recorded of the events with this one is what was recorded before, and what this one records
   tells_more :
       (s : Side) → e.side ≡ s → (told : Option (CallEvent ℕ TakenItems)) →
       ((puts : Puts) (takes : Takes) → IsReadingAsked script h' puts takes →
@@ -119,7 +119,7 @@ module _ (script : Content) (h h' : List Event) (e : Event) (is : h' ≡ h ++ e 
       (told_is puts takes r ∙ sym (ap (λ t. by_side t (f (length (subhistory P h))) (g (length (subhistory C h)))) by))
       ∙ sym (told-last f g h e) ∙ ap (calls_told f g 0 0) (sym is)
 
-  -- by what its own side says of it: where that side is then, and what is told
+  -- by what its own side records: the stage of that side then, and what is recorded
   moves_on :
       (s : Side) → e.side ≡ s → (told : Option (CallEvent ℕ TakenItems)) (Stage : Puts → Takes → ℕ → Type 0) →
       ((puts : Puts) (takes : Takes) → IsReadingAsked script h' puts takes →
@@ -180,7 +180,7 @@ module _ (script : Content) (h h' : List Event) (e : Event) (is : h' ≡ h ++ e 
           tells,
         )
 
--- nothing was told of nothing
+-- nothing is recorded of an empty history
 pub nothing_told : (script : Content) → TellsCalls script [] []
 nothing_told script puts takes r = refl
 
@@ -194,7 +194,7 @@ ArePutsCounted script h kept =
     ((puts : Puts) → FollowsPuts script.shape h puts → kept.stored ≡ stored_in 0 (puts_over_in script.shape h puts)) ×
     ((puts : Puts) → FollowsPuts script.shape h puts → kept.full ≡ fulls (puts_over_in script.shape h puts))
 
--- the stages behind it, and what is told with it
+-- the stages after it, and what is recorded with it
 abbrev pub Stepped : Content → Content → List Event → List Event → PutStage → TakeStage → Option (CallEvent ℕ TakenItems) → Type 0
 Stepped script script' h h' stage t told =
     AreAt stage t script' h' × ((events : List calls.Event) → TellsCalls script h events → TellsCalls script' h' (events ++ told_in script told))
@@ -214,7 +214,7 @@ AreTakesCounted script h kept =
     ((takes : Takes) → FollowsTakes script.shape h takes → kept.empty ≡ empties (takes_over_in script.shape h takes)) ×
     ((takes : Takes) → FollowsTakes script.shape h takes → (kept.told ≡ true) ↔ ToldIn script.shape h takes)
 
--- the items that the takes which are over took are the script's first ones
+-- the items that the takes that are over took are the script's first ones
 abbrev pub AreFirst : Content → List Event → Type 0
 AreFirst script h = (takes : Takes) → FollowsTakes script.shape h takes → IsPrefix (all_taken (takes_over_in script.shape h takes)) script.items
 
@@ -229,7 +229,7 @@ take_stepped script script' h h' stage t next wanted before now told same (e, is
     (take_moves script h h' e is by stage t next wanted before now told says is_wanted at (λ takes f. (counted.0 takes f, counted.1 takes f, counted.2 takes f))
     (λ takes f. (taken' takes f, empty' takes f, told' takes f)) (subst (λ s. AreFirst s h') same first))
 
--- where the side was done
+-- if the side was done
 pub not_stepped :
     (script script' : Content) (h h' : List Event) (side : Side) (stage : PutStage) (t : TakeStage) (moved : Bool) → script' ≡ script → IsMove script side moved h h' → moved ≡ false →
     AreAt stage t script h → Stepped script script' h h' stage t None
@@ -238,7 +238,7 @@ not_stepped script script' h h' side stage t moved same m is at =
     subst (λ s. Stepped script s h h' stage t None) (sym same)
     (subst (λ l. Stepped script script h l stage t None) (sym still) (at, (λ events tells. subst (TellsCalls script h) (sym (append-nil events)) tells)))
 
--- what was told, and with one event more
+-- what was recorded, and with one more event
 pub told_with : (script : Content) (told : List (CallEvent ℕ TakenItems)) (event : Option (CallEvent ℕ TakenItems)) → call_events script (told ++ listed event) ≡ call_events script told ++ told_in script event
 told_with script told None = ap (call_events script) (append-nil told) ∙ sym (append-nil (call_events script told))
 told_with script told (Some x) = map-append (event_of script) told (x ∷ [])

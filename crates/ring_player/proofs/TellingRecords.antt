@@ -1,4 +1,4 @@
--- What is told of a play is a linearizable history.
+-- What is recorded of a play is a linearizable history.
 use Rattle.std.proofs.Common.{◌≡◌, ℕ, suc, ◌-◌, ◌<◌, List, [], ◌∷◌, ◌++◌, length, take, refl, sym, ap, ap₂, subst, ◌∙◌, arith, append_assoc, length-append}
 use Rattle.std.proofs.Math.Seq.{take-append_seam}
 use Rattle.bits_core.specs.Shape.{batch_of, capacity_of}
@@ -28,7 +28,7 @@ use Rattle.ring_core.proofs.LawLemmas.{recorded_is_linearizable}
 
 -- ---- what puts are offered
 
--- each put of the script is one of the items that the world offers it
+-- each put of the script is a put of the items that the world offers it
 offered_all :
     (script : Content) (puts : Puts) (front xs : List Put) (j n : ℕ) → puts.puts ≡ front ++ xs → j ≡ length front → n ≡ stored_in 0 front → AreAttempts script n xs →
     AreOffered script.shape (offers_of script puts) j n xs
@@ -44,11 +44,11 @@ offered_all script puts front (x ∷ xs) j n e f g (l, of, m) =
 
 -- ---- what takes want
 
--- the same, but 1 where that is none: each take of a play wants some
+-- the same, but 1 if that is 0: each take of a play wants at least one
 abbrev some_of : Content → Takes → ℕ → ℕ
 some_of script takes j = suc (wants_of script takes j - 1)
 
--- a take behind these wants what the world does there
+-- a take after these wants what the world wants there
 wants_behind : (script : Content) (takes : Takes) (front xs : List Take) (j k : ℕ) → takes.takes ≡ front ++ xs → j ≡ length front → k ≡ taken_in 0 front → wants_of script takes j ≡ wanted_at script k
 wants_behind script takes front xs j k e f g =
     ap (λ l. wanted_at script (taken_in 0 l)) (ap₂ (λ (i : ℕ) (l : List Take). take i l) f e ∙ take-append_seam front xs) ∙ ap (wanted_at script) (sym g)
@@ -86,7 +86,7 @@ same_calls f g g' p c [] same = refl
 same_calls f g g' p c (e ∷ h) same =
     ap₂ (λ (a : List calls.Event) (b : List calls.Event). a ++ b) (ap (by_side e.side (f p)) (same c)) (same_calls f g g' (by_side e.side (suc p) p) (by_side e.side c (suc c)) h same)
 
--- what is told of a play is a linearizable history
+-- what is recorded of a play is a linearizable history
 pub records :
     (script : Content) (letters : List Side) (h : List Event) (told : List (CallEvent ℕ TakenItems)) → IsPlayOf script letters h → TellsCalls script h (call_events script told) →
     RecordsPlay script h told
@@ -104,7 +104,7 @@ records script letters h told play tells =
           (offered_all script puts [] puts.puts 0 0 refl refl refl asked.attempts) (λ j. omega arith) (wanted_all script takes [] takes.takes 0 0 refl refl refl asked'.1));
     }
 
--- the play of a world
+-- for the play of a world
 pub play_records :
     (script first : Content) (letters : List Side) (h : List Event) (told : List (CallEvent ℕ TakenItems)) → script ≡ first → IsPlayOf script letters h → Plays first first.letters h →
     TellsCalls script h (call_events script told) → (x : List Event) × IsPlayOf first first.letters x × RecordsPlay first x told

@@ -1,4 +1,4 @@
--- What one event of a side tells of its calls, by the stage that the side is in and by what is counted of the calls that are over.
+-- What one event of a side records of its calls, by the stage that the side is in and by what is counted of the calls that are over.
 use Rattle.std.proofs.Common.{◌≡◌, ◌⊎◌, inl, inr, ℕ, suc, ◌+◌, ◌-◌, ◌<◌, ◌≤◌, true, List, [], ◌∷◌, ◌++◌, length, take, drop, refl, sym, ap, ap₂, subst, ◌∙◌, arith, append_assoc, length-append}
 use Rattle.std.proofs.Math.Seq.{drop-append_seam, take-append_seam}
 use Rattle.bits_core.specs.Made.{IsPrefix}
@@ -28,7 +28,7 @@ next_of : {A : Type 0} (xs ys : List A) → length xs < length (xs ++ ys) → (y
 next_of xs [] l = absurd (omega (arith, l, length-append xs []))
 next_of xs (y ∷ ys) l = (y, ys, refl)
 
--- a part of a list, by how many stand before it and how many it has
+-- a part of a list, by how many elements come before it and how many it has
 part_is : (xs ys zs all : List ℕ) (n m : ℕ) → (xs ++ ys) ++ zs ≡ all → n ≡ length xs → m ≡ length ys → take m (drop n all) ≡ ys
 part_is xs ys zs all n m e f g =
     ap₂ (λ (k : ℕ) (l : List ℕ). take k l) g (ap₂ (λ (k : ℕ) (l : List ℕ). drop k l) f (sym e ∙ append_assoc xs ys zs) ∙ drop-append_seam xs (ys ++ zs)) ∙ take-append_seam ys zs
@@ -63,7 +63,7 @@ module _ (script : Content) (puts : Puts) (i : ℕ) {told : List calls.Event} (a
       let (rest, e) = front in
       ap (λ l. offered script (stored_in 0 l)) (ap (λ l. take (length before) l) e ∙ take-append_seam before rest)
 
-  -- where a put is next, there is an item for it
+  -- if a put is next, there is an item for it
   next_item : length before < length puts.puts → stored_in 0 before < length script.items
   next_item l =
       let (rest, e) = front in
@@ -104,7 +104,7 @@ module _ (script : Content) (puts : Puts) (i : ℕ) {told : List calls.Event} (a
     ])
   ]
 
-  -- a put goes on, or it ends, by what is counted
+  -- a put continues or ends, by what is counted
   pub put_goes :
       (stored full stored' full' : ℕ) → IsPutStage put.Putting script puts i → stored ≡ stored_in 0 before → full ≡ fulls before → stored' ≡ stored_in 0 after → full' ≡ fulls after →
       ((stored < stored') × (calls.PutStored (stored' - stored) true ∷ [] ≡ told) × IsPutStage put.Between script puts (suc i)) ⊎
@@ -202,7 +202,7 @@ module _ (script : Content) (takes : Takes) (i : ℕ) {told : List calls.Event}
       ((taken < taken') × (calls.TakeItems (take (taken' - taken) (drop taken script.items)) true ∷ [] ≡ told) × IsTakeStage taking.Between script takes (suc i)) ⊎
       ((taken' ≤ taken) × (empty < empty') × (calls.TakeEmpty ∷ [] ≡ told) × IsTakeStage taking.Between script takes (suc i))
 
-  -- a take goes on, or it ends, by what is counted
+  -- a take continues or ends, by what is counted
   pub take_goes :
       (taken taken' empty empty' : ℕ) → AreTakes script.shape 0 takes.takes takes.end → IsPrefix (all_taken over_after) script.items → IsTakeStage taking.Taking script takes i →
       taken ≡ length (all_taken over_before) → empty ≡ empties over_before → taken' ≡ length (all_taken over_after) → empty' ≡ empties over_after →
@@ -241,7 +241,7 @@ module _ (script : Content) (takes : Takes) (i : ℕ) {told : List calls.Event}
           take_at script.shape 0 over_before x rest takes.end
           (subst (λ (l : List Take). AreTakes script.shape 0 l takes.end) (e ∙ ap (λ l. l ++ rest) is ∙ append_assoc over_before (x ∷ []) rest) are)
 
-      -- the items of the take are the script's behind those taken before
+      -- the items of the take are the script's after those taken before
       part : (x : Take) → over_after ≡ over_before ++ x ∷ [] → take (taken' - taken) (drop taken script.items) ≡ taken_of x
       part x is =
           part_is (all_taken over_before) (taken_of x) rest script.items taken (taken' - taken) (ap (λ l. l ++ rest) (sym (more x is)) ∙ first) is_taken

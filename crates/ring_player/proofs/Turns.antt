@@ -1,4 +1,4 @@
--- The oracle's answers, by one event more.
+-- The oracle's answers, with one more event.
 use Rattle.bits_core.specs.Made.{opening_event}
 use Rattle.std.proofs.Common.{◌≡◌, ◌⊎◌, inl, inr, ℕ, zero, suc, ◌+◌, ◌<◌, ◌≤◌, Bool, true, false, Some, List, [], ◌∷◌, ◌++◌, length, refl, ap, sym, subst, ◌∙◌, arith}
 use Rattle.std.specs.Prelude.{slice_get, if◌then◌else◌}
@@ -33,7 +33,7 @@ true_false e = absurd (cc)
 abbrev by_flag : Bool → ℕ
 by_flag b = (if b then 1 else 0)
 
--- one event more
+-- one more event
 pub more :
     (turns before after : ℕ → Bool) (h : List Event) (e : Event) → IsAtTurn turns h before → (is_flicker h e ≡ false → (i : ℕ) → after i ≡ before i) →
     (is_flicker h e ≡ true → ((v : Bool) → e.act ≡ ReadEnd v → v ≡ before 0) × ((i : ℕ) → after i ≡ before (i + 1))) → IsAtTurn turns (h ++ e ∷ []) after

@@ -1,4 +1,4 @@
--- What a step of one side leaves of the world.
+-- The world after a step of one side.
 use Rattle.std.proofs.Common.{◌≡◌, ◌⊎◌, inl, inr, ℕ, ◌+◌, ◌-◌, ◌<◌, ◌≤◌, zero, suc, get_or, min, Bool, true, false, Option, Some, None, Result, Ok, Err, List, [], ◌∷◌, ◌++◌, length, take, drop, append_assoc, append-nil, refl, sym, ap, subst, ◌∙◌, arith}
 use Rattle.std.specs.Prelude.{if◌then◌else◌, IfOk, OnErr, OnOk, ◌↔◌, replicate, slice_index_or}
 use Rattle.bits_core.specs.declared.events.Side.{Side}
@@ -46,7 +46,7 @@ pub grown : {E : Type 0} (script : Content) (s : Side) (h h' : List Event) (r : 
 grown script s h h' (Ok moved) ok err = grown_by script s h h' moved ok
 grown script s h h' (Err e) ok err = inr err
 
--- the other side stands where it was
+-- the other side's state is unchanged
 playing_other :
     (script : Content) (s : Side) (h h' : List Event) (due : Option Access) (stands : Stands) → Grown script s h h' → IsPlaying (other s) h due stands →
     IsPlaying (other s) h' due stands
@@ -116,7 +116,7 @@ plays_of script m ps cs pd cd pt ct a w lawful puts takes =
       moves = w.moves;
     }
 
--- the laws of every play hold of it
+-- the laws of every play hold for it
 pub is_play : EveryPlayHolds → EveryPlayFills → (script : Content) (letters : List Side) (h : List Event) → Plays script letters h → IsPlayOf script letters h
 is_play holds fills script letters h plays = record { plays = plays; headline = holds script letters h plays; batches = fills script letters h plays }
 
@@ -152,7 +152,7 @@ new_world script m ps cs pd cd pt ct a shape empty p q puts takes oracle = recor
   moves = subst (λ (t : List Event). AreMoves script (event_sides t) [] t) (sym empty) tt;
 }
 
--- ---- what was taken and told
+-- ---- what was taken, and whether a take returned Closed
 
 pub taken_of :
     (script cs : Content) (h : List Event) (due : Option Access) (stands : Stands) (taken : List ℕ) (told : Bool) (empty : ℕ) → cs ≡ script → (p : IsPlaying C h due stands) →
@@ -193,12 +193,12 @@ front_of script ps cs h pd cd pt ct put taken kept told empty same_p same_c p t 
     let taken_so : items_taken script.shape first_count v.takes.takes (clock C h (length h)) ≡ taken = ap (items_taken script.shape first_count v.takes.takes) (clock_end C h) ∙ v.items in
     (rest, ap (λ l. l ++ rest) (sym taken_so) ∙ is ∙ put_so)
 
--- so they are the first of all items, where those put are
+-- so they are the first of all items, if those put are
 first_of : (taken items : List ℕ) (n : ℕ) → IsPrefix taken (take n items) → IsPrefix taken items
 first_of taken items n (rest, e) =
     (rest ++ drop n items, sym (append_assoc taken rest (drop n items)) ∙ ap (λ l. l ++ drop n items) e ∙ take-append-drop n items)
 
--- by what both sides tell of what they came to
+-- by what both sides know of their results
 pub taken_first :
     (a b : Played) (ps cs : Content) (pd cd : Option Access) (A B : Stands) (ct : Stands) (n : ℕ) (taken : List ℕ) (kept : PutTally) (told : Bool) (empty : ℕ) → a ≡ b → ps ≡ a.script → cs ≡ a.script →
     IsPlaying P a.history pd (λ list opened. A list opened × B list opened) → IsPlaying C a.history cd ct →
@@ -250,7 +250,7 @@ pub spelled-none : spelled [] ≡ []
 unfolding spelled
 spelled-none = refl
 
--- of the first so many letters: those of the first runs, and of one more run, where so many are left
+-- of the first letters, this many: those of the first runs, and of one more run, if there are enough
 pub take-none : (k : ℕ) → take k (spelled []) ≡ []
 take-none k = ap (λ (l : List Side). take k l) spelled-none ∙ take_all k [] (omega arith)
 
@@ -274,7 +274,7 @@ take-more k xs c s left count l e = elim (cases_lt (length xs) k) [
 left-more : (k : ℕ) (xs : List Side) (c : ℕ) (s : Side) (left count : ℕ) → left ≡ k - length xs → count ≡ min c left → left - count ≡ k - length (xs ++ replicate c s)
 left-more k xs c s left count l e = omega (arith, length-append xs (replicate c s), length-replicate c s)
 
--- with one run more, of which so many letters are among the first
+-- with one more run, some of whose letters are among the first
 pub one_run_more :
     (runs : List LetterRun) (i k left count : ℕ) → i < length runs → left ≡ k - length (spelled (take i runs)) → count ≡ min (slice_index_or runs i no_run).count left →
     (take k (spelled (take (i + 1) runs)) ≡ take k (spelled (take i runs)) ++ replicate count (slice_index_or runs i no_run).side) ×
@@ -289,7 +289,7 @@ one_run_more runs i k left count l left_is least =
       ap length after ∙ length-append before (replicate one.count one.side) ∙ ap (λ (n : ℕ). length before + n) (length-replicate one.count one.side),
     )
 
--- behind the last run they are all
+-- after the last run they are all letters
 pub all_runs : (runs : List LetterRun) (i : ℕ) (letters : List Side) → i ≡ length runs → spelled runs ≡ letters → spelled (take i runs) ≡ letters
 all_runs runs i letters end all = ap (λ i. spelled (take i runs)) end ∙ ap spelled (take-length runs) ∙ all
 

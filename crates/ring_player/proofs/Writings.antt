@@ -32,7 +32,7 @@ use Rattle.ring_player.proofs.Puttings.{calls_asked, next_in}
 use Rattle.ring_player.proofs.Written.{begun-append, digits-append, put_begun, put_nothing}
 use Rattle.ring_core.proofs.LawLemmas.{counts_are_written_numbers}
 
--- ---- one access more
+-- ---- one more access
 
 digit_more : (a : Access) (v : Bool) → digits_in (answered a v ∷ []) ≡ digits_by (Some a)
 digit_more (access.Read b) v = refl
@@ -48,7 +48,7 @@ begun_more w n seen (access.Write (bit.S i) u) v = refl
 begun_more w n seen (access.Write (bit.R i) u) v = refl
 begun_more w n seen (access.Write bit.X u) v = refl
 
--- what is begun with an access more
+-- what is begun with one more access
 begun_with : (w : ℕ) (list : List Made) (a : Access) (v : Bool) → items_begun w 0 0 (list ++ answered a v ∷ []) ≡ put_once (Some a) (digits_in list / w) (items_begun w 0 0 list)
 begun_with w list a v =
     let none : 0 + digits_in list ≡ digits_in list = omega arith in
@@ -105,7 +105,7 @@ pub full_few : (script : Content) (p : ProducerState) (kept : PutTally) (list : 
 full_few script p kept list o s =
     omega (arith, s.made.filled, fulls_few script.shape first_count s.calls.puts, s.made.long, length-append (put_phrases script.shape first_count s.calls.puts) (close_phrase s.calls.closes))
 
--- ---- what is put is the first of the script's items
+-- ---- what is put are the first of the script's items
 
 begin_take : (xs ys : List ℕ) → IsPrefix xs ys → xs ≡ take (length xs) ys
 begin_take [] [] p = refl
@@ -163,7 +163,7 @@ with_open_length list (Some a) = (
   omega (arith, length-events P list, length-append (events_of P list) (opening_event P a ∷ []), length-append list (answered a true ∷ [])),
 )
 
--- by one reading
+-- for one reading
 reading_so_far :
     (script : Content) (digits put : ℕ) (kept : PutTally) (list : List Made) (o : Option Access) → HasWritten script digits put list o → (more : Puts) → ArePutsOf script more →
     IsPrefix (with_open list o) (put_program script.shape more) → IsPrefix (so_far P list o) (events_of P (put_program script.shape more)) →
@@ -208,7 +208,7 @@ put_so_far script p kept digits put list o due s h next is_due = by_due due is_d
     program_parts : (more : Puts) → length (put_program shape more) ≡ length (put_phrases shape first_count more.puts) + length (close_phrase more.closes)
     program_parts more = length-append (put_phrases shape first_count more.puts) (close_phrase more.closes)
 
-    -- the calls that are over have come
+    -- all events of the calls that are over have come
     come : 2 * front ≤ length (so_far P list o)
     come = omega (arith, s.made.long, program_parts calls, so_far_length P list o)
 

@@ -128,7 +128,7 @@ count_begun w n seen [] l = absurd (omega (arith, l))
 count_begun w n seen (x ∷ []) l = refl
 count_begun w n seen (x ∷ y ∷ ws) l = count_begun w n (n / w) (y ∷ ws) (omega arith)
 
--- ---- the beginning of a program
+-- ---- the start of a program
 
 split_front : {A : Type 0} (front back made : List A) → IsPrefix made (front ++ back) → IsPrefix made front ⊎ ((rest : List A) × (made ≡ front ++ rest) × IsPrefix rest back)
 split_front [] back made p = inr (made, refl, p)
@@ -245,7 +245,7 @@ put_begun shape c (Stored u items ∷ puts) close made t is p begins low high =
         width_some : (shape : Shape) → 1 ≤ width_of shape
         width_some shape = omega (arith, shape.has_digits)
 
-    -- what is put, where the count write has begun or not
+    -- what is put, whether the count write has begun or not
     put_is : (b : Bool) → nat_lt (events_in front) t ≡ b → (l : List ℕ) → items_put shape next puts (t - events_in (front ++ batch)) ≡ l →
         items_put shape c (Stored u items ∷ puts) t ≡ cond b items [] ++ l
     put_is b e l f = ap₂ (λ (a : Bool) (m : List ℕ). cond a items [] ++ m) e f
@@ -253,14 +253,14 @@ put_begun shape c (Stored u items ∷ puts) close made t is p begins low high =
     later : t ≤ 2 * (length front + length batch) → items_put shape next puts (t - events_in (front ++ batch)) ≡ []
     later l = put_nothing shape next puts (t - events_in (front ++ batch)) (omega (arith, l, length-append front batch))
 
-    -- where it has not begun
+    -- if it has not begun
     not_begun : NoCounts made → t ≤ 2 * length front → items_begun w (c.number * w) c.number made ≡ c.number + length (items_put shape c (Stored u items ∷ puts) t)
     not_begun q l =
         let none : c.number ≡ c.number + 0 = omega arith in
         none_begun w (c.number * w) c.number made q ∙ none
         ∙ ap (λ (m : List ℕ). c.number + length m) (sym (put_is false (le-ltb (events_in front) t l) [] (later (omega (arith, l)))))
 
-    -- where it has
+    -- if it has
     begun_here :
         (more : List Made) → made ≡ front ++ more → 1 ≤ length more → (l : List ℕ) → items_put shape next puts (t - events_in (front ++ batch)) ≡ l →
         (n : ℕ) → items_begun w (c.number * w + digits_in front) (items_begun w (c.number * w) c.number front) more ≡ n → n ≡ c.number + (length items + length l) →

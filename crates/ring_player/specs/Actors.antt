@@ -1,4 +1,4 @@
--- One side of the world at work: where it stands in a history, and what one step of it does.
+-- One side of the world at work: its state in a history, and what one step of it does.
 use Rattle.std.specs.Prelude.{◌≡◌, ℕ, ◌+◌, ◌/◌, ◌<◌, ◌≤◌, Bool, true, false, Option, Some, None, List, [], ◌∷◌, ◌++◌, length, slice_get}
 use Rattle.bits_core.specs.declared.events.Side.{Side}
 use Rattle.bits_core.specs.declared.events.Side.TheVariants.{P, C}
@@ -32,26 +32,26 @@ abbrev pub so_far : Side → List Made → Option Access → List Event
 so_far s list None = events_of s list
 so_far s list (Some a) = events_of s list ++ opening_event s a ∷ []
 
--- an actor of the side, which has an access due, stands where the side is in the history
+-- an actor of the side, which has an access due, agrees with the side's events in the history
 pub record IsPlaying (s : Side) (h : List Event) (due : Option Access) (stands : List Made → Option Access → Type 0) : Type 0 where
   pub list : List Made
   pub there : stands list (open_access s h)
   pub own_is : subhistory s h ≡ so_far s list (open_access s h)
   pub is_due : (a : Access) → open_access s h ≡ Some a → due ≡ Some a
 
--- one event of the side where it was not done, and else nothing
+-- one event of the side if it was not done, otherwise nothing
 abbrev pub IsMove : Content → Side → Bool → (h h' : List Event) → Type 0
 IsMove script s true h h' = (e : Event) × (h' ≡ h ++ e ∷ []) × (e.side ≡ s) × (¬ IsDone script s h)
 IsMove script s false h h' = (h' ≡ h) × IsDone script s h
 
--- the overlapped reads so far were answered in turn, and the oracle goes on from there
+-- the overlapped reads so far were answered in turn, and the oracle continues from there
 pub record IsAtTurn (turns : ℕ → Bool) (h : List Event) (answers : ℕ → Bool) : Type 0 where
   pub answered : (place : ℕ) (e : Event) (v : Bool) → slice_get h place ≡ Some e → e.act ≡ ReadEnd v → is_flicker_at h place ≡ true → v ≡ turns (count_below place (is_flicker_at h))
   pub left : (i : ℕ) → answers i ≡ turns (flicker_count h + i)
 
 -- ---- the producer's actor
 
--- the script asks for the call under way; and for the close that was made
+-- the script requests the call under way; and the close that was made
 abbrev pub IsAsked : Content → Puts → Option Call → Type 0
 IsAsked script calls None = calls.closes ≡ true → (script.closes ≡ true) × (stored_in 0 calls.puts ≡ length script.items)
 IsAsked script calls (Some (Put items)) = (items ≡ offered script (stored_in 0 calls.puts)) × (stored_in 0 calls.puts < length script.items)
@@ -64,22 +64,23 @@ stored_in_reply (Some (reply.Stored count)) = count
 stored_in_reply (Some reply.Full) = 0
 stored_in_reply (Some reply.Closed) = 0
 
--- how many puts were answered that the ring is full, by a reply
+-- how many puts found the ring full, by a reply
 abbrev pub full_in_reply : Option BatchReply → ℕ
 full_in_reply None = 0
 full_in_reply (Some (reply.Stored count)) = 0
 full_in_reply (Some reply.Full) = 1
 full_in_reply (Some reply.Closed) = 0
 
--- what the actor counts by its replies: the items that were stored, and the puts that found the ring full
+-- what the actor counts by its replies: the items stored, and the puts that found the ring full
 pub record PutTally : Type 0 where
   pub stored : ℕ
   pub full : ℕ
 
+-- the tally after this reply
 abbrev pub after_reply : PutTally → Option BatchReply → PutTally
 after_reply kept reply = record { stored = kept.stored + stored_in_reply reply; full = kept.full + full_in_reply reply }
 
--- the puts that are over are attempts at the script's items, and are counted so; these accesses make no fewer
+-- the puts that are over are attempts at the script's items, and are counted by the tally; their accesses are no more than these
 pub record ArePutsMade (script : Content) (kept : PutTally) (list : List Made) (calls : Puts) : Type 0 where
   pub attempts : AreAttempts script 0 calls.puts
   pub counted : kept.stored ≡ stored_in 0 calls.puts
@@ -105,7 +106,7 @@ digits_in (Write (bit.S i) v ∷ list) = digits_in list
 digits_in (Write (bit.R i) v ∷ list) = digits_in list
 digits_in (Write bit.X v ∷ list) = digits_in list
 
--- how many items were written where the last count write begins among these accesses, behind n digits; seen, where none does
+-- the number of items written when the last count write among these accesses begins, after n digits; `seen` if none does
 abbrev pub items_begun : ℕ → (n seen : ℕ) → List Made → ℕ
 items_begun width n seen [] = seen
 items_begun width n seen (Read b v ∷ list) = items_begun width n seen list
@@ -114,7 +115,7 @@ items_begun width n seen (Write (bit.S i) v ∷ list) = items_begun width n (n /
 items_begun width n seen (Write (bit.R i) v ∷ list) = items_begun width n seen list
 items_begun width n seen (Write bit.X v ∷ list) = items_begun width n seen list
 
--- how many digits an access writes, and how many items are put once it has begun, behind so many that were written and put
+-- how many digits an access writes
 abbrev pub digits_by : Option Access → ℕ
 digits_by None = 0
 digits_by (Some (access.Read b)) = 0
@@ -123,6 +124,7 @@ digits_by (Some (access.Write (bit.S i) v)) = 0
 digits_by (Some (access.Write (bit.R i) v)) = 0
 digits_by (Some (access.Write bit.X v)) = 0
 
+-- how many items are put once this access has begun, given those written and put before
 abbrev pub put_once : Option Access → (written put : ℕ) → ℕ
 put_once None written put = put
 put_once (Some (access.Read b)) written put = put
@@ -136,14 +138,14 @@ abbrev pub with_open : List Made → Option Access → List Made
 with_open list None = list
 with_open list (Some a) = list ++ answered a true ∷ []
 
--- what the actor counts by its accesses: the digits that were written, and the items whose count write has begun
+-- what the actor counts by its accesses: the digits written, and the items whose count write has begun
 pub record HasWritten (script : Content) (digits put : ℕ) (list : List Made) (opened : Option Access) : Type 0 where
   pub digits_are : digits ≡ digits_in list
   pub put_is : put ≡ items_begun (width_of script.shape) 0 0 (with_open list opened)
 
 -- ---- the consumer's actor
 
--- how many takes were answered that the ring is empty, by a reply
+-- how many takes found the ring empty, by a reply
 abbrev pub empty_in : Option TakeBatchReply → ℕ
 empty_in None = 0
 empty_in (Some (taken.Taken count)) = 0

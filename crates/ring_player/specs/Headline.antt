@@ -1,4 +1,4 @@
--- The sentence of the ring, of every play of a script.
+-- The main theorem, for every play of a script.
 use Rattle.std.specs.Prelude.{◌≡◌, ℕ, ◌+◌, ◌<◌, ◌≤◌, List, length}
 use Rattle.bits_core.specs.declared.events.Side.{Side}
 use Rattle.bits_core.specs.declared.events.Side.TheVariants.{P, C}
@@ -14,8 +14,8 @@ use Rattle.ring_player.specs.Plays.{ArePutsOf, offered, Plays}
 use Rattle.ring_script.specs.Content.{Content}
 
 -- Whatever calls the events of the two sides are read as: the items taken are a prefix of the items put, each taken once, by
--- the take of its number; no word's read overlaps its write; Empty and Full are answered only where the calls ended before
--- require it; once Closed is told, every item put has been taken, and none comes later.
+-- the take of its number; no word's read overlaps its write; Empty and Full are returned only if the calls ended before
+-- require it; once Closed is returned, every item put has been taken, and none comes later.
 pub record HeadlineOf (script : Content) (h : List Event) (puts : Puts) (takes : Takes) : Type 0 where
   pub prefix : TakenArePrefix script.shape h puts takes
   pub once : TakesMatchPuts script.shape h puts takes
@@ -28,15 +28,16 @@ pub record HeadlineOf (script : Content) (h : List Event) (puts : Puts) (takes :
       (h' : List Event) (puts' : Puts) (takes' : Takes) → IsRun script.shape h' puts' takes' → IsPrefix h h' → ToldIn script.shape h takes →
       (items_put_in script.shape h' puts' ≡ items_put_in script.shape h puts) × (items_taken_in script.shape h' takes' ≡ items_taken_in script.shape h takes)
 
+-- the main theorem holds for the history, whichever calls it is read as
 abbrev pub HoldsHeadline : Content → List Event → Type 0
 HoldsHeadline script h = (puts : Puts) (takes : Takes) → FollowsPuts script.shape h puts → FollowsTakes script.shape h takes → HeadlineOf script h puts takes
 
--- it holds of every play
+-- the main theorem holds for every play
 abbrev pub EveryPlayHolds : Type 0
 EveryPlayHolds = (script : Content) (letters : List Side) (h : List Event) → Plays script letters h → HoldsHeadline script h
 
--- where a put stored fewer items than the world offered it, the items stored up to and with it, less the takes of an item that had
--- ended where it began, are at least the capacity
+-- if a put stored fewer items than the world offered it, the items stored up to and including it, less those of takes that had
+-- ended when it began, are at least the capacity
 abbrev pub FillsRing : Content → List Event → Type 0
 FillsRing script h =
     (puts : Puts) (takes : Takes) → ArePutsOf script puts → FollowsPuts script.shape h puts → FollowsTakes script.shape h takes →
@@ -44,10 +45,11 @@ FillsRing script h =
     start + scan_events P seen ≤ length (subhistory P h) → length items < length (offered script n) →
     (first : ℕ) × IsPlaceOf P h start first × (takes_ended script.shape takes (clock C h first) + capacity_of script.shape ≤ n + length items)
 
+-- the puts of every play fill the ring
 abbrev pub EveryPlayFills : Type 0
 EveryPlayFills = (script : Content) (letters : List Side) (h : List Event) → Plays script letters h → FillsRing script h
 
--- the history is the play of the script by these letters; the sentence of the ring holds of it, and its puts fill the ring
+-- the history is the play of the script by these letters; the main theorem holds for it, and its puts fill the ring
 pub record IsPlayOf (script : Content) (letters : List Side) (h : List Event) : Type 0 where
   pub plays : Plays script letters h
   pub headline : HoldsHeadline script h

@@ -15,36 +15,36 @@ use Rattle.ring_core.specs.Puts.{Put, Puts, number_after, stored_in, put_program
 use Rattle.ring_core.specs.Takes.{Take, Takes, taken_after, taken_in, take_program, AreTakes}
 use Rattle.ring_script.specs.Content.{Content}
 
--- the items that the world offers where n are stored: the next ones, as many as a batch may have
+-- the items that the world offers when n are stored: the next ones, as many as a batch may have
 abbrev pub offered : Content → ℕ → List ℕ
 offered script n = take (batch_of script.shape) (drop n script.items)
 
--- puts, where n items are stored before them, each of which is an attempt at the next items
+-- puts, with n items stored before them, each of which is an attempt at the next items
 abbrev pub AreAttempts : Content → ℕ → List Put → Type 0
 AreAttempts script n [] = Unit {0}
 AreAttempts script n (x ∷ puts) = (n < length script.items) × IsPutOf script.shape n (offered script n) x × AreAttempts script (number_after n x) puts
 
--- the puts are attempts at the script's items, and a close stands only if the script closes, after all items were stored
+-- the puts are attempts at the script's items, and there is a close only if the script closes, after all items were stored
 pub record ArePutsOf (script : Content) (calls : Puts) : Type 0 where
   pub are : ArePuts script.shape 0 calls.puts
   pub attempts : AreAttempts script 0 calls.puts
   pub closes : calls.closes ≡ true → (script.closes ≡ true) × (stored_in 0 calls.puts ≡ length script.items)
 
--- takes, behind k items, each of which wants as many items as one count write may count, or as are left to take, and some are left
+-- takes, after k items, each of which wants as many items as one count write may count, or as are left to take, and at least one is left
 abbrev pub AreWantedBy : Content → ℕ → List Take → Type 0
 AreWantedBy script k [] = Unit {0}
 AreWantedBy script k (x ∷ takes) =
     (k < script.takes) × IsTakeOf script.shape k (min (take_batch_of script.shape) (script.takes - k)) x × AreWantedBy script (taken_after k x) takes
 
--- these events of a side are a beginning of those of calls that the script asks for; a take that is told Closed wanted some items too
+-- these events of a side are a prefix of those of calls that the script requests; a take that returns Closed wanted at least one item too
 abbrev pub IsProgram : Content → Side → List Event → Type 0
 IsProgram script P events = (calls : Puts) × ArePutsOf script calls × IsPrefix events (events_of P (put_program script.shape calls))
 IsProgram script C events =
     (calls : Takes) × (AreTakes script.shape 0 calls.takes calls.end × AreWantedBy script 0 calls.takes × (Tells calls.end → taken_in 0 calls.takes < script.takes)) ×
     IsPrefix events (events_of C (take_program script.shape calls))
 
--- they are those of whole calls: of puts that store all items, with the close if the script closes; or of takes that take as
--- many items as the script wants, or of which the last is told that the ring is closed
+-- they are those of complete calls: of puts that store all items, with the close if the script closes; or of takes that take
+-- as many items as the script wants, or the last of which returns Closed
 abbrev pub IsDoneAfter : Content → Side → List Event → Type 0
 IsDoneAfter script P events = (calls : Puts) × ArePuts script.shape 0 calls.puts × (events ≡ events_of P (put_program script.shape calls)) ×
     (stored_in 0 calls.puts ≡ length script.items) × (calls.closes ≡ script.closes)
@@ -73,12 +73,12 @@ pub record AreNumbered (h : List Event) (number : ℕ → ℕ) : Type 0 where
   pub next : (place : ℕ) (v : Bool) → EndsOverlapped h place v → number (suc place) ≡ suc (number place)
   pub same : (place : ℕ) → ((v : Bool) → ¬ EndsOverlapped h place v) → number (suc place) ≡ number place
 
--- each of them has the oracle's next answer: its characters in turn, from the first again after the last, and 0 where it has none
+-- each of them has the oracle's next answer: its characters in turn, starting again after the last, or 0 if it has none
 unfoldable pub AreInTurn : List Bool → List Event → Type 0
 AreInTurn oracle h = (number : ℕ → ℕ) × AreNumbered h number ×
     ((place : ℕ) (v : Bool) → EndsOverlapped h place v → v ≡ slice_index_or oracle (number place % length oracle) false)
 
--- so many of them have ended
+-- this many of them have ended
 unfoldable pub HasFlickers : List Event → ℕ → Type 0
 HasFlickers h count = (number : ℕ → ℕ) × AreNumbered h number × (count ≡ number (length h))
 

@@ -1,4 +1,4 @@
--- What an actor has put, or taken, in its events so far, by one reading of them.
+-- What an actor has put, or taken, in its events so far, for one reading of them.
 use Rattle.std.specs.Prelude.{◌≡◌, ℕ, ◌↔◌, Bool, true, List, length}
 use Rattle.bits_core.specs.declared.events.Event.{Event}
 use Rattle.bits_core.specs.declared.events.Side.TheVariants.{P, C}
@@ -11,7 +11,7 @@ use Rattle.ring_core.specs.Puts.{ArePuts, put_program, Puts, stored_in}
 use Rattle.ring_core.specs.Takes.{AreTakes, take_program, Takes}
 use Rattle.ring_player.specs.Actors.{PutTally}
 
--- the items that were put, how many items the puts that are over stored, and how many of these found the ring full
+-- the items put, how many items the puts that are over stored, and how many of these found the ring full
 pub record PutSoFar (shape : Shape) (events : List Event) (put : List ℕ) (kept : PutTally) : Type 0 where
   pub puts : Puts
   pub are : ArePuts shape 0 puts.puts
@@ -20,7 +20,7 @@ pub record PutSoFar (shape : Shape) (events : List Event) (put : List ℕ) (kept
   pub over : fulls (puts_over shape first_count puts.puts (length events)) ≡ kept.full
   pub stored : stored_in 0 (puts_over shape first_count puts.puts (length events)) ≡ kept.stored
 
--- the items that were taken, whether a take was told that the ring is closed, and how many found it empty
+-- the items taken, whether a take returned Closed, and how many found it empty
 pub record TakenSoFar (shape : Shape) (events : List Event) (taken : List ℕ) (told : Bool) (empty : ℕ) : Type 0 where
   pub takes : Takes
   pub are : AreTakes shape 0 takes.takes takes.end

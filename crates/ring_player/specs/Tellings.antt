@@ -1,4 +1,4 @@
--- The calls of a play, as a recorder would tell them.
+-- The calls of a play, as a recorder would record them.
 use Rattle.std.specs.Prelude.{◌≡◌, ◌↔◌, ℕ, suc, ◌<◌, ◌≤◌, Bool, true, Option, Some, None, List, [], ◌∷◌, length, map, take, drop}
 use Rattle.bits_core.specs.declared.events.Event.{Event}
 use Rattle.bits_core.specs.declared.events.Side.TheVariants.{P, C}
@@ -26,17 +26,17 @@ use Rattle.ring_player.specs.declared.tellings.TakeStage.{TakeStage}
 use Rattle.ring_player.specs.declared.tellings.TakeStage.TheVariants as taking
 use Rattle.ring_script.specs.Content.{Content}
 
--- a reading of a history as calls that the script asks for
+-- a reading of a history as calls that the script requests
 pub record IsReadingAsked (script : Content) (h : List Event) (puts : Puts) (takes : Takes) : Type 0 where
   pub asked : ArePutsOf script puts
   pub puts_follow : FollowsPuts script.shape h puts
   pub takes_follow : FollowsTakes script.shape h takes
 
--- what the world offers to each of these puts, by its number: the next items behind those that the puts before it stored
+-- what the world offers to each of these puts, by its number: the next items after those that the earlier puts stored
 abbrev pub offers_of : Content → Puts → ℕ → List ℕ
 offers_of script puts j = offered script (stored_in 0 (take j puts.puts))
 
--- how many items the world wants by each of these takes, by its number: as many as it does behind those that the takes before it took
+-- how many items the world wants with each of these takes, by its number: as many as it wants after those that the earlier takes took
 abbrev pub wants_of : Content → Takes → ℕ → ℕ
 wants_of script takes j = wanted_at script (taken_in 0 (take j takes.takes))
 
@@ -44,25 +44,26 @@ wants_of script takes j = wanted_at script (taken_in 0 (take j takes.takes))
 abbrev pub TellsCalls : Content → List Event → List calls.Event → Type 0
 TellsCalls script h events = (puts : Puts) (takes : Takes) → IsReadingAsked script h puts takes → events ≡ recorded script.shape (offers_of script puts) (wants_of script takes) h puts takes
 
--- the items that a take took: so many of the script's, behind so many that were taken before
+-- the items that a take took: `count` of the script's, after `before` taken earlier
 abbrev pub taken_items : Content → TakenItems → List ℕ
 taken_items script taken = take taken.count (drop taken.before script.items)
 
--- what is told, as an event of calls: a put is of the items behind so many, as many as a batch has
+-- what is recorded, as an event of calls: a put is of the next items after those stored, as many as a batch has
 abbrev pub event_of : Content → CallEvent ℕ TakenItems → calls.Event
 event_of script told = event_by (offered script) (taken_items script) told
 
+-- these events of calls
 abbrev pub call_events : Content → List (CallEvent ℕ TakenItems) → List calls.Event
 call_events script told = map (event_of script) told
 
--- what is told of a play is the recording of its calls, and a linearizable history of a queue of the ring's capacity
+-- what is recorded of a play is the recording of its calls, and a linearizable history of a queue of the ring's capacity
 pub record RecordsPlay (script : Content) (h : List Event) (told : List (CallEvent ℕ TakenItems)) : Type 0 where
   pub tells : TellsCalls script h (call_events script told)
   pub linearizable : IsLinearizable (exactly (capacity_of script.shape)) (call_events script told)
 
--- ---- where a side is in its calls, behind i own events
+-- ---- the stage of a side in its calls, after i own events
 
--- between two calls; in a put, with one to come; in the close; behind it
+-- between two calls; in a put, with one to come; in the close; after it
 abbrev pub IsPutStage : PutStage → Content → Puts → ℕ → Type 0
 IsPutStage put.Between script puts i = events_of_puts script.shape (puts_over script.shape first_count puts.puts i) ≡ i
 IsPutStage put.Putting script puts i =
@@ -72,6 +73,7 @@ IsPutStage put.Closing script puts i =
     (puts_over script.shape first_count puts.puts i ≡ puts.puts) × (puts.closes ≡ true) × (i ≡ suc (events_of_puts script.shape puts.puts))
 IsPutStage put.Closed script puts i = events_in (put_program script.shape puts) ≤ i
 
+-- the same for the consumer: between two calls; in a take; after Closed
 abbrev pub IsTakeStage : TakeStage → Content → Takes → ℕ → Type 0
 IsTakeStage taking.Between script takes i = events_of_takes script.shape (takes_over script.shape first_count takes.takes i) ≡ i
 IsTakeStage taking.Taking script takes i = events_of_takes script.shape (takes_over script.shape first_count takes.takes i) < i
@@ -82,43 +84,45 @@ abbrev pub AreAt : PutStage → TakeStage → Content → List Event → Type 0
 AreAt p t script h =
     (puts : Puts) (takes : Takes) → IsReadingAsked script h puts takes → IsPutStage p script puts (length (subhistory P h)) × IsTakeStage t script takes (length (subhistory C h))
 
--- ---- one event more
+-- ---- one more event
 
--- what an option tells
+-- what an option records
 abbrev pub told_in : Content → Option (CallEvent ℕ TakenItems) → List calls.Event
 told_in script None = []
 told_in script (Some told) = event_of script told ∷ []
 
--- the puts that are over within i own events stored so many items, and so many of them found the ring full
+-- the tally is that of the puts that are over within i own events: the items they stored, and how many of them found the ring full
 abbrev pub IsPutTally : Content → Puts → ℕ → PutTally → Type 0
 IsPutTally script puts i kept =
     (kept.stored ≡ stored_in 0 (puts_over script.shape first_count puts.puts i)) × (kept.full ≡ fulls (puts_over script.shape first_count puts.puts i))
 
+-- the list of an option
 abbrev pub listed : {E : Type 0} → Option E → List E
 listed None = []
 listed (Some told) = told ∷ []
 
--- what is told of an event of the producer, by its stage and by the puts that are over before it and with it
+-- what an event of the producer records, by its stage and by the puts that are over before it and with it
 abbrev pub SaysPut : PutStage → (items : ℕ) → (before now : PutTally) → PutStage → Option (CallEvent ℕ TakenItems) → Type 0
 SaysPut stage items before now next told =
     (script : Content) (puts : Puts) (i : ℕ) → ArePutsOf script puts → items ≡ length script.items → i < events_in (put_program script.shape puts) →
     IsPutStage stage script puts i → IsPutTally script puts i before → IsPutTally script puts (suc i) now →
     (told_in script told ≡ put_told script.shape (offers_of script puts) 0 first_count puts.puts puts.closes i) × IsPutStage next script puts (suc i)
 
--- the takes that are over within i own events took so many items, so many of them found the ring empty, and whether one was told that
--- the ring is closed
+-- the tally of the takes that are over within i own events: the items they took, how many of them found the ring empty, and whether
+-- one returned Closed
 pub record TakeTally : Type 0 where
   pub taken : ℕ
   pub empty : ℕ
   pub told : Bool
 
+-- the takes that are over within i own events have this tally
 abbrev pub IsTakeTally : Content → Takes → ℕ → TakeTally → Type 0
 IsTakeTally script takes i kept =
     (kept.taken ≡ length (all_taken (takes_over script.shape first_count takes.takes i))) ×
     (kept.empty ≡ empties (takes_over script.shape first_count takes.takes i)) × ((kept.told ≡ true) ↔ IsTold script.shape takes i)
 
--- what is told of an event of the consumer, whose takes that are over with it took the script's first items; where it begins a take,
--- that wants so many items
+-- what an event of the consumer records, if the takes over with it took the script's first items; if it begins a take, that wants
+-- this many items
 abbrev pub SaysTake : TakeStage → (wanted : ℕ) → (before now : TakeTally) → TakeStage → Option (CallEvent ℕ TakenItems) → Type 0
 SaysTake stage wanted before now next told =
     (script : Content) (takes : Takes) (i : ℕ) → wanted ≡ wanted_at script before.taken → i < events_in (take_program script.shape takes) →

@@ -1,4 +1,4 @@
--- The world: what it is seen as, and how its parts stand together.
+-- The world: its model, and how its parts fit together.
 use Rattle.std.specs.Prelude.{◌≡◌, ◌⊎◌, ℕ, ◌+◌, ◌<◌, ◌≤◌, Bool, IfOk, OnErr, Option, Result, List, [], length}
 use Rattle.bits_core.specs.declared.events.Side.{Side}
 use Rattle.bits_core.specs.declared.events.Side.TheVariants.{P, C}
@@ -12,8 +12,8 @@ use Rattle.ring_player.specs.Plays.{AreMoves, event_sides}
 use Rattle.ring_player.specs.Wants.{wanted_at}
 use Rattle.ring_script.specs.Content.{Content}
 
--- a world is seen as its script and its history, by how many items were taken, and for how many events and items in all there is
--- room at least
+-- the model of a world: its script and its history, how many items were taken, and for how many events and items in all there
+-- surely is room
 pub record Played : Type 0 where
   pub script : Content
   pub history : List Event
@@ -21,7 +21,7 @@ pub record Played : Type 0 where
   pub event_room : ℕ
   pub item_room : ℕ
 
--- One step of a side: where it is refused all is as it was, and there was no room for an event, or for what the next take wants
+-- One step of a side: if it is refused everything is unchanged, and there was no room for an event, or for what the next take wants
 pub record PlayedOn {E : Type 0} (side : Side) (old new : Played) (result : Result Bool E) : Type 0 where
   pub script : new.script ≡ old.script
   pub ok : IfOk result (λ moved. IsMove old.script side moved old.history new.history)
@@ -29,7 +29,7 @@ pub record PlayedOn {E : Type 0} (side : Side) (old new : Played) (result : Resu
   pub rooms : (new.event_room ≡ old.event_room) × (new.item_room ≡ old.item_room)
   pub full : OnErr result ((old.event_room ≤ length old.history) ⊎ (old.item_room < old.taken + wanted_at old.script old.taken))
 
--- its parts stand together
+-- its parts fit together
 pub record IsWorld (script : Content) (memory : MemoryState) (put_script take_script : Content) (put_due take_due : Option Access) (put_stands take_stands : List Made → Option Access → Type 0) (answers : ℕ → Bool) : Type 0 where
   pub shape : memory.shape ≡ script.shape
   pub put_script_is : put_script ≡ script

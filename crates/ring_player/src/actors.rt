@@ -1,4 +1,4 @@
-//! One side of the world at work.
+//! One side of the world running.
 ghost use Rattle.std.specs.Prelude.{◌≡◌, ◌≢◌, ◌<◌, ◌≤◌, ◌⊎◌, ℕ, ◌+◌, Bool, true, false, Some, None, List, [], ◌∷◌, ◌++◌, OnErr, OnOk, IfOk, length};
 ghost use Rattle.bits_core.specs.Bits.{other};
 ghost use Rattle.bits_core.specs.History.{open_access};
@@ -10,7 +10,7 @@ ghost use Rattle.ring_player.specs.Plays.{IsProgram};
 use crate::faults::PlayFault;
 use bits_core::{Access, Event, Memory, Oracle, Side, Store};
 
-/// What makes the calls of one side: its machine, and what the script asks of it.
+/// What makes the calls of one side: its machine, and what the script requests.
 pub(crate) trait Actor {
     ghost use Rattle.std.specs.Prelude.{◌≡◌, ◌≢◌, ℕ, ◌+◌, ◌<◌, ◌≤◌, ◌^◌, true, Option, Some, None, List, [], ◌∷◌, ◌++◌, OnErr, OnOk, length};
     ghost use Rattle.bits_core.specs.declared.events.Access.{Access};
@@ -31,14 +31,14 @@ pub(crate) trait Actor {
 
     ghost ready: { Self → Type 0 };
 
-    // How many items it keeps, how many more one end of an access may give, and for how many in all it has room at least.
+    // How many items it keeps, how many more the end of one access may add, and for how many in all it surely has room.
     ghost kept: { Self → ℕ };
 
     ghost wants: { Self → ℕ };
 
     ghost room: { Self → ℕ };
 
-    /// Begins the next call where none is under way, and answers the access that is due, if any.
+    /// Starts the next call if none is under way, and returns the access that is due, if any.
     fn next(&mut self) -> Option<Access>
         ensures due { result ≡ due self.new }
         ensures script { script self.new ≡ script self.old }
@@ -53,7 +53,7 @@ pub(crate) trait Actor {
         ensures right { (access : Access) → result ≡ Some access → (list : List Made) → stands self.old list None →
             IsOpenRight (script self.old).shape (side self.old) access };
 
-    /// The access that is due has begun.
+    /// Records that the due access has begun.
     fn begin(&mut self)
         requires due { due self.old ≢ None }
         ensures due { due self.new ≡ due self.old }
@@ -64,7 +64,7 @@ pub(crate) trait Actor {
         ensures stands { (list : List Made) (access : Access) → due self.old ≡ Some access → stands self.old list None →
             stands self.new list (Some access) };
 
-    /// Makes room for what the end of an access gives.
+    /// Makes room for what the end of an access adds.
     fn reserve(&mut self) -> Result<(), PlayFault>
         ensures due { due self.new ≡ due self.old }
         ensures script { script self.new ≡ script self.old }
@@ -76,13 +76,13 @@ pub(crate) trait Actor {
         ensures ready { OnOk result (ready self.new) }
         ensures full { OnErr result (room self.old < kept self.old + wants self.old) };
 
-    /// What is known where the last bit of a count is due.
+    /// What is known when the last bit of a count is due.
     fn last_bit(&self)
         ensures { LastBitIsDue (script self.now).shape (side self.now) (due self.now) →
             (list : List Made) (opened : Option Access) → stands self.now list opened →
             EndsInZeros (script self.now).shape (side self.now) list };
 
-    /// The access that is due, and that had begun, has ended with this answer.
+    /// Records that the due access, which had begun, has ended with this answer.
     fn end(&mut self, answer: bool)
         requires there { (list : List Made) × (access : Access) × (due self.old ≡ Some access) ×
             stands self.old list (Some access) × (length list < 2 ^ 63) }
@@ -116,14 +116,14 @@ fn begin<M: Store<Event>>(
     Ok(())
 }
 
-/// How many events the memory has recorded; so they are fewer than a count can tell.
+/// The number of events that the memory has recorded, which is therefore less than a `usize` can hold.
 fn event_count<M: Store<Event>>(memory: &Memory<M>) -> usize
     ensures { result ≡ length memory.now.events }
 {
     memory.events().len()
 }
 
-/// One step of the side: it ends the access that it has open, or begins the next one, or is done. It answers whether it made an event.
+/// One step of the side: it ends the access that it has open, or begins the next one, or is done. Returns whether it made an event.
 #[tactic(auto, using(bits_core::proofs::LawLemmas::open_changes, bits_core::proofs::LawLemmas::subhistory_changes))]
 pub fn advance<M: Store<Event>, A: Actor, O: Oracle>(
     memory: &mut Memory<M>,

@@ -1,5 +1,5 @@
-//! The player: the two sides of a script at work on one memory of safe bits. It hands up the audit of programs, for the history that a
-//! play gives or that was recorded elsewhere.
+//! The player: the two sides of a script run on one memory of safe bits. It re-exports the audit of programs, for the history of a
+//! play or one recorded elsewhere.
 #![tactic(auto)]
 
 mod actors;

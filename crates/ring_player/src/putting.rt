@@ -16,7 +16,7 @@ use bits_core::{Access, Bit};
 use ring_core::{BatchReply, Producer};
 use ring_script::ScriptRef;
 
-/// The next items, at most so many.
+/// The next items, at most this many.
 fn next_items(items: &[u64], stored: usize, most: u64) -> &[u64]
     requires { stored < length items.now }
     ensures { result.now ≡ take most (drop stored items.now) }
@@ -39,7 +39,7 @@ fn stored_by(reply: Option<BatchReply>) -> usize
     }
 }
 
-/// How many puts found the ring full, by a reply.
+/// How many puts found the ring full, by its reply.
 fn full_by(reply: Option<BatchReply>) -> u64
     ensures { result ≡ full_in_reply reply }
 {
@@ -59,7 +59,7 @@ fn digits_of(access: Option<Access>) -> u64
     }
 }
 
-/// How many items are put once the access has begun: a count write counts all that were written before it.
+/// How many items are put once the access has begun: a count write counts all written before it.
 fn put_by(access: Option<Access>, written: u64, put: u64) -> u64
     ensures { result ≡ put_once access written put }
 {
@@ -69,12 +69,12 @@ fn put_by(access: Option<Access>, written: u64, put: u64) -> u64
     }
 }
 
-/// Puts the items of a script in order, and then closes where it says so.
+/// Puts the items of a script in order, and then closes if the script says so.
 #[derive(Drop)]
 pub(crate) struct PutActor<'a> {
     script: ScriptRef<'a>,
     producer: Producer,
-    // how many items the puts that are over stored, and how many puts found the ring full
+    // how many items the puts that are over have stored, and how many puts found the ring full
     pub(crate) stored: usize,
     pub(crate) full: u64,
     digits: u64,
@@ -126,7 +126,7 @@ impl<'a> PutActor<'a> {
         self.producer.next();
     }
 
-    /// Begins the next call, if none is under way and the script asks for one.
+    /// Begins the next call, if none is under way and the script requests one.
     fn begin_call(&mut self)
         ensures script { content_of self.new.script ≡ content_of self.old.script }
         ensures counts { (self.new.digits ≡ self.old.digits) × (self.new.put ≡ self.old.put) }
@@ -197,6 +197,7 @@ impl<'a> Actor for PutActor<'a> {
     }
 
     fn end(&mut self, answer: bool) {
+        // only for the proof: gives the limits of the items
         let _items = self.script.items();
         let due = self.producer.next();
         self.digits += digits_of(due);

@@ -17,7 +17,7 @@ use bits_core::{Access, Store};
 use ring_core::{Consumer, TakeBatchReply};
 use ring_script::ScriptRef;
 
-/// Adds the items at the end.
+/// Appends the items.
 fn add_all<T: Store<u64>>(store: &mut T, items: &[u64])
     requires { length items.now ≤ T.spare store.old }
     ensures items { T.items store.new ≡ T.items store.old ++ items.now }
@@ -28,20 +28,20 @@ fn add_all<T: Store<u64>>(store: &mut T, items: &[u64])
     }
 }
 
-/// Takes as many items as a script wants, or until it is told that the ring is closed.
+/// Takes as many items as a script wants, or until a take returns Closed.
 #[derive(Drop)]
 pub(crate) struct TakeActor<'a, T: Store<u64>> {
     script: ScriptRef<'a>,
     consumer: Consumer,
     taken: T,
-    // whether it was told that the ring is closed, and how many takes found the ring empty
+    // whether a take has returned Closed, and how many takes found the ring empty
     pub(crate) told: bool,
     pub(crate) empty: u64,
     pub ghost same_shape: { consumer.shape ≡ (content_of script).shape },
 }
 
 impl<'a, T: Store<u64>> TakeActor<'a, T> {
-    /// An actor that has made no access. What it takes grows in this store, which is empty.
+    /// An actor that has made no access. What it takes is added to this store, which is empty.
     pub fn new(taken: T, script: ScriptRef<'a>) -> Self
         requires { T.items taken ≡ [] }
         ensures script { content_of result.script ≡ content_of script.entry }
@@ -79,7 +79,7 @@ impl<'a, T: Store<u64>> TakeActor<'a, T> {
         taken
     }
 
-    /// What the accesses so far took and told.
+    /// What the accesses so far have taken, and whether a take has returned Closed.
     pub fn look(&self)
         ensures { (list : List Made) (opened : Option Access) →
             TakeActorStands (content_of self.now.script) self.now.consumer (T.items self.now.taken) self.now.told
@@ -90,13 +90,14 @@ impl<'a, T: Store<u64>> TakeActor<'a, T> {
         self.consumer.next();
     }
 
-    /// How many items the next take wants: as many as one count write may count, or as are left to take.
+    /// How many items the next take wants: as many as one count write may count, or as many as are left to take.
     pub fn wanted(&self) -> u64
         ensures value { result ≡ wanted_at (content_of self.now.script) (length (T.items self.now.taken)) }
         ensures few { result ≤ take_batch_of (content_of self.now.script).shape }
         ensures small { result ≤ 64 }
     {
         let shape = self.script.shape();
+        // only for the proof: gives the bounds of the capacity, which bound the take batch
         let _capacity = shape.capacity();
         let taken = self.taken().len() as u64;
         shape

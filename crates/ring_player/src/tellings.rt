@@ -1,4 +1,4 @@
-//! The calls of a play, one after the other, as a recorder would tell them.
+//! The calls of a play, one after the other, as a recorder would record them.
 ghost use Rattle.std.specs.Prelude.{◌≡◌, ◌↔◌, true, IfOk, OnOk, List, [], ◌∷◌, ◌++◌, length, replicate};
 ghost use Rattle.bits_core.specs.declared.events.Side.{Side};
 ghost use Rattle.bits_core.specs.declared.events.Side.TheVariants as side_is;
@@ -18,7 +18,7 @@ use queue_calls::CallEvent;
 use ring_script::Script;
 use std::alloc::{AllocError, Allocator};
 
-/// The items that a take of a play took: so many of the script's, behind as many as were taken before.
+/// The items that a take of a play took: `count` of the script's, after the `before` taken earlier.
 ///
 /// For example, of a script whose items are 5 and 6, `TakenItems { before: 1, count: 1 }` are the item 6.
 #[derive(Clone, Copy, PartialEq, Eq, Debug)]
@@ -27,14 +27,14 @@ pub struct TakenItems {
     pub count: usize,
 }
 
-/// What an event of a play tells of a call: it begins, with its first own event, or it ends, with its last. A put that begins tells how
-/// many items of the script were stored before it: it is offered those that follow, as many as a batch may have. A take that begins tells
-/// how many items it wants, and where it took some tells which.
+/// What an event of a play records of a call: its start, with its first own event, or its end, with its last. The start of a put has how
+/// many items of the script were stored before it: it is offered those that follow, as many as a batch may have. The start of a take has
+/// how many items it wants, and its end which it took, if any.
 ///
 /// In use: `lamport_ring play --calls`.
 pub type PlayedCall = CallEvent<usize, TakenItems>;
 
-// Where the producer is in its calls: between two, in a put, in the close, behind it.
+// The producer's state: between two calls, in a put, in the close, after it.
 #[derive(Clone, Copy)]
 pub(crate) enum PutStage {
     Between,
@@ -43,7 +43,7 @@ pub(crate) enum PutStage {
     Closed,
 }
 
-// Where the consumer is: between two calls, in a take, behind one that was told that the ring is closed.
+// The consumer's state: between two calls, in a take, after one that returned Closed.
 #[derive(Clone, Copy)]
 pub(crate) enum TakeStage {
     Between,
@@ -58,8 +58,8 @@ struct PutCount {
     full: u64,
 }
 
-// The stage behind an event of the producer and what the event tells, by the stage before it and the counts before it and with it, of a
-// script of so many items.
+// The stage after an event of the producer and what the event records, by the stage before it and the counts before it and with it, for
+// a script of this many items.
 fn put_says(
     stage: PutStage,
     items: usize,
@@ -97,8 +97,7 @@ fn put_says(
     }
 }
 
-// What was counted of the takes that are over: the items that they took, how many found the ring empty, and whether one was told that the
-// ring is closed.
+// What was counted of the takes that are over: the items that they took, how many found the ring empty, and whether one returned Closed.
 #[derive(Clone, Copy)]
 struct TakeCount {
     taken: usize,
@@ -106,8 +105,8 @@ struct TakeCount {
     told: bool,
 }
 
-// The stage behind an event of the consumer and what the event tells, by the stage before it, how many items the next take wanted, and the
-// counts before it and with it.
+// The stage after an event of the consumer and what the event records, by the stage before it, how many items the next take wanted, and
+// the counts before it and with it.
 fn take_says(
     stage: TakeStage,
     wanted: usize,
@@ -138,7 +137,7 @@ fn take_says(
     }
 }
 
-// Where both sides are.
+// The stages of both sides.
 #[derive(Clone, Copy)]
 struct Stages {
     put: PutStage,
@@ -174,7 +173,7 @@ fn take_count<E: Store<Event>, T: Store<u64>>(world: &World<'_, E, T>) -> TakeCo
     }
 }
 
-// One step of a side, and what its event tells, if any.
+// One step of a side, and what its event records, if anything.
 fn step_told<E: Store<Event>, T: Store<u64>>(
     world: &mut World<'_, E, T>,
     at: &mut Stages,
@@ -219,7 +218,7 @@ fn step_told<E: Store<Event>, T: Store<u64>>(
     }
 }
 
-// Adds what was told, if anything.
+// Appends what was recorded, if anything.
 fn add<A: Allocator>(
     told: &mut Vec<PlayedCall, A>,
     event: Option<PlayedCall>,
@@ -232,7 +231,7 @@ fn add<A: Allocator>(
     }
 }
 
-// Makes so many steps of one side, and tells what their events tell.
+// Makes this many steps of one side, and records what their events record.
 fn repeat_told<E: Store<Event>, T: Store<u64>, A: Allocator>(
     world: &mut World<'_, E, T>,
     at: &mut Stages,
@@ -258,11 +257,11 @@ fn repeat_told<E: Store<Event>, T: Store<u64>, A: Allocator>(
     Ok(())
 }
 
-/// Plays a script, and tells the begin and the end of each call: a call that is cut has begun and has not ended. What is told is
-/// the recording of the play's calls whichever calls its events are read as, and a linearizable history of a queue of the
-/// ring's capacity.
+/// Plays a script, and returns the start and the end of each call: a call that is cut has begun and has not ended. This is the
+/// recording of the play's calls, whichever calls its events are read as, and a linearizable history of a queue of the ring's
+/// capacity.
 ///
-/// `OutOfMemory` tells that memory ran out.
+/// `OutOfMemory`: memory ran out.
 ///
 /// In use: `lamport_ring play --calls`.
 pub fn play_calls<A: Allocator + Copy, B: Allocator>(

@@ -25,8 +25,8 @@ use ring_script::{Script, ScriptRef};
 use std::alloc::Allocator;
 use std::marker::Model;
 
-/// The two sides of a script at work on one memory. The history and the items taken are kept in stores of the
-/// caller's choice.
+/// The two sides of a script running on one memory. The history and the items taken are kept in stores that
+/// the caller chooses.
 ///
 /// For example, [`play`] makes a new one, and one step for each letter.
 #[derive(Drop)]
@@ -68,7 +68,7 @@ impl<'a, E: Store<Event>, T: Store<u64>> Model for World<'a, E, T> {
 }
 
 impl<'a, A: Allocator + Copy> World<'a, Vec<Event, A>, Vec<u64, A>> {
-    /// A world that has made no step. It takes memory from this allocator, and none at first.
+    /// A world that has made no step. It takes memory from this allocator, none of it at first.
     pub fn new<B: Allocator>(alloc: A, script: &'a Script<B>) -> Self
         ensures script { result.script ≡ script.now }
         ensures empty { result.history ≡ [] }
@@ -78,7 +78,7 @@ impl<'a, A: Allocator + Copy> World<'a, Vec<Event, A>, Vec<u64, A>> {
 }
 
 impl<'a, E: Store<Event>, T: Store<u64>> World<'a, E, T> {
-    /// A world that has made no step. Its history and the items taken grow in these stores, which are empty.
+    /// A world that has made no step. Its history and the items taken are added to these stores, which are empty.
     pub fn over(script: ScriptRef<'a>, events: E, taken: T) -> Self
         requires no_events { E.items events ≡ [] }
         requires none_taken { T.items taken ≡ [] }
@@ -95,8 +95,8 @@ impl<'a, E: Store<Event>, T: Store<u64>> World<'a, E, T> {
         }
     }
 
-    /// The history so far: the play of the script by the sides of its own events. The sentence of the ring holds of it, and its
-    /// calls are linearizable.
+    /// The history so far: the play of the script by the sides of its own events. The main theorem holds for it, and its calls
+    /// are linearizable.
     pub fn history(&self) -> &[Event]
         ensures history { result.now ≡ self.now.history }
         ensures plays { IsPlayOf self.now.script (event_sides self.now.history) self.now.history }
@@ -124,7 +124,7 @@ impl<'a, E: Store<Event>, T: Store<u64>> World<'a, E, T> {
         self.consumer.taken()
     }
 
-    /// Whether a take was told that the ring is closed.
+    /// Whether a take returned Closed.
     pub fn told(&self) -> bool
         ensures { (takes : Takes) → FollowsTakes self.now.script.shape self.now.history takes → (result ≡ true) ↔
             ToldIn self.now.script.shape self.now.history takes }
@@ -133,7 +133,7 @@ impl<'a, E: Store<Event>, T: Store<u64>> World<'a, E, T> {
         self.consumer.told
     }
 
-    /// How many reads have ended that a write overlapped.
+    /// How many reads that a write overlapped have ended.
     pub fn flickers(&self) -> u64
         ensures { result ≡ flicker_count self.now.history }
     {
@@ -160,7 +160,7 @@ impl<'a, E: Store<Event>, T: Store<u64>> World<'a, E, T> {
         self.puts().stored
     }
 
-    /// The items that the takes which have ended took: the first ones of the script.
+    /// The items that the takes that have ended took: the first ones of the script.
     pub fn ended_items(&self) -> &[u64]
         ensures items { (takes : Takes) → FollowsTakes self.now.script.shape self.now.history takes →
             result.now ≡ all_taken (takes_over_in self.now.script.shape self.now.history takes) }
@@ -190,7 +190,7 @@ impl<'a, E: Store<Event>, T: Store<u64>> World<'a, E, T> {
         self.consumer.empty
     }
 
-    /// How many items the next take wants: as many as one count write may count, or as are left to take.
+    /// How many items the next take wants: as many as one count write may count, or as many as are left to take.
     pub fn wanted(&self) -> u64
         ensures wanted { (takes : Takes) → FollowsTakes self.now.script.shape self.now.history takes →
             result ≡ wanted_at self.now.script (length (all_taken
@@ -201,7 +201,7 @@ impl<'a, E: Store<Event>, T: Store<u64>> World<'a, E, T> {
         self.consumer.wanted()
     }
 
-    // No more items were taken than the script has, nor than it takes.
+    // At most as many items were taken as the script has, and as it takes.
     fn few_taken(&self)
         ensures items { self.now.taken ≤ length self.now.script.items }
         ensures takes { self.now.taken ≤ self.now.script.takes }
@@ -211,7 +211,7 @@ impl<'a, E: Store<Event>, T: Store<u64>> World<'a, E, T> {
         self.consumer.look();
     }
 
-    /// What was played. It takes no memory.
+    /// The report on what was played. It takes no memory.
     pub fn report(self) -> Report<'a, E, T>
         ensures history { E.items result.history ≡ self.entry.history }
         ensures plays { IsPlayOf self.entry.script (event_sides self.entry.history) (E.items result.history) }
@@ -252,10 +252,10 @@ impl<'a, E: Store<Event>, T: Store<u64>> World<'a, E, T> {
         }
     }
 
-    /// One step of a side: true where it made its next event, false where it is done.
+    /// One step of a side: true if it made its next event, false if it is done.
     ///
-    /// `OutOfMemory` leaves all as it was: the history had no room for the event, or the items taken had none for as many
-    /// more as the take wants, which is asked for wherever an access of the consumer ends.
+    /// `OutOfMemory` leaves everything unchanged: the history had no room for the event, or the items taken had none for
+    /// as many more as the take wants, which is requested whenever an access of the consumer ends.
     pub fn step(&mut self, side: Side) -> Result<bool, PlayFault>
         ensures script { self.new.script ≡ self.old.script }
         ensures ok { IfOk result (λ moved. IsMove self.old.script side moved self.old.history self.new.history) }
@@ -273,7 +273,7 @@ impl<'a, E: Store<Event>, T: Store<u64>> World<'a, E, T> {
         moved
     }
 
-    // The same, before the history is looked at.
+    // The same, without what it implies about the history.
     fn step_side(&mut self, side: Side) -> Result<bool, PlayFault>
         ensures { PlayedOn side self.old self.new result }
     {
@@ -294,7 +294,7 @@ impl<'a, E: Store<Event>, T: Store<u64>> World<'a, E, T> {
     }
 }
 
-/// Makes so many steps of one side.
+/// Makes this many steps of one side.
 fn repeat<E: Store<Event>, T: Store<u64>>(
     world: &mut World<'_, E, T>,
     side: Side,
@@ -315,7 +315,7 @@ fn repeat<E: Store<Event>, T: Store<u64>>(
     Ok(())
 }
 
-/// Makes one step for each of the first so many letters of the script's schedule, or for each letter where they are fewer.
+/// Makes one step for each of the first `most` letters of the script's schedule, or for each letter if there are fewer.
 fn run_first<E: Store<Event>, T: Store<u64>>(
     world: &mut World<'_, E, T>,
     script: ScriptRef<'_>,
@@ -343,9 +343,9 @@ fn run_first<E: Store<Event>, T: Store<u64>>(
     Ok(())
 }
 
-/// What was played: the history; the items put, which are the script's; the items taken; whether a take was told that
-/// the ring is closed; how many puts ended that found the ring full, and takes that found it empty; and how many reads
-/// ended that a write overlapped.
+/// What was played: the history; the items put, which are the script's; the items taken; whether a take returned
+/// Closed; how many puts ended that found the ring full, and takes that found it empty; and how many overlapped reads
+/// ended.
 ///
 /// In use: `uses::plays::left_inside`.
 #[derive(Debug, Drop)]
@@ -359,7 +359,7 @@ pub struct Report<'a, E: Store<Event>, T: Store<u64>> {
     pub flicker: u64,
 }
 
-/// Plays a script: a new world, one step for each letter of its schedule, and its report.
+/// Plays a script: a new world, one step for each letter of its schedule, and the report on it.
 ///
 /// In use: `uses::plays::takes_of`.
 pub fn play<'a, A: Allocator + Copy, B: Allocator>(
@@ -384,11 +384,11 @@ pub fn play<'a, A: Allocator + Copy, B: Allocator>(
     play_first(script.as_ref(), letters, Vec::new(alloc), Vec::new(alloc))
 }
 
-/// Plays the first so many letters of a script, or all of them where they are fewer: a new world, one step for each of
-/// these letters, and its report. The history and the items taken grow in these stores, which are empty.
+/// Plays the first `most` letters of a script, or all of them if there are fewer: a new world, one step for each of
+/// these letters, and the report on it. The history and the items taken are added to these stores, which are empty.
 ///
-/// `OutOfMemory` tells that one of the stores had no room: the history for an event, or the items taken for as many more
-/// as a take wants, which is asked for wherever an access of the consumer ends.
+/// `OutOfMemory`: one of the stores had no room, the history for an event, or the items taken for as many more as a take
+/// wants, which is requested whenever an access of the consumer ends.
 ///
 /// In use: the page, which shows a play up to a letter.
 pub fn play_first<'a, E: Store<Event>, T: Store<u64>>(
@@ -419,11 +419,11 @@ pub fn play_first<'a, E: Store<Event>, T: Store<u64>>(
         FollowsTakes (content_of script.entry).shape (E.items r.history) takes →
         r.empty ≡ empties (takes_over_in (content_of script.entry).shape (E.items r.history) takes)) }
     ensures flicker { IfOk result (λ r. HasFlickers (E.items r.history) r.flicker) }
-    // A letter gives one event at most.
+    // A letter makes at most one event.
     ensures few { IfOk result (λ r. length (E.items r.history) ≤ min letters
         (length (content_of script.entry).letters)) }
-    // A refusal comes only where the history has no room for as many events as letters are played, or the items taken have none for as
-    // many as the script takes, nor for as many more than it has, less one, as a take may take.
+    // It is refused only if the history has no room for as many events as letters are played, or the items taken have none for as many
+    // as the script takes, nor for as many more than it has, less one, as a take may take.
     ensures refused { OnErr result ((E.room events < min letters (length (content_of script.entry).letters)) ⊎
         ((T.room taken < (content_of script.entry).takes) ×
         (T.room taken < length (content_of script.entry).items + take_batch_of (content_of script.entry).shape))) }

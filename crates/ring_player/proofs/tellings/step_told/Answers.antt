@@ -7,7 +7,7 @@ use Rattle.ring_player.specs.declared.tellings.TakeCount.{TakeCount}
 use Rattle.ring_player.proofs.TellingMoves.{not_stepped, put_stepped, take_stepped, Stepped}
 use Rattle.ring_player.proofs.tellings.step_told.Goals as goal
 
--- ---- where the side was done
+-- ---- if the side was done
 
 pub returns-then-not-moved-clause-at : goal.returns-then-not-moved-clause-at
 returns-then-not-moved-clause-at g c =
@@ -25,7 +25,7 @@ pub returns-then-not-moved-2-clause-told : goal.returns-then-not-moved-2-clause-
 returns-then-not-moved-2-clause-told g c =
     (not_stepped c.args.world.now.script c.step-in-C.new.self.script c.args.world.now.history c.step-in-C.new.self.history C _ _ c.in_ok-moved-in-C.moved c.in_ok-moved-in-C.ensures.script c.in_ok-moved-in-C.ensures.ok c.if-not-moved-2.true c.requires.at).1
 
--- ---- a put or the close goes on
+-- ---- a put or the close continues
 
 put_goes :
     (g : _) (c : goal.After-at-1 g) →
@@ -44,7 +44,7 @@ returns-else-not-moved-clause-at g c = (put_goes g c).0
 pub returns-else-not-moved-clause-told : goal.returns-else-not-moved-clause-told
 returns-else-not-moved-clause-told g c = (put_goes g c).1
 
--- ---- a take goes on
+-- ---- a take continues
 
 abbrev tally : TakeCount → TakeTally
 tally count = record { taken = count.taken; empty = count.empty; told = count.told }

@@ -30,7 +30,7 @@ returns-clause-flicker g c =
     subst (λ (l : List Event). HasFlickers l c.report.result.flicker) (sym c.report.ensures.history)
     (subst (HasFlickers w.history) (sym c.report.ensures.flicker) (has_flickers (content_of c.args.script).shape w.history c.in_ok-played.ensures.plays.played.lawful))
 
--- what is said of the world's history is said of the report's
+-- what holds for the world's history holds for the report's
 reported : (says : Shape → List Event → Type 0) (script of : Content) (h history : List Event) → of ≡ script → history ≡ h → says of.shape h → says script.shape history
 reported says script of h history same is told = subst (says script.shape) (sym is) (subst (λ (t : Content). says t.shape h) same told)
 

@@ -9,7 +9,7 @@ use Rattle.ring_audit.proofs.Readings.{put_stops, put_goes, put_stores, put_coun
 use Rattle.ring_audit.proofs.Rooms.{on_err, put_needs, take_needs, take_short}
 use Rattle.ring_audit.proofs.audits.Readers.read.Goals as goal
 
--- what is read at this shape of the takes is read at that of the puts
+-- what is read with the shape of the takes is read with that of the puts
 as_puts : (of shape : Shape) (old new : TakeReading) (e : Event) (step : TakeStep) → of ≡ shape → HasReadTake of old new e step → HasReadTake shape old new e step
 as_puts of shape old new e step same read = subst (λ s. HasReadTake s old new e step) same read
 

@@ -9,7 +9,7 @@ use Rattle.ring_audit.specs.TakeReading.{TakeReading, TakesStand}
 use Rattle.ring_audit.proofs.TakeReads.{not_due, due_takes, taking_or_told, wants_most, begun_stands}
 use Rattle.ring_audit.proofs.takes.TakeReader.due.Goals as goal
 
--- of the consumer that is kept, what is seen of it: that it is the same, and stands behind the takes
+-- the model of the consumer that is kept: it is the same, and stands after the takes
 kept : (inside seen : TakeReading) (es : List Event) (items : List ℕ) → inside ≡ seen → (st : TakesStand seen.consumer.shape seen es items) → (inside.consumer ≡ seen.consumer) × ConsumerStands inside.consumer st.calls st.made
 kept inside seen es items is st =
     let same = ap (λ (z : TakeReading). z.consumer) is in

@@ -13,7 +13,7 @@ use Rattle.ring_script.specs.Borrowed.{content_of}
 use Rattle.ring_player.proofs.taking.TakeActorActor.end.Goals as goal
 use Rattle.ring_player.proofs.taking.TakeActorActor.end.Goals.{After-batch_reply}
 
--- no take that found the ring empty more
+-- the same number of takes that found the ring empty
 at_last :
     (script : Content) (p : ConsumerState) (taken taken' : List ℕ) (told : Bool) (empty : ℕ) (list : List Made) → TakeActorStands script p taken told (empty + 0) list None → taken ≡ taken' →
     TakeActorStands script p taken' told empty list None
@@ -21,7 +21,7 @@ at_last script p taken taken' told empty list s same =
     let nothing : empty + 0 ≡ empty = omega arith in
     subst (λ l. TakeActorStands script p l told empty list None) same (subst (λ n. TakeActorStands script p taken told n list None) nothing s)
 
--- what the actor has and how many items more, by the machine's answer
+-- what the actor has and how many more items, by the machine's reply
 after :
     (g : _) (c : After-batch_reply g) (list : List Made) (a : Access) (reply : Option TakeBatchReply) → c.batch_reply.result ≡ reply → due_take c.args.self.now.consumer ≡ Some a →
     TakeActorStands (content_of c.args.self.now.script) c.args.self.now.consumer (g.T.Store.items c.args.self.now.taken) c.args.self.now.told c.args.self.now.empty list (Some a) →
