@@ -1,4 +1,4 @@
--- How the program ends on a request, by what came of it.
+-- How the program ends on a request, by its result.
 use Rattle.std.proofs.Common.{arith, ◌≡◌, ◌≢◌, ◌<◌, ◌∙◌, ◌++◌, ◌⊎◌, ℕ, Bool, true, false, List, Option, Some, None, Result, Ok, Err, IfErr, IfOk, IfSome, ap, append-nil, inl, inr, length, length-append, refl, string_bytes, subst, sym}
 use Rattle.std.proofs.KnownBytes.{Keeps-refl}
 use Rattle.std.specs.Prelude.{MatchResult}
@@ -22,12 +22,12 @@ use Rattle.ring_program.specs.declared.faults.Refusal.{Refusal}
 use Rattle.ring_program.specs.declared.faults.Refusal.TheVariants as refusal
 use Rattle.ring_program.specs.declared.inputs.TheConstants.{INPUT_LIMIT}
 
--- what holds of all bytes holds of an input, if there is one
+-- what holds for all bytes holds for an input, if there is one
 pub if_some : (input : Option (List ℕ)) (P : List ℕ → Type 0) → ((bytes : List ℕ) → P bytes) → IfSome input P
 if_some None P each = tt
 if_some (Some bytes) P each = each bytes
 
--- what came of a request was delivered
+-- the result of a request was delivered
 abbrev IsDelivered : {A : Type 0} → Result (Answer A) Refusal → (before after : Option (List ℕ)) (Tells : List ℕ → Type 0) (status : ℕ) → Type 0
 IsDelivered r before after Tells status =
     MatchResult r (λ answer. Delivers (string_bytes answer.text) answer.ending before after Tells status) (λ e. Declines e before after Tells status)
@@ -105,7 +105,7 @@ unread question None after out Tells fault status one unwritten unrun large told
 unread question (Some input) after out Tells fault status one unwritten unrun large told =
     inr (refusal.App fault, cause question input fault unwritten unrun (λ is. large_input input after (large is).0 (large is).1 (large is).2), (one, Keeps-refl out, told))
 
--- what holds of bytes to which an input was read to its end holds of the input
+-- what holds for bytes that an input was read as, to its end, holds for the input
 pub read_whole : (P : List ℕ → Type 0) (input after : Option (List ℕ)) (bytes : List ℕ) → Consumes input after bytes → IsAtEnd after → P bytes → IfSome input P
 read_whole P None after bytes came end holds = tt
 read_whole P (Some whole) None bytes came end holds = absurd came

@@ -1,4 +1,4 @@
--- Where the first fault of recorded calls is, and the first line with which a recorded register lacks a class.
+-- The position of the first fault of recorded calls, and of the first line with which a recorded register lacks a class.
 use Rattle.std.proofs.Common.{◌≡◌, ◌≢◌, ◌∙◌, ◌⊎◌, ℕ, ◌+◌, take, length-append, List, [], ◌∷◌, ◌++◌, None, inl, inr, append_assoc, ap, ap₂, length, refl, sym, subst, arith}
 use Rattle.std.proofs.Math.ListN.{get_or}
 use Rattle.std.proofs.Math.Seq.{take-append_seam}
@@ -61,7 +61,7 @@ feed_alone : IsOneLine (10 ∷ [])
 feed_alone [] b e = sym (tail_is 10 10 [] b e)
 feed_alone (c ∷ a) b e = absurd (feed_nowhere [] a b (All-nil (λ c. c ≢ 10)) (tail_is 10 c [] (a ++ 10 ∷ b) e))
 
--- the bytes before a line feed, and it
+-- the bytes up to and including a line feed
 pub front_line : (bytes front more line : List ℕ) → HasNoFeed front → bytes ≡ front ++ 10 ∷ more → line ≡ take (length front + 1) bytes → IsOneLine line
 front_line bytes front more line none is cut =
     let whole = front ++ 10 ∷ [] in
@@ -82,7 +82,7 @@ recording_ends bytes capacity events is =
     let ends = ends_in_feed (line (first_word is.is_cut) is.first) is.further in
     (ends.0, is.text ∙ ends.1)
 
--- what stands behind a front, and has no line feed, is nothing where the whole ends in one
+-- what comes after a prefix, and has no line feed, is empty if the whole ends in one
 nothing_behind : (front d t : List ℕ) → HasNoFeed d → t ++ 10 ∷ [] ≡ front ++ d → d ≡ []
 nothing_behind front d t none e = by (overlap t (10 ∷ []) front d e)
   where
@@ -98,7 +98,7 @@ nothing_behind front d t none e = by (overlap t (10 ∷ []) front d e)
 -- ---- the first line with which something stops holding
 
 module _ (Holds : List ℕ → Type 0) (feeds : (x : ℕ) (xs : List ℕ) → Holds (x ∷ xs) → (t : List ℕ) × (x ∷ xs ≡ t ++ 10 ∷ [])) where
-  -- lines of which it holds, and then some of a line
+  -- lines for which it holds, and then some of a line
   ends_at_shorter : (ended d front : List ℕ) → ended ≡ front ++ d → HasNoFeed d → Holds ended → EndsAtFirst Holds front
   ends_at_shorter [] d front is none holds =
       let nothing : front ≡ [] = none_behind front d (sym is) in
@@ -109,7 +109,7 @@ module _ (Holds : List ℕ → Type 0) (feeds : (x : ℕ) (xs : List ℕ) → Ho
       let same : front ≡ x ∷ ended = sym (is ∙ ap (λ (t : List ℕ). front ++ t) nothing ∙ append-nil front) in
       (x ∷ ended, [], same ∙ sym (append-nil (x ∷ ended)), holds, one_line [] (All-nil (λ c. c ≢ 10)))
 
-  -- a line was read after bytes of whose lines it holds; lines of these all go no further than the first with which it stops
+  -- a line was read after bytes for whose lines it holds; all lines of these go no further than the first with which it stops
   pub ends_at : (bytes line front rest : List ℕ) → HoldsOfLines Holds bytes → IsOneLine line → bytes ++ line ≡ front ++ rest → HasNoFeed rest → EndsAtFirst Holds front
   ends_at bytes line front rest (ended, left, parts, none, holds) one is free =
       by (overlap ended (left ++ line) front rest (sym (append_assoc ended left line) ∙ ap (λ (t : List ℕ). t ++ line) (sym parts) ∙ is))
@@ -128,7 +128,7 @@ module _ (Holds : List ℕ → Type 0) (feeds : (x : ℕ) (xs : List ℕ) → Ho
           front_free [] ys none = All-nil (λ c. c ≢ 10)
           front_free (x ∷ xs) ys none = All-cons (λ c. c ≢ 10) x xs (All-head (λ c. c ≢ 10) x (xs ++ ys) none) (front_free xs ys (All-tail (λ c. c ≢ 10) x (xs ++ ys) none))
 
--- bytes of whose lines it holds go no further than the first with which it stops
+-- bytes for whose lines it holds go no further than the first with which it stops
 pub holding_ends : (Holds : List ℕ → Type 0) (bytes : List ℕ) → HoldsOfLines Holds bytes → EndsAtFirst Holds bytes
 holding_ends Holds bytes (ended, rest, parts, none, holds) = (ended, rest, parts, holds, one_line rest none)
 

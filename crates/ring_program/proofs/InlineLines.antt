@@ -1,4 +1,4 @@
--- What a line of fixed room holds after calls that wrote in it.
+-- The contents of a line of fixed room after calls that wrote to it.
 use Rattle.std.proofs.Common.{◌≡◌, ◌∙◌, ℕ, List, [], ◌∷◌, ◌++◌, ap, sym, append_assoc, append-nil}
 use Rattle.std.specs.Fmt.{WritesInCalls}
 use Rattle.std.specs.Fmt.InlineText.{AppendsIfIntact, IsIntact, inline_text}

@@ -26,6 +26,6 @@ moves_within script (l ∷ letters) past later (inl (done, moves)) = omega (arit
 moves_within script (l ∷ letters) past later (inr (not_done, (e, es, is, by, moves))) =
     omega (arith, ap length is, moves_within script letters (past ++ e ∷ []) es moves)
 
--- so they are no more than a trace may have, where the letters are no more
+-- so they are no more than a trace may have, if the letters are no more
 pub play_within : (script : Content) (h : List Event) → length script.letters ≤ EVENT_LIMIT → Plays script script.letters h → length h ≤ EVENT_LIMIT
 play_within script h short plays = omega (arith, short, moves_within script script.letters [] h plays.moves)

@@ -1,4 +1,4 @@
--- What is found where recorded calls are read.
+-- The findings on recorded calls as they are read.
 use Rattle.std.proofs.Common.{arith, ◌≡◌, ◌≢◌, ◌≤◌, ◌+◌, ◌-◌, ◌^◌, ◌∙◌, Bool, true, false, ℕ, zero, suc, List, [], ◌++◌, Option, None, Some, Result, Ok, Err, IfSome, append_assoc, ap, length, length-append, refl, subst, sym, take}
 use Rattle.std.specs.Prelude.{IfOk, MatchOption}
 use Rattle.std.proofs.lemmas.List.{append-nil, length-take-le}
@@ -14,7 +14,7 @@ use Rattle.ring_program.specs.Texts.{calls_text_of}
 use Rattle.ring_program.specs.declared.answers.Ending.{Ending}
 use Rattle.ring_program.specs.declared.answers.Ending.TheVariants.{Done, FaultFound}
 
--- bytes, and a piece that was read in part, and then a line
+-- bytes, a piece that was read in part, and then a line
 pub around : (bytes piece read line rest more : List ℕ) → piece ≡ (read ++ line) ++ rest → (bytes ++ read) ++ (line ++ (rest ++ more)) ≡ bytes ++ (piece ++ more)
 around bytes piece read line rest more is =
     append_assoc bytes read (line ++ (rest ++ more))
@@ -33,14 +33,14 @@ pub none_found : {X : Type 0} (o : Option X) (A : Type 0) (B : X → Type 0) →
 none_found None A B none holds = holds
 none_found (Some x) A B none holds = absurd (none x refl)
 
--- what was read up to the first fault was to be read so
+-- what was read up to the first fault was to be read in this way
 pub with_stop : {X E : Type 0} (r : Result (Option X) E) (A B S : Type 0) (C : X → Type 0) → S → IfOk r (λ f. MatchOption f (A × B) C)
     → IfOk r (λ f. MatchOption f (A × (S → B)) (λ x. S × C x))
 with_stop (Ok None) A B S C stop is = (is.0, λ s. is.1)
 with_stop (Ok (Some x)) A B S C stop is = (stop, is)
 with_stop (Err e) A B S C stop is = tt
 
--- a fault is no lawful finding
+-- a fault is not a lawful finding
 is_fault : (ended : List ℕ) (found : CallsFinding) → IsFaultOf ended (Some found) → IsFindingOf ended found × (calls_ending_of found ≡ FaultFound)
 is_fault ended (Lawful report) is = absurd is
 is_fault ended (OutOfTurn line) is = (is, refl)
@@ -52,7 +52,7 @@ fault_ahead bytes ended rest whole later found parts is fault first =
     let f = is_fault ended found fault in
     (ended, rest ++ later, sym is ∙ ap (λ (t : List ℕ). t ++ later) parts ∙ append_assoc ended rest later, f.0, f.1, first)
 
--- the text of a fault tells nothing of whether the recording is cut
+-- the text of a fault does not depend on whether the recording is cut
 same_text : (a b : Bool) (found : CallsFinding) → calls_ending_of found ≡ FaultFound → calls_text_of a found ≡ calls_text_of b found
 same_text a b (Lawful report) is = cc
 same_text a b (OutOfTurn line) is = refl
@@ -76,14 +76,14 @@ at_fault true bytes found is (front, rest, parts, (capacity, events, recording, 
   (λ fault. first),
 )
 
--- what follows of the bytes of an input, where they are known
+-- what follows from the bytes of an input, if they are known
 pub of_input : (input : Option (List ℕ)) (P Q : List ℕ → Type 0) → ((bytes : List ℕ) → P bytes → Q bytes) → IfSome input P → IfSome input Q
 of_input None P Q follows holds = tt
 of_input (Some bytes) P Q follows holds = follows bytes holds
 
 -- ---- an input that is read in pieces
 
--- what holds of the bytes that came, whatever comes behind them, holds of the input
+-- what holds for the bytes that came, whatever comes after them, holds for the input
 pub of_front : (before after : Option (List ℕ)) (came : List ℕ) (P : List ℕ → Type 0) → Consumes before after came → ((more : List ℕ) → P (came ++ more)) → IfSome before P
 of_front None after came P same holds = tt
 of_front (Some bytes) None came P same holds = absurd same
@@ -93,16 +93,16 @@ none_more : (count : ℕ) (piece came : List ℕ) → count ≡ 0 → came ++ ta
 none_more zero piece came same = append-nil came
 none_more (suc count) piece came same = cc
 
--- what holds of the bytes that came holds of the input, where a read that gives none is at its end
+-- what holds for the bytes that came holds for the input, if a read that returned none is at its end
 pub of_whole : (before mid after : Option (List ℕ)) (came piece : List ℕ) (count : ℕ) (P : List ℕ → Type 0) → Consumes before mid came → Consumes mid after (take count piece) → count ≡ 0
     → IsAtEnd after → P came → IfSome before P
 of_whole before mid after came piece count P had more none over holds =
     Consumes-whole before after came P (subst (Consumes before after) (none_more count piece came none) (Consumes-trans before mid after came (take count piece) had more)) over holds
 
--- a piece that is not empty makes the bytes more
+-- a piece that is not empty adds to the bytes
 pub one_more : (turns count : ℕ) (came piece : List ℕ) → turns ≤ length came → count ≢ 0 → count ≤ length piece → turns + 1 ≤ length (came ++ take count piece)
 one_more turns count came piece before some within = omega (arith, before, some, within, length-append came (take count piece), length-take-le count piece within)
 
--- so many turns have read so many bytes
+-- after as many turns as a number of 64 bits can count, at least that many bytes have come
 pub all_turns : (turns : ℕ) (came more : List ℕ) → turns ≤ length came → 18446744073709551615 ≤ turns → 2 ^ 64 - 1 ≤ length (came ++ more)
 all_turns turns came more read over = omega (arith, read, over, length-append came more)

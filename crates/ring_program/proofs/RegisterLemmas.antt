@@ -1,4 +1,4 @@
--- What is found of a recorded register that is read in pieces.
+-- The finding on a recorded register that is read in pieces.
 use Rattle.std.proofs.Common.{◌≡◌, ◌∙◌, Bool, true, false, List, ℕ, [], ◌++◌, ap, append_assoc, refl, sym}
 use Rattle.std.proofs.lemmas.List.{append-nil}
 use Rattle.register_calls.specs.declared.events.Class.{Class}

@@ -1,4 +1,4 @@
--- What of a run was not told so far, and what is told with one event more.
+-- What of a run is not written yet, and what is written with one more event.
 use Rattle.std.proofs.Common.{rules, ◌≡◌, ◌∙◌, ℕ, ◌+◌, ◌-◌, ◌≤◌, Bool, true, false, not, min, Bor, List, [], ◌∷◌, ◌++◌, length, take, drop, refl, ap, ap₂, sym, subst, append_assoc, arith}
 use Rattle.std.proofs.lemmas.List.{append-nil, drop-drop, take-append-drop, take_min}
 use Rattle.std.proofs.lemmas.List.Sums.{sum_by-cons, sum_by_push}
@@ -36,7 +36,7 @@ took u items left is =
 pub offered_next : (u : Untold) (offered : List ℕ) (calls : ℕ) → 1 ≤ u.calls → calls ≡ u.calls - 1 → TakesOff u (PutBegin offered) (record u { calls = calls })
 offered_next u offered calls some is = record { items = refl; tells = search (rules, arith) }
 
--- ---- one event more
+-- ---- one more event
 
 tells_more : (f : Event → ℕ) (events : List Event) (event : Event) (left mid all : ℕ) → sum_by f events + mid ≡ all → sum_by f (event ∷ []) + left ≡ mid
     → sum_by f (events ++ event ∷ []) + left ≡ all

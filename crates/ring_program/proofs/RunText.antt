@@ -33,7 +33,7 @@ use Rattle.queue_calls.proofs.RecordingLemmas.{lines_more as text_more}
 tells_nothing : (all : RunCounts) → TellAllBut all all []
 tells_nothing all = search (rules, arith)
 
--- ---- one event more
+-- ---- one more event
 
 lines_more : (b : Begun) (h : List Event) (event : Event) → lines_of b (h ++ event ∷ []) ≡ lines_of b h ++ line_of (begun_behind b (lines_of b h)) event ∷ []
 lines_more b [] event = refl
@@ -43,9 +43,9 @@ small_more : (h : List Event) (event : Event) → TellsSmall h → AreSmall (num
 small_more [] event all small = (small, tt)
 small_more (e ∷ h) event all small = (all.0, small_more h event all.1 small)
 
--- ---- what is told so far
+-- ---- what is written in this way far
 
--- the text has a first line that tells the capacity, and whether later calls are missing, and the lines of these events
+-- the text has a first line with the capacity, and whether later calls are missing, and the lines of these events
 pub record IsWritten (is_cut : Bool) (capacity : ℕ) (b : Begun) (text : List ℕ) (events : List Event) : Type 0 where
   pub text_is : text ≡ lines_text (line (first_word is_cut) (capacity ∷ []) ∷ lines_of begun.Nothing events)
   pub begun_is : b ≡ begun_behind begun.Nothing (lines_of begun.Nothing events)
@@ -116,7 +116,7 @@ audits_more {Q} items_of capacity auditor after events event same reads a =
       linearizable = subst (λ k. IsLinearizable k (events ++ event ∷ [])) a.capacity_is read.1;
     }
 
--- ---- at the begin and at the end
+-- ---- at the start and at the end
 
 pub meant_exactly : (told : Capacity) (n capacity : ℕ) → told ≡ Between n n → n ≡ capacity → meant told ≡ exactly capacity
 meant_exactly told n capacity is same = ap meant is ∙ ap exactly same

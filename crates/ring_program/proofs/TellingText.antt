@@ -1,4 +1,4 @@
--- The text of the calls that a play told, line by line.
+-- The text of the calls of a play, line by line.
 use Rattle.std.proofs.Common.{◌≡◌, ◌∙◌, ℕ, ◌+◌, length, drop, get_or, Bool, ◌<◌, ◌≤◌, List, [], ◌∷◌, ◌++◌, ap, ap₂, sym, subst, append_assoc, arith}
 use Rattle.std.proofs.lemmas.List.{append-nil, drop_more}
 use Rattle.queue_calls.specs.Calls.{Event}
@@ -19,8 +19,8 @@ use Rattle.ring_script.specs.Content.{Content}
 use Rattle.ring_program.specs.Texts.{first_items, items_behind, items_by, list_line, near_calls}
 use Rattle.ring_program.proofs.RecordingText.{line_is}
 
--- Behind a line that tells this capacity, the lines so far and those of the events that are left are those of the history; its numbers
--- are small, where those of the events that are left are
+-- After a line with this capacity, the lines so far and those of the events that are left are those of the history; its numbers are
+-- small, if those of the events that are left are
 abbrev pub IsToldSoFar : ℕ → List Event → List Event → Begun → List ℕ → Type 0
 IsToldSoFar capacity h rest b text =
     (lines_text (line Queue (capacity ∷ []) ∷ lines_of begun.Nothing h) ≡ text ++ lines_text (lines_of b rest))

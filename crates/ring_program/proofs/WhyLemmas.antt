@@ -1,4 +1,4 @@
--- Why the event at fault is.
+-- The reason for the event at fault.
 use Rattle.std.proofs.Common.{◌≡◌, ℕ, suc, ◌+◌, ◌<◌, List, [], ◌∷◌, ◌++◌, Result, Ok, Err, OnOk, subst, sym, arith, length, take, ap, ◌∙◌}
 use Rattle.std.proofs.Math.ListN.{get_or}
 use Rattle.std.proofs.lemmas.List.{length-take-le, take_more}
@@ -20,7 +20,7 @@ use Rattle.ring_program.specs.declared.command_line.Audited.TheVariants.{Program
 use Rattle.ring_program.specs.Why.{IsFaultThere, TellsWhy, TellsWhyAt, verdict_in}
 use Rattle.bits_core.proofs.LawLemmas.{fault_breaks, lawful_by_one_more}
 
--- what holds where a call went well, from what did
+-- what holds if a call succeeded, from what held before
 pub map_ok : {A E P Q : Type 0} → (r : Result A E) → (P → Q) → OnOk r P → OnOk r Q
 map_ok (Ok x) f p = f p
 map_ok (Err e) f p = tt
@@ -35,7 +35,7 @@ not_following shape h place kind d first follows =
     let longer : take (suc place) h ≡ take place h ++ get_or h place d ∷ [] = ap (λ (n : ℕ). take n h) (sym next) ∙ take_more h place d within in
     parts.1 (subst (λ t. IsLawful shape t) (sym longer) ((lawful_by_one_more shape (take place h) (get_or h place d)).1 (parts.0, follows)))
 
--- a fault that there is, by its kind
+-- a fault that is there, by its kind
 first_of_kind : (shape : Shape) (h : List Event) (place : ℕ) (kind : Kind) → IsFaultThere shape h (Fault place kind) → place < length h
 first_of_kind shape h place WrongSide there = slice_get_within h place there.event there.at_place
 first_of_kind shape h place OutOfTurn there = slice_get_within h place there.event there.at_place
@@ -53,7 +53,7 @@ pub fault_of_kind : (shape : Shape) (h : List Event) (verdict : Verdict) (place 
     → IsFaultThere shape h (Fault place k)
 fault_of_kind shape h verdict place kind k is kind_is there = subst (λ x. IsFaultThere shape h (Fault place x)) kind_is (subst (λ v. IsFaultThere shape h v) is there)
 
--- why it is, told of the event there
+-- the reason, for the event there
 pub why_there : (shape : Shape) (h : List Event) (verdict : Verdict) (place : ℕ) (kind k : Kind) (d : Event) (more : List ℕ) → verdict ≡ Fault place kind → kind ≡ k
     → IsFaultThere shape h verdict → TellsWhyAt shape (take place h) (get_or h place d) k more → TellsWhy shape h verdict more
 why_there shape h verdict place kind k d more is kind_is there told =
@@ -61,7 +61,7 @@ why_there shape h verdict place kind k d more is kind_is there told =
     subst (λ v. TellsWhy shape h v more) (sym is)
     (get_or h place d, slice_get-get_or h place d within, subst (λ x. TellsWhyAt shape (take place h) (get_or h place d) x more) (sym kind_is) told)
 
--- the fault that a verdict on the bits tells is there
+-- the fault that a verdict on the bits reports is there
 there_by_verdict : (shape : Shape) (h : List Event) (verdict : Verdict) → IsVerdict shape h verdict → IsFaultThere shape h verdict
 there_by_verdict shape h Lawful is = tt
 there_by_verdict shape h (Fault place NotProgram) is = slice_get_within h place is.event is.at_place
@@ -69,7 +69,7 @@ there_by_verdict shape h (Fault place WrongSide) is = is
 there_by_verdict shape h (Fault place OutOfTurn) is = is
 there_by_verdict shape h (Fault place NotPermitted) is = is
 
--- and the one that a finding tells
+-- and the one that a finding reports
 there_by_finding : (shape : Shape) (h : List Event) (found : Statement) → IsFinding shape h found → IsFaultThere shape h (verdict_in found)
 there_by_finding shape h (audit.Lawful put taken told) is = tt
 there_by_finding shape h (audit.Fault place NotProgram) is = is.within
@@ -77,7 +77,7 @@ there_by_finding shape h (audit.Fault place WrongSide) is = is.kind_is
 there_by_finding shape h (audit.Fault place OutOfTurn) is = is.kind_is
 there_by_finding shape h (audit.Fault place NotPermitted) is = is.kind_is
 
--- and so the one in what is found of a trace
+-- and so the one in the finding on a trace
 pub there_by_judgement : (what : Audited) (shape : Shape) (h : List Event) (words : List ℕ) (verdict : Verdict) → IsJudged what shape h words verdict
     → IsFaultThere shape h verdict
 there_by_judgement Bits shape h words verdict judged = there_by_verdict shape h verdict judged.0

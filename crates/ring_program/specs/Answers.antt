@@ -1,4 +1,4 @@
--- What the program answers to a request on an input, and how it ends.
+-- The program's answer to a request on an input, and how the program ends.
 use Rattle.std.specs.Prelude.{◌≡◌, ◌≢◌, ◌⊎◌, ◌<◌, ◌≤◌, ◌+◌, ◌++◌, ℕ, Bool, true, false, List, [], Option, Some, None, IfSome, codes, length, take}
 use Rattle.std.specs.Io.KnownBytes.{Appends, Keeps}
 use Rattle.clap.specs.Kinds.{IsAmong, Kinds}
@@ -65,7 +65,7 @@ status_of Done = 0
 status_of LimitReached = 1
 status_of FaultFound = 3
 
--- what standard error is told of an ending: that a limit was reached
+-- the text on standard error for an ending: that a limit was reached
 abbrev pub ending_words : Ending → List ℕ
 ending_words Done = []
 ending_words LimitReached = codes "refused: limit reached\n"
@@ -76,26 +76,26 @@ abbrev pub verdict_ending_of : Verdict → Ending
 verdict_ending_of Lawful = Done
 verdict_ending_of (Fault place kind) = FaultFound
 
--- how a run ends, by whether its taker was told that the ring is closed
+-- how a run ends, by whether a take returned Closed
 abbrev pub relay_ending_of : Bool → Ending
 relay_ending_of true = Done
 relay_ending_of false = LimitReached
 
--- What is found of the events of a trace, by these words, and the verdict in it: of its bits, or of them and of the
--- programs of its two sides. Lists that it tells meet the sentence of the ring, and their calls are linearizable
+-- The finding on the events of a trace, with these words, and the verdict in it: on its bits, or on them and on the
+-- programs of its two sides. Lists that it reports satisfy the main theorem, and their calls are linearizable
 abbrev pub IsJudged : Audited → Shape → List Event → (words : List ℕ) → Verdict → Type 0
 IsJudged Bits shape events words verdict = IsVerdict shape events verdict × (words ≡ verdict_text_of verdict)
 IsJudged Programs shape events words verdict =
     (found : Statement) × IsFinding shape events found × SaysSentence shape events found
     × SaysLinearizable shape events found × (words ≡ audit_text_of found) × (verdict ≡ verdict_in found)
 
--- the words alone; or with lines behind them that say why the event at fault is
+-- the words alone; or followed by lines with the reason for the event at fault
 abbrev pub TellsJudged : (why : Bool) → Shape → List Event → Verdict → (words text : List ℕ) → Type 0
 TellsJudged false shape events verdict words text = text ≡ words
 TellsJudged true shape events verdict words text =
     (more : List ℕ) × (text ≡ words ++ more) × TellsWhy shape events verdict more
 
--- the input is a trace, as it is read, and the text and the ending are those of what is found of it
+-- the input is a trace, as it is read, and the text and the ending are those of the finding on it
 pub record AuditsTrace (IsRead : List ℕ → Shape → List Event → Type 0) (what : Audited) (why : Bool) (input text : List ℕ) (ending : Ending) : Type 0 where
   pub shape : Shape
   pub events : List Event
@@ -107,8 +107,8 @@ pub record AuditsTrace (IsRead : List ℕ → Shape → List Event → Type 0) (
   pub ends : ending ≡ verdict_ending_of verdict
 
 -- The text of a play of the script by the letters of its schedule: a report; the trace of its history; or a recording of
--- its calls, by a queue of the ring's capacity, whose history is linearizable. Of a play by a near miss it is the trace;
--- or a line of the ring's capacity and then one for each begin and end of a call that is told
+-- its calls, by a queue of the ring's capacity, whose history is linearizable. For a play by a near miss it is the
+-- trace; or a line of the ring's capacity and then one for each start and end of a recorded call
 abbrev pub ShowsPlay : PlayText → Content → List ℕ → Type 0
 ShowsPlay shown.Report script text =
     (history : List Event) × IsPlayOf script script.letters history × EachReadingIsLinearizable script.shape history
@@ -139,10 +139,10 @@ TellsRun Totals shape items put calls full taken takes empty closed time text = 
 TellsRun Report shape items put calls full taken takes empty closed time text = text ≡ relay_report_of put calls full (length taken) empty closed time
 TellsRun Recording shape items put calls full taken takes empty closed time text = RecordsRun shape items (run_counts items put calls full taken takes empty closed) text
 
--- what came of a run, in a ring of the shape of its numbers: it is counted in one lawful history whose two sides follow their
--- programs; the items taken are the first ones, in order, and all of them once the taker was told that the ring is closed.
--- The taker was told so, or a side reached its limit. The text has what the history counts, and some time that a clock told, or none;
--- or it is a recording of the calls
+-- the result of a run, in a ring with the shape of its numbers: it is counted in one lawful history whose two sides follow their
+-- programs; the items taken are the first ones, in order, and all of them once a take has returned Closed. A take returned Closed, or
+-- a side reached its limit. The text has the counts of the history, and some time that a clock returned, or none; or it is a
+-- recording of the calls
 pub record AnswersRun (run : Run) (text : List ℕ) (ending : Ending) : Type 0 where
   pub shape : Shape
   pub put : ℕ
@@ -162,13 +162,13 @@ pub record AnswersRun (run : Run) (text : List ℕ) (ending : Ending) : Type 0 w
   pub reached : (closed ≡ true) ⊎ ((calls ≡ run.limits.puts) ⊎ (length taken + empty ≡ run.limits.takes))
   pub ends : ending ≡ relay_ending_of closed
 
--- memory ran out, as a trace or a script was read or elsewhere
+-- memory ran out, while a trace or a script was read or elsewhere
 unfoldable pub IsOutOfMemory : Refusal → Type 0
 IsOutOfMemory e = (e ≡ refusal.App app.OutOfMemory)
     ⊎ ((e ≡ refusal.Trace trace.OutOfMemory) ⊎ (e ≡ refusal.Script script.OutOfMemory))
 
--- a true cause of a refusal of a run: its numbers are no shape's, or memory ran out, or there was no second thread, or calls that it was to
--- record were not recorded
+-- a true cause of a refusal of a run: its numbers make no shape, or memory ran out, or there was no second thread, or calls that it should
+-- have recorded were not recorded
 abbrev pub IsRunCause : Run → Refusal → Type 0
 IsRunCause run e = IsOutOfMemory e ⊎ (((e ≡ refusal.App app.NotOfRun) × (run.text ≡ Recording)) ⊎ ((e ≡ refusal.NoSecondThread)
     ⊎ ((fault : ShapeFault) × (e ≡ refusal.Shape fault) × IsRefusedBatches run.capacity run.modulus run.width run.batch run.take_batch fault)))
@@ -183,7 +183,7 @@ Answers (request.Register question) input text ending = AnswersRegister question
 Answers request.LongBits input text ending = AuditsTrace IsTraceText Bits false input text ending
 Answers (request.Run run) input text ending = AnswersRun run text ending
 
--- how a request that was answered may end: an audit alone may have found a fault, and a run alone have reached a limit
+-- how a request that was answered may end: only an audit may have found a fault, and only a run have reached a limit
 abbrev pub MayEnd : Request → Ending → Type 0
 MayEnd (OnInput (Audit what why)) ending = (ending ≡ Done) ⊎ (ending ≡ FaultFound)
 MayEnd (OnInput (Play shows)) ending = ending ≡ Done
@@ -192,15 +192,15 @@ MayEnd (request.Register question) ending = (ending ≡ Done) ⊎ (ending ≡ Fa
 MayEnd request.LongBits ending = (ending ≡ Done) ⊎ (ending ≡ FaultFound)
 MayEnd (request.Run run) ending = (ending ≡ Done) ⊎ (ending ≡ LimitReached)
 
--- the input is no trace, for this cause
+-- the input is not a trace, for this cause
 abbrev pub RefusesTrace : List ℕ → Refusal → Type 0
 RefusesTrace input e = (fault : TraceFault) × (e ≡ refusal.Trace fault) × IsTraceFault input fault
 
--- the input is no script, for this cause
+-- the input is not a script, for this cause
 abbrev pub RefusesScript : List ℕ → Refusal → Type 0
 RefusesScript input e = (fault : ScriptFault) × (e ≡ refusal.Script fault) × IsScriptFault input fault
 
--- more bytes came than an input may have
+-- the input has more bytes than allowed
 abbrev pub IsTooLarge : List ℕ → Refusal → Type 0
 IsTooLarge input e = (e ≡ refusal.App app.TooLarge) × (INPUT_LIMIT < length input)
 
@@ -212,17 +212,17 @@ IsShortage e = IsOutOfMemory e ⊎ (e ≡ refusal.App app.ReadFailed)
 abbrev pub IsKeptCause : (List ℕ → Refusal → Type 0) → List ℕ → Refusal → Type 0
 IsKeptCause Refuses input e = IsShortage e ⊎ (IsTooLarge input e ⊎ ((length input ≤ INPUT_LIMIT) × Refuses input e))
 
--- a true cause of a refusal of recorded calls: memory ran out, or a read failed, or the input is no recording
+-- a true cause of a refusal of recorded calls: memory ran out, or a read failed, or the input is not a recording
 unfoldable pub IsCallsCause : List ℕ → Refusal → Type 0
 IsCallsCause input e = (e ≡ refusal.App app.OutOfMemory) ⊎ ((e ≡ refusal.App app.ReadFailed)
     ⊎ ((fault : RecordingFault) × (e ≡ refusal.Calls fault) × RefusesText fault input))
 
--- a true cause of a refusal of a recorded register: memory ran out, or a read failed, or the input is no recording
+-- a true cause of a refusal of a recorded register: memory ran out, or a read failed, or the input is not a recording
 unfoldable pub IsRegisterCause : List ℕ → Refusal → Type 0
 IsRegisterCause input e = (e ≡ refusal.App app.OutOfMemory) ⊎ ((e ≡ refusal.App app.ReadFailed)
     ⊎ ((fault : RegisterTextFault) × (e ≡ refusal.Register fault) × RefusesRegisterText fault input))
 
--- a true cause of a refusal of a trace of any length: memory ran out, or a read failed, or the input is no such trace
+-- a true cause of a refusal of a trace of any length: memory ran out, or a read failed, or the input is not such a trace
 unfoldable pub IsLongBitsCause : List ℕ → Refusal → Type 0
 IsLongBitsCause input e = (e ≡ refusal.App app.OutOfMemory) ⊎ ((e ≡ refusal.App app.ReadFailed)
     ⊎ ((fault : TraceFault) × (e ≡ refusal.Trace fault) × RefusesTraceText input fault))
@@ -236,17 +236,17 @@ IsTrueCause (request.Register question) input e = IsRegisterCause input e
 IsTrueCause request.LongBits input e = IsLongBitsCause input e
 IsTrueCause (request.Run run) input e = IsRunCause run e
 
--- ---- how the program ends, by what the output was and is, what it is that standard error is told a text, and the status
+-- ---- how the program ends: the output before and after, the text on standard error, and the status
 
--- a text was written: all of it, with the status of this ending, of which standard error was told; or a write failed
--- behind a front of it, and standard error was told that
+-- a text was written: all of it, with the status of this ending, which was reported on standard error; or a write
+-- failed after a prefix of it, and that was reported on standard error
 abbrev pub Delivers : List ℕ → Ending → Option (List ℕ) → Option (List ℕ) → (List ℕ → Type 0) → ℕ → Type 0
 Delivers text ending before after Tells status =
     ((status ≡ status_of ending) × Appends before after text × Tells (ending_words ending))
     ⊎ ((status ≡ 1) × Tells (refusal_line (refusal.App app.WriteFailed))
     × (count : ℕ) × Appends before after (take count text))
 
--- nothing was written, and standard error was told the words of a refusal, which are those of this very cause
+-- nothing was written, and the text of a refusal was reported on standard error, which is that of this cause
 abbrev pub Declines : Refusal → Option (List ℕ) → Option (List ℕ) → (List ℕ → Type 0) → ℕ → Type 0
 Declines e before after Tells status = (status ≡ 1) × Keeps before after × SaysRefusal Tells e
 
@@ -257,16 +257,16 @@ EndsOn asked input before after Tells status =
     × Delivers text ending before after Tells status)
     ⊎ ((e : Refusal) × IsTrueCause asked input e × Declines e before after Tells status)
 
--- the same, where the reader tells that this is its input; a run has none
+-- the same, if the reader says that this is its input; a run has none
 abbrev pub Ends : Request → Option (List ℕ) → Option (List ℕ) → Option (List ℕ) → (List ℕ → Type 0) → ℕ → Type 0
 Ends (request.Run run) input before after Tells status = EndsOn (request.Run run) [] before after Tells status
 Ends asked input before after Tells status = IfSome input (λ bytes. EndsOn asked bytes before after Tells status)
 
--- help or the version was asked for
+-- help or the version was requested
 abbrev pub IsHelp : ErrorKind → Type 0
 IsHelp k = (k ≡ kind.DisplayHelp) ⊎ (k ≡ kind.DisplayVersion)
 
--- memory ran out, before anything was written, and standard error was told so
+-- memory ran out before anything was written, and that was reported on standard error
 abbrev pub NoMemory : Option (List ℕ) → Option (List ℕ) → (List ℕ → Type 0) → ℕ → Type 0
 NoMemory before after Tells status = (status ≡ 1) × Keeps before after × Tells (refusal_line (refusal.App app.OutOfMemory))
 
@@ -274,27 +274,27 @@ NoMemory before after Tells status = (status ≡ 1) × Keeps before after × Tel
 abbrev pub WasWritten : Option (List ℕ) → Option (List ℕ) → (List ℕ → Type 0) → ℕ → Type 0
 WasWritten before after Tells status = (text : List ℕ) × Delivers text Done before after Tells status
 
--- how the program ends where the command line gave an error of this kind
+-- how the program ends if the command line has an error of this kind
 abbrev pub Explains : ErrorKind → Option (List ℕ) → Option (List ℕ) → (List ℕ → Type 0) → ℕ → Type 0
 Explains k before after Tells status =
     ((k ≡ kind.OutOfMemory) × NoMemory before after Tells status)
     ⊎ ((IsHelp k × (NoMemory before after Tells status ⊎ WasWritten before after Tells status))
     ⊎ ((¬ IsHelp k) × (k ≢ kind.OutOfMemory) × (status ≡ 2) × Keeps before after))
 
--- help or the version was asked for, and written
+-- help or the version was requested, and written
 pub record HelpGiven (kinds : Kinds) (before after : Option (List ℕ)) (Tells : List ℕ → Type 0) (status : ℕ) : Type 0 where
   pub asked : ErrorKind
   pub among : IsAmong asked kinds
   pub is_help : IsHelp asked
   pub shown : WasWritten before after Tells status
 
--- the words are wrong, and nothing was written; of what standard error was told then nothing is said
+-- the words are wrong, and nothing was written; what was reported on standard error is left open
 pub record Mistaken (kinds : Kinds) (before after : Option (List ℕ)) (status : ℕ) : Type 0 where
   pub ends : status ≡ 2
   pub kept : Keeps before after
   pub mistake : (kinds ≡ []) ⊎ ((k : ErrorKind) × IsAmong k kinds × ¬ IsHelp k)
 
--- how the program ends where the words ask for nothing, which have these faults
+-- how the program ends if the words ask for nothing and have these faults
 abbrev pub EndsUnasked : Kinds → Option (List ℕ) → Option (List ℕ) → (List ℕ → Type 0) → ℕ → Type 0
 EndsUnasked kinds before after Tells status = NoMemory before after Tells status
     ⊎ (HelpGiven kinds before after Tells status ⊎ Mistaken kinds before after status)
@@ -304,7 +304,7 @@ abbrev pub IsStatus : Option Request → ℕ → Type 0
 IsStatus (Some asked) status = (status ≡ 1) ⊎ ((ending : Ending) × MayEnd asked ending × (status ≡ status_of ending))
 IsStatus None status = (status ≡ 0) ⊎ ((status ≡ 1) ⊎ (status ≡ 2))
 
--- the words ask nothing of an input
+-- the words ask nothing about an input
 abbrev pub AsksNoInput : Option Request → Type 0
 AsksNoInput None = Unit {0}
 AsksNoInput (Some (request.Run run)) = Unit {0}

@@ -1,4 +1,4 @@
--- What a report of a history of a script has to tell.
+-- What a report on a history of a script has to contain.
 use Rattle.std.specs.Prelude.{◌≡◌, ◌↔◌, true, List, length}
 use Rattle.bits_core.specs.declared.events.Event.{Event}
 use Rattle.ring_core.specs.Items.{ToldIn, items_put_in, items_taken_in}
@@ -9,9 +9,8 @@ use Rattle.ring_player.specs.Plays.{HasFlickers}
 use Rattle.ring_script.specs.Content.{Content}
 use Rattle.ring_program.specs.Texts.{Summary}
 
--- by the calls that the history's events are read as: the items put, the items taken, whether a take was told that the ring is
--- closed, and how many puts have ended that found the ring full, and takes that found it empty; and how many reads have
--- ended that a write overlapped
+-- by the calls that the history's events are read as: the items put, the items taken, whether a take returned Closed, and how
+-- many puts have ended that found the ring full, and takes that found it empty; and how many overlapped reads have ended
 pub record Reports (script : Content) (h : List Event) (summary : Summary) : Type 0 where
   pub events : summary.events ≡ length h
   pub put : (puts : Puts) → FollowsPuts script.shape h puts → summary.put ≡ items_put_in script.shape h puts

@@ -1,5 +1,5 @@
--- What the recording of a run tells of the run: calls as the run makes them, linearizable, and all of them where it does not say that
--- some are missing, and where its logs had room.
+-- What the recording of a run has: calls as the run makes them, linearizable, and all of them if it does not say that some are
+-- missing and its logs had room.
 use Rattle.std.specs.Prelude.{◌≡◌, ℕ, ◌+◌, ◌≤◌, ◌==◌, Bool, false, List, [], ◌∷◌, ◌++◌, length, take, drop, if◌then◌else◌}
 use Rattle.std.specs.List.{flat_map, sum_by}
 use Rattle.bits_core.specs.Shape.{batch_of, capacity_of, take_batch_of}
@@ -10,10 +10,10 @@ use Rattle.queue_calls.specs.Queue.{exactly}
 use Rattle.queue_calls.specs.Recordings.{IsRecording}
 use Rattle.ring_program.specs.declared.run_recordings.TheConstants.{RECORDED}
 
--- ---- what a run counts, and what an event tells of it
+-- ---- what a run counts, and what an event adds to it
 
 -- what a run counts: the items stored, the puts, those that found the ring full, the closes, the takes, those that found it empty, those
--- that were told that it is closed; and the items taken
+-- that returned Closed; and the items taken
 pub record RunCounts : Type 0 where
   pub put : ℕ
   pub calls : ℕ
@@ -24,16 +24,17 @@ pub record RunCounts : Type 0 where
   pub told : ℕ
   pub taken : List ℕ
 
--- by what came of it: a close was made where all items were stored
+-- the same from the results of the run: a close was made if all items were stored
 abbrev pub run_counts : (items : List ℕ) → (put calls full : ℕ) → (taken : List ℕ) → (takes empty : ℕ) → (closed : Bool) → RunCounts
 run_counts items put calls full taken takes empty closed =
     record { put = put; calls = calls; full = full; closes = (if put == length items then 1 else 0); takes = takes; empty = empty; told = (if closed then 1 else 0); taken = taken }
 
+-- nothing counted
 abbrev pub nothing_left : RunCounts
 nothing_left = record { put = 0; calls = 0; full = 0; closes = 0; takes = 0; empty = 0; told = 0; taken = [] }
 
--- what an event tells: a put that begins, one that ends with items stored, or as the ring is full; a close that ends; a take that begins,
--- one that ends with items, as the ring is empty, or as it is empty and closed
+-- what an event counts: a put that begins, one that ends with items stored, or with the ring full; a close that ends; a take that begins,
+-- one that ends with items, with the ring empty, or with it empty and closed
 abbrev pub counts_with : Event → RunCounts
 counts_with (PutBegin items) = record nothing_left { calls = 1 }
 counts_with (PutStored count why) = record nothing_left { put = count }
@@ -45,7 +46,7 @@ counts_with TakeEmpty = record nothing_left { empty = 1 }
 counts_with TakeClosed = record nothing_left { told = 1 }
 counts_with _ = nothing_left
 
--- how many items a put ends with as stored
+-- how many items are stored according to the end of a put
 abbrev pub stored_with : Event → ℕ
 stored_with event = (counts_with event).put
 
@@ -57,8 +58,8 @@ room_with s event = pick s (side_of event) 1 0
 
 -- ---- calls as a run makes them
 
--- Behind puts that left these items: a put offers as many of them as a batch has, or all where fewer are left, and a close comes
--- where none is left; a take wants one item, up to as many as the take batch
+-- After puts that left these items: a put offers as many of them as a batch has, or all if fewer are left, and a close comes if
+-- none is left; a take wants one item, up to as many as the take batch
 abbrev pub IsOfRun : Shape → (left : List ℕ) → Event → Type 0
 IsOfRun shape left (PutBegin items) = items ≡ take (batch_of shape) left
 IsOfRun shape left CloseBegin = left ≡ []
@@ -77,9 +78,9 @@ abbrev pub AreOfRun : Shape → (left : List ℕ) → List Event → Type 0
 AreOfRun shape left [] = Unit {0}
 AreOfRun shape left (event ∷ events) = IsOfRun shape left event × AreOfRun shape (drop (stored_with event) left) events
 
--- ---- how much of a run is told
+-- ---- how much of a run is written
 
--- the events tell all of what a run counts but this; the items, from the first on
+-- the events have all of what a run counts except this; the items, starting with the first
 pub record TellAllBut (left all : RunCounts) (events : List Event) : Type 0 where
   pub put : sum_by stored_with events + left.put ≡ all.put
   pub calls : sum_by (λ e. (counts_with e).calls) events + left.calls ≡ all.calls
@@ -95,8 +96,8 @@ abbrev pub HasRoomLeft : Shape → List Event → Type 0
 HasRoomLeft shape events = (sum_by (room_with P) events + batch_of shape ≤ RECORDED) × (sum_by (room_with C) events + take_batch_of shape ≤ RECORDED)
 
 -- The text is a recording of calls of a queue of the ring's capacity, which are linearizable: puts of the run's items in order, and takes
--- of those that were taken, from the first on; none but those of the run, and all of them where the text does not say that some are
--- missing, and where the logs had room
+-- of those taken, starting with the first; only those of the run, and all of them if the text does not say that some are missing and the
+-- logs had room
 pub record RecordsRun (shape : Shape) (items : List ℕ) (all : RunCounts) (text : List ℕ) : Type 0 where
   pub events : List Event
   pub is_recording : IsRecording text (exactly (capacity_of shape)) events

@@ -6,7 +6,7 @@ use Rattle.ring_program.specs.declared.run_line.RunText.{RunText}
 use Rattle.ring_program.specs.declared.run_line.RunText.TheVariants.{Totals, Report, Recording}
 use Rattle.ring_program.specs.declared.run_recordings.TheConstants.{RECORDED}
 
--- item number i, of so many binary digits
+-- item number i, of this many binary digits
 abbrev pub run_item : ℕ → ℕ → ℕ
 run_item width i = i % 2 ^ width
 

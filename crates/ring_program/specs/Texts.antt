@@ -25,7 +25,7 @@ use Rattle.ring_player.specs.declared.tellings.TakenItems.{TakenItems}
 use Rattle.ring_player.specs.declared.worlds.Report.{Report}
 use Rattle.ring_script.specs.Content.{Content}
 
--- a fault in one line; the event at place i, from 0, stands on line i + 2 of its trace
+-- a fault in one line; the event at place i, from 0, is on line i + 2 of its trace
 abbrev pub fault_line : ℕ → Kind → List ℕ
 fault_line place kind = codes "fault: line " ++ decimal (place + 2) ++ codes ": " ++ kind_words kind ++ 10 ∷ []
 
@@ -52,17 +52,18 @@ count_line word n = word ++ (number_text n ++ codes "\n")
 abbrev pub list_line : List ℕ → List ℕ → List ℕ
 list_line word items = word ++ (flat_map number_text items ++ codes "\n")
 
+-- the line that says whether a take returned Closed
 abbrev pub told_line : Bool → List ℕ
 told_line true = codes "told yes\n"
 told_line false = codes "told no\n"
 
 -- ---- the text of a finding
 
--- the items put and taken, and whether the consumer was told that the ring is closed
+-- the items put and taken, and whether a take returned Closed
 abbrev pub lists_text_of : List ℕ → List ℕ → Bool → List ℕ
 lists_text_of put taken told = lawful_line ++ (list_line (codes "put") put ++ (list_line (codes "taken") taken ++ told_line told))
 
--- what was found of a history
+-- the text of the finding on a history
 abbrev pub audit_text_of : Statement → List ℕ
 audit_text_of (Lawful put taken told) = lists_text_of put taken told
 audit_text_of (Fault place kind) = fault_line place kind
@@ -80,12 +81,12 @@ calls_report_text_of r = lawful_line ++ (count_line (codes "calls") r.calls ++ (
 abbrev pub calls_fault_line : ℕ → List ℕ → List ℕ
 calls_fault_line line words = codes "fault: line " ++ (decimal line ++ (codes ": " ++ (words ++ codes "\n")))
 
--- the line of a recording that says that the later calls are missing; there is none of another one
+-- the line of a recording that says that the later calls are missing; there is none for other recordings
 abbrev pub cut_line : Bool → List ℕ
 cut_line true = codes "cut yes\n"
 cut_line false = []
 
--- what was found of a recording, by whether it says so
+-- the text of the finding on a recording, by whether it says so
 abbrev pub calls_text_of : Bool → CallsFinding → List ℕ
 calls_text_of is_cut (calls.Lawful report) = calls_report_text_of report ++ cut_line is_cut
 calls_text_of is_cut (calls.OutOfTurn line) = calls_fault_line line (codes "out of turn")
@@ -93,8 +94,8 @@ calls_text_of is_cut (calls.NotLinearizable line cause) = calls_fault_line line 
 
 -- ---- the text of a report
 
--- what a report tells: how many events there were, the items put and taken, whether the consumer was told that the ring is
--- closed, how many puts found the ring full and takes found it empty, and how many reads a write overlapped
+-- the contents of a report: the number of events, the items put and taken, whether a take returned Closed, how many puts
+-- found the ring full and takes found it empty, and how many reads a write overlapped
 pub record Summary : Type 0 where
   pub events : ℕ
   pub put : List ℕ
@@ -104,6 +105,7 @@ pub record Summary : Type 0 where
   pub empty : ℕ
   pub flicker : ℕ
 
+-- the contents of a report on a play
 abbrev pub summary_of : {A : Type 0} → Report (Vec Event A) (Vec ℕ A) → Summary
 summary_of r = record {
   events = length r.history.items;
@@ -123,48 +125,51 @@ report_text_of r =
 
 -- ---- the text of a relay
 
+-- the line that says whether a take returned Closed
 abbrev pub closed_line : Bool → List ℕ
 closed_line true = codes "closed yes\n"
 closed_line false = codes "closed no\n"
 
--- how many items were put and taken, and whether the taker was told that the ring is closed
+-- how many items were put and taken, and whether a take returned Closed
 abbrev pub relay_text_of : ℕ → ℕ → Bool → List ℕ
 relay_text_of put taken closed = count_line (codes "put") put ++ (count_line (codes "taken") taken ++ closed_line closed)
 
 -- ---- the report of a relay
 
--- how many items a second, where so many were taken in so many nanoseconds: a whole number of 64 bits, where some time passed
+-- items per second, if this many were taken in this many nanoseconds: a whole number of 64 bits, if some time passed
 abbrev pub pace_of : ℕ → ℕ → Option ℕ
 pace_of taken nanos =
     let pace = taken * 1000000000 / nanos in
     if nat_lt 0 nanos && nat_lt pace (2 ^ 64) then Some pace else None
 
+-- the line of the items per second
 abbrev pub pace_line : Option ℕ → List ℕ
 pace_line (Some pace) = count_line (codes "items a second") pace
 pace_line None = codes "items a second unknown\n"
 
 -- the text of a relay, and then how many puts were made, how many of them found the ring full, how many takes found it empty,
--- and how many items a second were taken, where a clock told the time
+-- and the items taken per second, if a clock returned the time
 abbrev pub relay_report_of : ℕ → ℕ → ℕ → ℕ → ℕ → Bool → Option ℕ → List ℕ
 relay_report_of put calls full taken empty closed time =
     relay_text_of put taken closed ++ (count_line (codes "calls") calls ++ (count_line (codes "full") full
     ++ (count_line (codes "empty") empty ++ pace_line (option_and_then (pace_of taken) time))))
 
--- ---- the text of the calls that were told
+-- ---- the text of recorded calls
 
--- the items that a take took, of a list of which they are the first, or behind as many as were taken before
+-- the items that a take took: the first ones of this list
 abbrev pub first_items : List ℕ → ℕ → List ℕ
 first_items items count = take count items
 
+-- or those after the items taken earlier
 abbrev pub items_behind : List ℕ → TakenItems → List ℕ
 items_behind items taken = take taken.count (drop taken.before items)
 
--- how many items an event of calls by a near miss tells
+-- how many items an event of calls by a near miss takes
 abbrev pub items_by : CallEvent ℕ ℕ → ℕ
 items_by (TakeItems count) = count
 items_by _ = 0
 
--- what is told of a play by a near miss, as events of calls: each take has the next of the items taken
+-- the calls of a play by a near miss, as events: each take has the next of the items taken
 abbrev pub near_calls : Content → List ℕ → List (CallEvent ℕ ℕ) → List queue.Event
 near_calls script taken [] = []
 near_calls script taken (event ∷ told) = event_by (offered script) (first_items taken) event ∷ near_calls script (drop (items_by event) taken) told

@@ -1,4 +1,4 @@
-//! Answers, and how they and what is refused are told.
+//! Answers, and how they and refusals are reported.
 ghost use Rattle.std.specs.Prelude.{◌≡◌, ◌⊎◌, ◌≤◌, ℕ, true, IfErr, IfOk, IfSome, OnErr, OnOk, length, take};
 ghost use Rattle.std.specs.Fmt.InlineText.{inline_text};
 ghost use Rattle.std.specs.Io.KnownBytes.{Appends};
@@ -11,7 +11,7 @@ use std::fmt::{Display, InlineText, Write as _};
 use std::io;
 use std::io::Write;
 
-/// The most bytes of a line that tells a refusal; none has as many.
+/// The most bytes of a line that reports a refusal; none is that long.
 const LINE: usize = 128;
 
 /// How the program ends.
@@ -21,23 +21,23 @@ const LINE: usize = 128;
 pub struct Exit {
     /// The exit status.
     pub status: u8,
-    /// Whether standard error took all that it was to be told. So it is where that was nothing.
+    /// Whether everything for standard error was written, which holds too if there was nothing.
     pub is_told: bool,
 }
 
 /// How a command that answered ends.
 #[derive(Clone, Copy)]
 pub(crate) enum Ending {
-    /// The work was done: a script was played, a history is lawful, or a relay's taker was told that the ring is closed.
+    /// The work was done: a script was played, a history is lawful, or a relay's take returned Closed.
     Done,
-    /// A relay reached a limit before its taker was told that the ring is closed.
+    /// A relay reached a limit before a take returned Closed.
     LimitReached,
     /// The audit found a fault.
     FaultFound,
 }
 
 impl Ending {
-    /// The exit status: 0 where the work was done, 1 where a limit was reached, 3 where the audit found a fault.
+    /// The exit status: 0 if the work was done, 1 if a limit was reached, 3 if the audit found a fault.
     pub fn status(self) -> u8
         ensures { result ≡ status_of self }
     {
@@ -49,7 +49,7 @@ impl Ending {
     }
 }
 
-/// What a command answers: the text for the output, whole, and how the program ends.
+/// The answer of a command: the complete text for the output, and how the program ends.
 #[derive(Drop)]
 pub(crate) struct Answer<A: Allocator> {
     pub text: String<A>,
@@ -77,12 +77,12 @@ pub fn write_whole<W: Write>(out: &mut W, text: &[u8]) -> Result<(), AppFault>
     }
 }
 
-// Whether a terminal may take the byte for a command, and not for a letter or the end of a line.
+// Whether a terminal may interpret the byte as a command, and not as a letter or the end of a line.
 fn is_command(byte: u8) -> bool {
     byte.is_ascii_control() && byte != b'\n'
 }
 
-// The bytes in front of the first that is a command.
+// The bytes before the first that is a command.
 fn plain_front(bytes: &[u8]) -> &[u8]
     ensures { length result.now ≤ length bytes.now }
 {
@@ -92,8 +92,8 @@ fn plain_front(bytes: &[u8]) -> &[u8]
     }
 }
 
-// A writer for words that were given: a byte that is a command is written with an escape, as `\x1b`. Any fault ends the text: no
-// interruption is tried again.
+// A writer for words from the command line: a byte that is a command is written escaped, as `\x1b`. Any fault ends the text: an
+// interrupted write is not retried.
 #[derive(Drop)]
 struct Unretried<'a, W> {
     inner: &'a mut W,
@@ -136,21 +136,21 @@ impl<W: Write> Write for Unretried<'_, W> {
     }
 }
 
-/// Writes the text on the standard error, and tells whether that took all of it.
+/// Writes the text to standard error, and returns whether all of it was written.
 ///
-/// In use: `lamport_ring`, for words that are no text.
+/// In use: `lamport_ring`, for words that are not text.
 pub fn complain<E: Write, D: Display + Drop>(err: &mut E, text: D) -> bool {
     Unretried { inner: err }.write_fmt(text).is_ok()
 }
 
-/// Writes the text on the standard error, and tells whether that took all of it.
+/// Writes the text to standard error, and returns whether all of it was written.
 pub fn tell<E: Write>(err: &mut E, text: &[u8]) -> bool
     ensures { Gains (E.contents err.old) (E.contents err.new) result text.now }
 {
     write_whole(err, text).is_ok()
 }
 
-// The line that tells a refusal.
+// The line that reports a refusal.
 fn line_of(refusal: Refusal) -> Option<InlineText<LINE>>
     ensures { IfSome result (λ line. inline_text line ≡ refusal_line refusal) }
 {
@@ -161,7 +161,7 @@ fn line_of(refusal: Refusal) -> Option<InlineText<LINE>>
     }
 }
 
-/// Says why the program refuses.
+/// Reports why the program refuses.
 ///
 /// In use: `lamport_ring`.
 pub fn refuse<E: Write>(refusal: Refusal, err: &mut E) -> Exit
@@ -180,7 +180,7 @@ pub fn refuse<E: Write>(refusal: Refusal, err: &mut E) -> Exit
     }
 }
 
-// Tells of an ending, on standard error, that a limit was reached, and tells whether that took it.
+// Reports on standard error that a limit was reached, if that is the ending, and returns whether it was written.
 fn tell_ending<E: Write>(ending: Ending, err: &mut E) -> bool
     ensures told { Gains (E.contents err.old) (E.contents err.new) result (ending_words ending) }
     ensures quiet { (ending ≡ Ending.LimitReached) ⊎ ((err.new ≡ err.old) × (result ≡ true)) }
@@ -192,7 +192,7 @@ fn tell_ending<E: Write>(ending: Ending, err: &mut E) -> bool
     }
 }
 
-// How the program ends on an answer, with what the standard error is told.
+// How the program ends after an answer, with what is written to standard error.
 fn finish<E: Write>(ending: Ending, err: &mut E) -> Exit
     ensures status { result.status ≡ status_of ending }
     ensures told { Gains (E.contents err.old) (E.contents err.new) result.is_told (ending_words ending) }
@@ -205,7 +205,7 @@ fn finish<E: Write>(ending: Ending, err: &mut E) -> Exit
     }
 }
 
-/// Writes a text, whole, and tells the standard error how the program ends.
+/// Writes a text completely, and reports on standard error how the program ends.
 pub fn give<O: Write, E: Write>(text: &[u8], ending: Ending, out: &mut O, err: &mut E) -> Exit
     ensures delivered { Delivers text.now ending (O.contents out.old) (O.contents out.new)
         (Gains (E.contents err.old) (E.contents err.new) result.is_told) result.status }

@@ -1,4 +1,4 @@
-//! The audit of a trace that is kept.
+//! The audit of a trace kept in memory.
 ghost use Rattle.std.specs.Prelude.{◌≡◌, ◌⊎◌, IfErr, IfOk, OnOk, string_bytes};
 ghost use Rattle.trace_text.specs.Trace.{IsTrace};
 ghost use Rattle.ring_program.specs.Answers.{AuditsTrace, IsJudged, IsOutOfMemory, RefusesTrace, TellsJudged, verdict_ending_of};
@@ -24,7 +24,7 @@ pub fn verdict_ending(verdict: Verdict) -> Ending
     }
 }
 
-// What is found of the events, and the verdict in it.
+// The finding on the events, and the verdict in it.
 #[tactic(auto, unfolding(crate::specs::Answers::IsOutOfMemory))]
 fn judge<A: Allocator + Copy>(
     alloc: A,
@@ -49,7 +49,7 @@ fn judge<A: Allocator + Copy>(
     }
 }
 
-// Adds the lines that say why the event at fault is, where they are asked for.
+// Appends the lines with the reason for the event at fault, if they are requested.
 fn push_asked<A: Allocator>(
     text: &mut String<A>,
     why: bool,

@@ -11,7 +11,7 @@ use crate::lines::push_list;
 use queue_calls::{Begun, Event};
 use std::alloc::Allocator;
 
-/// What the producer began last, behind this event.
+/// What the producer began last, after this event.
 pub fn begun_behind(begun: Begun, event: Event<'_>) -> Begun
     ensures { let line = line_of begun (told event.entry) in result ≡ begun_after begun line.word line.numbers }
 {
@@ -41,7 +41,7 @@ fn push_items<A: Allocator>(text: &mut String<A>, word: &str, items: &[u64]) -> 
     push_list(text, word, items)
 }
 
-/// The line that tells an event, where the producer began this last: a put that stored all that it offered says no number.
+/// The line of an event, if the producer began this last: a put that stored all that it offered has no number.
 pub fn push_event<A: Allocator>(
     text: &mut String<A>,
     begun: Begun,

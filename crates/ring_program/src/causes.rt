@@ -1,4 +1,4 @@
-//! What is wrong in a text that was refused, told beside the refusal for somebody who is to mend the text.
+//! What is wrong in a refused text, printed next to the refusal for somebody who has to repair it.
 ghost use Rattle.std.specs.Prelude.{IfSome};
 ghost use Rattle.ring_program.specs.Faults.{IsInText};
 
@@ -23,25 +23,25 @@ pub(crate) enum TextCause<'a> {
     NoCalls,
     /// The text of the recorded register is empty.
     NoRegister,
-    /// The text is to be another one, and looks like a script.
+    /// The text should be another kind, and looks like a script.
     LooksLikeScript,
-    /// The text is to be another one, and looks like a trace.
+    /// The text should be another kind, and looks like a trace.
     LooksLikeTrace,
-    /// The text is to be another one, and looks like recorded calls.
+    /// The text should be another kind, and looks like recorded calls.
     LooksLikeCalls,
-    /// The text is to be another one, and looks like a recorded register.
+    /// The text should be another kind, and looks like a recorded register.
     LooksLikeRegister,
     /// This line of the text has this fault.
     Line(u64, LineFault, Shown<'a>),
     /// The text of the script is empty.
     NoScript,
-    /// The script is no JSON.
+    /// The script is not JSON.
     NotJson(JsonFault),
     /// The script has an unknown field.
     UnknownField,
     /// The value of this field has the wrong kind.
     WrongKind(Field),
-    /// The byte at this place of the field's text cannot stand there.
+    /// The byte at this place of the field's text cannot come there.
     StrayByte(Field, u64, u8),
 }
 
@@ -83,7 +83,7 @@ impl fmt::Display for TextCause<'_> {
     }
 }
 
-// What the value of a field has to be.
+// What the value of a field must be.
 fn kind_words(field: Field) -> &'static str {
     match field {
         Field::Capacity
@@ -160,7 +160,7 @@ fn cause_in_register(line: TextLine<'_>, number: u64) -> TextCause<'_> {
     TextCause::Line(number, fault, Shown { line: line.text })
 }
 
-// What is wrong in bytes that are no JSON.
+// What is wrong in bytes that are not JSON.
 fn cause_in_json<'a>(json: Global, bytes: &'a [u8]) -> Option<TextCause<'a>> {
     if bytes.is_empty() {
         return Some(TextCause::NoScript);
@@ -200,7 +200,7 @@ fn cause_in_script<'a>(json: Global, bytes: &'a [u8], fault: ScriptFault) -> Opt
     }
 }
 
-/// What is known of a text that was refused.
+/// What is known of a refused text.
 #[derive(Clone, Copy)]
 pub(crate) enum Source<'a> {
     /// All of it.
@@ -221,10 +221,10 @@ impl<'a> Source<'a> {
     }
 }
 
-/// What is wrong in the text that was refused so. `None` where the refusal says it all, where it is not the text
-/// that was refused, and where memory ran out.
+/// What is wrong in the text refused for this cause. `None` if the refusal already says it, if this is not the
+/// refused text, or if memory ran out.
 pub fn cause_of<'a>(json: Global, source: Source<'a>, refusal: Refusal) -> Option<TextCause<'a>>
-    // It is the text that was refused.
+    // The refusal is of the text.
     ensures { IfSome result (λ _. IsInText refusal) }
 {
     match (source, refusal) {

@@ -14,10 +14,10 @@ use near_misses::NearMiss;
 use register_calls::Class;
 use std::alloc::{AllocError, Global};
 
-/// The program's version, which `--version` prints behind its name.
+/// The program's version, which `--version` prints after its name.
 const VERSION: &str = "0.1.0";
 
-// The usage, which is also told where a word of `audit` is wrong, such as the name of a file.
+// The usage, which is also printed if a word of `audit` is wrong, such as the name of a file.
 const AUDIT_USAGE: &str = "lamport_ring audit [--bits] [--why] < TRACE
        lamport_ring audit --bits --long < TRACE
        lamport_ring audit --calls [--stop] < CALLS
@@ -135,7 +135,7 @@ Examples:
   2  the command line is wrong
   3  the audit found a fault";
 
-/// What of a trace an audit looks at.
+/// What an audit looks at in a trace.
 #[derive(Clone, Copy)]
 pub(crate) enum Audited {
     /// The bits, and the programs of the two sides.
@@ -144,43 +144,43 @@ pub(crate) enum Audited {
     Bits,
 }
 
-/// What the text of a play tells.
+/// What the text of a play contains.
 #[derive(Clone, Copy)]
 pub(crate) enum PlayText {
-    /// How many events and items there were.
+    /// The numbers of events and items.
     Report,
-    /// `--trace`: the whole history; of a play by a near miss, where `--wrong` names one.
+    /// `--trace`: the whole history; of a play by a near miss, if `--wrong` names one.
     Trace(Option<NearMiss>),
     /// `--calls`: the calls, in the same way.
     Calls(Option<NearMiss>),
 }
 
-/// What the words ask of an input that is kept.
+/// What the words ask about an input that is kept.
 #[derive(Clone, Copy)]
 pub(crate) enum Question {
-    /// `audit`, of a trace; with `--why` it tells of a fault what was due.
+    /// `audit`, of a trace; with `--why` it prints what was due at a fault.
     Audit { what: Audited, why: bool },
     /// `play`, of a script.
     Play(PlayText),
 }
 
-/// What the words ask of a recorded register.
+/// What the words ask about a recorded register.
 #[derive(Clone, Copy)]
 pub(crate) struct RegisterQuestion {
-    /// `--at-least`: the class that it is to have.
+    /// `--at-least`: the class that it should have.
     pub at_least: Class,
-    /// `--report`: whether to say how much the recording could have shown.
+    /// `--report`: whether to report how much the recording could have shown.
     pub report: bool,
-    /// `--stop`: whether to read no further than the first line with which it lacks the class.
+    /// `--stop`: whether to read only up to the first line with which it lacks the class.
     pub stop: bool,
 }
 
 /// What the words ask for.
 #[derive(Clone, Copy)]
 pub(crate) enum Request {
-    /// To read an input whole, and to answer of it.
+    /// To read a complete input, and to answer a question about it.
     OnInput(Question),
-    /// `audit --calls`, which reads its input in pieces; with `--stop` up to the first fault.
+    /// `audit --calls`, which reads its input in pieces; with `--stop` only up to the first fault.
     Calls { stop: bool },
     /// `audit --register`, which reads its input in pieces.
     Register(RegisterQuestion),
@@ -264,7 +264,7 @@ fn program<'a>(alloc: Global) -> Result<Command<'a>, AllocError>
     command.subcommand(run)
 }
 
-// The matches of the words, where the program takes them.
+// The matches of the words, if the program accepts them.
 fn parse<'a>(alloc: Global, words: &'a [&'a str]) -> Result<ArgMatches<'a>, Error>
     ensures taken { OnOk result (fault_of application (map (λ w. w.now) words.entry.now) ≡ []) }
     ensures found { IfOk result (λ matches.
@@ -300,7 +300,7 @@ fn class_in(name: &str) -> Option<Class>
     }
 }
 
-// The class that a register is asked to have; nothing if no class has this name.
+// The class that a register should have; nothing if no class has this name.
 fn class_asked(name: Option<&str>) -> Option<Class>
     ensures { result ≡ class_asked (option_map (λ n. n.now) name.entry) }
 {
@@ -310,7 +310,7 @@ fn class_asked(name: Option<&str>) -> Option<Class>
     }
 }
 
-// What an audit of a register is asked for; nothing if the flags do not go together, or no class has this name.
+// What an audit of a register is asked; `None` if the flags do not go together, or no class has this name.
 fn register_request(
     bits: bool,
     long: bool,
@@ -335,7 +335,7 @@ fn register_request(
     }
 }
 
-// What `audit` is asked for; nothing if its options do not go together, or no class has this name.
+// What `audit` is asked; `None` if its options do not go together, or no class has this name.
 fn audit_request(matches: &ArgMatches<'_>) -> Option<Request>
     ensures { result ≡ audit_request_of (rows_of (found_of matches.now)) }
 {
@@ -360,7 +360,7 @@ fn audit_request(matches: &ArgMatches<'_>) -> Option<Request>
     }
 }
 
-// What an audit of a trace or of calls is asked for; nothing if the flags do not go together.
+// What an audit of a trace or of calls is asked; `None` if the flags do not go together.
 fn trace_request(bits: bool, long: bool, calls: bool, stop: bool, why: bool) -> Option<Request>
     ensures { result ≡ audit_request bits long calls stop why }
 {
@@ -379,7 +379,7 @@ fn trace_request(bits: bool, long: bool, calls: bool, stop: bool, why: bool) -> 
     }
 }
 
-// What `play` is asked for, by a near miss or by none; nothing where the flags do not go together.
+// What `play` is asked, by a near miss or by none; `None` if the flags do not go together.
 fn play_asked(trace: bool, calls: bool, miss: Option<NearMiss>) -> Option<Request>
     ensures { result ≡ play_asked trace calls miss }
 {
@@ -391,7 +391,7 @@ fn play_asked(trace: bool, calls: bool, miss: Option<NearMiss>) -> Option<Reques
     }
 }
 
-// What `play` is asked for; nothing where its options do not go together, or no near miss has this name.
+// What `play` is asked; `None` if its options do not go together, or no near miss has this name.
 fn play_request(matches: &ArgMatches<'_>) -> Option<Request>
     ensures { result ≡ play_request_of (rows_of (found_of matches.now)) }
 {
@@ -418,8 +418,8 @@ fn request_found(matches: &ArgMatches<'_>) -> Option<Request>
     }
 }
 
-/// What the words ask for, the program's name first. An `Err` where they are no command line of
-/// this program or ask for help or the version, or where memory ran out.
+/// What the words ask for, the program's name first. An `Err` if they are not a command line of
+/// this program, if they ask for help or the version, or if memory ran out.
 pub fn read_words<'a>(alloc: Global, words: &'a [&'a str]) -> Result<Option<Request>, Error>
     ensures asked { IfOk result (λ request. request ≡ request_of (map (λ w. w.now) words.entry.now)) }
     ensures taken { OnOk result (fault_of application (map (λ w. w.now) words.entry.now) ≡ []) }

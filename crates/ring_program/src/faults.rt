@@ -17,13 +17,13 @@ use trace_text::TraceFault;
 pub enum AppFault {
     /// A read of the input failed.
     ReadFailed = 1,
-    /// More bytes came than an input may have.
+    /// The input has more bytes than allowed.
     TooLarge,
     /// A write of the output failed.
     WriteFailed,
     /// Memory ran out.
     OutOfMemory,
-    /// What was recorded of a run are not its calls.
+    /// The recording of a run does not have its calls.
     NotOfRun,
 }
 
@@ -67,23 +67,23 @@ impl From<AllocError> for AppFault {
     }
 }
 
-/// Why a command gave no answer.
+/// Why a command returned no answer.
 ///
 /// For example, it is printed as the fault that it holds: `trace line 3 is not a line of the format`; a run with no second
 /// thread as `no second thread`.
 #[derive(Clone, Copy, Debug, PartialEq, Eq)]
 pub enum Refusal {
-    /// For the program's surroundings.
+    /// A fault of the program's surroundings.
     App(AppFault),
-    /// The input is no trace.
+    /// The input is not a trace.
     Trace(TraceFault),
-    /// The input is no recording of calls.
+    /// The input is not a recording of calls.
     Calls(RecordingFault),
-    /// The input is no recording of a register.
+    /// The input is not a recording of a register.
     Register(RegisterTextFault),
-    /// The input is no script.
+    /// The input is not a script.
     Script(ScriptFault),
-    /// The numbers of a run are no shape's.
+    /// The numbers of a run make no shape.
     Shape(ShapeFault),
     /// A run had no second thread.
     NoSecondThread,

@@ -8,14 +8,14 @@ use std::io::Read;
 
 /// The most bytes that an input may have.
 ///
-/// For example, a trace of so many bytes is read, and one byte more is refused as `input is too large`.
+/// For example, a trace of this many bytes is read, and one more byte is refused as `input is too large`.
 pub const INPUT_LIMIT: usize = 33_554_432;
 
 /// Reads to the end of the input, every byte of it.
 ///
-/// `ReadFailed` at the first fault of the reader, whichever it is, an interruption too; `TooLarge`
-/// once more than `INPUT_LIMIT` bytes came, so that a reader without an end is left; `OutOfMemory`
-/// where a growth was refused. After a fault the bytes read so far are gone.
+/// `ReadFailed` at the first fault of the reader, of any kind, including an interruption;
+/// `TooLarge` once more than `INPUT_LIMIT` bytes came, so that an endless reader is abandoned;
+/// `OutOfMemory` if a growth was refused. After a fault the bytes read so far are lost.
 ///
 /// In use: each command on an input that is kept.
 pub fn load<A: Allocator, R: Read>(alloc: A, input: &mut R) -> Result<Vec<u8, A>, AppFault>
@@ -24,7 +24,7 @@ pub fn load<A: Allocator, R: Read>(alloc: A, input: &mut R) -> Result<Vec<u8, A>
     ensures to_the_end { OnOk result (IsAtEnd (R.remaining input.new)) }
     ensures within { IfOk result (λ bytes. vec_len bytes ≤ INPUT_LIMIT) }
 
-    // More bytes came than an input may have.
+    // The input has more bytes than allowed.
     ensures too_large { IsErrOf result AppFault.TooLarge
         → (came : List ℕ) × (INPUT_LIMIT < length came) ×
         Consumes (R.remaining input.old) (R.remaining input.new) came }

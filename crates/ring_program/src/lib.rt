@@ -1,5 +1,5 @@
-//! The program `lamport_ring` over any words, reader and writers: its command line, the input that
-//! it reads, what it answers and how it ends.
+//! The program `lamport_ring` over any arguments, reader and writers: its command line, the input
+//! that it reads, its output and its exit.
 #![tactic(auto)]
 
 mod answers;

@@ -56,7 +56,7 @@ pub fn push_list<A: Allocator>(
     Ok(text.push_str("\n")?)
 }
 
-// The line that says whether the consumer was told that the ring is closed.
+// The line that says whether a take returned Closed.
 pub fn told_words(told: bool) -> &'static str
     ensures { result.now ≡ told_line told }
 {

@@ -19,7 +19,7 @@ use trace_text::{TraceAudit, TraceFault};
 // How many bytes are read at once.
 const PIECE: usize = 65_536;
 
-// Reads the input to its end, in pieces, and tells the verdict on its bits.
+// Reads the input to its end, in pieces, and returns the verdict on its bits.
 #[tactic(auto, unfolding(crate::specs::Answers::IsLongBitsCause))]
 fn read_long_bits<I: Read>(input: &mut I) -> Result<Verdict, Refusal>
     ensures told { IfSome (I.remaining input.old) (λ bytes. IfOk result (λ verdict.

@@ -1,4 +1,4 @@
-//! What is told of words that name no ring, or that give a number with a minus sign.
+//! Messages for words that name no ring, or that have a number with a minus sign.
 ghost use Rattle.std.specs.Prelude.{◌≡◌};
 
 use crate::answers::{Exit, complain};
@@ -7,7 +7,7 @@ use std::fmt;
 use std::fmt::{Display, Formatter};
 use std::io::Write;
 
-/// The most characters of a word that are told.
+/// The most characters of a word that are printed.
 const TOLD: usize = 80;
 
 /// The number options of `run`, as its help names them.
@@ -22,8 +22,8 @@ const NUMBERS: [(&str, &str); 8] = [
     ("--take-batch", "--take-batch <H>"),
 ];
 
-// A word that was given, as it is told: as it is, where it is short and has only printable ASCII; else with escapes, and `..`
-// in place of what goes beyond the most characters.
+// A word from the command line, as it is printed: unchanged, if it is short and has only printable ASCII; otherwise with
+// escapes, and `..` in place of what goes beyond the most characters.
 #[derive(Clone, Copy, Drop)]
 struct Quoted<'a>(&'a str);
 
@@ -52,7 +52,7 @@ impl Display for Quoted<'_> {
     }
 }
 
-// What stands behind an option, with a space or with `=`.
+// What follows an option, after a space or `=`.
 fn value_of<'a>(words: &[&'a str], option: &str) -> Option<&'a str> {
     let (_program, words) = words.split_first()?;
     for (place, word) in words.iter().enumerate() {
@@ -130,7 +130,7 @@ fn asks_class_alone(words: &[&str]) -> bool {
         && (value_of(words, "--at-least").is_some() || gives(words, "--report"))
 }
 
-// The words ask for a play by a near miss, and not for just one of its texts.
+// The words ask for a play by a near miss, and not for exactly one of its texts.
 fn asks_wrong_alone(words: &[&str]) -> bool {
     names(words, "play")
         && value_of(words, "--wrong").is_some()
@@ -142,7 +142,7 @@ fn asks_two_texts(words: &[&str]) -> bool {
     names(words, "run") && gives(words, "--report") && gives(words, "--record")
 }
 
-// What is told of words that ask for what does not go together.
+// The message for words that ask for things that do not go together.
 fn clash(words: &[&str]) -> Option<&'static str> {
     if asks_two_texts(words) {
         return Some(
@@ -186,7 +186,7 @@ fn clash(words: &[&str]) -> Option<&'static str> {
     None
 }
 
-// Tells what is wrong with the words.
+// Prints what is wrong with the words.
 fn complain_of<E: Write, D: Display + Drop>(what: D, err: &mut E) -> bool {
     complain(
         err,
@@ -225,7 +225,7 @@ fn tell_ring<E: Write>(name: &str, err: &mut E) -> bool {
     )
 }
 
-// Tells words that were taken, and name no command, no ring, no near miss, or options that do not go together.
+// Reports words that were accepted, and name no command, no ring, no near miss, or options that do not go together.
 fn tell_unnamed<E: Write>(words: &[&str], err: &mut E) -> bool {
     if let Some(text) = clash(words) {
         return complain_of(text, err);
@@ -245,8 +245,8 @@ fn tell_unnamed<E: Write>(words: &[&str], err: &mut E) -> bool {
     )
 }
 
-/// The words were taken, and name no command, no ring, no near miss, or options that do not go together. Tells it, with
-/// status 2.
+/// The words were accepted, and name no command, no ring, no near miss, or options that do not go together. Reports
+/// this, with status 2.
 pub fn unnamed<E: Write>(words: &[&str], err: &mut E) -> Exit
     ensures { result.status ≡ 2 }
 {
@@ -256,7 +256,7 @@ pub fn unnamed<E: Write>(words: &[&str], err: &mut E) -> Exit
     }
 }
 
-// The help's name of the option of numbers that has this name.
+// The help's name for the number option of this name.
 fn number_option(name: &str) -> Option<&'static str> {
     for (option, told) in NUMBERS {
         if option == name {
@@ -274,7 +274,7 @@ fn is_signed(word: &str) -> bool {
     }
 }
 
-// The first number with a minus sign behind an option of `run`, with the option that it stands behind.
+// The first number with a minus sign after an option of `run`, with that option.
 fn signed_number<'a>(words: &[&'a str]) -> Option<(&'static str, &'a str)> {
     if !names(words, "run") {
         return None;
@@ -289,7 +289,7 @@ fn signed_number<'a>(words: &[&'a str]) -> Option<(&'static str, &'a str)> {
     None
 }
 
-/// Tells a fault of the command line. A number with a minus sign is told in words of our own, since the parser takes it for
+/// Reports a fault of the command line. A number with a minus sign has a message of our own, since the parser takes it for
 /// an option.
 pub fn tell_mistake<E: Write>(words: &[&str], error: &Error, err: &mut E) -> bool {
     match signed_number(words) {

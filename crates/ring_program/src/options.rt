@@ -1,4 +1,4 @@
-//! Commands and their options, and what the words say of one option.
+//! Commands and their options, and what the words say about one option.
 ghost use Rattle.std.specs.Prelude.{◌≡◌, IfOk, Some, false};
 ghost use Rattle.clap.specs.Words.{found_of, new_app, new_rule, rows_of, rule_of};
 ghost use Rattle.ring_program.specs.CommandLine.{HasOption, IsCommand, flag_rule, is_flag_given, number_given, number_in, value_rule};
@@ -6,7 +6,7 @@ ghost use Rattle.ring_program.specs.CommandLine.{HasOption, IsCommand, flag_rule
 use clap::{Arg, ArgAction, ArgMatches, Command};
 use std::alloc::{AllocError, Global};
 
-/// A command by this name with no options yet, and its texts.
+/// A command of this name with no options yet, and its texts.
 pub fn new_command<'a>(
     alloc: Global,
     name: &'a str,
@@ -20,7 +20,7 @@ pub fn new_command<'a>(
     command.override_usage(usage).after_help(help)
 }
 
-// An option by this word.
+// An option of this name.
 fn named_option<'a>(alloc: Global, id: &'a str, help: &'a str) -> Arg<'a>
     ensures rule { rule_of result ≡ record (new_rule id.entry.now) { long = Some id.entry.now } }
     ensures local { result.global ≡ false }
@@ -28,7 +28,7 @@ fn named_option<'a>(alloc: Global, id: &'a str, help: &'a str) -> Arg<'a>
     Arg::new(alloc, id).long(id).help(help)
 }
 
-/// The command with an option that is given or not, by this word.
+/// The command with one more option of this name, which is given or not.
 pub fn with_flag<'a>(
     alloc: Global,
     command: Command<'a>,
@@ -40,7 +40,7 @@ pub fn with_flag<'a>(
     command.arg(named_option(alloc, id, help).action(ArgAction::SetTrue))
 }
 
-/// An option by this word, with a value, which the help calls by a name.
+/// An option of this name, with a value, which the help calls by this name.
 pub fn value_option<'a>(alloc: Global, id: &'a str, name: &'a str, help: &'a str) -> Arg<'a>
     ensures rule { rule_of result ≡ value_rule id.entry.now }
     ensures local { result.global ≡ false }

@@ -28,7 +28,7 @@ use std::io::{Read, Write};
 use std::thread::Threads;
 use std::time::Clock;
 
-/// The most bytes of the line that says what is wrong in a text; none has as many.
+/// The most bytes of the line that reports what is wrong in a text; none is that long.
 const CAUSE_LINE: usize = 512;
 
 // The answer to a question on an input.
@@ -49,7 +49,7 @@ fn answer_to<A: Allocator + Copy>(
     }
 }
 
-// Says what is wrong in a text that was refused, where there is something to say, and tells whether that was told.
+// Reports what is wrong in a refused text, if there is something to report, and returns whether that was written.
 fn tell_cause<E: Write>(json: Global, source: Source<'_>, refusal: Refusal, err: &mut E) -> bool
     ensures { (more : List ℕ) × ((more ≡ []) ⊎ IsInText refusal)
         × Gains (E.contents err.old) (E.contents err.new) result more }
@@ -63,7 +63,7 @@ fn tell_cause<E: Write>(json: Global, source: Source<'_>, refusal: Refusal, err:
     }
 }
 
-// Says why a request is refused, and what is wrong in the text that it was to read.
+// Reports why a request is refused, and what is wrong in its text.
 fn refuse_on<E: Write>(json: Global, source: Source<'_>, refusal: Refusal, err: &mut E) -> Exit
     ensures status { result.status ≡ 1 }
     ensures told { SaysRefusal (Gains (E.contents err.old) (E.contents err.new) result.is_told) refusal }
@@ -78,7 +78,7 @@ fn refuse_on<E: Write>(json: Global, source: Source<'_>, refusal: Refusal, err: 
     }
 }
 
-/// Writes an answer, whole, and tells the standard error how the program ends; or why the request is refused.
+/// Writes an answer completely, and reports on standard error how the program ends, or why the request is refused.
 pub fn deliver<A: Allocator, O: Write, E: Write>(
     json: Global,
     source: Source<'_>,
@@ -99,7 +99,7 @@ pub fn deliver<A: Allocator, O: Write, E: Write>(
     }
 }
 
-// Reads the whole input, and answers the question on it.
+// Reads the whole input, and answers the question about it.
 fn answer_input<A: Allocator + Copy, I: Read, O: Write, E: Write>(
     alloc: A,
     json: Global,
@@ -122,7 +122,7 @@ fn answer_input<A: Allocator + Copy, I: Read, O: Write, E: Write>(
     }
 }
 
-// Reads recorded calls in pieces, and answers of them.
+// Reads recorded calls in pieces, and writes the answer.
 fn answer_calls<A: Allocator + Copy, I: Read, O: Write, E: Write>(
     alloc: A,
     json: Global,
@@ -167,7 +167,7 @@ fn answer_recorded<A: Allocator + Copy, I: Read, O: Write, E: Write>(
     deliver(json, source, answered, out, err)
 }
 
-// Reads a recorded register in pieces, and answers of it.
+// Reads a recorded register in pieces, and writes the answer.
 fn answer_register<A: Allocator + Copy, I: Read, O: Write, E: Write>(
     alloc: A,
     json: Global,
@@ -187,7 +187,7 @@ fn answer_register<A: Allocator + Copy, I: Read, O: Write, E: Write>(
     }
 }
 
-/// The program on a request: answers it, and writes the answer after it is complete.
+/// The program for a request: answers it, and writes the answer once it is complete.
 pub fn respond<R: AllocGlobal + Threads + Clock, A: Allocator + Copy, I: Read, O: Write, E: Write>(
     rt: &R,
     alloc: A,
@@ -196,7 +196,7 @@ pub fn respond<R: AllocGlobal + Threads + Clock, A: Allocator + Copy, I: Read, O
     out: &mut O,
     err: &mut E,
 ) -> Exit
-    // The cause of a refusal is true, and it leaves the output as it was, unless a write failed.
+    // The cause of a refusal is true, and the output is unchanged, unless a write failed.
     ensures asked { Ends request (I.remaining input.old) (O.contents out.old) (O.contents out.new)
         (Gains (E.contents err.old) (E.contents err.new) result.is_told) result.status }
     ensures unread { AsksNoInput (Some request) → input.new ≡ input.old }
@@ -219,7 +219,7 @@ pub fn respond<R: AllocGlobal + Threads + Clock, A: Allocator + Copy, I: Read, O
     }
 }
 
-// Help that was asked for goes to the output, and a fault of the command line to the standard error.
+// Requested help goes to the output, and a fault of the command line to standard error.
 fn explain<A: Allocator, O: Write, E: Write>(
     alloc: A,
     words: &[&str],
@@ -246,18 +246,17 @@ fn explain<A: Allocator, O: Write, E: Write>(
     give(text.as_bytes(), Ending::Done, out, err)
 }
 
-/// The whole program: `words` are its name and its arguments, and the answer is the exit status, with whether `err` took all
-/// that it was to be told.
+/// The whole program: `words` are its name and its arguments, and the answer is the exit status, with whether everything for
+/// `err` was written.
 ///
-/// It reads the command line, then the whole input, then works, and writes the answer on `out` once
-/// it is complete; recorded calls, a recorded register and a trace of any length are read in pieces, and not kept; a run has no
-/// input, and none is read for it. Status 0 says that it is done, and 3 that the audit found a fault. With
-/// status 1 it refuses and says why on `err`; then nothing was written on `out`, unless a write failed, or a
-/// run reached a limit, whose text is written all the same. With status 2 the command line is wrong. Where
-/// the words ask for help or the version, that is written on `out`, and nothing is read. A fault of `err`
-/// itself changes no status: it ends what is told, and the answer says so.
+/// It reads the command line, then the whole input, then works, and writes the answer to `out` once it is complete; recorded
+/// calls, a recorded register and a trace of any length are read in pieces, and not kept; a run has no input, and none is read
+/// for it. Status 0 says that it is done, and 3 that the audit found a fault. With status 1 it refuses and reports why on
+/// `err`; then nothing was written to `out`, unless a write failed, or a run reached a limit, whose text is written all the
+/// same. With status 2 the command line is wrong. If the words ask for help or the version, that is written to `out`, and
+/// nothing is read. A fault of `err` itself changes no status: it ends what is reported, and the result says so.
 ///
-/// In use: `main` of `lamport_ring` hands it the words and the streams of the process.
+/// In use: `main` of `lamport_ring` passes it the words and the streams of the process.
 pub fn execute<
     'a,
     R: AllocGlobal + Threads + Clock,
@@ -266,16 +265,16 @@ pub fn execute<
     O: Write,
     E: Write,
 >(rt: &R, alloc: A, words: &'a [&'a str], input: &mut I, out: &mut O, err: &mut E) -> Exit
-    // By `Gains`: the standard error gained the words of the very cause, or, where it did not take them all, a front of them.
+    // By `Gains`: standard error gained the text of this cause, or, if not all was written, a prefix of it.
     ensures asked { IfSome (request_of (map (λ w. w.now) words.entry.now)) (λ request.
         Ends request (I.remaining input.old) (O.contents out.old) (O.contents out.new)
         (Gains (E.contents err.old) (E.contents err.new) result.is_told) result.status) }
     ensures unasked { IfNone (request_of (map (λ w. w.now) words.entry.now))
         (EndsUnasked (fault_of application (map (λ w. w.now) words.entry.now)) (O.contents out.old) (O.contents out.new)
         (Gains (E.contents err.old) (E.contents err.new) result.is_told) result.status) }
-    // Where nothing is asked of an input, nothing is read.
+    // If nothing is asked about an input, nothing is read.
     ensures unread { AsksNoInput (request_of (map (λ w. w.now) words.entry.now)) → input.new ≡ input.old }
-    // The standard error gains nothing, and had to gain nothing, unless the program refuses or the command line is wrong.
+    // Nothing is written to standard error, and nothing had to be, unless the program refuses or the command line is wrong.
     ensures quiet { (result.status ≡ 1) ⊎ ((result.status ≡ 2) ⊎ ((err.new ≡ err.old) × (result.is_told ≡ true))) }
     // Whatever the reader and the writers do.
     ensures statuses { IsStatus (request_of (map (λ w. w.now) words.entry.now)) result.status }

@@ -19,14 +19,14 @@ use std::io::Read;
 // How many bytes are read at once.
 const PIECE: usize = 65_536;
 
-// What is found of a recording, and whether it says that the later calls are missing; of one with a fault that is not told.
+// The finding on a recording, and whether it says that the later calls are missing; for one with a fault that is not reported.
 #[derive(Clone, Copy)]
 struct CallsFound {
     finding: CallsFinding,
     is_cut: bool,
 }
 
-/// The bytes to the first line feed, with it, and those after it.
+/// The bytes to the first line feed, including it, and those after it.
 pub fn first_line(bytes: &[u8]) -> (&[u8], &[u8])
     ensures parts { bytes.now ≡ result.0.now ++ result.1.now }
     ensures line { IsOneLine result.0.now }
@@ -66,7 +66,7 @@ fn read_lines<A: Allocator + Copy>(
     Ok(None)
 }
 
-// Reads a piece, and where it is to stop there, to the first fault.
+// Reads a piece; if it should stop there, only up to the first fault.
 fn read_piece<A: Allocator + Copy>(
     recording: &mut Recording<A>,
     stop: bool,
@@ -91,7 +91,7 @@ fn read_piece<A: Allocator + Copy>(
     Ok(None)
 }
 
-// What is found of a recording whose text ends here.
+// The finding on a recording whose text ends here.
 fn found_at_end<A: Allocator + Copy>(recording: &Recording<A>) -> Result<CallsFound, RecordingFault>
     ensures found { IfOk result (λ found. (bytes : List ℕ) →
         HasRead (λ q. q.items) (λ q. q.items) (λ v. v.items) recording.now bytes →
@@ -106,8 +106,8 @@ fn found_at_end<A: Allocator + Copy>(recording: &Recording<A>) -> Result<CallsFo
     })
 }
 
-// Reads the input in pieces, to its end, or where it is to stop there, to the first fault; and tells what is found. It notes where
-// it comes to the end.
+// Reads the input in pieces, to its end, or if it should stop there, to the first fault; and returns the finding. It records
+// whether it reaches the end.
 #[tactic(auto, unfolding(crate::specs::Answers::IsCallsCause))]
 fn read_calls<A: Allocator + Copy, I: Read>(
     recording: &mut Recording<A>,
@@ -181,7 +181,7 @@ fn lawful_text<A: Allocator>(
     Ok(text)
 }
 
-/// The text of a finding: `lawful`, with a line for each number of the report, and one where the recording says that the later calls
+/// The text of a finding: `lawful`, with a line for each number of the report, and one if the recording says that the later calls
 /// are missing; or the one line of the fault.
 pub fn calls_text<A: Allocator>(
     alloc: A,
@@ -212,7 +212,7 @@ fn calls_ending(finding: &CallsFinding) -> Ending
     }
 }
 
-/// The answer of `audit --calls`, by a recording that has read nothing yet. It notes whether it reaches the end of the input.
+/// The answer of `audit --calls`, by a recording that has read nothing yet. It records whether it reaches the end of the input.
 #[tactic(auto, unfolding(crate::specs::Answers::IsCallsCause))]
 pub fn calls_answer<A: Allocator + Copy, I: Read>(
     alloc: A,

@@ -33,14 +33,14 @@ pub(crate) type Recorded<A> = RegisterRecording<
     Vec<u8, A>,
 >;
 
-// What is found of a recording, and whether it says that later operations are missing.
+// The finding on a recording, and whether it says that later operations are missing.
 #[derive(Clone, Copy)]
 struct FoundRegister {
     finding: RegisterFinding,
     is_cut: bool,
 }
 
-/// A recording of which nothing was read.
+/// A recording of which nothing has been read.
 pub(crate) fn new_recording<A: Allocator + Copy>(alloc: A) -> Result<Recorded<A>, AllocError>
     ensures { IfOk result (λ recording. HasReadRegister (λ q. q.items) (λ q. q.items) (λ q. q.items) (λ q. q.items)
         (λ v. v.items) recording []) }
@@ -56,7 +56,7 @@ pub(crate) fn new_recording<A: Allocator + Copy>(alloc: A) -> Result<Recorded<A>
     )
 }
 
-// What is found of the lines that have ended, if they fall short of the class.
+// The finding on the lines that have ended, if they fall short of the class.
 fn shortfall<A: Allocator + Copy>(recording: &Recorded<A>, class: Class) -> Option<FoundRegister>
     ensures { (bytes : List ℕ) → HasReadRegister (λ q. q.items) (λ q. q.items) (λ q. q.items) (λ q. q.items)
         (λ v. v.items) recording.now bytes →
@@ -106,7 +106,7 @@ fn read_register_lines<A: Allocator + Copy>(
     Ok(None)
 }
 
-// Reads a piece, and if it is to stop there, to the first line with which the class is missed.
+// Reads a piece; if it should stop there, only to the first line with which the class is missed.
 fn read_register_piece<A: Allocator + Copy>(
     recording: &mut Recorded<A>,
     class: Class,
@@ -136,7 +136,7 @@ fn read_register_piece<A: Allocator + Copy>(
     Ok(None)
 }
 
-// What is found of a recording whose text ends here.
+// The finding on a recording whose text ends here.
 fn found_at_end<A: Allocator + Copy>(
     recording: &Recorded<A>,
 ) -> Result<FoundRegister, RegisterTextFault>
@@ -153,8 +153,8 @@ fn found_at_end<A: Allocator + Copy>(
     })
 }
 
-// Reads the input in pieces, to its end, or if it is to stop there, to the first line with which the class is missed; and returns what is
-// found. It notes if it comes to the end.
+// Reads the input in pieces, to its end, or if it should stop there, to the first line with which the class is missed; and returns the
+// finding. It records whether it reaches the end.
 #[tactic(auto, unfolding(crate::specs::Answers::IsRegisterCause))]
 fn read_register<A: Allocator + Copy, I: Read>(
     recording: &mut Recorded<A>,
@@ -285,7 +285,7 @@ fn push_report<A: Allocator>(text: &mut String<A>, report: &RegisterReport) -> R
     Ok(text.push_str(none_inverts_words(report.could_invert))?)
 }
 
-// The lines of a report, if it is asked for.
+// The lines of a report, if requested.
 fn push_report_if<A: Allocator>(
     text: &mut String<A>,
     is_asked: bool,
@@ -301,7 +301,7 @@ fn push_report_if<A: Allocator>(
     }
 }
 
-/// The text of a finding: the strongest class, a line for each class that is missed, a report if it is asked for, and a line if the
+/// The text of a finding: the strongest class, a line for each class that is missed, a report if requested, and a line if the
 /// recording says that later operations are missing; or the one line of an event that is out of turn.
 pub(crate) fn register_text<A: Allocator + Copy>(
     alloc: A,
@@ -331,7 +331,7 @@ pub(crate) fn register_text<A: Allocator + Copy>(
     }
 }
 
-// How an audit with this finding ends, if the class is asked for.
+// How an audit with this finding ends, if the class is requested.
 fn register_ending(class: Class, finding: &RegisterFinding) -> Ending
     ensures { result ≡ register_ending_of class finding.now }
 {
@@ -342,7 +342,7 @@ fn register_ending(class: Class, finding: &RegisterFinding) -> Ending
     }
 }
 
-/// The answer of `audit --register`, by a recording that has read nothing yet. It notes whether it reaches the end of the input.
+/// The answer of `audit --register`, by a recording that has read nothing yet. It records whether it reaches the end of the input.
 #[tactic(auto, unfolding(crate::specs::Answers::IsRegisterCause))]
 pub(crate) fn register_answer<A: Allocator + Copy, I: Read>(
     alloc: A,

@@ -8,9 +8,9 @@ use bits_core::Event;
 use ring_player::Report;
 use std::alloc::Allocator;
 
-/// The text of a report: a line each of how many events there were, the items put, the items taken,
-/// whether the consumer was told that the ring is closed, and how many puts found the ring full, takes
-/// found it empty, and reads were overlapped by a write.
+/// The text of a report: a line each for the number of events, the items put, the items taken, whether
+/// a take returned Closed, and how many puts found the ring full, takes found it empty, and reads were
+/// overlapped by a write.
 ///
 /// In use: `lamport_ring play`.
 pub fn report_text<A: Allocator, B: Allocator>(

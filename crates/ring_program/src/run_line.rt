@@ -12,7 +12,7 @@ use std::alloc::{AllocError, Global};
 /// The most items that a run may put.
 pub const ITEM_LIMIT: u64 = 1_000_000;
 
-// The usage, in lines under one another.
+// The usage, on several lines.
 const RUN_USAGE: &str = "\
 lamport_ring run --capacity B --modulus M --width W --count N --limit L
        [--takes T] [--batch G] [--take-batch H] [--ring RING]
@@ -59,7 +59,7 @@ side has no more room, which is behind some 2 million lines of either side.
      no second thread, or the output failed
   2  the command line is wrong";
 
-/// Which ring a run goes through.
+/// The ring that a run uses.
 #[derive(Clone, Copy)]
 pub(crate) enum RingKind {
     /// A word for each bit, which flickers while it is written.
@@ -68,10 +68,10 @@ pub(crate) enum RingKind {
     Counter,
 }
 
-/// What the text of a run tells.
+/// What the text of a run contains.
 #[derive(Clone, Copy)]
 pub(crate) enum RunText {
-    /// How many items were put and taken, and whether the taker was told that the ring is closed.
+    /// How many items were put and taken, and whether a take returned Closed.
     Totals,
     /// That, and what was counted and timed.
     Report,
@@ -79,7 +79,7 @@ pub(crate) enum RunText {
     Recording,
 }
 
-/// What `run` is asked for.
+/// What `run` is asked.
 #[derive(Clone, Copy)]
 pub(crate) struct Run {
     pub ring: RingKind,
@@ -93,11 +93,11 @@ pub(crate) struct Run {
     pub count: u64,
     /// The most puts and takes.
     pub limits: Limits,
-    /// What its text tells.
+    /// What its text contains.
     pub text: RunText,
 }
 
-// An option whose value is a number up to the most.
+// An option whose value is a number up to a maximum.
 fn number_option<'a>(alloc: Global, id: &'a str, name: &'a str, most: u64, help: &'a str) -> Arg<'a>
     ensures rule { rule_of result ≡ number_rule id.entry.now most }
     ensures local { result.global ≡ false }
@@ -105,7 +105,7 @@ fn number_option<'a>(alloc: Global, id: &'a str, name: &'a str, most: u64, help:
     value_option(alloc, id, name, help).value_parser(ValueParser::unsigned(0, most))
 }
 
-// The command with a number that has to be given.
+// The command with a number that is required.
 fn with_required<'a>(
     alloc: Global,
     command: Command<'a>,
@@ -127,7 +127,7 @@ fn with_takes<'a>(alloc: Global, command: Command<'a>) -> Result<Command<'a>, Al
     command.arg(number_option(alloc, "takes", "T", u64::MAX, help))
 }
 
-// The command with the batch, which may be left out, and is 1 then.
+// The command with the batch, which may be left out, and is then 1.
 fn with_batch<'a>(alloc: Global, command: Command<'a>) -> Result<Command<'a>, AllocError>
     ensures { IfOk result (HasOption batch_rule command.entry) }
 {
@@ -145,7 +145,7 @@ fn with_take_batch<'a>(alloc: Global, command: Command<'a>) -> Result<Command<'a
     command.arg(batch.default_value("1"))
 }
 
-// The command with the ring, which is `flicker` where it is left out.
+// The command with the ring, which is `flicker` if left out.
 fn with_ring<'a>(alloc: Global, command: Command<'a>) -> Result<Command<'a>, AllocError>
     ensures { IfOk result (HasOption ring_rule command.entry) }
 {
@@ -153,7 +153,7 @@ fn with_ring<'a>(alloc: Global, command: Command<'a>) -> Result<Command<'a>, All
     command.arg(ring.default_value("flicker"))
 }
 
-// The command with the options that have to be given.
+// The command with the options that are required.
 fn required_part<'a>(alloc: Global) -> Result<Command<'a>, AllocError>
     ensures { IfOk result (λ command. IsCommand command run_required) }
 {
@@ -222,7 +222,7 @@ fn ring_of(name: &str) -> Option<RingKind>
     }
 }
 
-// The ring that was asked for.
+// The requested ring.
 fn ring_found(matches: &ArgMatches<'_>) -> Option<RingKind>
     ensures { result ≡ ring_given (rows_of (found_of matches.now)) }
 {
@@ -232,7 +232,7 @@ fn ring_found(matches: &ArgMatches<'_>) -> Option<RingKind>
     }
 }
 
-// The text, by whether a report and a recording were asked for; nothing where both were.
+// The text, by whether a report and a recording were requested; `None` if both were.
 fn text_asked(report: bool, recording: bool) -> Option<RunText>
     ensures { result ≡ text_asked report recording }
 {
@@ -244,7 +244,7 @@ fn text_asked(report: bool, recording: bool) -> Option<RunText>
     }
 }
 
-// The text that was asked for.
+// The requested text.
 fn text_found(matches: &ArgMatches<'_>) -> Option<RunText>
     ensures { result ≡ text_given (rows_of (found_of matches.now)) }
 {

@@ -1,4 +1,4 @@
-//! The recording of a run: each line of its recorder is audited, and compared with what the run came to, before it is written.
+//! The recording of a run: each line of its recorder is audited, and compared with the result of the run, before it is written.
 ghost use Rattle.std.specs.Prelude.{◌≡◌, ◌⊎◌, false, ◌+◌, ◌-◌, ◌<◌, ◌≤◌, ◌^◌, ◌∷◌, ◌++◌, IfErr, IfOk, IfSome, IsTrue, List, OnOk, [], if◌then◌else◌, length, string_bytes, take};
 ghost use Rattle.bits_core.specs.Shape.{batch_of, capacity_of, take_batch_of};
 ghost use Rattle.queue_calls.specs.Audits.{Audits};
@@ -22,7 +22,7 @@ use std::collections::VecDeque;
 /// How many lines of either side a recording has room for at most.
 pub const RECORDED: usize = 1 << 21;
 
-// What of a run was not told so far.
+// What of a run has not been written yet.
 #[derive(Clone, Copy)]
 struct Untold<'r> {
     // the items not stored, and those taken
@@ -32,7 +32,7 @@ struct Untold<'r> {
     put: u64,
     calls: u64,
     full: u64,
-    // how many closes, and how many takes were made; how many of these found it empty, and how many were told that it is closed
+    // how many closes, and how many takes were made; how many of these found it empty, and how many returned Closed
     closes: u64,
     takes: u64,
     empty: u64,
@@ -65,7 +65,7 @@ impl<'r> Untold<'r> {
         }
     }
 
-    // What is left behind a put of these items that begins, where they are the next ones.
+    // What is left after a put of these items has begun, if they are the next ones.
     fn behind_offer(self, shape: &Shape, offered: &[u64]) -> Option<Untold<'r>>
         ensures { IfSome result (λ after. (offered.now ≡ take (batch_of shape.now) self.entry.items.now) ×
             TakesOff self.entry (PutBegin offered.now) after) }
@@ -79,7 +79,7 @@ impl<'r> Untold<'r> {
         Some(Untold { calls, ..self })
     }
 
-    // What is left behind an event, where it is one of the run.
+    // What is left after an event, if it is one of the run.
     fn behind(self, shape: &Shape, event: Event<'_>) -> Option<Untold<'r>>
         ensures { IfSome result (λ after. IsOfRun shape.now self.entry.items.now (told event.entry) ×
             TakesOff self.entry (told event.entry) after) }
@@ -148,7 +148,7 @@ impl<'r> Untold<'r> {
             && self.taken.is_empty()
     }
 
-    // Whether something is left, though no log was full, or the logs had room for one more line.
+    // Whether something is left, although no log was full, or the logs had room for one more line.
     fn lacks_lines(&self, is_cut: bool, shape: &Shape, room: Room) -> bool
         ensures cut { result ≡ false → is_cut ≡ false → left_of self.now ≡ nothing_left }
         ensures whole { result ≡ false → batch_of shape.now ≤ room.puts → take_batch_of shape.now ≤ room.takes →
@@ -167,7 +167,7 @@ struct Room {
 }
 
 impl Room {
-    // So much less of it.
+    // The room without this much.
     fn less(self, puts: usize, takes: usize) -> Room
         ensures { (result.puts ≡ self.puts - puts) × (result.takes ≡ self.takes - takes) }
     {
@@ -177,7 +177,7 @@ impl Room {
         }
     }
 
-    // What is left behind the line of an event.
+    // What is left after the line of an event.
     fn behind(self, event: Event<'_>) -> Room
         ensures { (result.puts ≡ self.puts - room_with P (told event.entry)) ×
             (result.takes ≡ self.takes - room_with C (told event.entry)) }
@@ -212,17 +212,17 @@ fn audit<A: Allocator>(
     }
 }
 
-// The word of the first line, of a recording that lacks the later calls or does not.
+// The word of the first line, of a recording that lacks the later calls or not.
 fn first_word(is_cut: bool) -> Word
     ensures { result ≡ first_word is_cut }
 {
     if is_cut { Word::Cut } else { Word::Queue }
 }
 
-/// The recording of a run, as one of a queue of the ring's capacity: the lines of its recorder, where these tell calls of the run. It
+/// The recording of a run, as one of a queue of the ring's capacity: the lines of its recorder, if these are calls of the run. It
 /// says whether a log was full, so that the later calls are missing.
 ///
-/// `NotOfRun` where they do not, or tell too few, which does not occur by the argument of [`Recorder`].
+/// `NotOfRun` if they are not, or are too few, which does not occur by the argument of [`Recorder`].
 pub fn recording_text<A: Allocator + Copy, B: Allocator>(
     alloc: A,
     shape: &Shape,

@@ -23,7 +23,7 @@ use std::io;
 use std::thread::{self, Threads};
 use std::time::{Clock, Duration, Instant};
 
-// An item of so many binary digits.
+// An item of this many binary digits.
 fn run_item(width: u64, number: u64) -> u64
     ensures { result ≡ run_item width number }
 {
@@ -48,7 +48,7 @@ fn items_of<A: Allocator>(alloc: A, run: &Run) -> Result<Vec<u64, A>, AppFault>
     Ok(items)
 }
 
-// The line that says whether the taker was told that the ring is closed.
+// The line that says whether a take returned Closed.
 fn closed_words(closed: bool) -> &'static str
     ensures { result.now ≡ closed_line closed }
 {
@@ -59,8 +59,8 @@ fn closed_words(closed: bool) -> &'static str
     }
 }
 
-/// The text of a relay: a line each of how many items were put, how many were taken, and whether the taker was told that
-/// the ring is closed.
+/// The text of a relay: a line each for how many items were put, how many were taken, and whether a take returned
+/// Closed.
 ///
 /// In use: `lamport_ring run`.
 pub fn relay_text<A: Allocator, B: Allocator>(
@@ -78,7 +78,7 @@ pub fn relay_text<A: Allocator, B: Allocator>(
     Ok(text)
 }
 
-// How many items a second, where so many were taken in this time.
+// Items per second, if this many were taken in this time.
 fn pace_of(taken: u64, time: Duration) -> Option<u64>
     ensures { result ≡ pace_of taken (as_nanos time) }
 {
@@ -90,7 +90,7 @@ fn pace_of(taken: u64, time: Duration) -> Option<u64>
     u64::try_from(pace).ok()
 }
 
-// The line of how many items a second were taken.
+// The line of the items taken per second.
 fn push_pace<A: Allocator>(text: &mut String<A>, pace: Option<u64>) -> Result<(), AppFault>
     ensures ok { OnOk result (string_bytes text.new ≡ string_bytes text.old ++ pace_line pace) }
     ensures err { IfErr result (λ e. e ≡ AppFault.OutOfMemory) }
@@ -101,9 +101,9 @@ fn push_pace<A: Allocator>(text: &mut String<A>, pace: Option<u64>) -> Result<()
     }
 }
 
-/// The text of a relay and, behind it, a line each of how many puts were made, how many of them found the ring full, how many
-/// takes found it empty, and how many items a second were taken. The last is `unknown` where there is no time, or none passed,
-/// or the number takes more than 64 bits.
+/// The text of a relay and, after it, a line each for how many puts were made, how many of them found the ring full, how many
+/// takes found it empty, and the items taken per second. The last is `unknown` if there is no time, if none passed, or if the
+/// number has more than 64 bits.
 ///
 /// In use: `lamport_ring run --report`.
 pub fn relay_report<A: Allocator, B: Allocator>(
@@ -175,7 +175,7 @@ fn slots_for<A: Allocator>(alloc: A, text: RunText) -> Result<Vec<Slot, A>, AppF
     Ok(slots)
 }
 
-// The time since the start, where the clock told both.
+// The time since the start, if the clock returned both.
 fn time_since<C: Clock>(clock: &C, start: io::Result<Instant>) -> Option<Duration> {
     match start {
         Ok(start) => start.elapsed(clock).ok(),
@@ -183,7 +183,7 @@ fn time_since<C: Clock>(clock: &C, start: io::Result<Instant>) -> Option<Duratio
     }
 }
 
-// Whether a second thread can be had: one is made and does nothing.
+// Whether a second thread can be started: one is started and does nothing.
 fn find_second_thread<R: Threads>(rt: &R) -> Result<(), Refusal>
     ensures refused { IfErr result (λ e. e ≡ Refusal.NoSecondThread) }
 {
@@ -196,8 +196,8 @@ fn find_second_thread<R: Threads>(rt: &R) -> Result<(), Refusal>
     }
 }
 
-// How a run ends: its taker was told that the ring is closed, or a side reached its limit. Else each side ended because it saw that
-// the other one made no more calls, and one of them before the other began: the thread that was found before could not be had again.
+// How a run ends: a take returned Closed, or a side reached its limit. Otherwise each side ended because it saw that the other made
+// no more calls, one of them before the other began: the thread that was available before could not be started again.
 fn relay_ending<A: Allocator>(limits: Limits, outcome: &Outcome<A>) -> Result<Ending, Refusal>
     ensures ending { IfOk result (λ ending. ending ≡ relay_ending_of outcome.now.closed) }
     ensures reached { OnOk result ((outcome.now.closed ≡ true) ⊎ ((outcome.now.calls ≡ limits.puts) ⊎
@@ -216,8 +216,8 @@ fn relay_ending<A: Allocator>(limits: Limits, outcome: &Outcome<A>) -> Result<En
     }
 }
 
-// Relays the items through a new ring of this kind. Where its loads do not agree, an end of a flickering ring answers 0 and
-// 1 in turn.
+// Relays the items through a new ring of this kind. If its loads do not agree, an end of a flickering ring answers 0 and 1
+// in turn.
 fn relay_by_kind<R: Threads, A: Allocator + Copy, G: Gate + Sync>(
     rt: &R,
     alloc: A,
@@ -249,7 +249,7 @@ fn relay_by_kind<R: Threads, A: Allocator + Copy, G: Gate + Sync>(
     }
 }
 
-// The same, with the calls recorded where that was asked for, and else with rests where a side has to wait.
+// The same, with the calls recorded if requested, and otherwise with pauses when a side has to wait.
 fn relay_run<R: Threads, A: Allocator + Copy>(
     rt: &R,
     alloc: A,

@@ -19,7 +19,7 @@ use queue_calls::{Begun, CallEvent, Event, Word};
 use ring_player::{PlayedCall, Script, TakenItems};
 use std::alloc::Allocator;
 
-// The items that a put offers, behind so many stored ones.
+// The items that a put offers, after this many stored ones.
 fn offered<B: Allocator>(script: &Script<B>, stored: usize) -> &[u64]
     ensures items { result.now ≡ offered script.now stored }
     ensures small { AreSmall result.now }
@@ -30,18 +30,18 @@ fn offered<B: Allocator>(script: &Script<B>, stored: usize) -> &[u64]
     &further[..batch.min(further.len())]
 }
 
-// What tells the items that a take took.
+// What identifies the items that a take took.
 pub(crate) trait Took {
     ghost use Rattle.std.specs.Prelude.{◌≡◌, ℕ, List};
 
-    // The items, of these.
+    // The items, out of these.
     ghost took: { List ℕ → Self → List ℕ };
 
     fn items<'a>(&self, from: &'a [u64]) -> &'a [u64]
         ensures { result.now ≡ took from.now self.now };
 }
 
-// So many of the items: the first ones.
+// The first ones, this many.
 impl Took for usize {
     ghost use Rattle.ring_program.specs.Texts.{first_items};
 
@@ -52,7 +52,7 @@ impl Took for usize {
     }
 }
 
-// So many of them, behind so many.
+// A number of them, after a number of others.
 impl Took for TakenItems {
     ghost use Rattle.ring_program.specs.Texts.{items_behind};
 
@@ -64,7 +64,7 @@ impl Took for TakenItems {
     }
 }
 
-// What was told, as an event with its items, which a take took of these.
+// What was recorded, as an event with its items, which a take took out of these.
 fn event_of<'a, B: Allocator, T: Took>(
     script: &'a Script<B>,
     from: &'a [u64],
@@ -92,7 +92,7 @@ fn event_of<'a, B: Allocator, T: Took>(
     }
 }
 
-// A line of the ring's capacity, and the lines of the begins and ends of calls that a play told.
+// A line of the ring's capacity, and the lines of the starts and ends of the calls of a play.
 fn told_text<A: Allocator, B: Allocator>(
     alloc: A,
     script: &Script<B>,
@@ -115,7 +115,7 @@ fn told_text<A: Allocator, B: Allocator>(
     Ok(text)
 }
 
-// The items behind those that it tells.
+// The items after those of the event.
 fn items_left<'a>(items: &'a [u64], told: &NearCall) -> &'a [u64]
     ensures { result.now ≡ drop (items_by told.now) items.now }
 {
@@ -125,7 +125,7 @@ fn items_left<'a>(items: &'a [u64], told: &NearCall) -> &'a [u64]
     }
 }
 
-/// A line of the ring's capacity, and the lines of the begins and ends of calls that a play by a near miss told, whose takes took these
+/// A line of the ring's capacity, and the lines of the starts and ends of the calls of a play by a near miss, whose takes took these
 /// items.
 pub fn near_text<A: Allocator, B: Allocator>(
     alloc: A,
@@ -151,7 +151,7 @@ pub fn near_text<A: Allocator, B: Allocator>(
     Ok(text)
 }
 
-/// The text of a recording of the calls that a play told, by a queue of the ring's capacity.
+/// The text of a recording of the calls of a play, as a queue of the ring's capacity.
 pub fn calls_text<A: Allocator, B: Allocator>(
     alloc: A,
     script: &Script<B>,
@@ -162,6 +162,7 @@ pub fn calls_text<A: Allocator, B: Allocator>(
         (call_events script.now told.now)) }
     ensures memory { IfErr result (λ e. e ≡ AppFault.OutOfMemory) }
 {
+    // only for the proof: gives the bounds of the capacity
     let _capacity = script.shape().capacity();
     let text = told_text(alloc, script, told)?;
     Ok(text)

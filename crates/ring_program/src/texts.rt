@@ -48,8 +48,8 @@ fn lists_text<A: Allocator>(
     Ok(text)
 }
 
-/// The text of a finding: `lawful`, with the items put, the items taken and whether the consumer was told that the
-/// ring is closed, a line each; or the one line of the fault.
+/// The text of a finding: `lawful`, with the items put, the items taken and whether a take returned Closed, a line
+/// each; or the one line of the fault.
 ///
 /// In use: `lamport_ring audit`.
 pub fn audit_text<A: Allocator, B: Allocator>(

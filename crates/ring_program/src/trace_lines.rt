@@ -1,4 +1,4 @@
-//! The lines of a text that is no trace, no recorded calls or no recorded register, and what is wrong with one of them.
+//! The lines of a text that is not a trace, not recorded calls or not a recorded register, and what is wrong with one of them.
 
 use std::fmt;
 use thiserror::Error;
@@ -72,7 +72,7 @@ pub(crate) enum LineFault {
     NoRegisterSide,
 }
 
-/// A line as it is shown: between quotes, each byte that is no printable ASCII escaped, and cut behind
+/// A line as it is shown: between quotes, each byte that is not printable ASCII escaped, and cut after
 /// `SHOWN_LIMIT` characters, with two dots where it was cut.
 #[derive(Clone, Copy)]
 pub(crate) struct Shown<'a> {
@@ -91,7 +91,7 @@ impl fmt::Display for Shown<'_> {
     }
 }
 
-// The front of a line that is shown: as many bytes as have room, each escaped.
+// The part of a line that is shown: as many bytes as have room, each escaped.
 fn shown_front(line: &[u8]) -> &[u8] {
     let mut room = SHOWN_LIMIT;
     for (place, byte) in line.iter().enumerate() {
@@ -104,7 +104,7 @@ fn shown_front(line: &[u8]) -> &[u8] {
     line
 }
 
-// The bytes from the line of this number on, counted from 1. There are none where there are fewer lines.
+// The bytes from the line of this number on, counted from 1. None if there are fewer lines.
 fn from_line(bytes: &[u8], number: u64) -> &[u8] {
     let mut rest = bytes;
     for _ in 1..number {
@@ -116,7 +116,7 @@ fn from_line(bytes: &[u8], number: u64) -> &[u8] {
     rest
 }
 
-/// The line of this number, counted from 1. It is empty and has no line feed where there are fewer lines.
+/// The line of this number, counted from 1. It is empty and has no line feed if there are fewer lines.
 pub fn line_at(bytes: &[u8], number: u64) -> TextLine<'_> {
     let rest = from_line(bytes, number);
     match rest.iter().position(|byte| *byte == b'\n') {
@@ -131,7 +131,7 @@ pub fn line_at(bytes: &[u8], number: u64) -> TextLine<'_> {
     }
 }
 
-/// Whether the first byte that is no white space begins a JSON object.
+/// Whether the first byte that is not white space begins a JSON object.
 pub fn looks_like_script(bytes: &[u8]) -> bool {
     bytes.trim_ascii_start().starts_with(b"{")
 }
@@ -175,7 +175,7 @@ fn fault_of_ends(line: &TextLine<'_>, is_first: bool) -> Option<LineFault> {
     }
 }
 
-/// What is wrong with a line that is none of a trace's, the first line or a further one.
+/// What is wrong with a line that is not one of a trace, the first line or a further one.
 pub fn fault_of_line(line: &TextLine<'_>, is_first: bool) -> LineFault {
     if let Some(fault) = fault_of_ends(line, is_first) {
         return fault;
@@ -193,7 +193,7 @@ pub fn fault_of_line(line: &TextLine<'_>, is_first: bool) -> LineFault {
     }
 }
 
-/// What is wrong with a line that is none of recorded calls, the first line or a further one.
+/// What is wrong with a line that is not one of recorded calls, the first line or a further one.
 pub fn fault_of_call(line: &TextLine<'_>, is_first: bool) -> LineFault {
     if let Some(fault) = fault_of_ends(line, is_first) {
         return fault;
@@ -211,7 +211,7 @@ pub fn fault_of_call(line: &TextLine<'_>, is_first: bool) -> LineFault {
     }
 }
 
-/// What is wrong with a line that may not stand in a recorded register, the first line or a further one.
+/// What is wrong with a line that may not come in a recorded register, the first line or a further one.
 pub fn fault_of_register(line: &TextLine<'_>, is_first: bool) -> LineFault {
     if let Some(fault) = fault_of_ends(line, is_first) {
         return fault;
@@ -229,7 +229,7 @@ pub fn fault_of_register(line: &TextLine<'_>, is_first: bool) -> LineFault {
     }
 }
 
-// What is wrong with a first line of a recorded register whose numbers are numbers.
+// What is wrong with a first line of a recorded register whose numbers are well-formed.
 fn fault_of_first_value(text: &[u8]) -> LineFault {
     let line = text.strip_prefix(b"cut ").unwrap_or(text);
     let mut words = line.split(|byte| *byte == b' ');
@@ -240,7 +240,7 @@ fn fault_of_first_value(text: &[u8]) -> LineFault {
     }
 }
 
-// What is wrong with a line of the writer whose numbers are numbers.
+// What is wrong with a line of the writer whose numbers are well-formed.
 fn fault_of_writer(text: &[u8]) -> LineFault {
     match text.strip_prefix(b"W write ") {
         Some(value) if is_index(value) => LineFault::WritesNoValue,
@@ -248,7 +248,7 @@ fn fault_of_writer(text: &[u8]) -> LineFault {
     }
 }
 
-// What is wrong with a first line of recorded calls whose numbers are numbers.
+// What is wrong with a first line of recorded calls whose numbers are well-formed.
 fn fault_of_queue(text: &[u8]) -> LineFault {
     let line = text.strip_prefix(b"cut ").unwrap_or(text);
     let mut words = line.split(|byte| *byte == b' ');
@@ -261,7 +261,7 @@ fn fault_of_queue(text: &[u8]) -> LineFault {
     }
 }
 
-// What is wrong with a line of the producer whose numbers are numbers.
+// What is wrong with a line of the producer whose numbers are well-formed.
 fn fault_of_put(text: &[u8]) -> LineFault {
     match text {
         b"P stored 0" | b"P some 0" => LineFault::CountOfZero,
@@ -269,7 +269,7 @@ fn fault_of_put(text: &[u8]) -> LineFault {
     }
 }
 
-// What is wrong with a line of the consumer whose numbers are numbers.
+// What is wrong with a line of the consumer whose numbers are well-formed.
 fn fault_of_take(text: &[u8]) -> LineFault {
     match text {
         b"C take 0" | b"C take 1" => LineFault::TakeOfOne,
@@ -296,7 +296,7 @@ fn has_batch_of_one(text: &[u8]) -> bool {
         && numbers.ends_with(b" 1")
 }
 
-// Whether a word has digits alone, and is no number as it is written.
+// Whether a word has only digits, and is not a number as written.
 fn has_bad_number(text: &[u8]) -> bool {
     text.split(|byte| *byte == b' ').any(is_bad_number)
 }

@@ -1,4 +1,4 @@
-//! The lines that say why the event at fault is.
+//! The lines with the reason for the event at fault.
 ghost use Rattle.std.specs.Prelude.{◌≡◌, ◌++◌, ℕ, List, IfErr, OnOk, string_bytes};
 ghost use Rattle.bits_core.specs.Lawful.{IsLawful};
 ghost use Rattle.bits_core.specs.Steps.{MayFollow};
@@ -13,7 +13,7 @@ use ring_audit::{Dues, Finding, due_behind};
 use std::alloc::Allocator;
 use trace_text::push_event;
 
-// The line of an event, behind a text.
+// The line of an event, after a text.
 fn push_line<A: Allocator>(text: &mut String<A>, event: Event) -> Result<(), AppFault>
     ensures ok { OnOk result (string_bytes text.new ≡ string_bytes text.old ++ event_line event) }
     ensures err { IfErr result (λ e. e ≡ AppFault.OutOfMemory) }
@@ -155,7 +155,7 @@ fn push_reason<A: Allocator>(
     }
 }
 
-// Why the bits do not permit the event behind these.
+// Why the bits do not permit the event after these.
 fn push_fault<A: Allocator>(
     text: &mut String<A>,
     shape: &Shape,
@@ -175,7 +175,7 @@ fn push_fault<A: Allocator>(
     }
 }
 
-// The events of the side that go on with the programs behind these.
+// The events of the side that continue the programs after these.
 fn push_instead<A: Allocator>(
     text: &mut String<A>,
     shape: &Shape,
@@ -190,7 +190,7 @@ fn push_instead<A: Allocator>(
     push_dues(text, &dues)
 }
 
-/// Adds the lines that say why the event at fault is, where there is one.
+/// Appends the lines with the reason for the event at fault, if there is one.
 pub fn push_why<A: Allocator>(
     text: &mut String<A>,
     shape: &Shape,

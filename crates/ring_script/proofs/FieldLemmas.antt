@@ -119,7 +119,7 @@ at_place field.Oracle = refl
 at_place field.Batch = refl
 at_place field.TakeBatch = refl
 
--- the first n fields are so
+-- the first n fields have this property
 abbrev pub Before : (Field → Type 0) → ℕ → Type 0
 Before P zero = Unit {0}
 Before P (suc n) = Before P n × P (field_at n)
@@ -143,19 +143,19 @@ one_first P f g a b = elim (cases_lt (field_place f) (field_place g)) [
   ]
 ]
 
--- the fault is that of the first field that is so
+-- the fault is that of the first field with the property
 abbrev pub IsOfFirst : (Field → Type 0) → (Field → ScriptFault) → ScriptFault → Type 0
 IsOfFirst P fault x = (f : Field) × (x ≡ fault f) × IsFirst P f
 
 pub first_told : (P : Field → Type 0) (fault : Field → ScriptFault) (x : ScriptFault) (f : Field) → IsOfFirst P fault x → IsFirst P f → x ≡ fault f
 first_told P fault x f told first = told.1 ∙ ap fault (one_first P told.0 f told.2 first)
 
--- what is read of the field fails if the field is so
+-- reading the field fails if it has the property
 pub record Tells {A : Type 0} (P : Field → Type 0) (fault : Field → ScriptFault) (f : Field) (r : Result A ScriptFault) : Type 0 where
   pub so : (x : ScriptFault) → r ≡ Err x → (x ≡ fault f) × P f
   pub not_so : (a : A) → r ≡ Ok a → ¬ P f
 
--- where fields are read one after the other and none before this one is so, it is the first, or another behind it
+-- if fields are read one after the other and none before this one has the property, it is the first with it, or one after it is
 pub next_field : {A B : Type 0} (P : Field → Type 0) (fault : Field → ScriptFault) (f : Field) (r : Result A ScriptFault) (others : A → Result B ScriptFault) (x : ScriptFault)
     → Tells P fault f r → Before (λ g. ¬ P g) (field_place f) → result_and_then r others ≡ Err x
     → ((a : A) → Before (λ g. ¬ P g) (field_place f) × ¬ P f → others a ≡ Err x → IsOfFirst P fault x) → IsOfFirst P fault x
@@ -174,7 +174,7 @@ not_found : (f : Field) (o : Option Data) (x : ScriptFault) → found f o ≡ Er
 not_found f (Some w) x e = cc
 not_found f None x e = let same : MissingField f ≡ x = cc in (sym same, refl)
 
--- what the members have in place of the values
+-- the members have these values
 pub record HasValues (ms : Members) (vs : FieldValues) : Type 0 where
   pub capacity : held_as field.Capacity ms ≡ Some vs.capacity
   pub modulus : held_as field.Modulus ms ≡ Some vs.modulus

@@ -26,7 +26,7 @@ none_to : (t : ℕ → Bool) (i : ℕ) (xs : List ℕ) → NoneOf t xs → posit
 none_to t i [] s = refl
 none_to t i (x ∷ xs) s = rw s.0 (none_to t (i + 1) xs s.1)
 
--- with an element in front that may stand there, the first that strays is one further on
+-- with an element in front that may come there, the first stray one is one further on
 pub one_further : (Good Behind : List ℕ → Type 0) (x i j p : ℕ) (xs : List ℕ) → j ≡ suc i → ((ys : List ℕ) → Behind ys → Good (x ∷ ys)) → ((ys : List ℕ) → Good (x ∷ ys) → Behind ys)
     → (k : ℕ) × (p ≡ j + k) × IsFirstStray Behind xs k → (k : ℕ) × (p ≡ i + k) × IsFirstStray Good (x ∷ xs) k
 one_further Good Behind x i j p xs next to from found = (
@@ -35,7 +35,7 @@ one_further Good Behind x i j p xs next to from found = (
   record { within = omega (arith, found.2.within); before = to (take found.0 xs) found.2.before; no_more = λ s. found.2.no_more (from (take (suc found.0) xs) s) },
 )
 
--- and one that may not stand there is the first
+-- and one that may not come there is the first
 pub at_once : (Good : List ℕ → Type 0) (x i p : ℕ) (xs : List ℕ) → Some i ≡ Some p → Good [] → ¬ Good (x ∷ []) → (k : ℕ) × (p ≡ i + k) × IsFirstStray Good (x ∷ xs) k
 at_once Good x i p xs e none bad =
     let same : i ≡ p = cc in

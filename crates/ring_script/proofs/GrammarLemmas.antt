@@ -1,4 +1,4 @@
--- The reading of a schedule's text byte by byte meets its grammar.
+-- The reading of a schedule's text byte by byte agrees with its grammar.
 use Rattle.std.proofs.Common.{◌≡◌, ◌∙◌, ◌≤◌, ◌<◌, ◌+◌, ◌-◌, ◌*◌, ℕ, zero, suc, max, Bool, true, false, List, [], ◌∷◌, ◌++◌, length, replicate, take, Some, None, refl, sym, ap, ap₂, subst, arith, true≢false, ◌^◌, get_or}
 use Rattle.std.specs.Prelude.{if◌then◌else◌, decimal}
 use Rattle.std.proofs.lemmas.Fmt.{decimal_is_IsNumeral, first_decimal}
@@ -15,9 +15,9 @@ use Rattle.ring_script.specs.Faults.{IsFirstStray}
 use Rattle.ring_script.specs.Schedule.{IsLetterCount, IsSchedule, IsScheduleText, Part, letters_counted, letter_of, part_letters, part_text}
 use Rattle.ring_script.specs.ScheduleReading.{is_digit, is_letter, letters_after, letters_of, may_stand, letter_side, stray_from, stray_in, times}
 
--- ---- bytes that may stand
+-- ---- bytes that may come there
 
--- each byte may stand after the one before it
+-- each byte may come after the one before it
 abbrev pub Stands : ℕ → List ℕ → Type 0
 Stands before [] = Unit {0}
 Stands before (b ∷ rest) = (may_stand before b ≡ true) × Stands b rest
@@ -215,7 +215,7 @@ stands_schedule text s =
 
 -- ---- the grammar
 
--- a schedule has no stray byte, and spells the letters that are read
+-- a schedule has no stray byte, and represents the letters that are read
 pub schedule_clean : (text : List ℕ) (letters : List Side) → IsSchedule text letters → stray_in text ≡ None
 schedule_clean text letters s = stands_to 0 0 text (schedule_stands text letters s)
 
@@ -235,7 +235,7 @@ stray_found text place s =
     stop_to 0 0 place text (schedule_stands (take place text) s.before.0 s.before.1) (λ stands. s.no_more (letters_of (take (suc place) text), stands_schedule (take (suc place) text) stands))
     ∙ ap Some (omega arith)
 
--- what is written of a number from 1 is a count
+-- what is written for a number from 1 on is a count
 count_at : (ds : List ℕ) (n : ℕ) → 0 < length ds → AllDigits 10 ds → 48 < get_or ds 0 0 → digits_value 10 ds ≡ n → IsLetterCount ds × (letters_counted ds ≡ n)
 count_at [] n some all first e = absurd (omega (arith, some))
 count_at (b ∷ more) n some all first e = ((first, (digit_from_value b all.0).1, all.1), e)

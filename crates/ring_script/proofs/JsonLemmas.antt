@@ -1,4 +1,4 @@
--- The value that bytes are.
+-- The JSON value of bytes.
 use Rattle.std.proofs.Common.{◌≡◌, ◌∙◌, ℕ, Bool, true, false, List, Option, Some, None, Result, Ok, Err, refl, ap}
 use Rattle.std.specs.Prelude.{if◌then◌else◌, IsUtf8}
 use Rattle.std.specs.Str.{is_utf8}

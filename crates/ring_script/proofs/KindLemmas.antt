@@ -57,7 +57,7 @@ items_is : (v : Data) (ns : List ℕ) → option_and_then wholes_of (as_array v)
 items_is (array ds) n e = ap array (wholes_are ds n e)
 items_is _ n e = cc
 
--- a value is of the kind where something of the kind is read, and of another where nothing is
+-- a value is of the kind if something of the kind is read, and of another if nothing is
 some_not_none : {A : Type 0} (o : Option A) (a : A) → o ≡ Some a → o ≡ None → ⊥
 some_not_none o a s n = cc
 
@@ -97,7 +97,7 @@ batch_read f ms o n is (inr given) = ap (batch_in f) (sym is ∙ given)
 
 -- ---- the fields
 
--- what the members have is this
+-- the members have these values of the right kinds
 pub record HasKinds (ms : Members) (ts : HeldFields) : Type 0 where
   pub capacity : held_as field.Capacity ms ≡ Some (number (unsigned ts.capacity))
   pub modulus : held_as field.Modulus ms ≡ Some (number (unsigned ts.modulus))
@@ -160,7 +160,7 @@ right_batch : (ms : Members) (f : Field) (n : ℕ) → ((n : ℕ) → IsOfKind f
 right_batch ms f n kind (inl left) w = some_not_none _ w.0 w.1 left.0
 right_batch ms f n kind (inr given) w = right_kind ms f (number (unsigned n)) given (kind n) w
 
--- where something is read of each value of the field's kind alone, what is read tells whether the field is of the wrong kind
+-- if something is read only from values of the field's kind, the result says whether the field is of the wrong kind
 reads : {A : Type 0} (ms : Members) (f : Field) (v : Data) (o : Option A) → held_as f ms ≡ Some v → (o ≡ None → ¬ IsOfKind f v) → ((a : A) → o ≡ Some a → IsOfKind f v)
     → Tells (IsOfWrongKind ms) WrongKind f (of_kind f o)
 reads ms f v o held never kind = record {
@@ -168,7 +168,7 @@ reads ms f v o held never kind = record {
   not_so = λ a e. right_kind ms f v held (kind a (kind_is f o a e));
 }
 
--- and so it is of a batch, which may be left out
+-- and likewise for a batch, which may be left out
 reads_batch : (ms : Members) (f : Field) (o : Option Data) → held_as f ms ≡ o → ((v : Data) → whole_of v ≡ None → ¬ IsOfKind f v) → ((n : ℕ) → IsOfKind f (number (unsigned n)))
     → Tells (IsOfWrongKind ms) WrongKind f (batch_in f o)
 reads_batch ms f None held never kind = record { so = λ x e. absurd (ok_not_err _ x e); not_so = λ n e. right_batch ms f n kind (batch_at f ms None n held e) }

@@ -1,4 +1,4 @@
--- What is read of the parts of a script, its JSON value, names, items, schedule and oracle, is what they are, or their fault.
+-- What is read from the parts of a script, its JSON value, names, items, schedule and oracle, is their value or their fault.
 use Rattle.std.proofs.Common.{◌≡◌, ◌≢◌, ◌⊎◌, ◌∙◌, ◌≤◌, ◌<◌, ℕ, Bool, true, false, List, map, length, Option, Some, None, Result, Ok, Err, refl, sym, ap, subst, arith, true≢false, inl, inr}
 use Rattle.std.specs.Prelude.{position, nat_lt, if◌then◌else◌, ⊤}
 use Rattle.std.specs.Str.{is_utf8}
@@ -83,7 +83,7 @@ names_from (object ms) e = (ms, refl, known_from ms (names_test (has_known_names
 pub names_to : (ms : Members) → HasKnownNames ms → names_in (Some ms) ≡ Ok tt
 names_to ms h = rw (known_to ms h)
 
--- the two faults of a value that is no object of known names
+-- the two faults of a value that is not an object of known names
 abbrev pub NamesFault : Data → ScriptFault → Type 0
 NamesFault d x = ((x ≡ fault.NotObject) × ((ms : Members) → d ≢ object ms)) ⊎ ((ms : Members) × (x ≡ fault.UnknownField) × (d ≡ object ms) × ¬ HasKnownNames ms)
 

@@ -68,7 +68,7 @@ at_least : (digit : Bool) (s : Side) (n : ℕ) (a b : List Side) → (digit ≡ 
 at_least true s n a b h = h refl
 at_least false s n a b h = omega (arith, length-append (times n s) b, length-times n s)
 
--- a count has at least its letters
+-- a letter has at least as many copies as its count so far, and at least one
 pub least : (text : List ℕ) (s : Side) (n : ℕ) → max 1 n ≤ length (letters_after s n text)
 unfolding letters_after
 least [] s n = omega (arith, length-times n s)

@@ -1,4 +1,4 @@
--- What is read of bytes is the script that they are, or their fault.
+-- What is read from bytes is their script or their fault.
 use Rattle.std.proofs.Common.{◌≡◌, ◌⊎◌, ◌∙◌, ◌≤◌, ℕ, Bool, List, map, length, Result, Ok, Err, refl, sym, ap, subst, arith, inl, inr}
 use Rattle.std.specs.Prelude.{IfOk, IfErr, MatchResult}
 use Rattle.serde_json.specs.Data.{Data, unsigned, boolean, number, string, array, object, Members}
@@ -29,7 +29,7 @@ use Rattle.ring_script.specs.declared.schedules.TheConstants.{LETTER_LIMIT}
 
 -- ---- what the fields hold
 
--- what is read where nothing is wrong
+-- what is read if nothing is wrong
 record IsGiven (bytes : List ℕ) (ts : HeldFields) (g : Given) : Type 0 where
   pub letters : List Side
   pub oracle : List Bool
@@ -106,7 +106,7 @@ kinds_of bytes ts h = record { capacity = h.capacity; modulus = h.modulus; width
 holds_from : (bytes : List ℕ) (ms : Members) (ts : HeldFields) → IsObject bytes ms → HasKinds ms ts → HoldsFields bytes ts
 holds_from bytes ms ts o k = record { members = ms; is_object = o; capacity = k.capacity; modulus = k.modulus; width = k.width; items = k.items; takes = k.takes; close = k.close; schedule = k.schedule; oracle = k.oracle; batch = k.batch; take_batch = k.take_batch }
 
--- bytes that are an object of known names are read so far
+-- bytes that are an object of known names are read up to that point
 object_to : (bytes : List ℕ) (ms : Members) (r : Result Given ScriptFault) → IsObject bytes ms
     → result_and_then (field_values (object ms)) (λ values. result_and_then (typed_of values) given_of) ≡ r → script_of bytes ≡ r
 unfolding script_of given_in
@@ -114,7 +114,7 @@ object_to bytes ms r o e =
     and_then_at (json_of bytes) (object ms) _ r (json_to bytes (object ms) o.json)
     (and_then_at _ tt _ r (names_to ms o.known) e)
 
--- and where its fields hold this, what they hold decides
+-- and if its fields hold this, their values decide
 holds_to : (bytes : List ℕ) (ts : HeldFields) (r : Result Given ScriptFault) → HoldsFields bytes ts → given_of ts ≡ r → script_of bytes ≡ r
 holds_to bytes ts r h e =
     let k = kinds_of bytes ts h in
@@ -135,7 +135,7 @@ holds_to bytes ts r h e =
     (and_then_at (field_values (object h.members)) vs _ r (values_to h.members vs has)
     (and_then_at (typed_of vs) ts _ r (kinds_to h.members vs ts has k) e))
 
--- what bytes that are read so far hold
+-- what bytes that are read up to that point hold
 object_why : (bytes : List ℕ) (ms : Members) (x : ScriptFault) → IsObject bytes ms
     → result_and_then (field_values (object ms)) (λ values. result_and_then (typed_of values) given_of) ≡ Err x → IsScriptFault bytes x
 object_why bytes ms x o e =
@@ -214,7 +214,7 @@ script_at bytes ts c g = record {
 pub script_from : (bytes : List ℕ) (c : Content) → script_of bytes ≡ Ok (given_by c) → IsScript bytes c
 script_from bytes c e = let g = given_at bytes (given_by c) e in script_at bytes g.0 c g.1
 
--- values of fields that are read stand for a script, which is that of the bytes that hold them
+-- values of fields that are read represent a script, which is that of the bytes that hold them
 content_from : (ts : HeldFields) (c : Content) → given_of ts ≡ Ok (given_by c) → IsContentOf ts c
 unfolding given_of
 content_from ts c e =
@@ -262,7 +262,7 @@ script_to bytes c s =
         → a.closes ≡ b.closes → a.letters ≡ b.letters → a.oracle ≡ b.oracle → a ≡ b
     same_given a b c m w g h is ts cl ls os = λ i. record { capacity = c i; modulus = m i; width = w i; batch = g i; take_batch = h i; items = is i; takes = ts i; closes = cl i; letters = ls i; oracle = os i }
 
--- a fault is told
+-- a fault is reported
 pub fault_told : (bytes : List ℕ) (x : ScriptFault) → IsScriptFault bytes x → script_of bytes ≡ Err x
 unfolding script_of given_in given_of
 fault_told bytes fault.NotJson f = and_then_fails (json_of bytes) _ _ (json_told bytes f)
@@ -333,7 +333,7 @@ one_reading bytes a b s t = same_content a b (ok_is (given_by a) (given_by b) (s
 pub one_spelling : (text : List ℕ) (a b : List Side) → IsSchedule text a → IsSchedule text b → a ≡ b
 one_spelling text a b s t = schedule_spells text a s ∙ sym (schedule_spells text b t)
 
--- ---- a call that tells them
+-- ---- a call that reports them
 
 pub read_is_script : {A : Type 0} (bytes : List ℕ) (content : A → Content) (r : Result A ScriptFault)
     → IfOk r (λ s. script_of bytes ≡ Ok (given_by (content s))) → IfOk r (λ s. IsScript bytes (content s))

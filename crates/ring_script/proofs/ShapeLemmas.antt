@@ -1,4 +1,4 @@
--- Which five numbers are a shape, by tests.
+-- Which five numbers make a shape, by tests.
 use Rattle.std.proofs.Common.{◌≡◌, ◌∙◌, ◌≤◌, ◌<◌, ◌+◌, ℕ, Bool, true, false, Some, None, Ok, Err, refl, ap, sym, arith, inl, inr}
 use Rattle.std.specs.Prelude.{◌&&◌, not, nat_lt, if◌then◌else◌, Result, ⊤}
 use Rattle.ring_script.specs.declared.faults.ScriptFault.{ScriptFault}
@@ -18,7 +18,7 @@ inside least most n low high = grind arith
 outside : (least most n : ℕ) → ¬ ((least ≤ n) × (n ≤ most)) → is_within least most n ≡ false
 outside least most n h = grind arith
 
--- and the other way round
+-- and vice versa
 within_from : (least most n : ℕ) → is_within least most n ≡ true → (least ≤ n) × (n ≤ most)
 within_from least most n e = (grind arith, grind arith)
 
@@ -54,7 +54,7 @@ single_fault h single = rw single refl
 larger_fault : (h : ℕ) → 1 < h → nat_lt 1 h ≡ true
 larger_fault h over = grind arith
 
--- what is told is the first of these
+-- the first of these is reported
 abbrev told : (t1 t2 t3 t4 t5 over : Bool) → Result ⊤ ScriptFault
 told t1 t2 t3 t4 t5 over =
     if_shape (if not t1 then Some Capacity else if not t2 then Some Batch else if not t3 then Some TakeBatch
@@ -64,7 +64,7 @@ shape_is : (c m w g h : ℕ) → shape_in c m w g h ≡ told (is_within 1 64 c) 
 unfolding shape_in
 shape_is c m w g h = refl
 
--- where the sizes are those of batches, the rest is told
+-- if the sizes are those of batches, the rest decides
 sized : (c m w g h : ℕ) → AreBatchSizes c g h → shape_in c m w g h ≡ told true true true (is_modulus c g h m) (is_within 1 64 w) (nat_lt 1 h)
 sized c m w g h sizes =
     shape_is c m w g h ∙ rw (inside 1 64 c (omega (arith, sizes.0.0)) sizes.0.1, inside 1 c g (omega (arith, sizes.1.0)) sizes.1.1, inside 1 c h (omega (arith, sizes.2.0)) sizes.2.1) refl
@@ -90,7 +90,7 @@ shape_refused c m w g h Width r =
     ∙ ap (λ (t : Bool). told true true true t (is_within 1 64 w) (nat_lt 1 h)) (modulus_inside c g h m r.1.0.0 r.1.1.0 r.1.0.1)
     ∙ ap (λ (t : Bool). told true true true true t (nat_lt 1 h)) (outside 1 64 w (λ within. r.2 (omega (arith, within.0), within.1)))
 
--- the numbers are those of a shape or are refused, and are told so
+-- the numbers make a shape or are refused, and are reported as such
 pub shape_why : (c m w g h : ℕ) (x : ScriptFault) → shape_in c m w g h ≡ Err x → (r : ShapeFault) × (x ≡ fault.Shape r) × IsRefusedBatches c m w g h r
 shape_why c m w g h x e = elim (shape_told c m w g h) [
   | inl s ↦ absurd (ok_not_err tt x (sym (shape_accepted c m w g h s.0 s.1) ∙ e))

@@ -1,4 +1,4 @@
--- What a borrowed script is seen as.
+-- The model of a borrowed script.
 use Rattle.std.specs.Prelude.{Bool, List}
 use Rattle.bits_core.specs.declared.events.Side.{Side}
 use Rattle.bits_core.specs.declared.shapes.Shape.{Shape}
@@ -17,6 +17,6 @@ abbrev pub held_of : Fields → HeldFields
 held_of fields =
     held_fields fields.capacity fields.modulus fields.width fields.items.now fields.takes fields.close fields.schedule.now fields.oracle.now fields.batch fields.take_batch
 
--- the content where this shape, these letters and these answers were read of the values
+-- the content, if this shape, these letters and these answers were read from the values
 abbrev pub content_read : HeldFields → Shape → List Side → List Bool → Content
 content_read held shape letters oracle = content_with shape held.items held.takes held.close letters oracle

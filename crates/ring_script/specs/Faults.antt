@@ -1,4 +1,4 @@
--- Why bytes are no script: each fault by what it means of the bytes, in the order in which they are told.
+-- Why bytes are not a script: each fault by its meaning for the bytes, in the order in which they are reported.
 use Rattle.std.specs.Prelude.{◌≡◌, ◌≢◌, ◌≤◌, ◌<◌, ℕ, suc, Bool, true, false, List, ◌++◌, codes, decimal, length, take, Some, None}
 use Rattle.serde_json.specs.Data.{Data, Members, object}
 use Rattle.bits_core.specs.Shape.{IsRefusedBatches}
@@ -29,13 +29,13 @@ field_place Oracle = 7
 field_place Batch = 8
 field_place TakeBatch = 9
 
--- whether the field has to stand
+-- whether the field has to be there
 abbrev pub is_needed : Field → Bool
 is_needed Batch = false
 is_needed TakeBatch = false
 is_needed _ = true
 
--- the field has to stand, and the members lack it
+-- the field has to be there, and the members lack it
 abbrev pub IsMissing : Members → Field → Type 0
 IsMissing members field = (is_needed field ≡ true) × (held_as field members ≡ None)
 
@@ -43,12 +43,12 @@ IsMissing members field = (is_needed field ≡ true) × (held_as field members �
 abbrev pub IsOfWrongKind : Members → Field → Type 0
 IsOfWrongKind members field = (value : Data) × (held_as field members ≡ Some value) × ¬ IsOfKind field value
 
--- the first field that is so
+-- the first field with this property
 pub record IsFirst (IsSo : Field → Type 0) (field : Field) : Type 0 where
   pub so : IsSo field
   pub least : (other : Field) → field_place other < field_place field → ¬ IsSo other
 
--- the byte at the place is the first that cannot stand where it does: before it the text is of the form, and with it no longer
+-- the byte at the place is the first that cannot come where it is: before it the text is of the form, and with it no longer
 pub record IsFirstStray (IsOfForm : List ℕ → Type 0) (text : List ℕ) (place : ℕ) : Type 0 where
   pub within : place < length text
   pub before : IsOfForm (take place text)
@@ -56,7 +56,7 @@ pub record IsFirstStray (IsOfForm : List ℕ → Type 0) (text : List ℕ) (plac
 
 -- ---- faults
 
--- the first fault of the bytes; there is none for want of memory
+-- the first fault of the bytes; out of memory is none of these
 abbrev pub IsScriptFault : List ℕ → ScriptFault → Type 0
 IsScriptFault bytes fault.NotJson = (value : Data) → ¬ IsJson bytes value
 IsScriptFault bytes fault.NotObject = (value : Data) × IsJson bytes value × ((members : Members) → value ≢ object members)
@@ -76,7 +76,7 @@ IsScriptFault bytes (fault.BadOracle place) =
     (held : HeldFields) × (letters : List Side) × HoldsLetters bytes held letters × IsFirstStray IsOracleText held.oracle place
 IsScriptFault bytes fault.OutOfMemory = ⊥
 
--- the number of each fault, and its words
+-- number and text of each fault
 abbrev pub script_fault_told : ScriptFault → ℕ × List ℕ
 script_fault_told fault.NotJson = (1, codes "script is not JSON")
 script_fault_told fault.NotObject = (2, codes "script is not an object")
@@ -91,8 +91,10 @@ script_fault_told fault.ScheduleTooLong = (10, codes "schedule is too long")
 script_fault_told (fault.BadOracle place) = (11, codes "oracle is wrong at byte " ++ decimal place)
 script_fault_told fault.OutOfMemory = (12, codes "out of memory")
 
+-- the number of the fault
 abbrev pub script_fault_number : ScriptFault → ℕ
 script_fault_number fault = (script_fault_told fault).0
 
+-- its text
 abbrev pub script_fault_words : ScriptFault → List ℕ
 script_fault_words fault = (script_fault_told fault).1

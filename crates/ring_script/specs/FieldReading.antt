@@ -1,4 +1,4 @@
--- How the fields of an object are read, one after the other; cited by private functions alone.
+-- How the fields of an object are read, one after the other; cited by private functions only.
 use Rattle.std.specs.Prelude.{ℕ, ◌&&◌, ◌||◌, Bool, true, if◌then◌else◌, List, [], ◌∷◌, codes, Option, Some, None, option_map, option_and_then, Result, Ok, Err, ⊤}
 use Rattle.std.specs.Str.{bytes_eq}
 use Rattle.serde_json.specs.Data.{Data, Items as ItemData, no_items, item, Members, no_members, member}
@@ -45,7 +45,7 @@ pub record FieldValues : Type 0 where
   pub batch : Option Data
   pub take_batch : Option Data
 
--- the value that was found, or else the field is missing
+-- the value that was found, or the field is missing
 abbrev pub found : Field → Option Data → Result Data ScriptFault
 found field (Some value) = Ok value
 found field None = Err (MissingField field)
@@ -80,7 +80,7 @@ field_values value =
 
 -- ---- kinds
 
--- what the value is, or else it is of the wrong kind
+-- what the value is, or it is of the wrong kind
 abbrev pub of_kind : {A : Type 0} → Field → Option A → Result A ScriptFault
 of_kind field (Some value) = Ok value
 of_kind field None = Err (WrongKind field)
@@ -89,12 +89,12 @@ of_kind field None = Err (WrongKind field)
 abbrev pub whole_of : Data → Option ℕ
 whole_of value = option_and_then as_u64 (as_number value)
 
--- the batch that a field holds, 1 where there is none
+-- the batch that a field holds, 1 if there is none
 abbrev pub batch_in : Field → Option Data → Result ℕ ScriptFault
 batch_in field None = Ok 1
 batch_in field (Some value) = of_kind field (whole_of value)
 
--- the whole numbers that the items of an array are
+-- the items of an array as whole numbers
 unfoldable pub wholes_of : ItemData → Option (List ℕ)
 wholes_of no_items = Some []
 wholes_of (item value rest) = option_and_then (λ n. option_map (λ ns. n ∷ ns) (wholes_of rest)) (whole_of value)

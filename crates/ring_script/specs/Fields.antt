@@ -72,6 +72,6 @@ IsOfKind Oracle value = IsText value
 IsOfKind Batch value = IsWhole value
 IsOfKind TakeBatch value = IsWhole value
 
--- the batch that the members have under the field's name is this, which is 1 where they have none
+-- the batch that the members have under the field's name is this, which is 1 if they have none
 abbrev pub HasBatchField : Field → Members → ℕ → Type 0
 HasBatchField field members batch = ((held_as field members ≡ None) × (batch ≡ 1)) ⊎ (held_as field members ≡ Some (number (unsigned batch)))

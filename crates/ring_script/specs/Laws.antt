@@ -19,14 +19,14 @@ FaultyIsNoScript = (bytes : List ℕ) (fault : ScriptFault) (content : Content) 
 abbrev pub OneScriptFault : Type 0
 OneScriptFault = (bytes : List ℕ) (f g : ScriptFault) → IsScriptFault bytes f → IsScriptFault bytes g → f ≡ g
 
--- bytes hold one content
+-- bytes have at most one content
 abbrev pub OneScriptReading : Type 0
 OneScriptReading = (bytes : List ℕ) (a b : Content) → IsScript bytes a → IsScript bytes b → a ≡ b
 
--- a schedule's text stands for one list of letters
+-- a schedule's text represents one list of letters
 abbrev pub OneSpelling : Type 0
 OneSpelling = (text : List ℕ) (a b : List Side) → IsSchedule text a → IsSchedule text b → a ≡ b
 
--- what `{}` writes of a number from 1 is a count of so many letters
+-- what `{}` writes for a number from 1 on is a count of that many letters
 abbrev pub DecimalIsCount : Type 0
 DecimalIsCount = (n : ℕ) → 0 < n → n < 2 ^ 64 → IsLetterCount (decimal n) × (letters_counted (decimal n) ≡ n)

@@ -1,4 +1,4 @@
--- A script in the words of its format: the object, what its fields hold, and the limits.
+-- A script in terms of its format: the object, what its fields hold, and the limits.
 use Rattle.std.specs.Prelude.{◌≡◌, ◌≤◌, ◌<◌, ◌^◌, ℕ, Bool, true, false, List, All, length, map, Some}
 use Rattle.serde_json.specs.Data.{Members, number, unsigned, array, boolean, string}
 use Rattle.bits_core.specs.Shape.{HasBatches}
@@ -26,11 +26,12 @@ pub record HeldFields : Type 0 where
   pub batch : ℕ
   pub take_batch : ℕ
 
+-- what the fields hold, from its parts
 abbrev pub held_fields : (capacity modulus width : ℕ) (items : List ℕ) (takes : ℕ) (close : Bool) (schedule oracle : List ℕ) (batch take_batch : ℕ) → HeldFields
 held_fields capacity modulus width items takes close schedule oracle batch take_batch =
     record { capacity = capacity; modulus = modulus; width = width; items = items; takes = takes; close = close; schedule = schedule; oracle = oracle; batch = batch; take_batch = take_batch }
 
--- the bytes are an object whose fields all stand and hold this
+-- the bytes are an object whose fields are all there and hold this
 pub record HoldsFields (bytes : List ℕ) (held : HeldFields) : Type 0 where
   pub members : Members
   pub is_object : IsObject bytes members
@@ -64,7 +65,7 @@ IsOracle text answers = text ≡ map answer_byte answers
 abbrev pub IsOracleText : List ℕ → Type 0
 IsOracleText text = (answers : List Bool) × IsOracle text answers
 
--- the five numbers are a shape
+-- the five numbers make a shape
 pub record HoldsShape (bytes : List ℕ) (held : HeldFields) : Type 0 where
   pub fields : HoldsFields bytes held
   pub shape : Shape
@@ -76,13 +77,13 @@ pub record HoldsItems (bytes : List ℕ) (held : HeldFields) : Type 0 where
   pub few : length held.items ≤ ITEM_LIMIT
   pub fit : Fit held.width held.items
 
--- and the schedule stands for these letters, which are few
+-- and the schedule represents these letters, which are few
 pub record HoldsLetters (bytes : List ℕ) (held : HeldFields) (letters : List Side) : Type 0 where
   pub stored : HoldsItems bytes held
   pub schedule : IsSchedule held.schedule letters
   pub short : length letters ≤ LETTER_LIMIT
 
--- what the values of the fields stand for
+-- what the values of the fields represent
 pub record IsContentOf (held : HeldFields) (content : Content) : Type 0 where
   pub shape : HasBatches held.capacity held.modulus held.width held.batch held.take_batch content.shape
   pub items : content.items ≡ held.items

@@ -1,4 +1,4 @@
--- How a script is read, part by part, to what it holds or its first fault; cited by private functions alone.
+-- How a script is read, part by part, to what it holds or its first fault; cited by private functions only.
 use Rattle.std.specs.Prelude.{ℕ, ◌+◌, ◌^◌, ◌==◌, ◌&&◌, ◌||◌, Bool, not, nat_le, nat_lt, if◌then◌else◌, List, map, length, position, Option, Some, None, Result, Ok, Err, ⊤}
 use Rattle.std.specs.Str.{is_utf8}
 use Rattle.serde_json.specs.Data.{Data}
@@ -31,7 +31,7 @@ pub record Given : Type 0 where
   pub letters : List Side
   pub oracle : List Bool
 
--- what bytes hold that are a script of this content
+-- what bytes hold if they are a script of this content
 abbrev pub given_by : Content → Given
 given_by content = record {
   capacity = capacity_of content.shape;
@@ -48,12 +48,12 @@ given_by content = record {
 
 -- ---- the JSON value
 
--- the value that was read, or else it is no JSON
+-- the value that was read, or it is not JSON
 abbrev pub if_read : Option Data → Result Data ScriptFault
 if_read (Some value) = Ok value
 if_read None = Err fault.NotJson
 
--- the value that the bytes are; they are UTF-8
+-- the JSON value of the bytes, which are UTF-8
 unfoldable pub json_of : List ℕ → Result Data ScriptFault
 json_of bytes = if is_utf8 bytes then if_read (read bytes) else Err fault.NotJson
 
@@ -67,7 +67,7 @@ is_within least most n = nat_le least n && nat_le n most
 abbrev pub is_modulus : ℕ → ℕ → ℕ → ℕ → Bool
 is_modulus capacity batch take_batch modulus = is_within (capacity + batch + 1) 256 modulus && is_within (capacity + take_batch + 1) 256 modulus
 
--- the first of the five numbers that is out of its range
+-- the first of the five numbers that is out of range
 abbrev pub shape_fault : ℕ → ℕ → ℕ → ℕ → ℕ → Option ShapeFault
 shape_fault capacity modulus width batch take_batch =
     if not (is_within 1 64 capacity) then Some shape.Capacity
@@ -82,7 +82,7 @@ abbrev pub if_shape : Option ShapeFault → Result ⊤ ScriptFault
 if_shape (Some refusal) = Err (fault.Shape refusal)
 if_shape None = Ok tt
 
--- whether the five numbers are a shape
+-- whether the five numbers make a shape
 unfoldable pub shape_in : ℕ → ℕ → ℕ → ℕ → ℕ → Result ⊤ ScriptFault
 shape_in capacity modulus width batch take_batch = if_shape (shape_fault capacity modulus width batch take_batch)
 
@@ -105,7 +105,7 @@ items_within width items =
 
 -- ---- the schedule
 
--- the letters, where no byte is wrong and they are few enough
+-- the letters, if no byte is wrong and they are few enough
 abbrev pub if_stands : Option ℕ → List Side → Result (List Side) ScriptFault
 if_stands (Some place) letters = Err (fault.BadSchedule place)
 if_stands None letters = if nat_lt LETTER_LIMIT (length letters) then Err fault.ScheduleTooLong else Ok letters
@@ -120,7 +120,7 @@ schedule_of text = if_stands (stray_in text) (letters_of text)
 abbrev pub is_no_answer : ℕ → Bool
 is_no_answer b = not (b == 48 || b == 49)
 
--- the answers of the text, where no byte is wrong
+-- the answers of the text, if no byte is wrong
 abbrev pub if_answers : Option ℕ → List ℕ → Result (List Bool) ScriptFault
 if_answers (Some place) text = Err (fault.BadOracle place)
 if_answers None text = Ok (map (λ b. b == 49) text)

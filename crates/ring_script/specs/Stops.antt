@@ -1,4 +1,4 @@
--- What stands in the text that a field of a script holds.
+-- What is in the text of a script's field.
 use Rattle.std.specs.Prelude.{◌≡◌, ℕ, List, Option, Some, option_and_then, slice_get}
 use Rattle.serde_json.specs.Data.{Data, Members, object, string}
 use Rattle.serde_json.specs.Find.{as_str, get}

@@ -1,4 +1,4 @@
--- What the values of the code stand for.
+-- What the values of the code represent.
 use Rattle.std.specs.Prelude.{◌≡◌, ◌≤◌, ℕ, List, length, option_map}
 use Rattle.bits_core.specs.Shape.{width_of}
 use Rattle.bits_core.specs.declared.events.Side.{Side}

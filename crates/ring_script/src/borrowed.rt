@@ -13,7 +13,7 @@ use bits_core::Shape;
 
 /// The values of a script's fields.
 ///
-/// In use: the page, which makes a script of the values of its form.
+/// In use: the page, which makes a script from the values of its form.
 #[derive(Clone, Copy, Debug)]
 pub struct Fields<'a> {
     pub capacity: u64,
@@ -28,7 +28,7 @@ pub struct Fields<'a> {
     pub take_batch: u64,
 }
 
-/// A script, borrowed. To a contract its content is what the script is.
+/// A script, borrowed. To a contract it is its content.
 ///
 /// In use: the page, whose script is not kept in a `Script`.
 #[derive(Clone, Copy, Debug)]
@@ -46,17 +46,17 @@ pub struct ScriptRef<'a> {
 impl<'a> ScriptRef<'a> {
     ghost use Rattle.ring_script.specs.Borrowed.{content_of, held_of};
 
-    /// The script whose fields have these values: as [`Script::read_in`] reads it of bytes, or with the same fault. It
-    /// takes no memory: the runs of the schedule and the answers of the oracle lie in the slices. `OutOfMemory` tells
-    /// that a slice has too few slots.
+    /// The script whose fields have these values: as [`Script::read_in`] reads it from bytes, or with the same fault.
+    /// It takes no memory: the runs of the schedule and the answers of the oracle are stored in the slices.
+    /// `OutOfMemory` means that a slice has too few slots.
     pub fn of_fields(
         fields: &Fields<'a>,
         runs: &'a mut [LetterRun],
         answers: &'a mut [bool],
     ) -> Result<ScriptRef<'a>, ScriptFault>
-        // The script is what the values stand for.
+        // The script is the one that the values represent.
         ensures content { IfOk result (λ script. IsContentOf (held_of fields.now) (content_of script)) }
-        // It is that of any bytes whose fields hold these values.
+        // It is the script of any bytes whose fields hold these values.
         ensures read { IfOk result (λ script. (bytes : List ℕ) → HoldsFields bytes (held_of fields.now) →
             IsScript bytes (content_of script)) }
         // The fault is that of any such bytes, or a slice is too short for the runs of the schedule, or for the answers.
@@ -98,7 +98,7 @@ impl<'a> ScriptRef<'a> {
         self.closes
     }
 
-    /// How many letters the schedule stands for, at most `LETTER_LIMIT`. It may be 0.
+    /// How many letters the schedule represents, at most `LETTER_LIMIT`. It may be 0.
     pub fn len(&self) -> u64
         ensures value { result ≡ length (content_of self.now).letters }
         ensures short { result ≤ LETTER_LIMIT }

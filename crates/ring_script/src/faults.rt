@@ -1,4 +1,4 @@
-//! Why bytes are no script.
+//! Why bytes are not a script.
 ghost use Rattle.std.specs.Prelude.{◌≡◌, Some};
 ghost use Rattle.ring_script.specs.Fields.{name_of};
 ghost use Rattle.ring_script.specs.Faults.{script_fault_number};
@@ -25,18 +25,18 @@ pub enum Field {
     Takes,
     /// `close`: whether the producer closes after the last item, true or false.
     Close,
-    /// `schedule`: letters `P` and `C`, each with a count or without, a text.
+    /// `schedule`: letters `P` and `C`, each with or without a count, a text.
     Schedule,
     /// `oracle`: the answers of overlapped reads, a text of `0` and `1`.
     Oracle,
-    /// `batch`: how many items one count write of the producer may count, a whole number; it may be left out.
+    /// `batch`: how many items one count write of the producer may count at most, a whole number; it may be left out.
     Batch,
-    /// `take_batch`: how many items one count write of the consumer may count, a whole number; it may be left out.
+    /// `take_batch`: how many items one count write of the consumer may count at most, a whole number; it may be left out.
     TakeBatch,
 }
 
 impl Field {
-    /// The field's name in a script: the words of the variant in small letters, with `_` between them.
+    /// The field's name in a script: the words of the variant in lower case, with `_` between them.
     pub fn name(&self) -> &'static str
         ensures { result.now ≡ name_of self.now }
     {
@@ -63,32 +63,32 @@ impl fmt::Display for Field {
     }
 }
 
-/// Why bytes are no script.
+/// Why bytes are not a script.
 ///
-/// For example, it is printed with the byte that cannot stand in the schedule. In use: `uses::plays::takes_of`.
+/// For example, it is printed with the byte that cannot come there in the schedule. In use: `uses::plays::takes_of`.
 #[derive(Clone, Copy, PartialEq, Eq, Debug)]
 pub enum ScriptFault {
-    /// The bytes are not UTF-8, or not the text of one JSON value, or arrays and objects stand in one
-    /// another more than 127 deep.
+    /// The bytes are not UTF-8, or not the text of one JSON value, or arrays and objects are nested
+    /// more than 127 deep.
     NotJson,
-    /// The JSON value is no object.
+    /// The JSON value is not an object.
     NotObject,
-    /// The object has a name that is none of a script's fields.
+    /// The object has a name that is not a field of a script.
     UnknownField,
-    /// The object lacks this field; never told of `Batch` and `TakeBatch`.
+    /// The object lacks this field; never reported for `Batch` and `TakeBatch`.
     MissingField(Field),
     /// The value of this field is not of the field's kind. For `Items`, the value may also be an
-    /// array in which something is no whole number.
+    /// array in which something is not a whole number.
     WrongKind(Field),
-    /// Capacity, modulus, width and the two batches are no shape.
+    /// Capacity, modulus, width and the two batches make no shape.
     Shape(ShapeFault),
     /// There are more items than a script may have.
     TooManyItems,
     /// The item at this place, counted from 0, does not fit the width.
     ItemTooWide(u64),
-    /// The byte of the schedule at this place, counted from 0, cannot stand there.
+    /// The byte of the schedule at this place, counted from 0, cannot come there.
     BadSchedule(u64),
-    /// The schedule stands for more letters than a script may have.
+    /// The schedule represents more letters than a script may have.
     ScheduleTooLong,
     /// The byte of the oracle at this place, counted from 0, is neither `0` nor `1`.
     BadOracle(u64),

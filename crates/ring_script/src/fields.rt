@@ -1,4 +1,4 @@
-//! The fields of a script: their names, their values, and what kind each value is.
+//! The fields of a script: their names, their values, and the kind of each value.
 ghost use Rattle.std.specs.Prelude.{◌≡◌, ◌⊎◌, Ok, Err, Some, None, IfOk, IfErr, option_and_then, option_map, string_bytes};
 ghost use Rattle.std.specs.List.{list_all};
 ghost use Rattle.std.specs.Map.{keys_of};
@@ -69,14 +69,14 @@ fn are_keys_names(members: &Map<String, Value>) -> bool
     members.keys().all(|key| is_a_name(key.as_str()))
 }
 
-// The same, said of the members.
+// The same for the members.
 fn are_names(members: &Map<String, Value>) -> bool
     ensures { result ≡ has_known_names (members_view members.now.entries) }
 {
     are_keys_names(members)
 }
 
-/// Whether the value is an object whose names are all those of fields.
+/// Whether the value is an object all of whose names are those of fields.
 pub fn check_names(value: &Value) -> Result<(), ScriptFault>
     ensures { result ≡ names_in (as_object (view value.now)) }
 {
@@ -131,7 +131,7 @@ fn whole(value: &Value, field: Field) -> Result<u64, ScriptFault>
     }
 }
 
-// The batch that the field holds, 1 where it is left out.
+// The batch that the field holds, 1 if it is left out.
 fn batch(value: Option<&Value>, field: Field) -> Result<u64, ScriptFault>
     ensures { result ≡ batch_in field (option_map (λ v. view v.now) value.entry) }
 {
@@ -161,7 +161,7 @@ fn text<'v>(value: &'v Value, field: Field) -> Result<&'v str, ScriptFault>
     }
 }
 
-// The whole numbers that the values of an array are.
+// The values of an array as whole numbers.
 fn wholes<A: Allocator + Copy>(alloc: A, list: &[Value]) -> Result<Vec<u64, A>, ScriptFault>
     ensures read { IfOk result (λ v. wholes_of (items_view list.now) ≡ Some v.items) }
     ensures refused { IfErr result (λ e. (e ≡ ScriptFault.OutOfMemory)

@@ -1,4 +1,4 @@
-//! The text of a schedule: letters, each with a count or without.
+//! The text of a schedule: letters, each with or without a count.
 ghost use Rattle.std.specs.Prelude.{◌≡◌, ◌⊎◌, ◌<◌, ◌≤◌, ◌^◌, max, [], length, slice_get, IfOk, IfErr};
 ghost use Rattle.ring_script.specs.ScheduleReading.{is_letter, is_digit, may_stand, stray_in, letter_side, letters_of};
 ghost use Rattle.ring_script.specs.Schedule.{run_count, spelled};
@@ -7,7 +7,7 @@ use crate::faults::ScriptFault;
 use crate::stores::push;
 use bits_core::{Side, Store};
 
-/// The most letters that the schedule of a script may stand for.
+/// The most letters that the schedule of a script may represent.
 ///
 /// For example, `P1000000` is the longest schedule of one run, and `P1000000C` is refused.
 pub const LETTER_LIMIT: u64 = 1_000_000;
@@ -35,7 +35,7 @@ fn is_a_digit(b: u8) -> bool
     b'0' <= b && b <= b'9'
 }
 
-// Whether the byte may stand right after `before`, which is 0 at the beginning.
+// Whether the byte may come right after `before`, which is 0 at the start.
 fn can_stand(before: u8, b: u8) -> bool
     ensures { result ≡ may_stand before b }
 {
@@ -49,7 +49,7 @@ fn letter_side(b: u8) -> Side
     if b == b'P' { Side::P } else { Side::C }
 }
 
-/// The place of the first byte that cannot stand where it does.
+/// The position of the first byte that cannot come where it is.
 pub fn first_stray(text: &[u8]) -> Option<usize>
     ensures { result ≡ stray_in text.now }
 {
@@ -63,14 +63,14 @@ pub fn first_stray(text: &[u8]) -> Option<usize>
     None
 }
 
-// As many letters as a count says; without a count, one.
+// As many letters as the count says; one without a count.
 fn at_least_one(count: u64) -> u64
     ensures { result ≡ max 1 count }
 {
     if count == 0 { 1 } else { count }
 }
 
-/// The runs of the letters that a text with no stray byte stands for, in an empty store.
+/// The runs of the letters that a text with no stray byte represents, in an empty store.
 pub fn runs<S: Store<LetterRun>>(store: S, text: &[u8]) -> Result<S, ScriptFault>
     requires empty { S.items store ≡ [] }
     ensures spelled { IfOk result (λ runs. spelled (S.items runs) ≡ letters_of text.now) }
@@ -111,7 +111,7 @@ pub fn runs<S: Store<LetterRun>>(store: S, text: &[u8]) -> Result<S, ScriptFault
     Ok(runs)
 }
 
-/// How many letters runs stand for.
+/// How many letters runs represent.
 pub fn letter_count(runs: &[LetterRun]) -> u64
     requires { length (spelled runs.now) < 2 ^ 64 }
     ensures { result ≡ length (spelled runs.now) }
@@ -123,7 +123,7 @@ pub fn letter_count(runs: &[LetterRun]) -> u64
     count
 }
 
-/// The letter at a place, counted from 0, of those that runs stand for.
+/// The letter at a place, counted from 0, of those that runs represent.
 pub fn letter_at(runs: &[LetterRun], place: u64) -> Option<Side>
     ensures { result ≡ slice_get (spelled runs.now) place }
 {

@@ -22,7 +22,7 @@ use std::marker::Model;
 
 /// The most items that a script may have.
 ///
-/// For example, a script whose list has one item more is refused.
+/// For example, a script whose list has one more item is refused.
 pub const ITEM_LIMIT: usize = 1_000;
 
 /// An interleaving of the two sides of a ring, to be played.
@@ -93,7 +93,7 @@ impl<A: Allocator> Script<A> {
         self.closes
     }
 
-    /// How many letters the schedule stands for, at most `LETTER_LIMIT`. It may be 0.
+    /// How many letters the schedule represents, at most `LETTER_LIMIT`. It may be 0.
     pub fn len(&self) -> u64
         ensures value { result ≡ length self.now.letters }
         ensures short { result ≤ LETTER_LIMIT }
@@ -109,7 +109,7 @@ impl<A: Allocator> Script<A> {
         letter_at(&self.runs, place)
     }
 
-    /// The schedule as runs of one letter each, in order: the letters that [`letter`](Self::letter) gives one by one.
+    /// The schedule as runs of one letter each, in order: the letters that [`letter`](Self::letter) returns one by one.
     pub fn runs(&self) -> &[LetterRun]
         ensures { spelled result.now ≡ self.now.letters }
     {
@@ -123,29 +123,30 @@ impl<A: Allocator> Script<A> {
         &self.oracle
     }
 
-    /// Reads a script: one JSON object with the fields of `Field` and no other, in any order; `batch`
-    /// and `take_batch` may be left out, and are then 1. Where a name stands twice, the last value counts.
+    /// Reads a script: one JSON object with the fields of `Field` and no other, in any order; `batch` and
+    /// `take_batch` may be left out, and are then 1. If a name occurs twice, the last value counts.
     ///
     /// `capacity`, `modulus`, `width`, `takes`, `batch` and `take_batch` are whole numbers below 2 to the power
     /// of 64, and `items` is an array of such. `close` is true or false. `schedule` is a text of letters `P`
-    /// and `C`, each with a count or without; a count is a digit 1 to 9 and any further digits, and
-    /// a letter without a count stands for one. `oracle` is a text of `0` and `1`.
+    /// and `C`, each with or without a count; a count is a digit 1 to 9 and any further digits, and a letter
+    /// without a count represents one. `oracle` is a text of `0` and `1`.
     ///
-    /// The first fault is told in this order: the bytes are no JSON; they are no object; a field is
-    /// unknown; a field is missing, then of the wrong kind, each the first in the order of `Field`;
-    /// the five numbers are no shape; there are too many items; an item is too wide, the first; a
-    /// byte of the schedule is wrong, the first; the schedule is too long; a byte of the oracle is
-    /// wrong, the first. Want of memory is told where a growth was refused. What the script keeps is
-    /// from `alloc`; the JSON value, which is made of all the bytes and let go again, is from `json`.
+    /// The first fault is reported, in this order: the bytes are not JSON; they are not an object; a
+    /// field is unknown; a field is missing, then of the wrong kind, each the first in the order of
+    /// `Field`; the five numbers make no shape; there are too many items; an item is too wide, the
+    /// first; a byte of the schedule is wrong, the first; the schedule is too long; a byte of the
+    /// oracle is wrong, the first. Out of memory is reported if a growth was refused. What the script
+    /// keeps is from `alloc`; the JSON value, which is made from all the bytes and freed again, is
+    /// from `json`.
     pub fn read_in(alloc: A, json: Global, bytes: &[u8]) -> Result<Script<A>, ScriptFault>
     where
         A: Copy,
         // What is read is the script that the bytes are.
         ensures read { IfOk result (λ script. IsScript bytes.now script) }
-        // Each script is read, and as this content alone, unless memory ran out.
+        // Each script is read, and with this content only, unless memory ran out.
         ensures only { (content : Content) → IsScript bytes.now content
             → MatchResult result (λ script. script ≡ content) (λ e. e ≡ ScriptFault.OutOfMemory) }
-        // What is refused has the fault that is told, unless memory ran out.
+        // What is refused has the reported fault, unless memory ran out.
         ensures refused { IfErr result (λ e. (e ≡ ScriptFault.OutOfMemory) ⊎ IsScriptFault bytes.now e) }
     {
         read_bytes(alloc, json, bytes)
@@ -154,7 +155,7 @@ impl<A: Allocator> Script<A> {
 
 impl Script<Global> {
     /// Reads a script, with one allocator for all: [`read_in`](Script::read_in) says what a script is
-    /// and which fault is told.
+    /// and which fault is reported.
     pub fn read(alloc: Global, bytes: &[u8]) -> Result<Script<Global>, ScriptFault>
         ensures read { IfOk result (λ script. IsScript bytes.now script) }
         ensures only { (content : Content) → IsScript bytes.now content
@@ -209,7 +210,7 @@ fn read_value<A: Allocator + Copy>(alloc: A, value: &Value) -> Result<Script<A>,
     read_typed(alloc, typed)
 }
 
-// The script whose fields hold this.
+// The script whose fields have these values.
 fn read_typed<A: Allocator + Copy>(alloc: A, typed: Typed<'_, A>) -> Result<Script<A>, ScriptFault>
     ensures read { IfOk result (λ script. given_of (typed_view typed.entry) ≡ Ok (given_by script)) }
     ensures refused { IfErr result (λ e. (e ≡ ScriptFault.OutOfMemory) ⊎ (given_of (typed_view typed.entry) ≡ Err e)) }
@@ -227,7 +228,7 @@ fn read_typed<A: Allocator + Copy>(alloc: A, typed: Typed<'_, A>) -> Result<Scri
     })
 }
 
-// The shape, the runs of the schedule and the answers of the oracle, where the items fit too.
+// The shape, the runs of the schedule and the answers of the oracle, if the items fit too.
 #[tactic(auto, unfolding(crate::specs::ScriptReading::given_of))]
 fn read_texts<A: Allocator + Copy>(
     alloc: A,
@@ -347,7 +348,7 @@ fn read_schedule<S: Store<LetterRun>>(store: S, text: &[u8]) -> Result<S, Script
     }
 }
 
-// The place of the first byte that is no answer.
+// The place of the first byte that is not an answer.
 fn first_no_answer(text: &[u8]) -> Option<usize>
     ensures { result ≡ position is_no_answer text.now }
 {

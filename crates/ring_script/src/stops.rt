@@ -1,4 +1,4 @@
-//! What stands where the reading of a script stops, for somebody who is to mend it.
+//! What is at the position where the reading of a script stops, for somebody who has to repair it.
 ghost use Rattle.std.specs.Prelude.{◌≡◌, IfSome, OnSome, Some};
 ghost use Rattle.serde_json.specs.View.{view};
 ghost use Rattle.ring_script.specs.Faults.{IsScriptFault};
@@ -9,9 +9,9 @@ use serde_json::{Error, Value};
 use std::alloc::Global;
 use std::fmt;
 
-/// Why bytes are no JSON. It is printed as the JSON reader's words, with a line and a column.
+/// Why bytes are not JSON. It is printed as the JSON reader's text, with a line and a column.
 ///
-/// In use: `lamport_ring play`, which tells it beside the refusal.
+/// In use: `lamport_ring play`, which prints it next to the refusal.
 #[derive(Drop)]
 pub struct JsonFault {
     error: Error,
@@ -23,9 +23,9 @@ impl fmt::Display for JsonFault {
     }
 }
 
-/// Why bytes are no JSON. `None` where they are JSON, and where memory ran out.
+/// Why bytes are not JSON. `None` if they are JSON, or if memory ran out.
 ///
-/// In use: `lamport_ring play`, which tells it beside the refusal.
+/// In use: `lamport_ring play`, which prints it next to the refusal.
 pub fn json_fault(json: Global, bytes: &[u8]) -> Option<JsonFault>
     ensures { OnSome result (IsScriptFault bytes.now ScriptFault.NotJson) }
 {
@@ -41,10 +41,10 @@ pub fn json_fault(json: Global, bytes: &[u8]) -> Option<JsonFault>
     }
 }
 
-/// The byte at a place, counted from 0, of the text that a field holds. `None` where bytes are no JSON object, where
-/// it has no such field or no such place, or the field is no text, and where memory ran out.
+/// The byte at a place, counted from 0, of the text that a field holds. `None` if the bytes are not a JSON object,
+/// if it has no such field or no such place, if the field is not a text, or if memory ran out.
 ///
-/// In use: `lamport_ring play`, which tells the byte that cannot stand there.
+/// In use: `lamport_ring play`, which prints the byte that cannot come there.
 pub fn byte_of_text(json: Global, bytes: &[u8], field: Field, place: u64) -> Option<u8>
     ensures { IfSome result (HasByte bytes.now field place) }
 {
@@ -52,7 +52,7 @@ pub fn byte_of_text(json: Global, bytes: &[u8], field: Field, place: u64) -> Opt
     byte_in(&value, field, place)
 }
 
-// The same, of the JSON value that the bytes are.
+// The same, for the JSON value of the bytes.
 fn byte_in(value: &Value, field: Field, place: u64) -> Option<u8>
     ensures { IfSome result (λ byte. byte_in field place (view value.now) ≡ Some byte) }
 {

@@ -4,7 +4,7 @@ ghost use Rattle.std.specs.Prelude.{◌≡◌, ◌≤◌, ◌∷◌, ◌++◌, [
 use bits_core::Store;
 use std::alloc::AllocError;
 
-// Adds an item at the end, where room is made for it.
+// Appends an item, if room is made for it.
 pub(crate) fn push<T: Copy, S: Store<T>>(store: &mut S, item: T) -> Result<(), AllocError>
     ensures items { OnOk result (S.items store.new ≡ S.items store.old ++ item ∷ []) }
     ensures full { OnErr result (S.room store.old ≤ length (S.items store.old)) }

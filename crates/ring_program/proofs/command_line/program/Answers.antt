@@ -8,7 +8,7 @@ use Rattle.clap.specs.declared.builder.command.Command.{Command}
 use Rattle.ring_program.specs.CommandLine.{IsCommand, application}
 use Rattle.ring_program.proofs.command_line.program.Goals as goal
 
--- the program with a command that is added has it, where there is one
+-- the program with an added command has it, if there is one
 with_command : {E : Type 0} (r : Result Command E) (old sub : Command) (before app : App) → app_of old ≡ before → IsCommand sub app → IfOk r (AddsSubcommand old sub)
     → IfOk r (λ new. app_of new ≡ with_subcommand before app.top)
 with_command (Ok new) old sub before app was is added = added.shape is.1 ∙ ap₂ with_subcommand was (ap (λ (a : App). a.top) is.0)

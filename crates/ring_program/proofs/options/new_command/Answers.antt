@@ -7,7 +7,7 @@ use Rattle.ring_program.proofs.options.new_command.Goals as goal
 abbrev has_globals : Command-F Command → Bool
 has_globals fields = fields.has_globals
 
--- the texts are no part of what a command reads
+-- the texts do not affect what a command reads
 pub returns : goal.returns
 returns c = (
   ap app_of_fields c.after_help.ensures ∙ ap app_of_fields c.override_usage.ensures ∙ ap app_of_fields c.about-command.ensures ∙ c.new.ensures.app,

@@ -17,13 +17,13 @@ no_help : (k : ErrorKind) → k ≡ kind.OutOfMemory → ¬ IsHelp k
 no_help k is (inl help) = let clash : kind.DisplayHelp ≡ kind.OutOfMemory = sym help ∙ is in cc
 no_help k is (inr version) = let clash : kind.DisplayVersion ≡ kind.OutOfMemory = sym version ∙ is in cc
 
--- an error of memory alone, and what was written then
+-- only an error of memory, and what was written then
 only_memory : (k : ErrorKind) (before after : Option (List ℕ)) (Tells : List ℕ → Type 0) (status : ℕ) → Explains k before after Tells status → k ≡ kind.OutOfMemory → NoMemory before after Tells status
 only_memory k before after Tells status (inl short) is = short.1
 only_memory k before after Tells status (inr (inl help)) is = absurd (no_help k is help.0)
 only_memory k before after Tells status (inr (inr mistake)) is = absurd (mistake.1 is)
 
--- want of memory is a true cause, of each request
+-- out of memory is a true cause for each request
 memory_cause : (r : Request) (input : List ℕ) → IsTrueCause r input (refusal.App app.OutOfMemory)
 unfolding IsCallsCause IsLongBitsCause IsOutOfMemory IsRegisterCause IsShortage
 memory_cause (OnInput (Audit what why)) input = inl (inl (inl refl))
@@ -33,7 +33,7 @@ memory_cause (Register question) input = inl refl
 memory_cause LongBits input = inl refl
 memory_cause (Run run) input = inl (inl refl)
 
--- a request is refused for want of memory
+-- a request is refused because memory ran out
 short_on : (r : Request) (input : List ℕ) (before after : Option (List ℕ)) (Tells : List ℕ → Type 0) (status : ℕ) → NoMemory before after Tells status → EndsOn r input before after Tells status
 short_on r input before after Tells status short = inr (refusal.App app.OutOfMemory, memory_cause r input, (short.0, short.1, ([], inl refl, short.2)))
 
@@ -44,7 +44,7 @@ short_of (Calls stop) input before after Tells status short = if_some input _ (�
 short_of (Register question) input before after Tells status short = if_some input _ (λ bytes. short_on (Register question) bytes before after Tells status short)
 short_of LongBits input before after Tells status short = if_some input _ (λ bytes. short_on LongBits bytes before after Tells status short)
 
--- words that ask for something are refused for want of memory alone
+-- words that ask for something are refused only if memory ran out
 asked_by : (request : Option Request) (input : Option (List ℕ)) (k : ErrorKind) (before after : Option (List ℕ)) (Tells : List ℕ → Type 0) (status : ℕ) → Explains k before after Tells status → (k ≡ kind.OutOfMemory) ⊎ (request ≡ None)
     → IfSome request (λ r. Ends r input before after Tells status)
 asked_by None input k before after Tells status explains why = tt

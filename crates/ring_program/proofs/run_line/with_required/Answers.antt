@@ -7,7 +7,7 @@ use Rattle.ring_program.proofs.run_line.with_required.Goals as goal
 abbrev requires : Rule → Rule
 requires rule = record rule { required = true }
 
--- an option that has to be given has its rule, and is local as it was
+-- a required option has its rule, and is local as it was
 pub returns : goal.returns
 returns c =
     if_ok _
