@@ -1,4 +1,4 @@
--- Where line feeds stand: in no number and no plain text, and the first one in one place.
+-- Where line feeds are: in no number and no plain text, and the first one in one place.
 use Rattle.std.proofs.Common.{◌≡◌, ◌≢◌, ℕ, ◌+◌, ◌%◌, ◌<◌, ◌^◌, true, List, [], ◌∷◌, ◌++◌, length, get_or, drop, refl, ap, ap₂, sym, ◌∙◌, arith}
 use Rattle.std.specs.Prelude.{decimal, nat_lt}
 use Rattle.std.specs.List.{list_all}
@@ -26,7 +26,7 @@ no_feed_text (b ∷ text) e =
     let more : 10 < b = ltb-true 10 b both.0 in
     All-cons IsOther b text (λ same. absurd (omega (arith, more, same))) (no_feed_text text both.1)
 
--- the first line feed stands in one place
+-- the first line feed is in one place
 pub feed_once : (xs ys a b : List ℕ) → HasNoFeed xs → HasNoFeed ys → xs ++ 10 ∷ a ≡ ys ++ 10 ∷ b → (xs ≡ ys) × (a ≡ b)
 feed_once [] [] a b none free e = (refl, ap (λ (t : List ℕ). drop 1 t) e)
 feed_once [] (y ∷ ys) a b none free e = absurd (All-head IsOther y ys free (sym (ap (λ (t : List ℕ). get_or t 0 0) e)))

@@ -1,4 +1,4 @@
--- A number read digit by digit: what is read stands at the front in its one form, and what stands there so is read again.
+-- A number read digit by digit: what is read is at the front in its one form, and what is there in that form is read again.
 use Rattle.std.proofs.Common.{◌≡◌, ◌≢◌, ℕ, zero, suc, ◌+◌, ◌-◌, ◌*◌, ◌/◌, ◌%◌, ◌^◌, ◌<◌, ◌≤◌, true, false, cond, Some, None, List, [], ◌∷◌, ◌++◌, length, get_or, take, drop, refl, ap, ap₂, sym, subst, ◌∙◌, append_assoc, arith}
 use Rattle.std.specs.Prelude.{◌==◌, decimal, nat_lt}
 use Rattle.std.specs.Char.{is_ascii_digit}
@@ -10,7 +10,7 @@ use Rattle.std.proofs.lemmas.Fmt.{decimal_by_steps, decimal_digit, decimal_step}
 use Rattle.std.proofs.lemmas.Option.{none-some, same_Some}
 use Rattle.line_parts.specs.Parts.{digits_after, number_at}
 
--- a digit more, if the number fits; if it does not, if a byte is no digit, and at the end
+-- one more digit, if the number fits; if it does not, if a byte is no digit, and at the end
 digit_more : (n b : ℕ) (rest : List ℕ) → is_ascii_digit b ≡ true → 10 * n + (b - 48) < 2 ^ 64 → digits_after n (b ∷ rest) ≡ digits_after (10 * n + (b - 48)) rest
 unfolding digits_after
 digit_more n b rest digit small =
@@ -46,7 +46,7 @@ number_end text k n end = at_drop_all (digits_after n) text k end
 pub digit_range : (b : ℕ) → is_ascii_digit b ≡ true → (48 ≤ b) × (b ≤ 57)
 digit_range b e = (grind (arith, nat_tests), grind (arith, nat_tests))
 
--- a digit more at the end of a number
+-- one more digit at the end of a number
 decimal-digit : (n d : ℕ) → 0 < n → d ≤ 9 → 10 * n + d < 2 ^ 64 → decimal (10 * n + d) ≡ decimal n ++ (48 + d) ∷ []
 decimal-digit n d some digit small =
     let whole : (10 * n + d) / 10 ≡ n = omega arith in
@@ -100,7 +100,7 @@ number_at-text (b ∷ rest) x e =
           ] refl k
     ] refl e
 
--- no digit stands at the front
+-- no digit is at the front
 abbrev pub EndsDigits : List ℕ → Type 0
 EndsDigits [] = Unit {0}
 EndsDigits (b ∷ rest) = is_ascii_digit b ≡ false

@@ -1,4 +1,4 @@
--- A text at the front: what is read stands there, and what stands there is read.
+-- A text at the front: what is read is there, and what is there is read.
 use Rattle.std.proofs.Common.{◌≡◌, ◌⊎◌, ℕ, Option, Some, None, List, ◌++◌, length, take, drop, refl, ap, ap₂, sym, ◌∙◌, inl, inr}
 use Rattle.std.specs.Str.{bytes_eq}
 use Rattle.std.proofs.lemmas.List.{take-append-drop, take_at, drop_at}

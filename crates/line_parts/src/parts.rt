@@ -5,9 +5,9 @@ ghost use Rattle.line_parts.specs.Parts.{after, digits_after, number_at};
 
 use memchr::memchr;
 
-/// The bytes after a text, if the text stands at the front.
+/// The bytes after a text, if the text is at the front.
 ///
-/// For example, after `shape ` in `shape 1 3 1` stands `1 3 1`.
+/// For example, after `shape ` in `shape 1 3 1` comes `1 3 1`.
 #[inline(always)]
 pub fn after<'a>(bytes: &'a [u8], text: &str) -> Option<&'a [u8]>
     ensures { option_map (λ rest. rest.now) result ≡ after text.now bytes.now }
@@ -27,10 +27,10 @@ pub fn split_line(bytes: &[u8]) -> Option<(&[u8], &[u8])>
     Some((&bytes[..end], &bytes[end + 1..]))
 }
 
-/// The number in decimal at the front, and the bytes after its digits. `None` if no digit stands at the front, or if the number
+/// The number in decimal at the front, and the bytes after its digits. `None` if no digit is at the front, or if the number
 /// needs more than 64 bits. After a 0 no further digit is read, so each number has one form.
 ///
-/// For example, at the front of `12.0` stands 12, and at the front of `012` stands 0.
+/// For example, at the front of `12.0` is 12, and at the front of `012` is 0.
 #[tactic(auto, unfolding(crate::specs::Parts::number_at))]
 pub fn number_at(bytes: &[u8]) -> Option<(u64, &[u8])>
     ensures { option_map (λ x. (x.0, x.1.now)) result ≡ number_at bytes.now }
@@ -45,7 +45,7 @@ pub fn number_at(bytes: &[u8]) -> Option<(u64, &[u8])>
     digits_after(u64::from(*first - b'0'), rest)
 }
 
-// The number that goes on with the digits at the front, if it fits 64 bits, and the bytes after them.
+// The number that continues with the digits at the front, if it fits 64 bits, and the bytes after them.
 fn digits_after(begun: u64, bytes: &[u8]) -> Option<(u64, &[u8])>
     ensures { option_map (λ x. (x.0, x.1.now)) result ≡ digits_after begun bytes.now }
 {

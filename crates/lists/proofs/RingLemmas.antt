@@ -1,4 +1,4 @@
--- A list in slots that it goes round: an item put in place of another, one behind the last, and the first one taken away.
+-- A list in a circular buffer: an item replaced, one added after the last, and the first one removed.
 use Rattle.std.proofs.Common.{◌≡◌, ℕ, suc, ◌+◌, ◌-◌, ◌<◌, ◌≤◌, true, false, List, [], ◌∷◌, ◌++◌, length, take, drop, slice_set, if◌then◌else◌, refl, ap, ap₂, sym, ◌∙◌, append_assoc, length-append, arith}
 use Rattle.std.specs.Prelude.{nat_lt, slice_index_or}
 use Rattle.std.proofs.Math.Seq.{take-set-lt, take-suc-set}
@@ -32,7 +32,7 @@ round_set slots first index x within few =
           ∙ sym (set-append_right (drop first slots) (take first slots) (length slots - first) index x many behind)
     ] refl
 
--- an item is put in place of another
+-- an item replaces another
 pub ring_set : {T : Type 0} (slots : List T) (first used index : ℕ) (x : T) → first ≤ length slots → used ≤ length slots → index < length (take used (round_from first slots))
     → take used (round_from first (slice_set slots (from_place (length slots) first index) x)) ≡ slice_set (take used (round_from first slots)) index x
 ring_set slots first used index x within room few =
@@ -41,7 +41,7 @@ ring_set slots first used index x within room few =
     let less : index < used = omega (arith, few, kept) in
     ap (λ r. take used r) (round_set slots first index x within (omega (arith, less, room))) ∙ take-set-lt used (round_from first slots) index x less
 
--- an item is put behind the last
+-- an item is added after the last
 pub ring_push : {T : Type 0} (slots : List T) (first used : ℕ) (x : T) → first ≤ length slots → used < length slots
     → take (used + 1) (round_from first (slice_set slots (from_place (length slots) first used) x)) ≡ take used (round_from first slots) ++ x ∷ []
 ring_push slots first used x within room =
@@ -49,14 +49,14 @@ ring_push slots first used x within room =
     let next : used + 1 ≡ suc used = omega arith in
     ap₂ (λ n r. take n r) next (round_set slots first used x within room) ∙ take-suc-set (round_from first slots) used x (omega (arith, all, room))
 
--- what stands behind a place is what stands from it on, without the first, which comes last
+-- what comes after a place is what comes from it on, without the first item, which comes last
 round_next : {T : Type 0} (slots : List T) (first : ℕ) (d : T) → first < length slots → round_from (first + 1) slots ≡ drop 1 (round_from first slots) ++ slice_index_or slots first d ∷ []
 round_next slots first d few =
     let head : round_from first slots ≡ (slice_index_or slots first d ∷ drop (first + 1) slots) ++ take first slots = ap (λ l. l ++ take first slots) (drop_more slots first d few) in
     ap (λ l. drop (first + 1) slots ++ l) (take_more slots first d few) ∙ sym (append_assoc (drop (first + 1) slots) (take first slots) (slice_index_or slots first d ∷ []))
     ∙ ap (λ l. drop 1 l ++ slice_index_or slots first d ∷ []) (sym head)
 
--- the first one of so many is taken away, and all stand in the slots
+-- the first one is removed, and all are in the slots
 ring_next : {T : Type 0} (slots : List T) (first used : ℕ) (d : T) → first < length slots → 0 < used → used ≤ length slots
     → take (used - 1) (round_from (first + 1) slots) ≡ drop 1 (take used (round_from first slots))
 ring_next slots first used d few some room =
@@ -67,12 +67,12 @@ ring_next slots first used d few some room =
     ∙ take-append-le (used - 1) (drop 1 (round_from first slots)) (slice_index_or slots first d ∷ []) (omega (arith, all, rest, some, room))
     ∙ sym (drop-take 1 (used - 1) (round_from first slots)) ∙ ap (λ n. drop 1 (take n (round_from first slots))) one
 
--- round from the end is round from the begin
+-- round from the end is round from the start
 round_end : {T : Type 0} (slots : List T) → round_from (length slots) slots ≡ round_from 0 slots
 round_end slots =
     ap₂ (λ a b. a ++ b) (drop_all (length slots) slots (omega arith)) (take_all (length slots) slots (omega arith)) ∙ sym (append-nil slots)
 
--- the first one is taken away
+-- the first one is removed
 pub ring_pop : {T : Type 0} (slots : List T) (first used : ℕ) (d : T) → first ≤ length slots → 0 < used → used ≤ length slots
     → take (used - 1) (round_from (from_place (length slots) first 0 + 1) slots) ≡ drop 1 (take used (round_from first slots))
 ring_pop slots first used d within some room =

@@ -1,8 +1,8 @@
-//! First-in first-out lists, of an allocator or in slots of the caller's.
+//! First-in first-out lists, of an allocator or in caller-supplied slots.
 use std::alloc::{AllocError, Allocator};
 use std::collections::VecDeque;
 
-/// A first-in first-out list: a `VecDeque`, or [`Slots`](crate::Slots) of the caller's.
+/// A first-in first-out list: a `VecDeque`, or [`Slots`](crate::Slots) supplied by the caller.
 ///
 /// In use: `uses::calls::first_at_fault_in_slots`.
 pub trait Fifo<T: Copy>: Drop {
@@ -12,7 +12,7 @@ pub trait Fifo<T: Copy>: Drop {
     // The list, its front first.
     ghost items: { Self → List T };
 
-    // It has room for so many items in all, or for more. Of memory of an allocator nothing is known: 0.
+    // For how many items in all it surely has room. Nothing is known about an allocator: 0.
     ghost room: { Self → ℕ };
 
     /// How many items it holds.
@@ -26,29 +26,29 @@ pub trait Fifo<T: Copy>: Drop {
         self.len() == 0
     }
 
-    /// The item of this place, counted from the front; none past the end.
+    /// The item at this index, counted from the front; `None` past the end.
     fn get(&self, index: usize) -> Option<&T>
         ensures { IsItemAt (items self.now) index result };
 
-    /// Puts an item in place of that of this place.
+    /// Replaces the item at this index.
     fn set(&mut self, index: usize, item: T)
         requires { index < length (items self.old) }
         ensures items { items self.new ≡ slice_set (items self.old) index item }
         ensures kept { room self.new ≡ room self.old };
 
-    /// Adds an item at the back. Where room for it is refused the list stays as it was.
+    /// Adds an item at the back. If room for it is refused the list is unchanged.
     fn push_back(&mut self, item: T) -> Result<(), AllocError>
         ensures items { items self.new ≡ (if is_ok result then items self.old ++ item ∷ [] else items self.old) }
         ensures full { OnErr result (room self.old ≤ length (items self.old)) }
         ensures kept { room self.new ≡ room self.old };
 
-    /// Takes the item at the front away; none where the list is empty.
+    /// Removes the item at the front and returns it; `None` if the list is empty.
     fn pop_front(&mut self) -> Option<T>
         ensures value { result ≡ slice_get (items self.old) 0 }
         ensures rest { items self.new ≡ drop 1 (items self.old) }
         ensures kept { room self.new ≡ room self.old };
 
-    /// Keeps so many items from the front, or all where there are no more.
+    /// Keeps this many items from the front, or all if there are no more.
     fn truncate(&mut self, count: usize)
         ensures items { items self.new ≡ take count (items self.old) }
         ensures kept { room self.new ≡ room self.old };

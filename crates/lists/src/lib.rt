@@ -1,4 +1,4 @@
-//! Lists that grow, in memory of an allocator or in slots of the caller's: by one code and one proof.
+//! Lists that grow, in memory of an allocator or in caller-supplied slots, with one implementation and one proof.
 #![tactic(auto)]
 
 mod fifos;

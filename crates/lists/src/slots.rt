@@ -1,10 +1,10 @@
-//! First-in first-out lists in slots of the caller's. They take no memory.
+//! First-in first-out lists in caller-supplied slots. They take no memory.
 ghost use Rattle.std.specs.Prelude.{◌≡◌, ◌≤◌, ◌<◌, ◌⊎◌, [], IfSome, IsNone, length};
 
 use crate::fifos::Fifo;
 use std::alloc::AllocError;
 
-/// A first-in first-out list in a slice of the caller's, which it goes round.
+/// A first-in first-out list in a caller-supplied slice, used as a circular buffer.
 ///
 /// It holds as many items as the slice has slots. One more is refused, as `AllocError`, and changes nothing.
 ///
@@ -34,7 +34,7 @@ impl<'a, T: Copy> Slots<'a, T> {
         }
     }
 
-    /// The list that lay in these slots before: so many items, from this slot on. None where that is more than the slots.
+    /// The list that these slots held before: `used` items, from slot `first` on. `None` if that is more than the slots.
     pub fn resume(slots: &'a mut [T], first: usize, used: usize) -> Option<Self>
         ensures some { IfSome result (λ list. (list.slots.now ≡ slots.old) × (list.first ≡ first) ×
             (list.used ≡ used)) }
@@ -47,7 +47,7 @@ impl<'a, T: Copy> Slots<'a, T> {
         }
     }
 
-    /// The slots with what lies there, the slot of the front, and how many are used.
+    /// The slots with their contents, the slot of the front, and how many are used.
     pub fn keep(self) -> (&'a mut [T], usize, usize)
         ensures kept { (result.0.now ≡ self.entry.slots.now) × (result.1 ≡ self.entry.first) ×
             (result.2 ≡ self.entry.used) }
@@ -56,7 +56,7 @@ impl<'a, T: Copy> Slots<'a, T> {
         (self.slots, self.first, self.used)
     }
 
-    // The slot of the item of this place.
+    // The slot of the item at this index.
     fn slot_of(&self, index: usize) -> usize
         requires { index < length self.now.slots.now }
         ensures place { result ≡ from_place (length self.now.slots.now) self.now.first index }

@@ -4,7 +4,7 @@ ghost use Rattle.std.specs.Prelude.{◌≡◌, ◌≤◌, length, take};
 use std::alloc::{AllocError, Allocator};
 use std::fmt;
 
-/// A list that grows at its end: a `Vec`, or the front of a slice of the caller's, [`Filled`].
+/// A list that grows at its end: a `Vec`, or the front of a caller-supplied slice, [`Filled`].
 ///
 /// In use: `uses::by_hand::put_by_hand`, `uses::findings::found_in_slots`.
 pub trait Store<T: Copy>: Drop {
@@ -13,19 +13,19 @@ pub trait Store<T: Copy>: Drop {
     // The list.
     ghost items: { Self → List T };
 
-    // There is room for so many items more.
+    // For how many more items there is room.
     ghost spare: { Self → ℕ };
 
-    // It has room for so many items in all, or for more. Of memory of an allocator nothing is known: 0.
+    // For how many items in all it surely has room. Nothing is known about an allocator: 0.
     ghost room: { Self → ℕ };
 
-    // What is known where room was refused.
+    // What is known if room was refused.
     ghost refuses: { Self → Type 0 };
 
-    // The second lies where the first did.
+    // The second is stored where the first was.
     ghost same_slots: { Self → Self → Type 0 };
 
-    /// Makes room for one item more. The list stays as it was, also where room is refused.
+    /// Makes room for one more item. The list is unchanged, even if room is refused.
     fn reserve(&mut self) -> Result<(), AllocError>
         ensures items { items self.new ≡ items self.old }
         ensures room { OnOk result (0 < spare self.new) }
@@ -34,7 +34,7 @@ pub trait Store<T: Copy>: Drop {
         ensures kept { room self.new ≡ room self.old }
         ensures slots { (first : Self) → same_slots first self.old → same_slots first self.new };
 
-    /// Makes room for so many items more. The list stays as it was, also where room is refused.
+    /// Makes room for `count` more items. The list is unchanged, even if room is refused.
     fn reserve_many(&mut self, count: usize) -> Result<(), AllocError>
         ensures items { items self.new ≡ items self.old }
         ensures room { OnOk result (count ≤ spare self.new) }
@@ -42,7 +42,7 @@ pub trait Store<T: Copy>: Drop {
         ensures kept { room self.new ≡ room self.old }
         ensures slots { (first : Self) → same_slots first self.old → same_slots first self.new };
 
-    /// Adds an item at the end, where there is room for it.
+    /// Adds an item at the end, for which there is room.
     fn add(&mut self, item: T)
         requires { 0 < spare self.old }
         ensures items { items self.new ≡ items self.old ++ item ∷ [] }
@@ -50,21 +50,21 @@ pub trait Store<T: Copy>: Drop {
         ensures kept { room self.new ≡ room self.old }
         ensures slots { (first : Self) → same_slots first self.old → same_slots first self.new };
 
-    /// Adds an item at the end. Where room for it is refused the list stays as it was.
+    /// Adds an item at the end. If room for it is refused the list is unchanged.
     fn push(&mut self, item: T) -> Result<(), AllocError>
         ensures items { items self.new ≡ (if is_ok result then items self.old ++ item ∷ [] else items self.old) }
         ensures full { OnErr result (room self.old ≤ length (items self.old)) }
         ensures kept { room self.new ≡ room self.old }
         ensures slots { (first : Self) → same_slots first self.old → same_slots first self.new };
 
-    /// Adds items at the end. Where room for them is refused the list stays as it was.
+    /// Adds items at the end. If room for them is refused the list is unchanged.
     fn extend_from_slice(&mut self, more: &[T]) -> Result<(), AllocError>
         ensures items { items self.new ≡ (if is_ok result then items self.old ++ more.now else items self.old) }
         ensures full { OnErr result (room self.old < length (items self.old) + length more.now) }
         ensures kept { room self.new ≡ room self.old }
         ensures slots { (first : Self) → same_slots first self.old → same_slots first self.new };
 
-    /// Takes all items away.
+    /// Removes all items.
     fn clear(&mut self)
         ensures items { items self.new ≡ [] }
         ensures kept { room self.new ≡ room self.old }
@@ -131,11 +131,11 @@ impl<T: Copy, A: Allocator> Store<T> for Vec<T, A> {
     }
 }
 
-/// A list in a slice of the caller's: its first slots hold the items, and it is counted how many.
+/// A list in a caller-supplied slice: its first slots hold the items, and their number is kept.
 ///
 /// It takes no memory. There is room as long as a slot is left; more items than slots are refused, as `AllocError`, and change nothing.
 ///
-/// In use: the page, whose events lie in its own memory; `uses::findings::found_in_slots`.
+/// In use: the page, whose events are in its own memory; `uses::findings::found_in_slots`.
 #[derive(Drop)]
 pub struct Filled<'a, T: Copy> {
     slots: &'a mut [T],

@@ -1,4 +1,4 @@
--- A whole access of an end: two steps of its seat.
+-- A complete access of an end: two steps of its seat.
 use Rattle.std.proofs.Common.{◌≡◌, ℕ, Bool, true, false, Option, None, List, [], ◌∷◌, ◌++◌, refl, ap, sym, subst, ◌∙◌}
 use Rattle.atomic_table.specs.Table.{Me}
 use Rattle.bits_core.specs.declared.events.Side.{Side}
@@ -18,11 +18,11 @@ use Rattle.ring_seats.specs.Words.{answer_of}
 use Rattle.ring_seats.specs.Steppers.{Grows, HasMade}
 use Rattle.ring_seats.proofs.Moves.{list_of-mine, may_step-more, opened_by}
 
--- an end by its ring, its side and what its seat knows
+-- an end from its ring, its side and what its seat knows
 abbrev pub end_at : Ring → Side → View → RingEnd
 end_at ring x v = record { ring = ring; side = x; list = list_of x v; known = v.known; loads = v.loads }
 
--- what holds of an end that is of this side holds of its seat
+-- what holds for an end of this side holds for its seat
 pub of_side :
     (x : Side) (ring : Ring) (y : Side) (v : View) {e : RingEnd} → end_at ring y v ≡ e → e.side ≡ x → may_step y v ≡ true → may_step (other y) v ≡ false →
     (F : Shape → List Event → Type 0) → F e.ring.shape e.list → (may_step x v ≡ true) × (may_step (other x) v ≡ false) × F ring.shape (list_of x v)
@@ -60,7 +60,7 @@ module _ (ring : Ring) (x : Side) (b : Bit) (m0 m1 m2 : Me (Unit {0}) View) wher
     grows ring x (event x b WriteEnd) two_new m1.0 m2.0 two.view two.stands,
   )
 
--- what a step leaves as it was
+-- what a step leaves unchanged
 module _ (x : Side) (b : Bit) (a : Act) (got : ℕ) (v w : View) (is : w ≡ and_event x (event x b a) got v) where
   pub may_still : (y : Side) (may : Bool) → may_step y v ≡ may → may_step y w ≡ may
   may_still y may was = ap (may_step y) is ∙ may_step-more x y (event x b a) got v ∙ was
@@ -68,7 +68,7 @@ module _ (x : Side) (b : Bit) (a : Act) (got : ℕ) (v w : View) (is : w ≡ and
   pub list_more : list_of x w ≡ list_of x v ++ event x b a ∷ []
   list_more = ap (list_of x) is ∙ list_of-mine x (event x b a) got v
 
--- behind an access none is open
+-- after an access none is open
 pub none_open : (x : Side) (b : Bit) (a : Act) (got : ℕ) (v w : View) → w ≡ and_event x (event x b a) got v → begun_access b a ≡ None → (opened : Option Access) (list : List Event) → opened ≡ open_access x list → open_access x list ≡ None
     → opened ≡ open_access x (list_of x w)
 none_open x b a got v w is over opened list was none = was ∙ none ∙ sym (opened_by x b a got v w is ∙ over)

@@ -1,4 +1,4 @@
--- What reads answered, step by step.
+-- What reads returned, step by step.
 use Rattle.std.proofs.Common.{◌≡◌, ℕ, ◌+◌, Bool, true, false, List, [], ◌∷◌, ◌++◌, refl, ap, sym, ◌∙◌, inl, inr, arith, append_assoc, append-nil, add-zero}
 use Rattle.std.specs.Prelude.{if◌then◌else◌}
 use Rattle.bits_core.specs.declared.events.Side.{Side}

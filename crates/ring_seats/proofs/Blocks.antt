@@ -1,4 +1,4 @@
--- Whole accesses in a quiet moment: what they may answer, and what the bits hold after them.
+-- Complete accesses in a quiet moment: what they may return, and what the bits hold after them.
 use Rattle.std.proofs.Common.{◌≡◌, inr, Bool, true, false, Some, None, List, [], ◌∷◌, ◌++◌, refl, ap, sym, subst, ◌∙◌, ⊎_elim, append_assoc, append-nil}
 use Rattle.std.specs.Prelude.{if◌then◌else◌, unwrap_or}
 use Rattle.std.specs.List.{cons_option}
@@ -40,7 +40,7 @@ abbrev pub after : (Bit → Bool) → List Made → Bit → Bool
 after bits [] = bits
 after bits (x ∷ made) = after (wrote bits x) made
 
--- a read answers what its bit holds
+-- a read returns what its bit holds
 abbrev pub AnswersOne : (Bit → Bool) → Made → Type 0
 AnswersOne bits (Read b v) = v ≡ bits b
 AnswersOne bits (Write b v) = Unit {0}
@@ -136,7 +136,7 @@ not_end P (Write b v) = refl
 not_end C (Read b v) = refl
 not_end C (Write b v) = refl
 
--- another side's bits stay
+-- another side's bits are unchanged
 apart : (shape : Shape) (x : Side) (bits : Bit → Bool) (m : Made) (b : Bit) → IsOpenRight shape x (access_of m) → same_side (writer b) x ≡ false → wrote bits m b ≡ bits b
 apart shape x bits (Read c v) b r e = refl
 apart shape x bits (Write c v) b r e = by_case (same_bit b c)
@@ -186,7 +186,7 @@ module _ (shape : Shape) (x : Side) where
       ap (λ v. unwrap_or (value_written b (Some (access_of m))) v) (still b) ∙ ended (λ c. held c h) m b)
       (λ not. ap (λ t. if t then unwrap_or (open_write b h1) (held b h1) else held b h1) not ∙ still b ∙ sym (apart shape x (λ c. held c h) m b r not))
 
-  -- a quiet history and whole accesses behind it
+  -- a quiet history and complete accesses after it
   pub record Blocked (h : List Event) (made : List Made) : Type 0 where
     pub quiet : QuietRing shape (h ++ events_of x made)
     pub bits : (b : Bit) → held b (h ++ events_of x made) ≡ after (λ c. held c h) made b

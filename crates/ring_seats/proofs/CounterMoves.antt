@@ -1,4 +1,4 @@
--- Each step of a counter ring keeps its rule.
+-- Each step of a counter ring preserves its rule.
 use Rattle.std.proofs.Common.{◌≡◌, ◌≢◌, ◌⊎◌, inl, inr, ⊎_elim, ℕ, zero, suc, ◌^◌, ◌<◌, ◌≤◌, Bool, true, false, true≢false, None, List, [], ◌∷◌, ◌++◌, ◌==◌, length, set, slice_index, sym, refl, ap, ◌∙◌, subst, arith, append_assoc, length-set, get_or-set_same, get_or-set_other}
 use Rattle.std.proofs.lemmas.Bool.Decides.{nat_tests}
 use Rattle.std.proofs.lemmas.List.{length-replicate, get_or-replicate}
@@ -44,7 +44,7 @@ may_step-more : (x y : Side) (es : List Event) (v : View) → may_step y (and_ev
 may_step-more x P es v = refl
 may_step-more x C es v = refl
 
--- what whole accesses leave as it was, and what they add
+-- what complete accesses leave unchanged, and what they add
 module _ (x : Side) (es : List Event) (v w : View) (is : w ≡ and_events x es v) where
   pub may_still : (y : Side) (may : Bool) → may_step y v ≡ may → may_step y w ≡ may
   may_still y may was = ap (may_step y) is ∙ may_step-more x y es v ∙ was
@@ -77,7 +77,7 @@ module _ (shape : Shape) where
   begins_more : (h known es : List Event) → IsPrefix known h → IsPrefix known (h ++ es)
   begins_more h known es s = (s.0 ++ es, sym (append_assoc known s.0 es) ∙ ap (λ (l : List Event). l ++ es) s.1)
 
-  -- what a step of the side x needs, where the word at the place becomes `new`
+  -- what a step of the side x needs, if the word at the place becomes `new`
   pub record IsGoodBlock (x : Side) (list h : List Event) (words : List ℕ) (place new : ℕ) (made : List Made) (Tells : Type 0) : Type 0 where
     pub tells : Tells
     pub right : AllRight shape x made
@@ -131,7 +131,7 @@ module _ (shape : Shape) where
   -- ---- what the words show after a step
 
   module _ (x : Side) (made : List Made) (h : List Event) (blocked : Blocked shape x h made) where
-    -- the last writes of a row that the step spares stay
+    -- the last writes of a row that the step does not touch are unchanged
     stays : (y : Side) (row : ℕ → Bit) (by : List Event → List Made) (v : ℕ) → Spares row made → IsLast y row by (subhistory y h) v → IsLast y row by (subhistory y (h ++ events_of x made)) v
     stays y row by v s is = ⊎_elim
         (λ (same : y ≡ x). subst (λ (l : List Event). IsLast y row by l v) (sym (ap (λ (z : Side). subhistory z (h ++ events_of x made)) same ∙ (blocked.mine ∙ ap (λ (z : Side). subhistory z h ++ events_of x made) (sym same))))
@@ -145,7 +145,7 @@ module _ (shape : Shape) where
   abbrev SparesAll : List Made → Type 0
   SparesAll made = (row : ℕ → Bit) → Spares row made
 
-  -- after reads the words stay
+  -- after reads the words are unchanged
   loaded : (x : Side) (made : List Made) (h : List Event) (words : List ℕ) (place : ℕ) → SparesAll made → ShowsWords shape words h → Blocked shape x h made
       → ShowsWords shape (set words place (slice_index words place)) (h ++ events_of x made)
   loaded x made h words place s shows blocked = subst (λ (l : List ℕ). ShowsWords shape l (h ++ events_of x made)) (sym (set-same words place)) (record {
@@ -157,7 +157,7 @@ module _ (shape : Shape) where
     close = shows.close ∙ ap bits.value_word (sym (close_stays x made h blocked (s (λ _. X))));
   })
 
-  -- what a store of a word does to another one, whose row it spares
+  -- what a store of a word does to another one, whose row it does not touch
   module _ (x : Side) (made : List Made) (h : List Event) (words : List ℕ) (place new : ℕ) (shows : ShowsWords shape words h) (blocked : Blocked shape x h made) where
     left_word : (other : ℕ) → other ≢ place → slice_index (set words place new) other ≡ slice_index words other
     left_word other ne = get_or-set_other words place other new 0 ne

@@ -48,7 +48,7 @@ fit_at shape (x ∷ xs) (suc i) fit lt = fit_at shape xs i fit.1 (omega (arith, 
 -- ---- the words of several items
 
 module _ (shape : Shape) where
-  -- cells are told by their numbers modulo the capacity
+  -- cells are determined by their numbers modulo the capacity
   pub words_same : (items : List ℕ) (n m : ℕ) → n % capacity_of shape ≡ m % capacity_of shape → words_phrase shape n items ≡ words_phrase shape m items
   words_same [] n m e = refl
   words_same (x ∷ items) n m e = λ i. word_write (width_of shape) (e i) x ++
@@ -70,7 +70,7 @@ module _ (shape : Shape) where
       same : suc n + i ≡ n + suc i
       same = omega arith
 
-  -- the first of them begin them all
+  -- the first ones are a prefix of all
   pub words_begin : (items : List ℕ) (n k : ℕ) → IsPrefix (words_phrase shape n (take k items)) (words_phrase shape n items)
   words_begin items n zero = (words_phrase shape n items, refl)
   words_begin [] n (suc k) = ([], refl)
@@ -78,7 +78,7 @@ module _ (shape : Shape) where
       let b = words_begin items (suc n) k in
       (b.0, append_assoc (word_write (width_of shape) (n % capacity_of shape) x) (words_phrase shape (suc n) (take k items)) b.0 ∙ ap (λ (l : List Made). word_write (width_of shape) (n % capacity_of shape) x ++ l) b.1)
 
--- ---- what the producer's list leaves of its count
+-- ---- the value of its count that results from the producer's list
 
 zeros_spare : (row other : ℕ → Bit) (n : ℕ) → Spares row (zero_reads other n)
 zeros_spare row other zero = tt
@@ -119,7 +119,7 @@ row_spared x bits made f s is i = spared_bits (row_bit x) made bits s i ∙ is i
 pub row_both : (x : Side) (bits : Bit → Bool) (xs ys : List Made) (f : ℕ → Bool) → RowIs x (after (after bits xs) ys) f → RowIs x (after bits (xs ++ ys)) f
 row_both x bits xs ys f is i = after-append xs ys bits (row_bit x i) ∙ is i
 
--- so are they behind several calls, each of which leaves its count's
+-- so are they after several calls, each of which results in those of its count
 pub row_calls :
     {A : Type 0} (x : Side) (phrase : Count → A → List Made) (next : Count → A → Count) (phrases : Count → List A → List Made) (last : Count → List A → Count) →
     ((c : Count) → phrases c [] ≡ []) → ((c : Count) (y : A) (ys : List A) → phrases c (y ∷ ys) ≡ phrase c y ++ phrases (next c y) ys) →
@@ -134,7 +134,7 @@ row_calls x phrase next phrases last nil more stays goes each (y ∷ ys) bits c 
     (row_calls x phrase next phrases last nil more stays goes each ys (after bits (phrase c y)) (next c y) (each bits c y is)) i ∙
     sym (ap (λ (k : Count). k.bits i) (goes c y ys))
 
--- and in the list of a side, whose program ends with what spares the row
+-- and in the list of a side, whose program ends with accesses that do not touch the row
 pub row_left :
     (x : Side) (list : List Event) (made end : List Made) (c : Count) → list ≡ events_of x (made ++ end) → Spares (row_bit x) end → RowIs x (after first_value made) c.bits →
     RowIs x (value_left list) c.bits
@@ -142,24 +142,24 @@ row_left x list made end c list_is spares is i =
     ap (λ (l : List Event). value_left l (row_bit x i)) list_is ∙
     (left_by-made x (made ++ end) [] (row_bit x i) ∙ row_both x first_value made end c.bits (row_spared x (after first_value made) end c.bits spares is) i)
 
--- ---- a side's list goes on
+-- ---- a side's list continues
 
 module _ (x : Side) (list : List Event) (prog : List Made) (list_is : list ≡ events_of x prog) where
   list_on : (a : List Made) → list ++ events_of x a ≡ events_of x (prog ++ a)
   list_on a = ap (λ (l : List Event). l ++ events_of x a) list_is ∙ sym (events_of-append x prog a)
 
-  -- what was made begins a program that has it
+  -- what was made is a prefix of a program that begins with it
   pub begins : (a rest program : List Made) → program ≡ prog ++ (a ++ rest) → IsPrefix (list ++ events_of x a) (events_of x program)
   begins a rest program e = (
     events_of x rest,
     ap (λ (l : List Event). l ++ events_of x rest) (list_on a) ∙ (sym (events_of-append x (prog ++ a) rest) ∙ ap (events_of x) (append_assoc prog a rest ∙ sym e)),
   )
 
-  -- and where nothing is left it is that program's
+  -- and if nothing is left it is that program's
   pub makes : (a program : List Made) (now : List Event) → program ≡ prog ++ a → now ≡ list ++ events_of x a → now ≡ events_of x program
   makes a program now e is = is ∙ (list_on a ∙ ap (events_of x) (sym e))
 
--- behind accesses that spare its own count a side counts items
+-- after accesses that do not touch its own count a side counts items
 module _ (shape : Shape) (x : Side) (list now : List Event) (a : List Made) (c : Count) (is : now ≡ list ++ events_of x a) (spares : Spares (row_bit x) a) (row : RowIs x (value_left list) c.bits)
     (items : List ℕ) (new : ℕ) (next : new ≡ number_past c.number items % modulus_of shape) where
   row_now : RowIs x (value_left now) c.bits
@@ -198,12 +198,12 @@ module _ (shape : Shape) (list : List Event) (calls : Puts) (has : HasPuts shape
   more : (x : Put) → IsPut shape c_of.number x → HasPutMore shape calls x
   more x is = programs_by_one_call_puts shape calls x has.are opened is
 
-  -- what was made goes on to a put
+  -- what was made continues to a put
   goes : (x : Put) (a rest : List Made) → IsPut shape c_of.number x → put_phrase shape c_of x ≡ a ++ rest → Follows shape P (list ++ events_of P a)
   goes x a rest is phrase =
       (and_put calls x, (more x is).are, begins P list prog has.list_is a rest (put_program shape (and_put calls x)) ((more x is).program_is ∙ ap (λ (l : List Made). prog ++ l) phrase))
 
-  -- a whole put
+  -- a complete put
   whole : (x : Put) (now : List Event) → IsPut shape c_of.number x → now ≡ list ++ events_of P (put_phrase shape c_of x) → HasPuts shape now (and_put calls x)
   whole x now is e =
       record { are = (more x is).are; list_is = makes P list prog has.list_is (put_phrase shape c_of x) (put_program shape (and_put calls x)) now (more x is).program_is e }
@@ -211,7 +211,7 @@ module _ (shape : Shape) (list : List Event) (calls : Puts) (has : HasPuts shape
   abbrev scan_of : ℕ → List Made
   scan_of seen = scan_phrase (row_read_by P) seen
 
-  -- a put of the first of some items, or of none of them, begins with any scan
+  -- a put of the first of some items, or of none of them, may begin with any scan
   pub can_scan : (item : ℕ) (items : List ℕ) → IsBatch shape (item ∷ items) → (c : ℕ) → c < modulus_of shape → Follows shape P (list ++ events_of P (scan_phrase (row_read_by P) c))
   can_scan item items batch c lt = go (dec_lt (Rattle.ring_core.specs.Counts.distance (modulus_of shape) (c_of.number % modulus_of shape) c) (capacity_of shape))
     where

@@ -1,4 +1,4 @@
--- The steps of an end of a counter ring, one behind the other: its stores of several items, and its loads.
+-- The steps of an end of a counter ring, one after the other: its stores of several items, and its loads.
 use Rattle.std.proofs.Common.{◌≡◌, ℕ, suc, ◌+◌, ◌%◌, ◌<◌, List, [], ◌∷◌, ◌++◌, length, take, slice_index, ap, sym, subst, ◌∙◌, arith, append_assoc, ◌^◌, length-append}
 use Rattle.std.proofs.Math.Nat.{suc-mod}
 use Rattle.bits_core.specs.declared.shapes.Shape.{Shape}
@@ -67,7 +67,7 @@ next_place cell i place next size is e = e ∙ (ap (λ (n : ℕ). suc n % size) 
     more : suc (cell + i) ≡ cell + suc i
     more = omega arith
 
--- the loads of several items, one cell behind the other
+-- the loads of several items, one cell after the other
 module _ (a : RingEnd) (cell : ℕ) (side : a.side ≡ C) where
   module _ (b : RingEnd) (place : ℕ) (items : List ℕ) (g : GrowsBy a b (words_read a.ring.shape cell items)) (is : place ≡ (cell + length items) % capacity_of a.ring.shape) where
     loads_so_far : b.list ≡ a.list ++ events_of C (words_read a.ring.shape cell items)
@@ -81,7 +81,7 @@ module _ (a : RingEnd) (cell : ℕ) (side : a.side ≡ C) where
         (append_assoc a.list (events_of C before) (events_of C word) ∙
         ap (λ (l : List Event). a.list ++ l) (sym (events_of-append C before word) ∙ ap (events_of C) (sym (words_by_one_more_words a.ring.shape cell items item))))
 
-    -- the next of so many loads, whatever those behind it may load
+    -- the next of a number of loads, whatever the later ones may load
     pub next_load :
         (wanted item : ℕ) → length items < wanted → AllFit a.ring.shape items → item < 2 ^ width_of b.ring.shape →
         ((all : List ℕ) → length all ≡ wanted → AllFit a.ring.shape all → Follows a.ring.shape C (a.list ++ events_of C (words_read a.ring.shape cell all))) →

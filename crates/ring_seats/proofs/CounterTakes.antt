@@ -27,7 +27,7 @@ use Rattle.ring_seats.proofs.LastWrites.{Spares, spares-append, row_written, row
 use Rattle.ring_seats.proofs.CounterPuts.{RowIs, begins, counted, makes, scan_spares, first_row, row_spared, row_both, row_calls, row_left}
 use Rattle.ring_core.proofs.LawLemmas.{programs_by_one_call_ends, programs_by_one_call_takes}
 
--- the items taken behind a take that found items
+-- the items taken after a take that found items
 pub take_of-takes : (k : ℕ) (look : Finding) (items : List ℕ) → taken_after k (take_of look items) ≡ number_past k items
 take_of-takes k (Once seen) items = refl
 take_of-takes k (Twice seen again) items = refl
@@ -35,13 +35,13 @@ take_of-takes k (Twice seen again) items = refl
 -- ---- the words of several items
 
 module _ (shape : Shape) where
-  -- cells are told by their numbers modulo the capacity
+  -- cells are determined by their numbers modulo the capacity
   pub reads_same : (items : List ℕ) (n m : ℕ) → n % capacity_of shape ≡ m % capacity_of shape → words_read shape n items ≡ words_read shape m items
   reads_same [] n m e = refl
   reads_same (x ∷ items) n m e = λ i. word_read (width_of shape) (e i) x ++
       reads_same items (suc n) (suc m) (suc-mod n (capacity_of shape) ∙ (ap (λ (k : ℕ). suc k % capacity_of shape) e ∙ sym (suc-mod m (capacity_of shape)))) i
 
--- ---- what the consumer's list leaves of its count
+-- ---- the value of its count that results from the consumer's list
 
 digits_spare : (row : ℕ → Bit) (j item n : ℕ) → Spares row (digit_reads j item n)
 digits_spare row j item zero = tt
@@ -96,7 +96,7 @@ shows_or_not shape c k = go (dec_lt 0 (distance (modulus_of shape) c k)) (dec_lt
     go (yes t) (yes u) = no (λ (s : ShowsItem shape c k). omega (arith, u, s.1))
     go (yes t) (no u) = yes (t, omega (arith, u))
 
--- ---- the list of a taker that was not told that the ring is closed
+-- ---- the list of a taker none of whose takes returned Closed
 
 module _ (shape : Shape) (list : List Event) (calls : Takes) (has : HasTakes shape list calls) (opened : calls.end ≡ Open) where
   abbrev c_of : Count
@@ -117,7 +117,7 @@ module _ (shape : Shape) (list : List Event) (calls : Takes) (has : HasTakes sha
   end_more : (seen again : ℕ) → SeesNone shape k_of seen → SeesNone shape k_of again → HasEndMore shape calls seen again
   end_more seen again none none' = programs_by_one_call_ends shape calls seen again has.are opened none none'
 
-  -- what was made goes on to a take, or to the one that is told
+  -- what was made continues to a take, or to one that returns Closed
   goes : (x : Take) (a rest : List Made) → IsTake shape k_of x → take_phrase shape c_of x ≡ a ++ rest → Follows shape C (list ++ events_of C a)
   goes x a rest is phrase =
       (and_take calls x, (take_more x is).are, begins C list prog has.list_is a rest (take_program shape (and_take calls x)) ((take_more x is).program_is ∙ ap (λ (l : List Made). prog ++ l) phrase))
@@ -136,7 +136,7 @@ module _ (shape : Shape) (list : List Event) (calls : Takes) (has : HasTakes sha
       let m = end_more seen again none none' in
       record { are = m.are; list_is = makes C list prog has.list_is (end_phrase (Closed seen again)) (take_program shape (and_end calls seen again)) now m.program_is e }
 
-  -- one item may be taken where the count shows some
+  -- one item may be taken if the count shows some
   one_shown : (c : ℕ) → c < modulus_of shape → ShowsItem shape c (k_of % modulus_of shape) → SeesItems shape k_of c 1
   one_shown c lt shows = (lt, shows.0, shows.1)
 

@@ -1,4 +1,4 @@
--- The history tells what the words of a counter ring are, and so do whole calls what those of its counts are.
+-- The history determines the words of a counter ring, and complete calls determine those of its counts.
 use Rattle.std.proofs.Common.{◌≡◌, ℕ, zero, suc, ◌+◌, ◌%◌, ◌<◌, Bool, true≢false, List, [], ◌∷◌, length, slice_index, ap, sym, subst, ◌∙◌, arith, length-append}
 use native.Mathlib.Decide.{dec_lt}
 use Rattle.bits_core.specs.declared.shapes.Shape.{Shape}
@@ -22,7 +22,7 @@ use Rattle.ring_seats.proofs.LastWrites.{Lowest, count_shows, item_shows}
 use Rattle.register_core.proofs.LawLemmas.{digits_tell_items}
 use Rattle.ring_core.proofs.LawLemmas.{counts_are_written_numbers}
 
--- bits have one lowest that is set
+-- bits have at most one lowest set bit
 one_lowest : (bits : ℕ → Bool) (c d : ℕ) → Lowest bits c → Lowest bits d → c ≡ d
 one_lowest bits c d a b = go (dec_lt c d) (dec_lt d c)
   where
@@ -50,9 +50,9 @@ words-told shape words others h a b (suc (suc (suc j))) lt =
     let same : cell_place j ≡ suc (suc (suc j)) = omega arith in
     subst (λ (n : ℕ). slice_index words n ≡ slice_index others n) same (cell_told shape words others h a b j (omega (arith, lt)))
 
--- ---- whole calls
+-- ---- complete calls
 
--- the lowest bit that is set after puts is that of the number of items stored
+-- the lowest set bit after puts is that of the number of items stored
 after_puts : (shape : Shape) (puts : List Put) (c : Count) → IsCount shape c → IsCount shape (stored_count shape c puts)
 after_puts shape [] c is = is
 after_puts shape (Stored seen items ∷ puts) c is = after_puts shape puts (stored_after shape c (Stored seen items)) ((counts_are_written_numbers shape).1 c seen items)
@@ -66,7 +66,7 @@ after_takes shape (ItemAfterClose seen again items ∷ takes) c is =
     after_takes shape takes (count_after shape c (ItemAfterClose seen again items)) ((counts_are_written_numbers shape).1 c seen items)
 after_takes shape (Empty seen ∷ takes) c is = after_takes shape takes (count_after shape c (Empty seen)) (record { set = is.set; clear = is.clear })
 
--- so many are stored, and taken
+-- this many are stored, and taken
 stored_number : (shape : Shape) (puts : List Put) (c : Count) → (stored_count shape c puts).number ≡ c.number + length (all_put puts)
 stored_number shape [] c = omega arith
 stored_number shape (Stored seen items ∷ puts) c =
@@ -84,7 +84,7 @@ taken_number shape (Empty seen ∷ takes) c = taken_number shape takes (count_af
 from_none : (n m : ℕ) → n ≡ 0 + m → n ≡ m
 from_none n m e = omega (arith, e)
 
--- a count whose bits the list left is the word that shows them
+-- a count whose bits result from the list is the word that shows them
 shown_count : (shape : Shape) (words : List ℕ) (h : List Event) → ShowsWords shape words h → (x : Side) (c : Count) → IsCount shape c → RowIs x (value_left (subhistory x h)) c.bits → slice_index words (count_place x) ≡ c.number % modulus_of shape
 shown_count shape words h shows x c is row =
     one_lowest (λ i. value_left (subhistory x h) (row_bit x i)) (slice_index words (count_place x)) (c.number % modulus_of shape)

@@ -1,4 +1,4 @@
--- What histories of bits say of a side and of a bit's word, one event after another.
+-- What histories of bits say about a side and a bit's word, event by event.
 use Rattle.std.proofs.Common.{◌≡◌, ◌⊎◌, inl, inr, ℕ, Bool, true, false, Option, Some, None, List, [], ◌∷◌, ◌++◌, refl, ap, sym, ◌∙◌}
 use Rattle.std.specs.Prelude.{unwrap_or, if◌then◌else◌}
 use Rattle.bits_core.specs.declared.events.Side.{Side}
@@ -50,7 +50,7 @@ open-theirs x h e by = open_changes x h e ∙ ap (λ t. if t then begun_by e els
 pub before_last-mine : (s : Side) (h : List Event) (e : Event) → is_by s e ≡ true → before_last s (h ++ e ∷ []) ≡ h
 before_last-mine s h e by = before_last_changes s h e ∙ ap (λ t. if t then h else before_last s h) by
 
--- the word of a bit after one event more
+-- the word of a bit after one more event
 shown-more : (shape : Shape) (b : Bit) (h : List Event) (e : Event) → IsLawful shape h →
     shown b (h ++ e ∷ []) ≡ (if is_by (writer b) e then word_shown (write_of b e) (unwrap_or (open_write b h) (held b h)) else shown b h)
 shown-more shape b h e lawful =
@@ -66,7 +66,7 @@ shown-mine : (shape : Shape) (b : Bit) (h : List Event) (e : Event) → IsLawful
     shown b (h ++ e ∷ []) ≡ word_shown (write_of b e) (unwrap_or (open_write b h) (held b h))
 shown-mine shape b h e lawful by = shown-more shape b h e lawful ∙ ap (λ t. if t then word_shown (write_of b e) (unwrap_or (open_write b h) (held b h)) else shown b h) by
 
--- where no write of the bit is open, and none begins
+-- if no write of the bit is open, and none begins
 calm : (shape : Shape) (b : Bit) (h : List Event) (e : Event) → IsLawful shape h → open_write b h ≡ None → write_of b e ≡ None → shown b (h ++ e ∷ []) ≡ shown b h
 calm shape b h e lawful none not_begun = by_case (is_by (writer b) e)
     (λ by. shown-mine shape b h e lawful by ∙ (λ i. word_shown (not_begun i) (unwrap_or (none i) (held b h))) ∙ sym (ap (λ o. word_shown o (held b h)) none))
@@ -115,7 +115,7 @@ answer-small : (n : ℕ) (said : Bool) (v : Bool) → n ≡ value_word v → ans
 answer-small n said true e = rw e refl
 answer-small n said false e = rw e refl
 
--- two loads permit the answer that is made of them
+-- the answer made from two loads is permitted
 pub permitted : (shape : Shape) (x : Side) (b : Bit) (h : List Event) (first found : ℕ) (said : Bool) → IsLawful shape h → x ≡ reader b →
     first ≡ shown b (before_last x h) → found ≡ shown b h → IsAnswer h x b (answer_of first found said)
 permitted shape x b h first found said lawful is begin now = by_case (is_overlapped x b h)

@@ -23,11 +23,11 @@ found_at [] i r e = absurd (some-ne-none r (sym e))
 found_at (x ∷ xs) zero r e = sym (some-injective x r e)
 found_at (x ∷ xs) (suc i) r e = found_at xs i r e
 
--- what adds nothing is empty
+-- a list that adds nothing is empty
 adds_none : (xs ys : List Event) → xs ++ ys ≡ xs → length ys ≡ 0
 adds_none xs ys e = ap length (append_cancel_left xs ys [] (e ∙ sym (append-nil xs)))
 
--- events of neither side are none
+-- a list with events of neither side is empty
 no_events : (l : List Event) → length (subhistory P l) ≡ 0 → length (subhistory C l) ≡ 0 → l ≡ []
 no_events [] p c = refl
 no_events (e ∷ l) p c = absurd (by e.side e.bit e.act p c)
@@ -36,7 +36,7 @@ no_events (e ∷ l) p c = absurd (by e.side e.bit e.act p c)
     by P b a p c = omega (arith, p)
     by C b a p c = omega (arith, c)
 
--- a history that begins with another, and has the same two sides, is that one
+-- a history that begins with another, and has the same two sides, is that history
 same_sides : (known h : List Event) → IsPrefix known h → subhistory P h ≡ subhistory P known → subhistory C h ≡ subhistory C known → h ≡ known
 same_sides known h (rest, is) p c =
     let adds : (x : Side) → subhistory x h ≡ subhistory x known → length (subhistory x rest) ≡ 0 = λ x same. adds_none (subhistory x known) (subhistory x rest) (sym (filter-append (is_by x) known rest) ∙ (ap (subhistory x) is ∙ same)) in

@@ -1,4 +1,4 @@
--- The last writes of a row in a list of its writer's events, and what they leave.
+-- The last writes of a row in a list of its writer's events, and what they result in.
 use Rattle.std.proofs.Common.{◌≡◌, ◌≢◌, ◌⊎◌, inl, inr, ℕ, zero, suc, ◌<◌, Bool, true, false, cond, nat_eq, Option, Some, None, List, [], ◌∷◌, ◌++◌, ◌==◌, refl, ap, sym, subst, ◌∙◌, arith, append_assoc, append-nil, eq-eqb}
 use Rattle.std.specs.Prelude.{if◌then◌else◌, unwrap_or}
 use Rattle.std.specs.List.{cons_option}
@@ -50,13 +50,13 @@ spared x row [] s i = refl
 spared x row (Read b v ∷ made) s i = spared x row made s i
 spared x row (Write b v ∷ made) s i = ap (λ t. cons_option (if t then Some v else None) (writes_begun (row i) (events_of x made))) (s.0 i) ∙ spared x row made s.1 i
 
--- they leave its bits
+-- they leave its bits unchanged
 pub spared_bits : (row : ℕ → Bit) (made : List Made) (bits : Bit → Bool) → Spares row made → (i : ℕ) → after bits made (row i) ≡ bits (row i)
 spared_bits row [] bits s i = refl
 spared_bits row (Read b v ∷ made) bits s i = spared_bits row made bits s i
 spared_bits row (Write b v ∷ made) bits s i = spared_bits row made (wrote bits (Write b v)) s.1 i ∙ ap (λ t. if t then v else bits (row i)) (s.0 i)
 
--- ---- the last writes of a list that grows
+-- ---- the last writes of a growing list
 
 writes_more : (b : Bit) (xs ys : List Event) → writes_begun b (xs ++ ys) ≡ writes_begun b xs ++ writes_begun b ys
 writes_more b xs ys = filter_map-append (write_of b) xs ys
@@ -80,7 +80,7 @@ stays_last x row made list es v none (inr t) = inr (none_more row list es t.0 no
 pub is_last_now : (x : Side) (row : ℕ → Bit) (made : List Event → List Made) (list : List Event) → AreLast x row made (list ++ events_of x (made list))
 is_last_now x row made list = record { before = list; after = []; list_is = sym (append-nil (list ++ events_of x (made list))); none = λ i. refl }
 
--- ---- what they leave
+-- ---- what they result in
 
 left_last : (x : Side) (row : ℕ → Bit) (made : List Event → List Made) (list : List Event) (a : AreLast x row made list) (i : ℕ) → value_left list (row i) ≡ after (value_left a.before) (made a.before) (row i)
 left_last x row made list a i =
@@ -141,7 +141,7 @@ row_tells C i k = refl
 
 -- ---- a count shows the value of its last write
 
--- the lowest bit that is set
+-- the lowest set bit
 pub record Lowest (bits : ℕ → Bool) (c : ℕ) : Type 0 where
   pub set : bits c ≡ true
   pub clear : (i : ℕ) → i < c → bits i ≡ false

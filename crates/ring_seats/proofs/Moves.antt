@@ -1,4 +1,4 @@
--- Each step keeps the rule of the ring.
+-- Each step preserves the rule of the ring.
 use Rattle.std.proofs.Common.{◌≡◌, ◌≢◌, ℕ, zero, suc, ◌<◌, Bool, true, false, true≢false, ◌⊎◌, List, [], ◌∷◌, ◌++◌, replicate, length, get_or, set, slice_index, Some, None, sym, refl, ap, ◌∙◌, subst, inl, inr, ⊎_elim, append_assoc, append-nil, length-set, get_or-set_same, get_or-set_other}
 use Rattle.std.specs.Prelude.{if◌then◌else◌}
 use Rattle.std.proofs.lemmas.List.{length-replicate}
@@ -32,14 +32,14 @@ use Rattle.ring_seats.proofs.Histories.{same_side-same, either_side, before_last
 use Rattle.bits_core.proofs.LawLemmas.{empty_is_lawful, lawful_by_one_more, open_from_own}
 use Rattle.ring_core.proofs.LawLemmas.{runs_by_one_more_put, runs_by_one_more_take}
 
--- what a step of the side x at the bit b needs of the history so far, where the word becomes `new`, and a load found or a store wrote `got`
+-- what a step of the side x at the bit b needs of the history so far, if the word becomes `new`, and a load found or a store wrote `got`
 pub record IsGood (shape : Shape) (x : Side) (b : Bit) (list h : List Event) (new got : ℕ) (act : Act) : Type 0 where
   pub may : MayFollow shape h (event x b act)
   pub word : new ≡ shown b (h ++ event x b act ∷ [])
   pub follow : Follows shape x (list ++ event x b act ∷ [])
   pub load : act ≡ ReadBegin → got ≡ shown b h
 
--- a history whose sides follow their programs, and one event more of a side's program
+-- a history whose sides follow their programs, and one more event of a side's program
 pub ring_more : (shape : Shape) (x : Side) (h : List Event) (e : Event) → e.side ≡ x → IsRing shape h → MayFollow shape h e → Follows shape x (subhistory x h ++ e ∷ []) → IsRing shape (h ++ e ∷ [])
 ring_more shape P h e by r may f = record { puts = f.0; takes = r.takes; run = runs_by_one_more_put shape h e r.puts f.0 r.takes r.run by may f.1 f.2 }
 ring_more shape C h e by r may f = record { puts = r.puts; takes = f.0; run = runs_by_one_more_take shape h e r.puts r.takes f.0 r.run by may f.1 f.2 }
@@ -49,7 +49,7 @@ pub ring_follows : (shape : Shape) (h : List Event) → IsRing shape h → (x : 
 ring_follows shape h r P = (r.puts, r.run.puts_follow.are, r.run.puts_follow.events)
 ring_follows shape h r C = (r.takes, r.run.takes_follow.are, r.run.takes_follow.events)
 
--- nothing has happened
+-- a history with no event
 pub ring_empty : (shape : Shape) → IsRing shape []
 ring_empty shape = record {
   puts = record { puts = []; closes = false };
@@ -76,7 +76,7 @@ set_there [] id v w at = absurd (some-ne-none v (sym at))
 set_there (x ∷ xs) zero v w at = refl
 set_there (x ∷ xs) (suc id) v w at = set_there xs id v w at
 
--- also where one of them has another view, by which it may step as before
+-- even if one of them has another view, with which it may step as before
 pub each_stays : (owner : Side → ℕ) (views : List View) (id : ℕ) (v w : View) → get_elem? views id ≡ some v → ((y : Side) → may_step y v ≡ true → may_step y w ≡ true) → HasSeats owner views → HasSeats owner (set views id w)
 each_stays owner views id v w at may each y =
     let (u, there, can) = each y in
@@ -87,7 +87,7 @@ each_stays owner views id v w at may each y =
     (λ (apart : owner y ≢ id). (u, set_else views id (owner y) w apart ∙ there, can))
     (cases_eq (owner y) id)
 
--- what a step leaves open
+-- what is open after a step
 pub opened_by : (x : Side) (b : Bit) (a : Act) (got : ℕ) (v w : View) → w ≡ and_event x (event x b a) got v → open_access x (list_of x w) ≡ Rattle.bits_core.specs.Bits.begun_access b a
 opened_by x b a got v w is =
     ap (λ (u : View). open_access x (list_of x u)) is ∙ ap (open_access x) (list_of-mine x (event x b a) got v) ∙ open-mine x (list_of x v) (event x b a) (same_side-same x)
@@ -464,7 +464,7 @@ pub first_each : HasSeats (λ _. 0) (joint [] [] [] [] ∷ [])
 first_each P = (joint [] [] [] [], refl, refl)
 first_each C = (joint [] [] [] [], refl, refl)
 
--- a ring of any kind keeps its rule where its first words show nothing
+-- a ring of any kind satisfies its rule if its first words show nothing
 pub opens_so :
     (count : Shape → ℕ) (IsShown : Shape → List ℕ → List Event → Type 0) (shape : Shape) (words : List ℕ) → length words ≡ count shape → IsShown shape words [] →
     KeptBy count IsShown shape (opening words [] (joint [] [] [] []))
@@ -492,7 +492,7 @@ never_steps : (x : Side) (u : View) → spent ≡ u → may_step x u ≡ true �
 never_steps P u same may = true≢false (sym may ∙ ap (λ (w : View). w.puts) (sym same))
 never_steps C u same may = true≢false (sym may ∙ ap (λ (w : View). w.takes) (sym same))
 
--- it finds the word of a state that keeps the rule
+-- it finds the word of a state that satisfies the rule
 pub finds : (count : Shape → ℕ) (IsShown : Shape → List ℕ → List Event → Type 0) (shape : Shape) (slots place : ℕ) → Enters (KeptBy count IsShown shape) slots place (λ n _. IsWordFound (KeptBy count IsShown shape) place n)
 finds count IsShown shape slots place s k homes small = (
   spent,

@@ -14,7 +14,7 @@ use Rattle.bits_core.specs.Bits.{same_bit}
 use Rattle.ring_seats.specs.declared.layout.TheConstants.{FIRST_S}
 use Rattle.ring_seats.specs.Words.{word_place, word_count, cell_words, first_r, first_words, Shows, shown, value_word}
 
--- a place in a row of cells is one cell's
+-- a place in a row of cells belongs to one cell
 higher : (w j k i l : ℕ) → i < w → j < k → j * w + i < k * w + l
 higher w j k i l h lt = let a : suc j * w ≤ k * w = mul-le-mul_right w lt in omega (arith, suc-mul j w)
 
@@ -30,7 +30,7 @@ one_cell w j k i l h h' e = go (dec_lt j k) (dec_lt k j)
 in_cell : (shape : Shape) (i : ℕ) → nat_lt i (width_of shape) ≡ true → i < cell_words shape
 in_cell shape i h = let lt = ltb-true i (width_of shape) h in omega arith
 
--- two bits of the shape are one bit, or have two words
+-- two bits of the shape are the same, or have different words
 abbrev OneOrApart : Shape → Bit → Bit → Type 0
 OneOrApart shape b c = (b ≡ c) ⊎ ((same_bit c b ≡ false) × (word_place shape c ≢ word_place shape b))
 

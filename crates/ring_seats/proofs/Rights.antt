@@ -1,4 +1,4 @@
--- Each access of a scan, of a unary write and of a word is to a bit of the shape, by the side that may.
+-- Each access of a scan, of a unary write and of a word is to a bit of the shape, by the side that may make it.
 use Rattle.std.proofs.Common.{◌≡◌, ℕ, zero, suc, ◌<◌, ◌≤◌, Bool, true, false, cond, List, [], ◌∷◌, ◌++◌, refl, arith}
 use Rattle.std.specs.Prelude.{nat_lt}
 use Rattle.std.proofs.lemmas.Bool.{and_from, lt-ltb}
@@ -17,7 +17,7 @@ use Rattle.register_core.specs.Word.{digit, digit_writes, digit_reads, word_writ
 use Rattle.register_core.specs.ScanState.{zero_reads, scan_phrase, row_read_by}
 use Rattle.ring_core.proofs.Machines.NextParts.{row_bit_right, scan_bit_right}
 
--- all of a list
+-- all accesses of a list are such
 abbrev pub AllRight : Shape → Side → List Made → Type 0
 AllRight shape s [] = Unit {0}
 AllRight shape s (x ∷ xs) = IsOpenRight shape s (access_of x) × AllRight shape s xs

@@ -1,10 +1,10 @@
--- What a seat may do at the ring that it names, it may do at the table behind it.
+-- What a seat may do at its ring, it may do at the ring's table.
 use Rattle.std.proofs.Common.{◌≡◌, ℕ, ◌<◌, sym, ap, ◌∙◌, subst}
 use Rattle.atomic_table.specs.Seated.{TableId}
 use Rattle.bits_core.specs.declared.shapes.Shape.{Shape}
 use Rattle.ring_seats.specs.Ring.{Ring}
 
--- `inside` is what the words have, and `now` what a contract sees
+-- `inside` is what the words have, and `now` is their model
 pub at_table :
     (count : Shape → ℕ) (Rule : Shape → TableId → Type 0) (inside now : Ring) (key : Shape) (seat : TableId) (word : ℕ) → inside ≡ now →
     (key ≡ inside.shape) × (inside.id.words ≡ count inside.shape) × (0 < count inside.shape) → (seat ≡ now.id) × (word < count now.shape) → Rule now.shape now.id →

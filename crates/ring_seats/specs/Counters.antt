@@ -22,11 +22,12 @@ use Rattle.ring_seats.specs.Rule.{KeptBy, list_of, Stands}
 
 -- ---- the words
 
--- the place of the word of the count that a side writes, and of the one that it reads
+-- the place of the word of the count that a side writes
 abbrev pub count_place : Side → ℕ
 count_place P = 1
 count_place C = 2
 
+-- and of the one that it reads
 abbrev pub their_place : Side → ℕ
 their_place x = count_place (other x)
 
@@ -34,6 +35,7 @@ their_place x = count_place (other x)
 abbrev pub cell_place : ℕ → ℕ
 cell_place j = 3 + j
 
+-- how many words a counter ring has
 abbrev pub words_of : Shape → ℕ
 words_of shape = cell_place (capacity_of shape)
 
@@ -43,30 +45,30 @@ first_counts shape = replicate (words_of shape) 0
 
 -- ---- what the words show of a list of their writer's events
 
--- what the writes of a bit in the list leave: the value of the last one, or the bit's first value
+-- the value that the writes of a bit in the list result in: that of the last one, or the bit's first value
 abbrev pub value_left : List Event → Bit → Bool
 value_left list b = last_value (first_value b) (writes_begun b list)
 
--- the accesses of a side's unary write of v to its count, over the bits that its list left
+-- the accesses of a side's unary write of v to its count, over the bits that result from its list
 abbrev pub unary_over : Side → List Event → ℕ → List Made
 unary_over x list v = writes_in (row_bit x) (unary_phrase (λ i. value_left list (row_bit x i)) v)
 
--- no write of a bit of the row stands in the list
+-- the list has no write of a bit of the row
 abbrev pub NoWriteOf : (ℕ → Bit) → List Event → Type 0
 NoWriteOf row list = (i : ℕ) → writes_begun (row i) list ≡ []
 
--- the side's last writes of the row in its list are these, which follow from what stands before them
+-- the side's last writes of the row in its list are these, which are determined by what comes before them
 pub record AreLast (x : Side) (row : ℕ → Bit) (made : List Event → List Made) (list : List Event) : Type 0 where
   pub before : List Event
   pub after : List Event
   pub list_is : list ≡ (before ++ events_of x (made before)) ++ after
   pub none : NoWriteOf row after
 
--- v is the value of the last count write in the side's list, and 0 before any
+-- v is the value of the last count write in the side's list, or 0 before any
 abbrev pub IsLastCount : Side → List Event → ℕ → Type 0
 IsLastCount x list v = AreLast x (row_bit x) (λ before. unary_over x before v) list ⊎ (NoWriteOf (row_bit x) list × (v ≡ 0))
 
--- the item is the one last written to the cell in the producer's list, and 0 before any
+-- the item is the one last written to the cell in the producer's list, or 0 before any
 abbrev pub IsLastItem : ℕ → ℕ → List Event → ℕ → Type 0
 IsLastItem width j list item = AreLast P (Cell j) (λ before. word_write width j item) list ⊎ (NoWriteOf (Cell j) list × (item ≡ 0))
 
@@ -85,8 +87,9 @@ pub record ShowsWords (shape : Shape) (words : List ℕ) (h : List Event) : Type
 abbrev pub KeptWords : Shape → State (Unit {0}) View → Type 0
 KeptWords shape s = KeptBy words_of ShowsWords shape s
 
--- ---- what a step tells
+-- ---- what a step reports
 
+-- a side's list after a step of this seat, or of the other
 abbrev pub grown_by : Bool → List Event → List Event → List Event
 grown_by true es list = list ++ es
 grown_by false es list = list
@@ -95,7 +98,7 @@ grown_by false es list = list
 abbrev pub and_events : Side → List Event → View → View
 and_events x es v = record { puts = v.puts; takes = v.takes; put = grown_by (same_side x P) es v.put; taken = grown_by (same_side x C) es v.taken; known = v.known; known_by_taker = v.known_by_taker; first = v.first; loads = v.loads }
 
--- whole accesses of the side were added to its list, by the number that a load found, or that a store wrote
+-- complete accesses of the side were added to its list, given the number that a load found, or that a store wrote
 pub record AddedAll (shape : Shape) (x : Side) (made : ℕ → List Made) (Tells : ℕ → Type 0) (m : Me (Unit {0}) View) (found : ℕ) (m' : Me (Unit {0}) View) : Type 0 where
   pub view : m'.0 ≡ and_events x (events_of x (made found)) m.0
   pub carried : m'.1 ≡ m.1
@@ -108,9 +111,10 @@ pub record GrowsBy (a b : RingEnd) (made : List Made) : Type 0 where
   pub list : b.list ≡ a.list ++ events_of a.side made
   pub stands : Stands b.ring.shape b.side b.list b.known
 
--- a number tells nothing, or that it is below another
+-- a number says nothing
 abbrev pub TellsNothing : ℕ → Type 0
 TellsNothing n = Unit {0}
 
+-- or that it is below another
 abbrev pub IsBelow : ℕ → ℕ → Type 0
 IsBelow most n = n < most

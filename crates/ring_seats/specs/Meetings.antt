@@ -1,4 +1,4 @@
--- What a meeting of two ends gives.
+-- The result of a meeting of two ends.
 use Rattle.std.specs.Prelude.{◌≡◌, true, List}
 use Rattle.bits_core.specs.declared.events.Side.TheVariants.{P, C}
 use Rattle.bits_core.specs.declared.events.Event.{Event}
@@ -7,7 +7,7 @@ use Rattle.ring_seats.specs.declared.views.View.{View}
 use Rattle.ring_seats.specs.Ring.{RingEnd}
 use Rattle.ring_seats.specs.Programs.{IsRing}
 
--- the same end but for what it knows
+-- the same end, except for what it knows
 pub record KeepsEnd (a b : RingEnd) : Type 0 where
   pub ring : b.ring ≡ a.ring
   pub side : b.side ≡ a.side

@@ -22,14 +22,15 @@ pub record IsRing (shape : Shape) (h : List Event) : Type 0 where
   pub takes : Takes
   pub run : IsRun shape h puts takes
 
--- the two events of an access
+-- the first event of an access
 abbrev pub begin_of : Side → Access → Event
 begin_of x access = begin_event x (answered access true)
 
+-- its last event
 abbrev pub ending_event : Side → Access → Bool → Event
 ending_event x access v = end_event x (answered access v)
 
--- whatever the open access is answered, where that is lawful, the side goes on by its program
+-- whatever the open access returns, if that is lawful, the side continues by its program
 abbrev pub GoesOn : Shape → Side → Access → List Event → Type 0
 GoesOn shape x access list =
     (h : List Event) (v : Bool) → IsLawful shape (h ++ ending_event x access v ∷ []) → IsRing shape h → subhistory x h ≡ list →

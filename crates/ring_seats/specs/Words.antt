@@ -13,24 +13,25 @@ abbrev pub value_word : Bool → ℕ
 value_word true = 1
 value_word false = 0
 
--- a word, by the value that is being written, if any is, and the value held
+-- a word, from the value being written, if any, and the value held
 abbrev pub word_shown : Option Bool → Bool → ℕ
 word_shown None v = value_word v
 word_shown (Some w) v = 2
 
--- what a bit's word shows of a history: 2 where a write of the bit is open, and else the value that the bit holds
+-- what a bit's word shows of a history: 2 if a write of the bit is open, otherwise the value that the bit holds
 abbrev pub shown : Bit → List Event → ℕ
 shown b h = word_shown (open_write b h) (held b h)
 
--- Where the words of each count begin, and those of the cells; and from where a cell's words begin to where those of the next
--- one do. So many words that no bit has lie between them that no two of the close bit, the counts and the cells share a cache
--- line, or a pair of lines that a processor fetches together.
+-- Where the words of the consumer's count begin. Between the close bit, the counts and the cells there are enough words of no
+-- bit that no two of these share a cache line, or a pair of lines that a processor fetches together.
 abbrev pub first_r : Shape → ℕ
 first_r shape = FIRST_S + modulus_of shape + APART
 
+-- where the words of the cells begin
 abbrev pub first_cell : Shape → ℕ
 first_cell shape = first_r shape + modulus_of shape + APART
 
+-- how many words there are from the start of one cell to that of the next
 abbrev pub cell_words : Shape → ℕ
 cell_words shape = width_of shape + APART
 
@@ -41,6 +42,7 @@ word_place shape (S i) = FIRST_S + i
 word_place shape (R i) = first_r shape + i
 word_place shape (Cell j i) = first_cell shape + (j * cell_words shape + i)
 
+-- how many words a flickering ring has
 abbrev pub word_count : Shape → ℕ
 word_count shape = first_cell shape + capacity_of shape * cell_words shape
 
@@ -56,6 +58,6 @@ Shows shape words h = (b : Bit) → belongs shape b ≡ true → slice_index wor
 abbrev pub agrees : ℕ → ℕ → Bool
 agrees first found = (first == found) && nat_lt found 2
 
--- the answer of a read by the words that its two loads found, or else as its oracle says
+-- the answer of a read from the words that its two loads found, or from its oracle
 abbrev pub answer_of : ℕ → ℕ → Bool → Bool
 answer_of first found said = (if agrees first found then found == 1 else said)

@@ -18,7 +18,7 @@ use ring_core::past_in;
 use std::marker::Brand;
 
 impl<'a> Stepper<'a, Counting> {
-    /// One load: a whole scan of the other side's count.
+    /// One load: a complete scan of the other side's count.
     pub fn scan(&mut self) -> u64
         requires program { (c : ℕ) → c < modulus_of self.old.ring.shape →
             Follows self.old.ring.shape self.old.side (self.old.list ++ events_of self.old.side
@@ -31,7 +31,7 @@ impl<'a> Stepper<'a, Counting> {
             .load::<Brand, _>(&mut self.seat, theirs(side), &side)
     }
 
-    /// One store: a whole unary write of the side's own count.
+    /// One store: a complete unary write of the side's own count.
     pub fn write_count(&mut self, new: u64)
         requires below { new < modulus_of self.old.ring.shape }
         requires program { Follows self.old.ring.shape self.old.side
@@ -43,7 +43,7 @@ impl<'a> Stepper<'a, Counting> {
             .store::<Brand, _>(&mut self.seat, ours(side), &side, new);
     }
 
-    /// One store: a whole word write.
+    /// One store: a complete word write.
     pub fn write_cell(&mut self, cell: u64, item: u64)
         requires side { self.old.side ≡ P }
         requires below { (cell < capacity_of self.old.ring.shape) × (item < 2 ^ width_of self.old.ring.shape) }
@@ -56,7 +56,7 @@ impl<'a> Stepper<'a, Counting> {
             .store::<Brand, _>(&mut self.seat, word, &cell, item);
     }
 
-    /// A store for each item, to the cells one behind the other from this one on: their word writes.
+    /// A store for each item, to consecutive cells from this one on: their word writes.
     pub fn write_items(&mut self, cell: u64, items: &[u64])
         requires stands { StandsAs P self.old × (self.old.side ≡ P) }
         requires below { cell < capacity_of self.old.ring.shape }
@@ -84,7 +84,7 @@ impl<'a> Stepper<'a, Counting> {
         self.ring.store::<Brand, _>(&mut self.seat, 0, &(), 1);
     }
 
-    /// One load: a whole word read.
+    /// One load: a complete word read.
     pub fn read_cell(&mut self, cell: u64) -> u64
         requires side { self.old.side ≡ C }
         requires below { cell < capacity_of self.old.ring.shape }
@@ -98,7 +98,7 @@ impl<'a> Stepper<'a, Counting> {
         self.ring.load::<Brand, _>(&mut self.seat, word, &cell)
     }
 
-    /// A load for each place, of the cells one behind the other from this one on: their word reads.
+    /// A load for each place, of consecutive cells from this one on: their word reads.
     pub fn read_items(&mut self, cell: u64, into: &mut [u64])
         requires stands { StandsAs C self.old × (self.old.side ≡ C) }
         requires below { cell < capacity_of self.old.ring.shape }

@@ -15,7 +15,7 @@ pub struct Counting;
 
 /// The rule of a counter ring's table.
 ///
-/// For example, the tests of `test_run` load words between two calls, and find of them what this says.
+/// For example, the tests of `test_run` load words between two calls, and check that they satisfy it.
 pub type CounterRule = RuleOf<Counting>;
 
 impl WordKind for Counting {
@@ -35,7 +35,7 @@ impl Keeping for Counting {
 }
 
 impl<'a> Words<'a, Counting> {
-    /// Loads a word, by no end; the place is below 3 and the capacity. It is that of a state which keeps the ring's rule.
+    /// Loads a word, by no end; the place is below the capacity + 3. It is that of a state that satisfies the ring's rule.
     pub fn find_word(&self, place: usize) -> u64
         requires { place < words_of self.now.shape }
         ensures { IsWordFound (KeptWords self.now.shape) place result }

@@ -8,7 +8,7 @@ use bits_core::Shape;
 use std::alloc::Allocator;
 use std::marker::Model;
 
-/// The words of a ring whose run is over, as they stand. To a contract they are the list of the words.
+/// The words of a ring whose run is over, as they are. To a contract they are the list of the words.
 ///
 /// In use: `uses::two_threads::pass_through`.
 pub struct LastWords<A: Allocator> {
@@ -34,7 +34,7 @@ impl<A: Allocator> LastWords<A> {
         self.closed.words.len()
     }
 
-    /// The word at a place, which is below their number. What lies where, the kind of ring says ([`WordKind`]).
+    /// The word at a place, which is below their number. Their arrangement depends on the kind of ring ([`WordKind`]).
     pub fn word(&self, place: usize) -> u64
         requires { place < length self.now }
         ensures { result ≡ slice_index self.now place }
@@ -50,9 +50,9 @@ impl<A: Allocator> Drop for LastWords<A> {
     }
 }
 
-/// The words of a table as they stand, where the seat may step for both sides and knows the whole history: they show that
-/// history. The table is gone, and the seat with it. It makes no access and takes no memory.
-/// For example, a ring whose run is over is closed so.
+/// The words of a table as they are, if the seat may step for both sides and knows the whole history: they show that
+/// history. The table is consumed, and the seat with it. It makes no access and takes no memory. For example, a ring
+/// whose run is over is closed in this way.
 pub fn close_table<K: WordKind, A: Allocator>(
     table: Table<(), View, Shape, RuleOf<K>, A>,
     seat: Seat<(), View>,

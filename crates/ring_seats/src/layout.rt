@@ -1,13 +1,13 @@
-//! Where the words of a ring's bits lie.
+//! Where the words of a ring's bits are.
 ghost use Rattle.std.specs.Prelude.{◌≡◌, ◌≤◌, true};
 ghost use Rattle.bits_core.specs.Shape.{belongs};
 ghost use Rattle.ring_seats.specs.Words as words;
 
 use bits_core::{Bit, Shape};
 
-// How many words of no bit lie behind those of the close bit, of each count and of each cell. They fill two cache lines,
-// for processors fetch lines in pairs: so an end that writes to a cell or a count takes no line from the other end that
-// reads another one.
+// How many words of no bit come after those of the close bit, of each count and of each cell. They fill two cache lines,
+// because processors fetch lines in pairs: so an end that writes to a cell or a count takes no line away from the other
+// end, which reads another one.
 pub(crate) const APART: usize = 16;
 
 // The place of the producer's count.

@@ -1,6 +1,7 @@
-//! The seats of a ring: what two ends that step over one table of atomic words may do, for a ring of flickering bits and for
-//! one of whole words (Lamport 1977, over the registers of 1986). The rule that holds between any two atomic steps; the words
-//! and what they show; the steps of a seat, each of which keeps the rule; how two seats are made, meet and are joined.
+//! The seats of a ring: the rights of two ends that step over one table of atomic words, for a ring of flickering bits and
+//! for one of whole words (Lamport 1977, over the registers of 1986). The rule that holds between any two atomic steps; the
+//! words and what they show; the steps of a seat, each of which preserves the rule; how two seats are made, meet and are
+//! joined.
 #![tactic(auto)]
 
 mod counter_steppers;

@@ -12,9 +12,9 @@ use crate::words::Words;
 use atomic_table::Seat;
 use bits_core::Side;
 
-/// The two seats of a ring, of whichever kind, by the seat that was made with its table: the one steps for the producer, the
-/// other for the consumer. They have made no step and know the history with no event.
-/// For example, the two ends of a new ring step by these.
+/// The two seats of a ring, of any kind, from the seat that was made with its table: one steps for the producer, the other
+/// for the consumer. They have made no step and know the history with no event. For example, the two ends of a new ring step
+/// with these.
 pub fn first_steppers<'a, K: Keeping>(
     ring: Words<'a, K>,
     mut seat: Seat<(), View>,
@@ -51,8 +51,8 @@ fn stepper<'a, K: Keeping>(ring: Words<'a, K>, seat: Seat<(), View>, side: Side)
 }
 
 /// The two seats learn one lawful history, whose sides are their two lists and which begins with what each knew. They are those
-/// of one ring, and have no access open; they keep their lists. It makes no access.
-/// For example, the ends of either ring `meet` so.
+/// of one ring, and have no access open; they keep their lists. It makes no access. For example, the ends of either ring `meet`
+/// in this way.
 pub fn meet_steppers<'a, K: Keeping>(
     p: Stepper<'a, K>,
     c: Stepper<'a, K>,
@@ -77,9 +77,8 @@ pub fn meet_steppers<'a, K: Keeping>(
     (stepper(ring, seat, Side::P), stepper(same, other, Side::C))
 }
 
-/// The two seats, of one ring and with no access open, end in one of that ring that knows such a history, and whose lists are its
-/// two sides. It makes no access.
-/// For example, the run of either ring is ended so.
+/// The two seats, of one ring and with no access open, become one seat of that ring that knows such a history, and whose lists
+/// are its two sides. It makes no access. For example, the run of either ring is ended in this way.
 pub fn join_steppers<'a, K: Keeping>(p: Stepper<'a, K>, c: Stepper<'a, K>) -> Seat<(), View>
     requires sides { (p.side ≡ P) × (c.side ≡ C) }
     requires ring { p.ring ≡ c.ring }

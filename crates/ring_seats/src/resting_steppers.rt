@@ -1,4 +1,4 @@
-//! A stepper apart from the words of its ring.
+//! A stepper detached from the words of its ring.
 ghost use Rattle.std.specs.Prelude.{◌≡◌};
 
 use crate::steppers::Stepper;
@@ -8,9 +8,8 @@ use atomic_table::Seat;
 use bits_core::{Shape, Side};
 use std::marker::Model;
 
-/// A [`Stepper`] apart from the words of its ring. It borrows nothing, so an end that owns its ring too can keep both from one
-/// call to the next. To a contract it is the same end.
-/// For example, an end of a counter ring that rests has one.
+/// A [`Stepper`] detached from the words of its ring. It borrows nothing, so an end that owns its ring can keep both between
+/// calls. To a contract it is the same end. For example, a resting end of a counter ring has one.
 #[derive(Drop)]
 pub struct RestingStepper<K: Keeping> {
     seat: Seat<(), View>,
@@ -61,7 +60,7 @@ impl<'a, K: Keeping> Stepper<'a, K> {
 }
 
 impl<K: Keeping> RestingStepper<K> {
-    /// The stepper at the words of its ring, which these have to be. It makes no access.
+    /// The stepper at the words of its ring, which must be these. It makes no access.
     pub fn at<'a>(self, ring: Words<'a, K>) -> Stepper<'a, K>
         requires { ring ≡ self.ring }
         ensures { result ≡ self }

@@ -16,9 +16,9 @@ use atomic_table::Seat;
 use bits_core::{Access, Bit, Oracle, Shape, Side};
 use std::marker::{Brand, Model};
 
-/// A seat of one side, with what the kind of ring keeps of the access that is open. To a contract it is an end: its ring, its
-/// side, its list of events, what it knows, and what the loads of its reads found.
-/// For example, each end of a ring has one, by which it makes its steps.
+/// A seat of one side, with what the kind of ring keeps of the open access. To a contract it is an end: its ring, its side,
+/// its list of events, what it knows, and what the loads of its reads found. For example, each end of a ring has one, with
+/// which it makes its steps.
 #[derive(Drop)]
 pub struct Stepper<'a, K: Keeping> {
     pub(crate) ring: Words<'a, K>,
@@ -55,7 +55,7 @@ impl<'a, K: Keeping> Stepper<'a, K> {
         self.ring.shape()
     }
 
-    /// Its words, for who holds them from one access to the next.
+    /// Its words, for a caller that keeps them between accesses.
     #[inline(always)]
     pub fn words(&self) -> Words<'a, K>
         ensures { result ≡ self.now.ring }
@@ -91,7 +91,7 @@ impl<'a> Stepper<'a, Flickering> {
         }
     }
 
-    // The second load of a read, and the answer by both, or the store of the value. The oracle is asked at most once.
+    // The second load of a read, and the answer from both, or the store of the value. The oracle is asked at most once.
     fn end<O: Oracle>(&mut self, access: Access, oracle: &mut O) -> bool
         requires right { IsOpenRight self.old.ring.shape self.old.side access }
         requires at { open_access self.old.side self.old.list ≡ Some access }
@@ -120,8 +120,8 @@ impl<'a> Stepper<'a, Flickering> {
         }
     }
 
-    // The two loads of a read, and the answer by both. The oracle is asked at most once. The words are the stepper's own,
-    // held by the caller, so that they lie at hand from one access to the next.
+    // The two loads of a read, and the answer from both. The oracle is asked at most once. The words are the stepper's
+    // own, held by the caller, so that they are at hand between accesses.
     #[inline(always)]
     fn read<O: Oracle>(&mut self, ring: &Words<'a, Flickering>, bit: Bit, oracle: &mut O) -> bool
         requires ring { ring.now ≡ self.old.ring }
@@ -155,8 +155,8 @@ impl<'a> Stepper<'a, Flickering> {
         ring.store::<Brand, _>(&mut self.seat, word, &(side, bit), new);
     }
 
-    /// The whole access, which can be made now, and its answer: that of a read by its two loads, or by the oracle, which is asked at
-    /// most once, and else the value written. The words are the seat's own, by [`words`](Stepper::words).
+    /// The complete access, which can be made now, and its answer: for a read that of its two loads, or of the oracle, which is
+    /// asked at most once; for a write the value written. The words are the seat's own, from [`words`](Stepper::words).
     #[inline(always)]
     pub fn make<O: Oracle>(
         &mut self,
@@ -180,7 +180,7 @@ impl<'a> Stepper<'a, Flickering> {
         }
     }
 
-    /// One step: the access begins, or, where it is open, it ends with the answer. The oracle is asked at most once.
+    /// One step: the access begins, or, if it is open, it ends with the answer. The oracle is asked at most once.
     pub fn step<O: Oracle>(&mut self, access: Access, oracle: &mut O) -> Option<bool>
         requires right { IsOpenRight self.old.ring.shape self.old.side access }
         requires can { CanStep self.old access }
@@ -198,8 +198,8 @@ impl<'a> Stepper<'a, Flickering> {
     }
 }
 
-// The answer of a read by the words that its two loads found: where both are 0, or both 1, it is that, and the oracle is
-// not asked; else the oracle is asked once.
+// The answer of a read from the words that its two loads found: if both are 0, or both 1, it is that, and the oracle is
+// not asked; otherwise the oracle is asked once.
 #[inline(always)]
 fn answer<O: Oracle>(first: u64, found: u64, oracle: &mut O) -> bool
     ensures answer { result ≡ answer_of first found (O.answers oracle.old 0) }

@@ -11,14 +11,14 @@ use atomic_table::{Seat, Table};
 use bits_core::Shape;
 use std::alloc::{AllocError, Allocator};
 
-/// A table of a kind of ring with its one seat, or an error where the allocator refused memory. For example, see [`flicker_table`].
+/// A table of a kind of ring with its one seat, or an error if the allocator refused memory. For example, see [`flicker_table`].
 pub type NewTable<K, A> = Result<
     (Table<(), View, Shape, RuleOf<K>, A>, Seat<(), View>),
     AllocError,
 >;
 
 /// The table of the words of a ring's bits, and its one seat, with nothing put. It takes memory for one word for each bit, and
-/// for 16 words behind the close bit, each count and each cell, which keep these apart. An error is answered only where the
+/// for 16 words after the close bit, each count and each cell, which keep these apart. An error is returned only if the
 /// allocator refused that. For example, a new `FlickerRing` is this table.
 pub fn flicker_table<A: Allocator + Copy>(alloc: A, shape: Shape) -> NewTable<Flickering, A>
     ensures { IfOk result (λ t. IsNewTable shape (count_of_words shape) t.0.shared.key t.0.shared.table_id
@@ -29,7 +29,7 @@ pub fn flicker_table<A: Allocator + Copy>(alloc: A, shape: Shape) -> NewTable<Fl
 }
 
 /// The table of a counter ring's words, and its one seat, with nothing put. It takes memory for one word for each cell and three
-/// more. An error is answered only where the allocator refused that. For example, a new `CounterRing` is this table.
+/// more. An error is returned only if the allocator refused that. For example, a new `CounterRing` is this table.
 pub fn counter_table<A: Allocator + Copy>(alloc: A, shape: Shape) -> NewTable<Counting, A>
     ensures { IfOk result (λ t. IsNewTable shape (words_of shape) t.0.shared.key t.0.shared.table_id t.1.table_id
         t.1.me) }

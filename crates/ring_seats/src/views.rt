@@ -6,30 +6,29 @@ use bits_core::{Access, Event, Shape};
 use std::collections::LinkedList;
 use std::marker::{Brand, PhantomData};
 
-/// What the two loads of a read found. It stands in contracts alone: no value of it is made.
+/// What the two loads of a read found. It occurs only in contracts: no value of it is made.
 ///
 /// For example, of a bit that is being written the first may have found 0 and the second 1: then the oracle is
 /// asked.
 pub struct Loads {
-    /// What the first load found, where the read began.
+    /// What the first load found, when the read began.
     pub first: u64,
-    /// What the second load found, where it ended.
+    /// What the second load found, when it ended.
     pub found: u64,
 }
 
 /// What a seat of a ring's table knows: the right to step for one side of the ring, or for both, with the list of the
-/// events that were made by it. Each end of a ring has one such seat. It stands in contracts alone: no value of it is
-/// made.
+/// events that it made. Each end of a ring has one such seat. It occurs only in contracts: no value of it is made.
 ///
-/// For example, an end of a ring has one, and it tells which events the end has made.
+/// For example, an end of a ring has one, and it has the events that the end has made.
 pub struct View {
     /// Whether it may step for the producer.
     pub puts: bool,
     /// Whether it may step for the consumer.
     pub takes: bool,
-    /// The events of the producer, where it steps for that.
+    /// The events of the producer, if it steps for that.
     pub put: LinkedList<Event>,
-    /// The events of the consumer, where it steps for that.
+    /// The events of the consumer, if it steps for that.
     pub taken: LinkedList<Event>,
     /// What the putter knew at the last meeting.
     pub known: LinkedList<Event>,
@@ -37,12 +36,12 @@ pub struct View {
     pub known_by_taker: LinkedList<Event>,
     /// The first load of the read that is open.
     pub first: u64,
-    /// What the loads of each read found that has ended since the ends were made or last met.
+    /// What the loads found of each read that has ended since the ends were made or last met.
     pub loads: LinkedList<Loads>,
 }
 
-/// A kind of ring: how many words a ring of a shape has, and what they show of a history. It stands in contracts and in types
-/// alone: no value of it is made.
+/// A kind of ring: how many words a ring of a shape has, and what they show of a history. It occurs only in contracts and in
+/// types: no value of it is made.
 ///
 /// For example, [`Counting`](crate::Counting) and [`Flickering`](crate::Flickering).
 pub trait WordKind {
@@ -72,19 +71,19 @@ pub trait Keeping: WordKind {
     // It is what the view of a seat of the side has.
     ghost keeps: { Self.Kept → Side → View → Type 0 };
 
-    /// What an end keeps that has no access open.
+    /// What an end with no open access keeps.
     fn nothing() -> Self::Kept
         ensures { (x : Side) (v : View) → open_access x (list_of x v) ≡ None → v.first ≡ 0 → keeps result x v };
 }
 
-/// The rule of a ring's table, for the shape that is the table's key. It holds between any two atomic steps of whichever
-/// thread, for each step has to keep it. There is one lawful history of safe bits whose two sides follow their programs, such
+/// The rule of a ring's table, for the shape that is the table's key. It holds between any two atomic steps of any thread,
+/// since each step has to preserve it. There is one lawful history of safe bits whose two sides follow their programs, such
 /// that
-/// - the words show it, as the kind of ring has it;
+/// - the words show it, as this kind of ring does;
 /// - for each side of the ring there is one seat that may step for it, and no other, and that seat's list is the
 ///   history's events of the side;
 /// - it begins with what the two sides knew at their last meeting;
-/// - where a read is open, the load that its seat keeps is what the word showed where the read began.
+/// - if a read is open, the load that its seat keeps is what the word showed when the read began.
 ///
 /// For example, [`FlickerRule`](crate::FlickerRule) and [`CounterRule`](crate::CounterRule).
 pub struct RuleOf<K> {
@@ -100,14 +99,14 @@ impl<K: WordKind> TableRule<(), View, Shape> for RuleOf<K> {
     ghost first = { λ _. joint [] [] [] [] };
 }
 
-/// The kind of a flickering ring: the word of a bit is 2 where a write of the bit is open, else what the bit holds.
+/// The kind of a flickering ring: the word of a bit is 2 if a write of the bit is open, otherwise what the bit holds.
 ///
 /// For example, a `FlickerRing` of `ring_run` is the ring of this kind.
 pub struct Flickering;
 
 /// The rule of a flickering ring's table.
 ///
-/// For example, the tests of `test_run` load words between two steps, and find of them what this says.
+/// For example, the tests of `test_run` load words between two steps, and check that they satisfy it.
 pub type FlickerRule = RuleOf<Flickering>;
 
 /// What an end of a flickering ring keeps: its open access, and the first load of its open read.
@@ -142,12 +141,12 @@ impl Keeping for Flickering {
     }
 }
 
-// What a step of a seat tells is picked by the proof of its call; with no pick it tells nothing.
+// What a step of a seat reports is chosen by the proof of its call; without a choice it reports nothing.
 impl Play<(), View> for Brand {
     ghost then = { λ _ _ _ _. Unit {0} };
 }
 
-// The joint view is cut in two.
+// The joint view is split in two.
 pub struct Halves;
 
 impl Split<View> for Halves {
@@ -158,7 +157,7 @@ impl Split<View> for Halves {
     ghost right = { taker_of };
 }
 
-// The two views are put together.
+// The two views are joined.
 pub struct Both;
 
 impl Join<View> for Both {

@@ -1,4 +1,4 @@
-//! The words of a ring as its ends reach them.
+//! The words of a ring as its ends access them.
 ghost use Rattle.std.specs.Prelude.{◌≡◌, ◌<◌, true, []};
 ghost use mathlib.Core.Option.{none};
 ghost use Rattle.atomic_table.specs.Table.{Allows, step};
@@ -13,8 +13,8 @@ use atomic_table::{Play, Seat, Shared};
 use bits_core::{Bit, Shape};
 use std::marker::{Brand, Model};
 
-/// The words of a ring, by which a seat steps. To a contract they are that ring.
-/// For example, each end of a ring has them in its [`Stepper`](crate::Stepper).
+/// The words of a ring, with which a seat steps. To a contract they are that ring. For example,
+/// each end of a ring has them in its [`Stepper`](crate::Stepper).
 #[derive(Drop)]
 pub struct Words<'a, K: WordKind> {
     pub(crate) shared: &'a Shared<(), View, Shape, RuleOf<K>>,
@@ -34,7 +34,7 @@ impl<'a, K: WordKind> Model for Words<'a, K> {
 }
 
 impl<'a, K: WordKind> Words<'a, K> {
-    /// The words of a table whose key is the shape, and which has as many words as a ring of this kind and shape.
+    /// The words of a table whose key is the shape, which has as many words as a ring of this kind and shape.
     pub fn of(shared: &'a Shared<(), View, Shape, RuleOf<K>>, shape: Shape) -> Words<'a, K>
         requires { (shared.now.key ≡ shape) × (shared.now.table_id.words ≡ K.count shape) × (0 < K.count shape) }
         ensures { result ≡ record { shape = shape; id = shared.now.table_id } }
@@ -42,7 +42,7 @@ impl<'a, K: WordKind> Words<'a, K> {
         Words { shared, shape }
     }
 
-    // The same words, held where an access keeps them at hand.
+    // A copy of these words, for an access that keeps them at hand.
     #[inline(always)]
     pub(crate) fn again(&self) -> Words<'a, K>
         ensures { result ≡ self.now }
@@ -69,7 +69,7 @@ impl<'a, K: WordKind> Words<'a, K> {
         found
     }
 
-    // A load by a seat, and what the proof of its call picks for it to tell. That may name `about`.
+    // A load by a seat, and what the proof of its call chooses for it to report. That may mention `about`.
     #[inline(always)]
     pub(crate) fn load<N: Play<(), View>, T>(
         &self,
@@ -104,7 +104,7 @@ impl<'a, K: WordKind> Words<'a, K> {
         self.shared.store::<N>(seat, word, new);
     }
 
-    // Cuts the joint seat in two.
+    // Splits the joint seat in two.
     pub(crate) fn part(&self, seat: &mut Seat<(), View>) -> Seat<(), View>
         requires own { (seat.old.table_id ≡ self.now.id) × (seat.old.me.0.puts ≡ true) × (seat.old.me.0.takes ≡ true) }
         ensures putter { (seat.new.table_id ≡ seat.old.table_id) ×
@@ -120,10 +120,11 @@ impl<'a, K: WordKind> Words<'a, K> {
         requires idle { IsIdle P seat.old.me.0.put × IsIdle C seat.old.me.0.taken }
         ensures { (seat.new.table_id ≡ seat.old.table_id) × Learned self.now.shape seat.old.me seat.new.me }
     {
+        // the load is made for its step alone: with it the seat learns the history
         let _ = self.shared.load::<Brand>(seat, 0);
     }
 
-    // Puts the two seats together, and the joint seat learns the history.
+    // Joins the two seats, and the joint seat learns the history.
     pub(crate) fn rejoin(&self, seat: &mut Seat<(), View>, other: Seat<(), View>)
         requires own { (seat.old.table_id ≡ self.now.id) × (other.table_id ≡ self.now.id) × (other.me.1 ≡ []) }
         requires sides { (seat.old.me.0.puts ≡ true) × (other.me.0.takes ≡ true) }
@@ -151,7 +152,7 @@ impl<'a> Words<'a, Flickering> {
         place_of(&self.shape, bit)
     }
 
-    /// Loads the word of a bit of the ring's shape, by no end. It is that of a state which keeps the ring's rule.
+    /// Loads the word of a bit of the ring's shape, by no end. It is that of a state that satisfies the ring's rule.
     pub fn find_bit(&self, bit: Bit) -> u64
         requires { belongs self.now.shape bit ≡ true }
         ensures { IsWordFound (KeepsFlickerRule self.now.shape) (word_place self.now.shape bit) result }

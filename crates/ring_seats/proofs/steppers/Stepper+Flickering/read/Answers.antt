@@ -17,7 +17,7 @@ use Rattle.ring_seats.proofs.Moves.{begins_read, ends_read, opened_by}
 use Rattle.ring_seats.proofs.Answered.{answered_then, asked_so, quiet_step, read_step}
 use Rattle.ring_seats.proofs.steppers.Stepper+Flickering.read.Goals as goal
 
--- what may be read of an end that is seen, may be read of what stands behind it
+-- what may be read for the model of an end may be read for the end itself
 record MayRead (inside : RingEnd) (b : Bit) (ring : Ring) (word : ℕ) : Type 0 where
   ring_is : inside.ring ≡ ring
   word_is : word_place inside.ring.shape b ≡ word
