@@ -1,4 +1,4 @@
--- How many bytes the words of a cause have.
+-- How many bytes the text of a cause has.
 use Rattle.std.proofs.Common.{ℕ, ◌+◌, ◌^◌, ◌≤◌, ◌<◌, List, ◌++◌, Option, Some, None, length, codes, decimal, arith}
 use Rattle.std.proofs.lemmas.List.{length-append}
 use Rattle.std.proofs.lemmas.Fmt.{length-decimal-le}
@@ -57,7 +57,7 @@ one_length a b n small = omega (arith, length-append a (decimal n ++ b), length-
 last_length : (a : List ℕ) (n : ℕ) → IsSmall n → length (a ++ decimal n) ≤ length a + 20
 last_length a n small = omega (arith, length-append a (decimal n), digits n small)
 
--- and with a text and a number behind it
+-- and with a text and a number after it
 two_length : (a b : List ℕ) (n k : ℕ) → IsSmall n → IsSmall k → length (one a n (b ++ decimal k)) ≤ length a + length b + 40
 two_length a b n k small small' = omega (arith, one_length a (b ++ decimal k) n small, last_length b k small')
 

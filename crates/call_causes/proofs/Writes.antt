@@ -1,4 +1,4 @@
--- Words that are written one behind the other.
+-- Words that are written one after the other.
 use Rattle.std.proofs.Common.{◌≡◌, ◌∙◌, ℕ, ◌+◌, ◌-◌, zero, suc, List, [], ◌∷◌, ◌++◌, length, min, take, drop, sym, ap, ap₂, arith, append_assoc, subst}
 use Rattle.std.proofs.Math.Seq.{take-nil}
 use borrow.Rule.Slice.PartMut.{put_mid}
@@ -21,7 +21,7 @@ copied (t ∷ text) [] count is = let none : count ≡ 0 = omega (arith, is) in 
 copied (t ∷ text) (s ∷ slots) zero is = absurd (omega (arith, is))
 copied (t ∷ text) (s ∷ slots) (suc count) is = ap (λ xs. t ∷ xs) (copied text slots count (omega (arith, is)))
 
--- and behind words
+-- and after words
 behind : (words text slots : List ℕ) (used count : ℕ) → used ≡ min (length words) (length slots) → count ≡ min (length text) (length slots - used)
     → take used (written words slots) ++ (take count text ++ drop count (drop used (written words slots))) ≡ written (words ++ text) slots
 behind [] text slots used count is few =
@@ -46,7 +46,7 @@ written_behind words text before after part used count so_far few is =
       is_count = omega (arith, few, same, so_far.is_count, length-append words text);
     }
 
--- texts that were joined from the left, joined from the right
+-- texts joined from the left equal those joined from the right
 pub joined : (a d b x : List ℕ) → (a ++ (d ++ b)) ++ x ≡ a ++ (d ++ (b ++ x))
 joined a d b x = append_assoc a (d ++ b) x ∙ ap (λ xs. a ++ xs) (append_assoc d b x)
 

@@ -1,4 +1,4 @@
--- The words of what speaks against a line of a recording.
+-- The text of what contradicts a line of a recording.
 use Rattle.std.specs.Prelude.{ℕ, List, ◌++◌, Option, Some, None, option_map, codes, decimal}
 use Rattle.call_causes.specs.declared.entries.Offered.{Offered}
 use Rattle.call_causes.specs.declared.causes.Cause.{Cause}
@@ -10,13 +10,16 @@ use Rattle.call_causes.specs.declared.causes.Cause.TheVariants.{StoredAfterClose
 abbrev pub one : List ℕ → ℕ → List ℕ → List ℕ
 one a n b = a ++ (decimal n ++ b)
 
+-- the text of the next item, if there is one
 abbrev pub next_words : Option Offered → List ℕ
 next_words (Some next) = one (codes "item ") next.item (one (codes " of line ") next.offered_at (codes " is next"))
 next_words None = codes "none is next"
 
+-- the text of a call that says so while an item was inside
 abbrev pub inside_words : List ℕ → Offered → List ℕ
 inside_words says inside = one says inside.item (codes " was inside since line " ++ decimal inside.stored_at)
 
+-- the text of a cause
 abbrev pub cause_words : Cause → List ℕ
 cause_words (StoredAfterClose n) = codes "stored, but closed at line " ++ decimal n
 cause_words (OnlySomeStored count taken) = one (codes "only ") count (one (codes " stored, but item ") taken.item (codes " was taken at line " ++ decimal taken.taken_at))
@@ -42,7 +45,7 @@ cause_words (ShortAfterClose n) = codes "short, but closed at line " ++ decimal 
 cause_words ClosedBeforeClose = codes "closed, but no close has begun"
 cause_words (ClosedWhileInside inside) = inside_words (codes "closed, but item ") inside
 
--- the line that contradicts the one at fault, where another one does
+-- the line that contradicts the one at fault, if another one does
 abbrev pub cause_line : Cause → Option ℕ
 cause_line (StoredAfterClose n) = Some n
 cause_line (OnlySomeStored count taken) = Some taken.taken_at
@@ -68,7 +71,7 @@ cause_line (ShortAfterClose n) = Some n
 cause_line ClosedBeforeClose = None
 cause_line (ClosedWhileInside inside) = Some inside.stored_at
 
--- the words of what a cause says
+-- the text of a cause's parts
 abbrev pub said_words : Said → List ℕ
 said_words (said.Words words) = words.now
 said_words (said.One a n b) = one a.now n b.now

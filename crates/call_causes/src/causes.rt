@@ -1,13 +1,13 @@
-//! What speaks against a line of a recording.
+//! What contradicts a line of a recording.
 ghost use Rattle.std.specs.Prelude.{◌≡◌, ◌++◌, codes, decimal};
 ghost use Rattle.call_causes.specs.Causes.{cause_line, cause_words, next_words, said_words};
 
 use crate::entries::{Offered, Taken};
 use std::fmt;
 
-/// What speaks against a line of a recording with which the history is not linearizable.
+/// What contradicts a line of a recording with which the history is not linearizable.
 ///
-/// Lines are counted from 1. An item is told with the line that began its put (`offered_at`), ended it (`stored_at`) or
+/// Lines are counted from 1. An item comes with the line that began its put (`offered_at`), ended it (`stored_at`) or
 /// ended its take (`taken_at`).
 ///
 /// For example, it is printed as `empty, but item 1 was inside since line 3`. In use:
@@ -16,21 +16,21 @@ use std::fmt;
 pub enum Cause {
     /// Items were stored by a put that began after a close had ended, the first one at this line.
     StoredAfterClose(u64),
-    /// A put stored only so many of its items, but one of the others was taken.
+    /// A put stored only this many of its items, but one of the others was taken.
     OnlySomeStored {
         count: usize,
         taken: Taken,
     },
-    /// More items are inside than the queue can hold: so many at least.
+    /// More items are inside than the queue can hold: at least this many.
     StoredTooMany(usize),
-    /// A put stored only so many of its items, where there was room for one more: since this line, which began it, at most so many
-    /// were inside before those that it stored.
+    /// A put stored only this many of its items, although there was room for one more: since this line, which began it, at most
+    /// this many were inside before those that it stored.
     OnlySomeWithRoom {
         count: usize,
         inside: usize,
         since: u64,
     },
-    /// A put found no room for one item, where there was room: since this line, which began it, at most so many were inside.
+    /// A put found no room for one item, although there was room: since this line, which began it, at most this many were inside.
     FullWithRoom {
         inside: usize,
         since: u64,
@@ -39,61 +39,61 @@ pub enum Cause {
     FullAfterClose(u64),
     /// A put stored nothing, but an item of it was taken.
     NotStoredButTaken(Taken),
-    /// A put found no room for all its items, so many, where there was room: since this line, which began it, at most so many were
-    /// inside.
+    /// A put found no room for all its items, this many, although there was room: since this line, which began it, at most this
+    /// many were inside.
     ShortWithRoom {
         offered: usize,
         inside: usize,
         since: u64,
     },
-    /// A put was told that the queue is closed, and no close had ended before it began.
+    /// A put returned Closed, and no close had ended before it began.
     ClosedWithoutClose,
-    /// A take gave items after one was told, at this line, that the queue is closed.
+    /// A take took items after one had returned Closed, at this line.
     ItemAfterTold(u64),
-    /// A take gave an item that is inside, or is being put, behind another.
+    /// A take took an item that is inside, or is being put, after another.
     NotNext {
         item: u64,
         next: Offered,
     },
-    /// A take gave an item that was taken before, among the last ones that are kept, of a recording of text
-    /// [`TAKEN_LIMIT`](crate::TAKEN_LIMIT), or earlier in the same line; and what is next in its place, where something is.
+    /// A take took an item that was taken before, among the last ones kept ([`TAKEN_LIMIT`](crate::TAKEN_LIMIT) for a
+    /// recording of text), or earlier in the same line; and the item that is next instead, if there is one.
     ComesAgain {
         taken: Taken,
         next: Option<Offered>,
     },
-    /// A take gave an item that is neither inside nor being put; and what is next in its place, where something is.
+    /// A take took an item that is neither inside nor being put; and the item that is next instead, if there is one.
     NotInside {
         item: u64,
         next: Option<Offered>,
     },
-    /// A take gave fewer items than it wanted, while another was inside.
+    /// A take took fewer items than it wanted, while another was inside.
     NoMoreWhileInside(Offered),
-    /// A take took too few: more items are inside than the queue can hold, so many at least, since this line, which ended the last put
-    /// that stored some.
+    /// A take took too few: more items are inside than the queue can hold, at least this many, since this line, which ended the last
+    /// put that stored some.
     NotTaken {
         inside: usize,
         since: u64,
     },
-    /// A take found the queue empty after one was told, at this line, that it is closed.
+    /// A take found the queue empty after one had returned Closed, at this line.
     EmptyAfterTold(u64),
     /// A take found the queue empty, while an item was inside.
     EmptyWhileInside(Offered),
     /// A take that began after a close had ended, the first one at this line, found the queue empty and open.
     EmptyAfterClose(u64),
-    /// A take found fewer items than it wanted after one was told, at this line, that the queue is closed.
+    /// A take found fewer items than it wanted after one had returned Closed, at this line.
     ShortAfterTold(u64),
-    /// A take found fewer items than it wanted, while this one was the last of as many.
+    /// A take found fewer items than it wanted, while this one was the last of that many.
     ShortWhileInside(Offered),
     /// A close had ended, the first one at this line. A put that began after it found no room for all its items; or a take that
-    /// began after it found fewer items than it wanted, of a queue with nothing inside.
+    /// began after it found fewer items than it wanted, in a queue with nothing inside.
     ShortAfterClose(u64),
-    /// A take was told that the queue is closed, and no close has begun.
+    /// A take returned Closed, and no close has begun.
     ClosedBeforeClose,
-    /// A take was told that the queue is closed, while an item was inside.
+    /// A take returned Closed while an item was inside.
     ClosedWhileInside(Offered),
 }
 
-/// What a cause says: words, and numbers between them.
+/// The text of a cause: words, and numbers between them.
 ///
 /// In use: `ring_page::page_calls`, which writes them without memory.
 #[derive(Clone, Copy)]
@@ -106,13 +106,13 @@ pub enum Said {
     Two(&'static str, u64, &'static str, u64, &'static str),
     /// Words with three numbers between them.
     Three(&'static str, u64, &'static str, u64, &'static str, u64, &'static str),
-    /// Words with a number, that the item was not inside, and what is next.
+    /// Words with a number, that the item was not inside, and the next item.
     Lost(&'static str, u64, Next),
-    /// Words with two numbers, and what is next.
+    /// Words with two numbers, and the next item.
     Again(&'static str, u64, &'static str, u64, Next),
 }
 
-/// What is next, where something is.
+/// The next item, if there is one.
 ///
 /// In use: `ring_page::page_calls`.
 #[derive(Clone, Copy)]
@@ -123,7 +123,7 @@ impl fmt::Display for Next {
 
     ghost output = { λ n. Some (next_words n.0) };
 
-    /// The words of what is next.
+    /// The text of the next item.
     fn fmt<W: fmt::Write>(&self, f: &mut fmt::Formatter<W>) -> fmt::Result {
         match self.0 {
             Some(next) => write!(f, "item {} of line {} is next", next.item, next.offered_at),
@@ -132,7 +132,7 @@ impl fmt::Display for Next {
     }
 }
 
-// The words of a call that says so while an item was inside.
+// The text of a call that says so while an item was inside.
 fn since(says: &'static str, inside: Offered) -> Said
     ensures { said_words result ≡ says.now ++ (decimal inside.item ++ (codes " was inside since line " ++ decimal
         inside.stored_at)) }
@@ -147,7 +147,7 @@ fn since(says: &'static str, inside: Offered) -> Said
 }
 
 impl Cause {
-    /// The line that contradicts the one at fault, where another one does.
+    /// The line that contradicts the one at fault, if another one does.
     pub fn line(&self) -> Option<u64>
         ensures { result ≡ cause_line self.now }
     {
@@ -176,7 +176,7 @@ impl Cause {
         }
     }
 
-    /// What it says, in parts. They are what is printed; where a text has a writer that may fail, print the cause itself.
+    /// Its text, in parts, as it is printed. To a writer that may fail, print the cause itself.
     pub fn said(self) -> Said
         ensures { said_words result ≡ cause_words self }
     {
@@ -277,7 +277,7 @@ impl fmt::Display for Cause {
 
     ghost output = { λ c. Some (cause_words c) };
 
-    /// The words of the cause.
+    /// The text of the cause.
     fn fmt<W: fmt::Write>(&self, f: &mut fmt::Formatter<W>) -> fmt::Result {
         match self.said() {
             Said::Words(words) => f.write_str(words),

@@ -1,8 +1,8 @@
-//! What is kept of items, with the lines that tell of them.
+//! What is kept of items, with the lines that name them.
 
-/// How many of the items taken last are looked through for one that comes again, in a recording of text.
+/// How many of the items taken last are searched for one that comes again, in a recording of text.
 ///
-/// For example, where so many others were taken in between, an item that comes again is told as one that was not inside.
+/// For example, if this many others were taken in between, an item that comes again is reported as one that was not inside.
 pub const TAKEN_LIMIT: usize = 65_536;
 
 /// An item that was offered and not taken, with the lines that began and ended its put; the latter is 0 until it comes.

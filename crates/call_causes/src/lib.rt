@@ -1,4 +1,4 @@
-//! What speaks against a line of recorded calls, in words: causes, and the items that they name.
+//! What contradicts a line of recorded calls, as text: causes, and the items that they name.
 #![tactic(auto)]
 
 mod causes;

@@ -1,4 +1,4 @@
-//! The words of a cause, where there is no memory for a text.
+//! The text of a cause, if there is no memory for it.
 ghost use Rattle.std.specs.Prelude.{◌≡◌, ℕ, ◌≤◌, List, ◌++◌, decimal, length, min};
 ghost use Rattle.call_causes.specs.Causes.{cause_words, next_words, said_words};
 ghost use Rattle.call_causes.specs.Words.{AreWritten, written};
@@ -7,12 +7,12 @@ use crate::causes::{Cause, Said};
 use crate::entries::Offered;
 use itoa::Buffer;
 
-/// How many bytes hold the words of any cause.
+/// How many bytes hold the text of any cause.
 ///
 /// In use: `ring_page::page_calls`, `queue_calls_c::ring_audit_hear`.
 pub const CAUSE_WORDS: usize = 256;
 
-// Writes a text behind the first bytes, as much of it as there is room for, and tells how many bytes stand there then.
+// Writes a text after the first `used` bytes, as much of it as there is room for, and returns how many bytes are used then.
 fn write(slots: &mut [u8], used: usize, text: &str) -> usize
     requires { used ≤ length slots.old }
     ensures written { (words before : List ℕ) → AreWritten words before slots.old used →
@@ -25,7 +25,7 @@ fn write(slots: &mut [u8], used: usize, text: &str) -> usize
     end
 }
 
-// The same of a number, and a text behind it.
+// The same for a number, and a text after it.
 fn write_number(slots: &mut [u8], used: usize, number: u64, text: &str) -> usize
     requires { used ≤ length slots.old }
     ensures written { (words before : List ℕ) → AreWritten words before slots.old used →
@@ -37,7 +37,7 @@ fn write_number(slots: &mut [u8], used: usize, number: u64, text: &str) -> usize
     write(slots, end, text)
 }
 
-// The same of what is next.
+// The same for the next item.
 fn write_next(slots: &mut [u8], used: usize, next: Option<Offered>) -> usize
     requires { used ≤ length slots.old }
     ensures written { (words before : List ℕ) → AreWritten words before slots.old used →
@@ -54,7 +54,7 @@ fn write_next(slots: &mut [u8], used: usize, next: Option<Offered>) -> usize
     }
 }
 
-// Writes what a cause says to the front, as much of it as there is room for, and tells how many bytes of it stand there.
+// Writes the text of a cause to the front, as much of it as there is room for, and returns how many bytes were written.
 fn write_said(slots: &mut [u8], said: Said) -> usize
     ensures { AreWritten (said_words said) slots.old slots.new result }
 {
@@ -89,7 +89,7 @@ fn write_said(slots: &mut [u8], said: Said) -> usize
     }
 }
 
-/// Writes the words of a cause to the front, as much of them as there is room for, and tells how many bytes of them stand there.
+/// Writes the text of a cause to the front, as much of it as there is room for, and returns how many bytes were written.
 ///
 /// In use: `ring_page::page_calls`, `queue_calls_c::ring_audit_hear`.
 pub fn write_cause(slots: &mut [u8], cause: Cause) -> usize

@@ -1,4 +1,4 @@
--- Where a line begins: what stands in front is read as before, whatever comes next.
+-- Prefixes of a line: what is in front is read as before, whatever comes next.
 use Rattle.std.proofs.Common.{below_more, ◌≡◌, ◌≢◌, ◌⊎◌, ℕ, zero, suc, ◌+◌, ◌-◌, ◌*◌, ◌<◌, ◌≤◌, ◌^◌, Bool, true, false, cond, Option, Some, None, List, [], ◌∷◌, ◌++◌, length, get_or, drop, refl, ap, ap₂, sym, subst, ◌∙◌, append_assoc, inl, inr, arith}
 use Rattle.std.specs.Prelude.{codes, decimal, nat_lt, ◌==◌}
 use Rattle.std.specs.Char.{is_ascii_digit}
@@ -36,7 +36,7 @@ digits_on n (b ∷ bytes) m rest more e some =
           ] k
     ] refl e
 
--- digits that are no number stay none
+-- digits that are not a number never become one
 digits_none : (n : ℕ) (bytes more : List ℕ) → digits_after n bytes ≡ None → digits_after n (bytes ++ more) ≡ None
 unfolding digits_after
 digits_none n [] more e = absurd (none-some (n, []) (sym e))
@@ -268,7 +268,7 @@ allowed_at_most PutSome (n ∷ m ∷ more) allowed = absurd allowed
 allowed_at_most Take (n ∷ m ∷ more) allowed = absurd allowed
 allowed_at_most w (n ∷ more) allowed = absurd allowed
 
--- what begins no line so becomes none
+-- what begins no line in this way becomes none
 pub begins_none_line : (is_first : Bool) (bytes : List ℕ) → ¬ BeginsLine is_first bytes → BeginsNoLine is_first bytes
 begins_none_line is_first bytes none rest word numbers place is =
     none (record { word = word; numbers = numbers; rest = rest; parts = is.text; place = place; small = is.small; many = allowed_at_most word numbers is.allowed })
@@ -300,11 +300,11 @@ pub other_words :
     ¬ ((tells_queue word ≡ is_first) × (rest : List ℕ) × (word_text word ≡ bytes ++ rest))
 other_words is_first bytes n before here = below_more (λ k. (word : Word) → word_of k ≡ Some word → ¬ ((tells_queue word ≡ is_first) × (rest : List ℕ) × (word_text word ≡ bytes ++ rest))) n before here
 
--- where no number of them may follow, nothing may
+-- if no number may follow, nothing may
 pub nothing_begins : (most : Option ℕ) (bytes : List ℕ) → bytes ≢ [] → most ≡ Some 0 → ¬ BeginsNumbers most bytes
 nothing_begins most bytes some none begins = no_room bytes some (subst (λ m. BeginsNumbers m bytes) none begins)
 
--- nothing begins a line
+-- the empty text begins a line
 pub nothing_begun : (is_first : Bool) → BeginsLine is_first []
 nothing_begun true = word_begins true [] (Queue, refl, word_text Queue, refl)
 nothing_begun false = word_begins false [] (Put, refl, word_text Put, refl)

@@ -1,4 +1,4 @@
--- A line: what is read of it is its word and its numbers, it has no other, and there is no line feed in it.
+-- A line: what is read from it is its word and its numbers, it has no other, and there is no line feed in it.
 use Rattle.std.proofs.Common.{◌≡◌, ◌≢◌, ℕ, ◌+◌, ◌%◌, ◌<◌, ◌^◌, true, Option, Some, None, List, [], ◌∷◌, ◌++◌, length, refl, ap, ap₂, sym, subst, ◌∙◌, append_assoc, inl, inr, arith}
 use Rattle.std.specs.Prelude.{codes, decimal, nat_lt, All}
 use Rattle.std.specs.List.{list_all}
@@ -18,7 +18,7 @@ use Rattle.call_lines.proofs.LineReadings.{spaced_number-again}
 
 -- ---- the word
 
--- bytes begin with the word that is read, behind what is before them
+-- bytes begin with the word that is read, after what comes before them
 abbrev Tells : List ℕ → List ℕ → Word × List ℕ → Type 0
 Tells front bytes x = front ++ bytes ≡ word_text x.0 ++ x.1
 
@@ -89,11 +89,11 @@ line_is bytes rest w numbers read are allowed = record {
   small = are.1;
 }
 
--- what is read of a line
+-- what is read from a line
 read_of_line : (bytes : List ℕ) (w : Word) (numbers : List ℕ) → IsLine bytes w numbers → line_word_at bytes ≡ Some (w, numbers_text numbers)
 read_of_line bytes w numbers is = ap line_word_at is.text ∙ word_at-again w numbers
 
--- what is behind its word
+-- what comes after its word
 behind : (bytes rest : List ℕ) (w : Word) → Some (w, rest) ≡ line_word_at bytes → (other : Word) (told : List ℕ) → IsLine bytes other told → ◌≡◌ {A = Word × List ℕ} (w, rest) (other, numbers_text told)
 behind bytes rest w read other told is = same_Some (w, rest) (other, numbers_text told) (read ∙ read_of_line bytes other told is)
 
@@ -131,7 +131,7 @@ no_feed_word w = no_feed_text (word_text w) refl
 pub line_no_feed : (bytes : List ℕ) (w : Word) (numbers : List ℕ) → IsLine bytes w numbers → HasNoFeed bytes
 line_no_feed bytes w numbers is = subst HasNoFeed (sym is.text) (All-append IsOther (word_text w) (numbers_text numbers) (no_feed_word w) (no_feed_numbers numbers is.small))
 
--- a word, and behind it more numbers than there is room for
+-- a word, followed by more numbers than there is room for
 pub begins_with_numbers : (bytes rest : List ℕ) (w : Word) (numbers more : List ℕ) (room : ℕ) → Some (w, rest) ≡ line_word_at bytes → rest ≡ numbers_text numbers ++ more → AreSmall numbers
     → room < length numbers → BeginsWithNumbers room bytes
 begins_with_numbers bytes rest w numbers more room read are small many = record {

@@ -1,4 +1,4 @@
--- The parts of a line: what is read stands at the front, and what stands there is read again.
+-- The parts of a line: what is read is at the front, and what is there is read again.
 use Rattle.std.proofs.Common.{◌≡◌, ◌≢◌, ◌⊎◌, ℕ, ◌+◌, ◌<◌, ◌^◌, Option, Some, None, List, [], ◌∷◌, ◌++◌, length, take, drop, refl, ap, ap₂, sym, subst, ◌∙◌, append_assoc, length-append, inl, inr, arith}
 use Rattle.std.specs.Prelude.{codes, decimal}
 use Rattle.std.specs.Str.{bytes_eq}
@@ -13,7 +13,7 @@ use Rattle.line_parts.proofs.TextReading.{after-text, then_or_else-some}
 use Rattle.line_parts.proofs.NumberReading.{EndsDigits, number_at-text, number_at-again}
 use Rattle.call_lines.specs.LineReading.{spaced_number}
 
--- ---- a number behind a space
+-- ---- a number after a space
 
 pub spaced_number-text : (bytes : List ℕ) (x : ℕ × List ℕ) → spaced_number bytes ≡ Some x → (bytes ≡ (codes " " ++ decimal x.0) ++ x.1) × (x.0 < 2 ^ 64)
 unfolding spaced_number
@@ -25,7 +25,7 @@ spaced_number-text bytes x e =
       | inr k ↦ absurd (none-some x k)
     ]
 
--- numbers end the digits before them
+-- digits before numbers end there
 pub ends_digits : (numbers : List ℕ) → EndsDigits (numbers_text numbers)
 ends_digits [] = tt
 ends_digits (n ∷ numbers) = refl
@@ -56,7 +56,7 @@ shorter left rest n read =
     let o : length (codes " " ++ decimal n) ≡ 1 + length (decimal n) = length-append (codes " ") (decimal n) in
     omega (arith, l, o)
 
--- what is left where numbers were left and one was read
+-- what is left, if numbers were left and one was read
 pub left_more : (left rest more : List ℕ) (n : ℕ) → length left ≢ 0 → Some (n, rest) ≡ spaced_number left → AreSmall more → left ≡ numbers_text more
     → (others : List ℕ) × AreSmall others × (rest ≡ numbers_text others)
 left_more left rest [] n some read small text = absurd (some (ap length text))
@@ -64,7 +64,7 @@ left_more left rest (m ∷ others) n some read small text =
     let same : (n, rest) ≡ (m, numbers_text others) = same_Some (n, rest) (m, numbers_text others) (read ∙ ap spaced_number text ∙ spaced_number-again m others (All-head (λ k. k < 2 ^ 64) m others small)) in
     (others, All-tail (λ k. k < 2 ^ 64) m others small, ap (λ (y : ℕ × List ℕ). y.1) same)
 
--- where no number is read, no numbers are left
+-- if no number is read, no numbers are left
 pub left_none : (left more : List ℕ) → length left ≢ 0 → None ≡ spaced_number left → AreSmall more → left ≢ numbers_text more
 left_none left [] some read small text = some (ap length text)
 left_none left (m ∷ others) some read small text =

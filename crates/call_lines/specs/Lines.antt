@@ -3,6 +3,7 @@ use Rattle.std.specs.Prelude.{◌≡◌, ◌==◌, ℕ, ◌≤◌, ◌<◌, ◌^
 use Rattle.call_lines.specs.declared.lines.Word.{Word}
 use Rattle.call_lines.specs.declared.lines.Word.TheVariants.{Queue, Cut, Put, Stored, PutSome, Full, Short, PutNothing, PutClosed, Close, Take, Item, TakeSome, Empty, TakeShort, TakeNothing, TakeClosed}
 
+-- the text of a word
 abbrev pub word_text : Word → List ℕ
 word_text Queue = codes "queue"
 word_text Cut = codes "cut queue"
@@ -22,7 +23,7 @@ word_text TakeShort = codes "C short"
 word_text TakeNothing = codes "C nothing"
 word_text TakeClosed = codes "C closed"
 
--- the word of a number, by which a program tells it: as the recorders number them, and then those of a first line
+-- the word of a number, by which a program identifies it: as the recorders number them, and then those of a first line
 abbrev pub word_of : ℕ → Option Word
 word_of n =
     if n == 0 then Some Put else
@@ -52,15 +53,15 @@ numbers_text numbers = flat_map (λ n. codes " " ++ decimal n) numbers
 abbrev pub line_text : Word → List ℕ → List ℕ
 line_text word numbers = word_text word ++ numbers_text numbers
 
--- the numbers that may tell a queue: none, its capacity, or two that its capacity lies between
+-- the numbers that may state a capacity: none, its capacity, or two that its capacity lies between
 abbrev pub AllowsQueue : List ℕ → Type 0
 AllowsQueue [] = Unit {0}
 AllowsQueue (most ∷ []) = 1 ≤ most
 AllowsQueue (full ∷ most ∷ []) = full < most
 AllowsQueue (full ∷ most ∷ other ∷ more) = ⊥
 
--- the numbers that may follow a word: of a queue those above; of a put and of a take that gives items, the items; of a put that ends,
--- how many were stored; of a take, how many are asked for, where more than one
+-- the numbers that may follow a word: for a queue those above; for a put and for a take that took items, the items; for a put that
+-- ends, how many were stored; for a take, how many are requested, if more than one
 abbrev pub Allows : Word → List ℕ → Type 0
 Allows Queue numbers = AllowsQueue numbers
 Allows Cut numbers = AllowsQueue numbers

@@ -1,4 +1,4 @@
-//! The beginnings of lines: whether bytes may still become one.
+//! Prefixes of lines: whether bytes may still become a line.
 ghost use Rattle.std.specs.Prelude.{◌≡◌, ◌↔◌, ◌++◌, IsTrue, List, Some, ℕ, codes, false};
 ghost use Rattle.call_lines.specs.Lines.{word_text};
 ghost use Rattle.call_lines.specs.Beginnings.{BeginsAWord, BeginsAfterWord, BeginsLine, BeginsNoLine, BeginsNumbers, most_numbers, one_less, tells_queue};
@@ -8,7 +8,7 @@ use crate::lines::{Word, spaced_number, word_at};
 // How many words there are, by their numbers.
 const WORDS: u32 = 17;
 
-// Whether a line of this word says what queue it is.
+// Whether a line of this word states the queue's capacity.
 fn tells_queue(word: Word) -> bool
     ensures { result ≡ tells_queue word }
 {
@@ -30,14 +30,14 @@ fn most_numbers(word: Word) -> Option<usize>
     }
 }
 
-// Whether the text of the word, which may stand there, begins with these bytes.
+// Whether the text of the word, which may come there, begins with these bytes.
 fn begins_word(bytes: &[u8], is_first: bool, word: Word) -> bool
     ensures { IsTrue result ↔ ((tells_queue word ≡ is_first) × (rest : List ℕ) × (word_text word ≡ bytes.now ++ rest)) }
 {
     tells_queue(word) == is_first && word.text().as_bytes().starts_with(bytes)
 }
 
-// Whether the text of a word that may stand there begins with these bytes.
+// Whether the text of a word that may come there begins with these bytes.
 fn begins_some_word(bytes: &[u8], is_first: bool) -> bool
     ensures { IsTrue result ↔ BeginsAWord is_first bytes.now }
 {
@@ -51,7 +51,7 @@ fn begins_some_word(bytes: &[u8], is_first: bool) -> bool
     false
 }
 
-// Whether no number more may follow.
+// Whether no more numbers may follow.
 fn is_full(room: Option<usize>) -> bool
     ensures { IsTrue result ↔ (room ≡ Some 0) }
 {
@@ -81,7 +81,7 @@ fn is_space(bytes: &[u8]) -> bool
     }
 }
 
-// Whether the bytes begin the text of numbers, as many at most.
+// Whether the bytes begin the text of numbers, at most this many.
 fn begins_numbers(bytes: &[u8], most: Option<usize>) -> bool
     ensures { IsTrue result ↔ BeginsNumbers most bytes.now }
 {
@@ -100,7 +100,7 @@ fn begins_numbers(bytes: &[u8], most: Option<usize>) -> bool
     true
 }
 
-// Whether a word that may stand there is in front, and begun numbers after it.
+// Whether a word that may come there is in front, followed by a prefix of numbers.
 fn begins_after_word(bytes: &[u8], is_first: bool) -> bool
     ensures { IsTrue result ↔ BeginsAfterWord is_first bytes.now }
 {
@@ -111,12 +111,12 @@ fn begins_after_word(bytes: &[u8], is_first: bool) -> bool
 }
 
 /// Whether these bytes, in which no line has ended, may begin the first line of a recording, or a further one: with some bytes after
-/// them they are a word that may stand there and no more numbers than may follow it. If not, they become no line, whatever
-/// comes next.
+/// them they are a word that may come there and no more numbers than may follow it. If not, they become no line, whatever comes
+/// next.
 ///
 /// For example, `P put 1` may begin a further line, and `P put 01` begins none. It takes time linear in the bytes.
 ///
-/// In use: `queue_calls::RecordingIn`, of a line that does not end.
+/// In use: `queue_calls::RecordingIn`, for a line that does not end.
 pub fn may_begin(bytes: &[u8], is_first: bool) -> bool
     ensures begins { IsTrue result ↔ BeginsLine is_first bytes.now }
     ensures none { result ≡ false → BeginsNoLine is_first bytes.now }

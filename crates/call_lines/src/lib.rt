@@ -1,4 +1,4 @@
-//! The lines of the text of recorded calls: a word, and numbers in decimal behind it.
+//! The lines of the text of recorded calls: a word, and numbers in decimal after it.
 #![tactic(auto)]
 
 mod beginnings;

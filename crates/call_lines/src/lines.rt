@@ -12,9 +12,9 @@ use std::alloc::AllocError;
 /// For example, `Word::Put.text()` is `P put`.
 #[derive(Clone, Copy, PartialEq, Eq, Debug)]
 pub enum Word {
-    /// `queue`: what queue it is.
+    /// `queue`: the queue's capacity.
     Queue,
-    /// `cut queue`: what queue it is, of a recording that lacks the later calls.
+    /// `cut queue`: the queue's capacity, in a recording that lacks the later calls.
     Cut,
     /// `P put`: a put begins.
     Put,
@@ -49,7 +49,7 @@ pub enum Word {
 }
 
 impl Word {
-    /// The word as it stands in a line.
+    /// The word as it is in a line.
     pub fn text(self) -> &'static str
         ensures { result.now ≡ word_text self }
     {
@@ -74,7 +74,7 @@ impl Word {
         }
     }
 
-    /// Its number, by which a program tells it: 0 to 14 as `record/` numbers the kinds of events, 15 `queue` and 16 `cut queue`.
+    /// Its number, by which a program identifies it: 0 to 14 as `record/` numbers the kinds of events, 15 `queue` and 16 `cut queue`.
     ///
     /// In use: `ring_run::Recorder`, `ring_page::page_play_near`.
     pub fn number(self) -> u32
@@ -103,7 +103,7 @@ impl Word {
 
     /// The word of this number.
     ///
-    /// In use: `queue_calls_c`, by which C tells its lines.
+    /// In use: `queue_calls_c`, by which C identifies its lines.
     pub fn of_number(number: u32) -> Option<Word>
         ensures { result ≡ word_of number }
     {
@@ -130,9 +130,9 @@ impl Word {
     }
 }
 
-/// Reads one line, without its line feed: its word, and in `numbers` its numbers in place of what was there. It is
-/// `None` where the bytes are no line of the format, and an error only where there was no room for the numbers; `numbers`
-/// may then hold anything.
+/// Reads one line, without its line feed: its word, with its numbers in `numbers`, replacing what was there. It is `None`
+/// if the bytes are not a line of the format, and an error only if there was no room for the numbers; `numbers` may then
+/// hold anything.
 pub fn read_line<R: Store<u64>>(bytes: &[u8], numbers: &mut R) -> Result<Option<Word>, AllocError>
     ensures line { IfOk result (λ read. IfSome read (λ word. IsLine bytes.now word (R.items numbers.new))) }
     ensures none { IfOk result (λ read. read ≡ None → (word : Word) (told : List ℕ) → ¬ IsLine bytes.now word told) }
@@ -149,7 +149,7 @@ pub fn read_line<R: Store<u64>>(bytes: &[u8], numbers: &mut R) -> Result<Option<
     }
 }
 
-// The word at the front, and the bytes behind it.
+// The word at the front, and the bytes after it.
 pub(crate) fn word_at(bytes: &[u8]) -> Option<(Word, &[u8])>
     ensures { option_map (λ x. (x.0, x.1.now)) result ≡ line_word_at bytes.now }
 {
@@ -219,7 +219,7 @@ fn take_word_at(bytes: &[u8]) -> Option<(Word, &[u8])>
     Some((Word::TakeSome, rest))
 }
 
-// Reads numbers with a space before each of them, and tells whether the bytes are such.
+// Reads numbers with a space before each of them, and returns whether the bytes are such.
 fn read_numbers<R: Store<u64>>(bytes: &[u8], numbers: &mut R) -> Result<bool, AllocError>
     ensures read { IfOk result (λ read. ReadsNumbers bytes.now read (R.items numbers.new)) }
     ensures full { OnErr result ((told : List ℕ) × (rest : List ℕ) × (bytes.now ≡ numbers_text told ++ rest) ×
@@ -247,7 +247,7 @@ pub(crate) fn spaced_number(bytes: &[u8]) -> Option<(u64, &[u8])>
     number_at(digits)
 }
 
-/// Whether these numbers may stand behind the word.
+/// Whether these numbers may come after the word.
 ///
 /// In use: `uses::hearings::of_queue`.
 pub fn allows(word: Word, numbers: &[u64]) -> bool

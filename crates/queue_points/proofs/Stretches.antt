@@ -6,7 +6,7 @@ use Rattle.queue_points.specs.Steps.{stretch}
 few : (n m : ℕ) → n ≤ m → min n m ≡ n
 few n m l = omega (arith, l)
 
--- up to a place more
+-- up to one more place
 pub longer : (row : List ℕ) (from to : ℕ) → from ≤ to → to < length row → stretch row from (suc to) ≡ stretch row from to ++ get_or row to 0 ∷ []
 longer [] from to order within = absurd (omega (arith, within))
 longer (x ∷ row) zero zero order within = refl
@@ -28,6 +28,6 @@ none [] (suc to) = refl
 none (x ∷ row) zero = refl
 none (x ∷ row) (suc to) = none row to
 
--- how many they are
+-- their number
 pub long : (row : List ℕ) (from to : ℕ) → to ≤ length row → length (stretch row from to) ≡ to - from
 long row from to within = length-drop from (take to row) ∙ ap (λ n. n - from) (length-take to row ∙ few to (length row) within)

@@ -1,4 +1,4 @@
--- What a side of a history is in, as it is kept where operations take effect at moments that are told.
+-- The state of a side of a history, as it is kept if operations take effect at given moments.
 use Rattle.std.specs.Prelude.{ℕ, List, take, drop}
 use Rattle.queue_calls.specs.Queue as queues
 use Rattle.queue_calls.specs.Calls.{Producer, Consumer}
@@ -10,7 +10,7 @@ use Rattle.queue_points.specs.declared.steps.PutStand.TheVariants.{Idle, Putting
 use Rattle.queue_points.specs.declared.steps.TakeStand.{TakeStand}
 use Rattle.queue_points.specs.declared.steps.TakeStand.TheVariants.{Resting, Taking, FoundClosed}
 
--- an operation as one of a queue
+-- an operation as one of the specification
 abbrev pub done : Operation → queues.Operation
 done (Enqueue item) = queues.Enqueue item
 done (FindNoRoom count) = queues.FindNoRoom count
@@ -24,19 +24,20 @@ done FindClosed = queues.FindClosed
 abbrev pub stretch : List ℕ → ℕ → ℕ → List ℕ
 stretch row from to = drop from (take to row)
 
--- what the sides are in: a take has taken the items of the row from a place on, up to those still inside
+-- the producer's state
 abbrev pub producer_of : PutStand → Producer
 producer_of Idle = calls.Idle
 producer_of (Putting lacked stored items) = calls.Putting lacked stored (drop stored items.now)
 producer_of FoundShut = calls.FoundShut
 producer_of (Closing stored) = calls.Closing stored
 
+-- the consumer's state: a take has taken the items of the row from a place on, up to those still inside
 abbrev pub consumer_of : List ℕ → ℕ → TakeStand → Consumer
 consumer_of row head Resting = calls.Resting
 consumer_of row head (Taking lacked from left) = calls.Taking lacked (stretch row from head) left
 consumer_of row head FoundClosed = calls.FoundClosed
 
--- where in the row the take under way began
+-- the place in the row at which the take under way began
 abbrev pub began_at : TakeStand → ℕ
 began_at Resting = 0
 began_at (Taking lacked from left) = from

@@ -1,4 +1,4 @@
-//! Linearization points: histories of calls that are told with the moments at which their operations take effect.
+//! Linearization points: histories of calls together with the moments at which their operations take effect.
 #![tactic(auto)]
 
 mod points;

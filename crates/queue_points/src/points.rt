@@ -1,4 +1,4 @@
-//! Histories whose operations take effect at moments that are told.
+//! Histories whose operations take effect at given moments.
 ghost use Rattle.std.specs.Prelude.{◌≡◌, ◌≤◌, ◌-◌, ◌↔◌, [], IfSome, IsNone, IsTrue, List, length};
 ghost use Rattle.queue_points.specs.Steps.{began_at};
 
@@ -10,11 +10,11 @@ use queue_calls::{Capacity, Event};
 
 /// A history of calls, and the moments at which the operations of its calls take effect: its linearization points.
 ///
-/// It is told one after the other what comes: an event, or that an operation takes effect. It keeps the queue, as the operations leave
-/// it, and what each side is in, and refuses what cannot come next. Where it has accepted all, the history of the events is
-/// linearizable, by these very moments.
+/// It is fed one after the other: an event, or that an operation takes effect. It keeps the queue that results from the operations and
+/// the state of each side, and refuses what cannot come next. If it has accepted all, the history of the events is linearizable, with
+/// exactly these moments.
 ///
-/// For example, behind `happens(Event::PutBegins(&[5]))`, `takes_effect(Operation::Enqueue(5))` and
+/// For example, after `happens(Event::PutBegins(&[5]))`, `takes_effect(Operation::Enqueue(5))` and
 /// `happens(Event::PutStored(1))` the queue holds 5.
 #[derive(Drop)]
 pub struct LinearizationPoints<'a> {
@@ -39,8 +39,8 @@ impl<'a> LinearizationPoints<'a> {
     ghost use Rattle.queue_points.specs.Steps.{IsNoItem, done, stretch};
     ghost use Rattle.queue_calls.specs.Told.{meant, told};
 
-    /// Nothing has come yet, at a queue of this capacity. The row has the items in the order in which they will be put in; it may have
-    /// more.
+    /// Nothing has come yet, for a queue of this capacity. The row has the items in the order in which they will be put in; it may
+    /// have more.
     pub fn new(capacity: Capacity, row: &'a [u64]) -> LinearizationPoints<'a>
         ensures capacity { result.capacity ≡ capacity }
         ensures row { (result.row.now ≡ row.entry.now) × (result.tail ≡ 0) }
@@ -81,7 +81,7 @@ impl<'a> LinearizationPoints<'a> {
         }
     }
 
-    // Whether the queue may say that it has no room for so many more.
+    // Whether the queue may report that it has no room for this many more.
     fn lacks_room(&self, count: usize) -> bool
         ensures { IsTrue result ↔
             LacksRoom (meant self.now.capacity) (length (stretch self.now.row.now self.now.head self.now.tail)) count }
@@ -93,7 +93,7 @@ impl<'a> LinearizationPoints<'a> {
         }
     }
 
-    // Whether the queue is closed behind an operation that leaves the items as they are, where it finds the queue as it has to be.
+    // Whether the queue is closed after an operation that leaves the items unchanged, if it finds the queue as it has to be.
     fn closed_behind(&self, does: Operation) -> Option<bool>
         ensures step { IfSome result (λ closed. Step (meant self.now.capacity)
             (queue (stretch self.now.row.now self.now.head self.now.tail) self.now.closed) (done does)
@@ -114,8 +114,8 @@ impl<'a> LinearizationPoints<'a> {
         }
     }
 
-    /// An event comes. Whether it can: it is the next of its side, and a call that ends has taken effect as it answers. What cannot come
-    /// changes nothing.
+    /// An event comes. Returns whether it can: it is the next of its side, and a call that ends has taken effect with this result. What
+    /// cannot come changes nothing.
     pub fn happens(&mut self, event: Event<'a>) -> bool
         ensures { Accepts self.old (Happens (told event.entry)) result self.new }
     {
@@ -163,7 +163,7 @@ impl<'a> LinearizationPoints<'a> {
         true
     }
 
-    // The operation leaves the items as they are.
+    // The operation leaves the items unchanged.
     fn finds_so(&mut self, does: Operation) -> bool
         requires { IsNoItem does }
         ensures { Accepts self.old (Effect (done does)) result self.new }
@@ -183,8 +183,8 @@ impl<'a> LinearizationPoints<'a> {
         true
     }
 
-    /// An operation takes effect. Whether it can: its side's call is under way and does this next, and the queue is as it finds it. What
-    /// cannot come changes nothing.
+    /// An operation takes effect. Returns whether it can: its side's call is under way and does this next, and the queue is as it finds
+    /// it. What cannot come changes nothing.
     pub fn takes_effect(&mut self, does: Operation) -> bool
         ensures { Accepts self.old (Effect (done does)) result self.new }
     {

@@ -1,4 +1,4 @@
-//! What the sides of a history are in, and the operations that lead from one to another.
+//! The states of the sides of a history, and the operations that lead from one to another.
 ghost use Rattle.std.specs.Prelude.{◌≡◌, ◌<◌, ◌≤◌, ◌↔◌, IfSome, IsNone, IsTrue, get_or, length, suc};
 ghost use Rattle.queue_calls.specs.Queue.{Dequeue};
 ghost use Rattle.queue_calls.specs.Calls.{Happens, Effect, Producer, Consumer, TakeItems, Taking, ProducerStep, ConsumerStep, short_of};
@@ -9,12 +9,12 @@ use queue_calls::Event;
 
 /// What an operation of a queue does.
 ///
-/// For example, `Operation::FindNoRoom(1)` is what a put does that finds the queue full.
+/// For example, `Operation::FindNoRoom(1)` is that of a put that finds the queue full.
 #[derive(Clone, Copy, PartialEq, Eq, Debug)]
 pub enum Operation {
     /// It puts the item in.
     Enqueue(u64),
-    /// It finds no room for so many items.
+    /// It finds no room for this many items.
     FindNoRoom(usize),
     /// A put finds the queue closed.
     FindShut,
@@ -22,13 +22,13 @@ pub enum Operation {
     Close,
     /// It takes the item out.
     Dequeue(u64),
-    /// It finds fewer than so many items, and more may come.
+    /// It finds fewer than this many items, and more may come.
     FindFewer(usize),
     /// A take finds the queue empty and closed.
     FindClosed,
 }
 
-// What the producer is in, as `specs/Calls` has it.
+// The producer's state, as in `specs/Calls`.
 #[derive(Clone, Copy)]
 pub(crate) enum PutStand<'a> {
     Idle,
@@ -38,7 +38,7 @@ pub(crate) enum PutStand<'a> {
     Closing(bool),
 }
 
-// What the consumer is in.
+// The consumer's state.
 #[derive(Clone, Copy)]
 pub(crate) enum TakeStand {
     Resting,
@@ -47,8 +47,8 @@ pub(crate) enum TakeStand {
     FoundClosed,
 }
 
-// Whether so many is the reason for which a call passed so many items and left so many: one more than it passed, where it left some
-// and tells why.
+// Whether this number is the reason for which a call passed `count` items and left others: one more than it passed, if it left some
+// and says why.
 fn is_short_of(lacked: usize, why: bool, count: usize, left: usize) -> bool
     ensures { IsTrue result ↔ (lacked ≡ short_of why count left) }
 {
@@ -59,7 +59,7 @@ fn is_short_of(lacked: usize, why: bool, count: usize, left: usize) -> bool
     }
 }
 
-// What the producer is in behind an event.
+// The producer's state after an event.
 pub fn put_event<'a>(put: PutStand<'a>, event: Event<'a>) -> Option<PutStand<'a>>
     ensures step { IfSome result (λ after. ProducerStep (producer_of put.entry) (Happens (told event.entry))
         (producer_of after)) }
@@ -90,7 +90,7 @@ pub fn put_event<'a>(put: PutStand<'a>, event: Event<'a>) -> Option<PutStand<'a>
     }
 }
 
-// What the producer is in behind an operation.
+// The producer's state after an operation.
 pub fn put_effect(put: PutStand<'_>, does: Operation) -> Option<PutStand<'_>>
     ensures step { IfSome result (λ after. ProducerStep (producer_of put.entry) (Effect (done does))
         (producer_of after)) }
@@ -123,7 +123,7 @@ pub fn stretch(row: &[u64], from: usize, to: usize) -> &[u64]
     &row[from..to]
 }
 
-// What the consumer is in behind a take of these items.
+// The consumer's state after a take of these items.
 fn items_event(
     row: &[u64],
     head: usize,
@@ -150,7 +150,7 @@ fn items_event(
     Some(TakeStand::Resting)
 }
 
-// What the consumer is in behind an event, with so many items of the row taken out.
+// The consumer's state after an event, with `head` items of the row taken out.
 pub fn take_event(row: &[u64], head: usize, take: TakeStand, event: Event<'_>) -> Option<TakeStand>
     requires began { began_at take ≤ head }
     requires within { head ≤ length row.now }
@@ -184,7 +184,7 @@ pub fn take_event(row: &[u64], head: usize, take: TakeStand, event: Event<'_>) -
     }
 }
 
-// What the consumer is in where its take has taken one item more, that at the head.
+// The consumer's state after its take has taken one more item, that at the head.
 pub fn take_one(row: &[u64], head: usize, take: TakeStand) -> Option<TakeStand>
     requires began { began_at take ≤ head }
     requires within { head < length row.now }
@@ -202,7 +202,7 @@ pub fn take_one(row: &[u64], head: usize, take: TakeStand) -> Option<TakeStand>
     }
 }
 
-// What the consumer is in behind an operation that takes no item.
+// The consumer's state after an operation that takes no item.
 pub fn take_effect(row: &[u64], head: usize, take: TakeStand, does: Operation) -> Option<TakeStand>
     requires began { began_at take ≤ head }
     requires within { head ≤ length row.now }

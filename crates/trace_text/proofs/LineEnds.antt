@@ -134,9 +134,9 @@ shape_line_ends c m w g h small_c small_m small_w small_g small_h =
     let whole : (codes "shape " ++ from_capacity) ++ 10 ∷ [] ≡ shape_line c m w g h = simp append_assoc in
     subst IsShortLine whole (line_of (codes "shape " ++ from_capacity) (6 + (4 + (1 + (4 + (1 + (4 + 10)))))) all (omega arith))
 
--- ---- bytes that begin with a line
+-- ---- bytes that start with a line
 
--- no line feed stands within bytes that have none
+-- no line feed is within bytes that have none
 feed_behind : (xs ys a b : List ℕ) → HasNoFeed xs → length ys < length xs → xs ++ a ≢ ys ++ 10 ∷ b
 feed_behind [] ys a b none more e = omega (arith, more)
 feed_behind (x ∷ xs) [] a b none more e = All-head IsOther x xs none (ap (λ (t : List ℕ). get_or t 0 0) e)
@@ -158,6 +158,6 @@ line_before_more bytes front behind more line rest text none is e =
 pub too_long_a_line : (bytes more line rest : List ℕ) → HasNoFeed bytes → 31 ≤ length bytes → IsShortLine line → bytes ++ more ≢ line ++ rest
 too_long_a_line bytes more line rest none long is e = feed_behind bytes is.ends.front more rest none (omega (arith, long, is.short)) (e ∙ line_parts line rest is.ends)
 
--- nor do bytes with no line feed by themselves
+-- nor do bytes with no line feed on their own
 pub no_line_ended : (bytes line rest : List ℕ) → HasNoFeed bytes → EndsAtFeed line → bytes ≢ line ++ rest
 no_line_ended bytes line rest none is e = feed_nowhere bytes is.front rest none (e ∙ line_parts line rest is)

@@ -1,4 +1,4 @@
--- The parts of a line: what is read stands at the front, and what stands there is read again.
+-- The parts of a line: what is read is at the front, and what is there is read again.
 use Rattle.std.proofs.Common.{◌≡◌, ◌⊎◌, ℕ, ◌<◌, Bool, true, false, cond, Option, Some, None, List, [], ◌∷◌, ◌++◌, length, take, drop, refl, ap, ap₂, sym, subst, ◌∙◌, append_assoc, inl, inr, arith}
 use Rattle.std.specs.Prelude.{codes, decimal, nat_lt, ◌==◌}
 use Rattle.std.specs.Str.{bytes_eq}
@@ -21,7 +21,7 @@ use Rattle.line_parts.specs.Parts.{after, number_at}
 use Rattle.line_parts.proofs.TextReading.{after-text}
 use Rattle.line_parts.proofs.NumberReading.{EndsDigits, number_at-text, number_at-again}
 
--- the value of a step that there was
+-- the value of a step that succeeded
 pub bind_some : {A B : Type 0} (r : Option A) (f : A → Option B) (y : B) → (r >>= f) ≡ Some y → (x : A) × (r ≡ Some x) × (f x ≡ Some y)
 bind_some (Some x) f y e = (x, refl, e)
 bind_some None f y e = absurd (none-some y e)
@@ -190,7 +190,7 @@ bit_at-again (Cell j i) rest small ends = cell_at-again j i rest small.0 small.1
 
 -- ---- acts
 
--- an act goes with its word, and its value stands after the bit
+-- an act goes with its word, and its value comes after the bit
 pub act_at-text : (w : ActWord) (bytes : List ℕ) (x : Act × List ℕ) → act_at w bytes ≡ Some x → (word_text w ≡ act_text x.0) × Begins value_text bytes x
 unfolding act_at
 act_at-text Read bytes x e = subst (λ (y : Act × List ℕ). (word_text Read ≡ act_text y.0) × Begins value_text bytes y) (same_Some (ReadBegin, bytes) x e) (refl, refl)

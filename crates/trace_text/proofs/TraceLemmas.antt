@@ -1,4 +1,4 @@
--- Traces: what stands at the front, one event more, and the one reading of a text.
+-- Traces: what is at the front, one more event, and the one reading of a text.
 use Rattle.std.proofs.Common.{◌≡◌, ℕ, ◌+◌, ◌<◌, true, false, Some, None, List, [], ◌∷◌, ◌++◌, length, ap, sym, ◌∙◌, append_assoc, arith}
 use Rattle.std.specs.Prelude.{codes, ◌==◌}
 use Rattle.std.proofs.lemmas.Bool.{false≢true}
@@ -15,7 +15,7 @@ use Rattle.trace_text.specs.TraceReading.{event_at, shape_at}
 use Rattle.trace_text.specs.Trace.{BeginsWithEvent, IsTraceAndMore, HasNoEvent, HasShapeLine}
 use Rattle.trace_text.proofs.TraceLines.{event_at-again, small_indices, shape_at-again}
 
--- the line of an event that stands at the front is read
+-- the line of an event at the front is read
 pub event_found : (shape : Shape) (bytes : List ℕ) (e : Event) (rest : List ℕ) → BeginsWithEvent shape bytes e rest → event_at bytes ≡ Some (e, rest)
 event_found shape bytes e rest begins = ap event_at begins.1 ∙ event_at-again e rest (small_indices shape e.bit begins.0)
 
@@ -27,12 +27,12 @@ other_event_read shape bytes f after read outside e rest begins =
     let same : (f, after) ≡ (e, rest) = same_Some (f, after) (e, rest) (sym read ∙ event_found shape bytes e rest begins) in
     false≢true (sym outside ∙ ap (λ (x : Event × List ℕ). belongs shape x.0.bit) same ∙ begins.0)
 
--- the line of numbers that stands at the front is read
+-- the line of numbers at the front is read
 pub no_shape_read : (bytes : List ℕ) → shape_at bytes ≡ None → (capacity modulus width batch take_batch : ℕ) → ¬ HasShapeLine bytes capacity modulus width batch take_batch
 no_shape_read bytes none capacity modulus width batch take_batch line =
     none-some _ (sym none ∙ ap shape_at line.text ∙ shape_at-again capacity modulus width batch take_batch line.rest line.short_capacity line.short_modulus line.short_width line.short_batch line.short_take_batch)
 
--- one event more
+-- one more event
 pub text_more : (shape : Shape) (events : List Event) (e : Event) (bytes rest others : List ℕ) → bytes ≡ trace_text shape events ++ rest → rest ≡ event_line e ++ others
     → bytes ≡ trace_text shape (events ++ e ∷ []) ++ others
 text_more shape events e bytes rest others text begins =
@@ -46,7 +46,7 @@ AreOfShape-push shape events e all one = All-push (λ (f : Event). belongs shape
 pub length-push : (events : List Event) (e : Event) → length (events ++ e ∷ []) ≡ length events + 1
 length-push events e = length-append events (e ∷ [])
 
--- the line of an event has a byte at least
+-- the line of an event has at least one byte
 pub line_takes : (e : Event) (rest : List ℕ) → length rest < length (event_line e ++ rest)
 line_takes e rest = omega (arith, length-append (event_line e) rest, some_byte e.side (act_text e.act ++ (bit_text e.bit ++ (value_text e.act ++ codes "\n")))) where
   some_byte : (s : Side) (t : List ℕ) → 0 < length (side_text s ++ t)

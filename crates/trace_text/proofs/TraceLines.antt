@@ -1,4 +1,4 @@
--- The lines of a trace: what is read stands at the front, and what stands there is read again.
+-- The lines of a trace: what is read is at the front, and what is there is read again.
 use Rattle.std.proofs.Common.{◌≡◌, ◌⊎◌, ℕ, ◌<◌, true, false, cond, Some, None, List, [], ◌++◌, refl, ap, sym, subst, ◌∙◌, append_assoc, inl, inr, arith}
 use Rattle.std.specs.Prelude.{◌==◌, codes, decimal, nat_lt}
 use Rattle.std.proofs.lemmas.Bool.{and_parts, eqb-true, ltb-true}
@@ -264,7 +264,7 @@ shape_at-again capacity modulus width batch take_batch rest short_capacity short
       batches_at-again batch take_batch rest short_batch short_take_batch,
     ) refl
 
--- the numbers of a line stand for those of a shape
+-- the numbers of a line represent those of a shape
 pub begins_numbers : (bytes rest : List ℕ) (n : Numbers) (shape : Shape) → BeginsShape bytes (n, rest) → HasBatches n.capacity n.modulus n.width n.batch n.take_batch shape → BeginsWithShape bytes shape rest
 begins_numbers bytes rest n shape begins is =
     begins.text ∙ ap (λ (k : ℕ). shape_line k n.modulus n.width n.batch n.take_batch ++ rest) (sym is.capacity_is)

@@ -70,7 +70,7 @@ shape_not_bad bytes s rest fault begins bad =
 
 -- ---- the lines of events
 
--- each event is one of a bit of the shape
+-- each event is of a bit of the shape
 abbrev EachOf : Shape → List Event → Type 0
 EachOf shape [] = Unit {0}
 EachOf shape (e ∷ es) = (belongs shape e.bit ≡ true) × EachOf shape es
@@ -82,7 +82,7 @@ EachOf-from shape (e ∷ es) all = (all 0 e (omega arith), EachOf-from shape es 
 abbrev lines : List Event → List ℕ
 lines es = flat_map event_line es
 
--- of two rows of lines at the front of the same bytes, one goes on with the other's rest
+-- of two lists of lines at the front of the same bytes, one continues with the other's rest
 Compared : Shape → Shape → List Event → List Event → List ℕ → List ℕ → Type 0
 Compared s t es fs rest rest' = ((more : List Event) × (fs ≡ es ++ more) × (rest ≡ lines more ++ rest') × EachOf t more)
     ⊎ ((more : List Event) × (es ≡ fs ++ more) × (rest' ≡ lines more ++ rest) × EachOf s more)
@@ -122,7 +122,7 @@ Read-text bytes s es trace = record { text = trace.text ∙ sym (append-nil (tra
 Read-whole : (bytes : List ℕ) (s : Shape) (es : List Event) → IsTrace bytes s es → Read bytes s es []
 Read-whole bytes s es trace = record { text = trace.text ∙ sym (append-nil (trace_text s es)); each = EachOf-from s es trace.of_shape }
 
--- two readings of a front of the same bytes
+-- two readings of a prefix of the same bytes
 record Agree (s t : Shape) (es fs : List Event) (rest rest' : List ℕ) : Type 0 where
   pub shape : s ≡ t
   pub events : Compared s t es fs rest rest'
@@ -161,7 +161,7 @@ one_reading bytes s t es fs a b = one_text_reading bytes s t es fs (record { tex
 
 -- ---- faults
 
--- if no event's line stands at the front, no more lines were read
+-- if no event's line is at the front, no more lines were read
 no_more : (s t : Shape) (more : List Event) (rest rest' : List ℕ) → s ≡ t → HasNoEvent s rest → rest ≡ lines more ++ rest' → EachOf t more → more ≡ []
 no_more s t [] rest rest' same none e of_t = refl
 no_more s t (x ∷ more) rest rest' same none e of_t =
@@ -195,7 +195,7 @@ bad_line_not_long bytes n a b =
       | inr r ↦ omega (arith, length-of b.events a.events r.0 r.1, a.room, b.full)
     ]
 
--- bytes that go on after the events of a text with something that is no event are no text
+-- bytes that continue after the events of a text with something that is not an event are not a text
 no_event_no_text : (bytes : List ℕ) (s t : Shape) (es fs : List Event) (rest : List ℕ) → IsTraceAndMore bytes s es rest → HasNoEvent s rest → ¬ IsTraceText bytes t fs
 unfolding Compared
 no_event_no_text bytes s t es fs rest goes_on no_event b =
@@ -236,7 +236,7 @@ bad_shape_once bytes f g a b =
 bad_shape_stops : (bytes : List ℕ) (f : ShapeFault) (s : Shape) (es : List Event) (rest : List ℕ) → HasBadShape bytes f → ¬ IsTraceAndMore bytes s es rest
 bad_shape_stops bytes f s es rest a g = shape_not_bad bytes s (lines es ++ rest) f (text_begins bytes s es rest g.text) a
 
--- bytes with a fault are no trace
+-- bytes with a fault are not a trace
 pub faulty_is_no_trace : (bytes : List ℕ) (fault : TraceFault) (s : Shape) (es : List Event) → IsTraceFault bytes fault → ¬ IsTrace bytes s es
 faulty_is_no_trace bytes (BadShape f) s es fault trace = shape_not_bad bytes s (lines es) f trace.text fault
 faulty_is_no_trace bytes (BadLine n) s es (inl none) trace = none.1 (capacity_of s) (modulus_of s) (width_of s) (batch_of s) (take_batch_of s) (shape_has_line bytes s (lines es) trace.text)
@@ -246,14 +246,14 @@ faulty_is_no_trace bytes OutOfMemory s es fault trace = fault
 
 -- ---- traces of any length
 
--- a trace is one of no more events than a trace may have
+-- a trace is one with no more events than a trace may have
 pub trace_is_text : TraceIsText
 trace_is_text bytes shape events = (
   λ trace. (record { text = trace.text; of_shape = trace.of_shape }, trace.within),
   λ both. record { text = both.0.text; of_shape = both.0.of_shape; within = both.1 },
 )
 
--- bytes that are refused are none
+-- bytes that are refused are not a trace
 pub refused_is_no_text : RefusedIsNoText
 refused_is_no_text bytes (BadShape f) s es counted fault trace = shape_not_bad bytes s (lines es) f trace.text fault
 refused_is_no_text bytes (BadLine n) s es counted (inl none) trace = none.1 (capacity_of s) (modulus_of s) (width_of s) (batch_of s) (take_batch_of s) (shape_has_line bytes s (lines es) trace.text)

@@ -39,7 +39,7 @@ text_bytes text shape events is =
     let whole : length text ≡ length line + length (flat_map event_line events) = ap length is.text ∙ length-append line (flat_map event_line events) in
     omega (arith, whole, many_bytes events, shape_bytes (capacity_of shape) (modulus_of shape) (width_of shape) (batch_of shape) (take_batch_of shape))
 
--- ---- bytes that begin with no line
+-- ---- bytes that start with no line
 
 pub no_line_more : (h : Option TraceHearing) (bytes line behind more : List ℕ) → EndsAtFeed line → bytes ≡ line ++ behind → BeginsWithNoLine h bytes → BeginsWithNoLine h (bytes ++ more)
 no_line_more None bytes line behind more ends text none = λ c m w g h has.
@@ -97,7 +97,7 @@ behind_ended (Some hearing) heard fault text rest is behind ended none there =
     let counted : IsFaultBehind (length ended.events) fault = subst (λ (n : ℕ). IsFaultBehind n fault) (ap (λ (x : TraceHearing). x.count) same ∙ ended.heard.count) behind in
     behind_events fault ended.shape ended.events text rest ended.is counted (subst (λ (s : Shape). HasNoEvent s rest) ended.heard.of_shape none) (λ nothing. none-some hearing (sym (there nothing)))
 
--- a line that has ended and is none
+-- bytes that have ended and are not a line
 pub no_line_refused : (fault : TraceFault) (h : Option TraceHearing) (bytes line behind text more : List ℕ)
     → ((rest : List ℕ) → BeginsWithNoLine h rest → (rest ≡ [] → h ≡ None) → RefusesTraceText (text ++ rest) fault)
     → EndsAtFeed line → bytes ≡ line ++ behind → BeginsWithNoLine h bytes → RefusesTraceText (text ++ (bytes ++ more)) fault
@@ -116,14 +116,14 @@ bad_shape_more fault text bytes more none bad = subst (λ (t : List ℕ). HasBad
   short_take_batch = bad.line.short_take_batch;
 }))
 
--- the lines heard are so many that one more cannot be counted
+-- the lines heard are too many for one more to be counted
 pub too_many : (h : Option TraceHearing) (heard : TraceHearing) (text rest : List ℕ) → h ≡ Some heard → heard.count ≡ 2 ^ 64 - 1 → HasEnded h text → RefusesTraceText (text ++ rest) TooLong
 too_many None heard text rest is full ended = absurd (none-some heard is)
 too_many (Some hearing) heard text rest is full ended =
     let same : heard ≡ hearing = same_Some heard hearing (sym is) in
     omega (arith, full, ap (λ (x : TraceHearing). x.count) same, ended.heard.count, text_bytes text ended.shape ended.events ended.is, length-append text rest)
 
--- ---- one line more
+-- ---- one more line
 
 pub shape_ends : (shape : Shape) → EndsAtFeed (shape_line (capacity_of shape) (modulus_of shape) (width_of shape) (batch_of shape) (take_batch_of shape))
 shape_ends shape =

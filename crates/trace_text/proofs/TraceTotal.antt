@@ -22,12 +22,12 @@ Told bytes = ((shape : Shape) × (events : List Event) × IsTrace bytes shape ev
 
 -- ---- the lines of events
 
--- what follows events and is no event is a fault
+-- what follows events and is not an event is a fault
 bad_line : (bytes : List ℕ) (shape : Shape) (events : List Event) (rest : List ℕ) → IsTraceAndMore bytes shape events rest → length events < EVENT_LIMIT → HasNoEvent shape rest → Told bytes
 bad_line bytes shape events rest goes_on room no_event =
     inr (BadLine (length events + 2), inr (record { shape = shape; events = events; rest = rest; goes_on = goes_on; room = room; no_event = no_event; number = refl }))
 
--- what follows events is read or a fault, if what follows one event more is
+-- what follows events is read or a fault, if what follows one more event is
 next_line :
     (bytes : List ℕ) (shape : Shape) (events : List Event) (rest : List ℕ) → IsTraceAndMore bytes shape events rest → length events < EVENT_LIMIT →
     ((e : Event) (others : List ℕ) → length others < length rest → bytes ≡ trace_text shape (events ++ e ∷ []) ++ others → AreOfShape shape (events ++ e ∷ []) → Told bytes) →

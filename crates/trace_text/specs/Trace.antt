@@ -1,4 +1,4 @@
--- Which bytes are a trace, and why others are none.
+-- Which bytes are a trace, and why others are not.
 use Rattle.std.specs.Prelude.{◌≡◌, ◌≢◌, ◌⊎◌, ℕ, ◌+◌, ◌-◌, ◌^◌, ◌<◌, ◌≤◌, true, List, [], ◌∷◌, ◌++◌, length}
 use Rattle.trace_text.specs.declared.traces.TheConstants.{EVENT_LIMIT}
 use Rattle.bits_core.specs.declared.events.Event.{Event}
@@ -95,7 +95,7 @@ pub record HasBadLine (bytes : List ℕ) (line : ℕ) : Type 0 where
   pub no_event : HasNoEvent shape rest
   pub number : line ≡ length events + 2
 
--- the first fault of the bytes, line by line; a lack of memory is none
+-- the first fault of the bytes, line by line; out of memory is not one of them
 abbrev pub IsTraceFault : List ℕ → TraceFault → Type 0
 IsTraceFault bytes (BadShape fault) = HasBadShape bytes fault
 IsTraceFault bytes (BadLine line) = ((line ≡ 1) × ((capacity modulus width batch take_batch : ℕ) → ¬ HasShapeLine bytes capacity modulus width batch take_batch)) ⊎ HasBadLine bytes line
@@ -111,8 +111,8 @@ pub record HasBadEventLine (bytes : List ℕ) (line : ℕ) : Type 0 where
   pub no_event : HasNoEvent shape rest
   pub number : line ≡ length events + 2
 
--- why bytes are no trace of any length that is read to its end: the first fault, line by line; or that there are so many bytes that their lines may
--- be too many to be counted
+-- why bytes are not a trace of any length that is read to its end: the first fault, line by line; or that there are too many bytes for
+-- their lines to be counted
 abbrev pub RefusesTraceText : List ℕ → TraceFault → Type 0
 RefusesTraceText bytes (BadShape fault) = HasBadShape bytes fault
 RefusesTraceText bytes (BadLine line) = ((line ≡ 1) × ((capacity modulus width batch take_batch : ℕ) → ¬ HasShapeLine bytes capacity modulus width batch take_batch)) ⊎ HasBadEventLine bytes line

@@ -26,7 +26,7 @@ pub record BreaksAt (shape : Shape) (h : List Event) (place : ℕ) (kind : Kind)
   pub lawful : IsLawful shape past
   pub fault : IsFaultAfter shape past event kind
 
--- what is found of the events so far: nothing, and the auditor heard them all; or their first fault
+-- the finding on the events so far: nothing, and the auditor accepted them all; or their first fault
 abbrev pub IsFoundSoFar : Verdict → BitAuditor → Shape → List Event → Type 0
 IsFoundSoFar Lawful auditor shape events = HeardEvents auditor shape events
 IsFoundSoFar (Fault place kind) auditor shape events = BreaksAt shape events place kind
@@ -44,11 +44,12 @@ pub record EndedLines (hearing : TraceHearing) (text : List ℕ) : Type 0 where
   pub is : IsTraceText text shape events
   pub heard : HeardTrace hearing shape events
 
+-- the lines that have ended, if the first one has
 abbrev pub HasEnded : Option TraceHearing → List ℕ → Type 0
 HasEnded None text = text ≡ []
 HasEnded (Some hearing) text = EndedLines hearing text
 
--- no line that may come next stands at the front of the bytes
+-- no line that may come next is at the front of the bytes
 abbrev pub BeginsWithNoLine : Option TraceHearing → List ℕ → Type 0
 BeginsWithNoLine None bytes = (capacity modulus width batch take_batch : ℕ) → ¬ HasShapeLine bytes capacity modulus width batch take_batch
 BeginsWithNoLine (Some hearing) bytes = HasNoEvent hearing.shape bytes

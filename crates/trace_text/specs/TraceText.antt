@@ -30,18 +30,19 @@ bit_text (R i) = codes "r" ++ decimal i
 bit_text X = codes "x"
 bit_text (Cell j i) = codes "c" ++ (decimal j ++ (codes "." ++ decimal i))
 
+-- the text of a value
 abbrev pub digit_text : Bool → List ℕ
 digit_text false = codes " 0"
 digit_text true = codes " 1"
 
--- the value that an act answers or writes, if it has one
+-- the value that an act returns or writes, if it has one
 abbrev pub value_text : Act → List ℕ
 value_text ReadBegin = []
 value_text (ReadEnd v) = digit_text v
 value_text (WriteBegin v) = digit_text v
 value_text WriteEnd = []
 
--- the line of an event, as `P write c0.1 1` and a line feed
+-- the line of an event, such as `P write c0.1 1` and a line feed
 abbrev pub event_line : Event → List ℕ
 event_line e = side_text e.side ++ (act_text e.act ++ (bit_text e.bit ++ (value_text e.act ++ codes "\n")))
 
@@ -49,12 +50,12 @@ event_line e = side_text e.side ++ (act_text e.act ++ (bit_text e.bit ++ (value_
 unfoldable pub batch_text : ℕ → List ℕ
 batch_text batch = if batch == 1 then [] else (codes " " ++ decimal batch)
 
--- both batches, each after a space, if the take batch is not 1; else the batch alone, if it is not 1
+-- both batches, each after a space, if the take batch is not 1; otherwise the batch alone, if it is not 1
 unfoldable pub batches_text : ℕ → ℕ → List ℕ
 batches_text batch take_batch = if take_batch == 1 then batch_text batch else (codes " " ++ (decimal batch ++ (codes " " ++ decimal take_batch)))
 
--- the line of a shape, as `shape 1 3 1` with batches of 1, `shape 3 7 1 3` with a batch of 3 or `shape 3 7 1 1 3` with a take batch
--- of 3, and a line feed
+-- the line of a shape, such as `shape 1 3 1` with batches of 1, `shape 3 7 1 3` with a batch of 3 or `shape 3 7 1 1 3` with a take
+-- batch of 3, and a line feed
 abbrev pub shape_line : ℕ → ℕ → ℕ → ℕ → ℕ → List ℕ
 shape_line capacity modulus width batch take_batch =
     codes "shape " ++ (decimal capacity ++ (codes " " ++ (decimal modulus ++ (codes " " ++ (decimal width ++ (batches_text batch take_batch ++ codes "\n"))))))

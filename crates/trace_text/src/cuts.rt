@@ -6,7 +6,7 @@ use std::marker::Model;
 /// The most bytes of a line of a trace, with its line feed: those of a shape with five numbers of four digits.
 pub const LINE_LIMIT: usize = 31;
 
-/// The first bytes of a line, as far as they have come. They are seen as a list, which has room for a whole line.
+/// The first bytes of a line, as far as they have come. Their model is a list, which has room for a whole line.
 #[derive(Drop)]
 pub(crate) struct LineFront {
     room: [u8; LINE_LIMIT],
@@ -60,7 +60,7 @@ impl LineFront {
         true
     }
 
-    /// Lets the bytes go.
+    /// Removes the bytes.
     pub fn clear(&mut self)
         ensures { self.new ≡ [] }
     {

@@ -1,4 +1,4 @@
-//! Why bytes are no trace.
+//! Why bytes are not a trace.
 ghost use Rattle.std.specs.Prelude.{◌≡◌, Some};
 
 use bits_core::ShapeFault;
@@ -6,12 +6,12 @@ use std::alloc::{AllocError, AllocFailed};
 use std::error::Error;
 use std::fmt;
 
-/// Why bytes are no trace.
+/// Why bytes are not a trace.
 ///
 /// For example, it is printed as `trace line 3 is not a line of the format`.
 #[derive(Clone, Copy, PartialEq, Eq, Debug)]
 pub enum TraceFault {
-    /// The numbers of line 1 are no shape.
+    /// The numbers of line 1 make no shape.
     BadShape(ShapeFault),
     /// This line, counted from 1, is missing or unfinished, or not of the format, or names a bit
     /// that is not in the shape.
@@ -27,7 +27,7 @@ impl fmt::Display for TraceFault {
 
     ghost output = { λ fault. Some (trace_fault_words fault) };
 
-    /// The words of the fault.
+    /// The text of the fault.
     fn fmt<W: fmt::Write>(&self, f: &mut fmt::Formatter<W>) -> fmt::Result {
         match self {
             TraceFault::BadShape(fault) => write!(f, "{fault}"),

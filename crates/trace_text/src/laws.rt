@@ -1,5 +1,5 @@
-//! The laws of trace text, for who reads a trace: a text has one reading, and bytes are a trace or have one fault. Each is the
-//! contract of a function that does nothing: a body that calls it has the statement at hand in its proof.
+//! The laws of trace text, for code that reads a trace: a text has one reading, and bytes are a trace or have one fault. Each
+//! is the contract of a function that does nothing: a body calls it to have the statement in its proof.
 ghost use Rattle.trace_text.specs.Laws.{FaultyIsNoTrace, OneFault, OneReading, OneTextReading, RefusedIsNoText, TraceIsText, TraceOrFault};
 
 /// A text is that of one shape and one list of events.
@@ -12,7 +12,7 @@ pub fn trace_or_fault()
     ensures { TraceOrFault }
 {}
 
-/// Bytes with a fault are no trace.
+/// Bytes with a fault are not a trace.
 pub fn faulty_is_no_trace()
     ensures { FaultyIsNoTrace }
 {}
@@ -22,7 +22,7 @@ pub fn one_fault()
     ensures { OneFault }
 {}
 
-/// A trace is a trace of any length of at most [`EVENT_LIMIT`](crate::EVENT_LIMIT) events, and the other way round.
+/// A trace is a trace of any length of at most [`EVENT_LIMIT`](crate::EVENT_LIMIT) events, and vice versa.
 pub fn trace_is_text()
     ensures { TraceIsText }
 {}
@@ -32,7 +32,7 @@ pub fn one_text_reading()
     ensures { OneTextReading }
 {}
 
-/// Bytes that are refused as a trace of any length are none, unless they are too many to be counted.
+/// Bytes that are refused as a trace of any length are not one, unless they are too many to be counted.
 pub fn refused_is_no_text()
     ensures { RefusedIsNoText }
 {}

@@ -132,7 +132,7 @@ fn act_at(word: ActWord, bytes: &[u8]) -> Option<(Act, &[u8])>
     }
 }
 
-/// The event whose line stands at the front, and the bytes after the line.
+/// The event whose line is at the front, and the bytes after the line.
 #[tactic(auto, unfolding(crate::specs::TraceReading::event_at))]
 pub fn event_at(bytes: &[u8]) -> Option<(Event, &[u8])>
     ensures { option_map (λ x. (x.0, x.1.now)) result ≡ event_at bytes.now }
@@ -145,8 +145,8 @@ pub fn event_at(bytes: &[u8]) -> Option<(Event, &[u8])>
     Some((Event { side, bit, act }, rest))
 }
 
-// The take batch and the end of the first line, after the batch: 1 if the line ends, and then the batch is not 1; else a
-// number other than 1.
+// The take batch and the end of the first line, after the batch: 1 if the line ends, and then the batch is not 1;
+// otherwise a number other than 1.
 #[tactic(auto, unfolding(crate::specs::TraceReading::take_batch_at))]
 fn take_batch_at(batch: u64, bytes: &[u8]) -> Option<(u64, &[u8])>
     ensures { option_map (λ x. (x.0, x.1.now)) result ≡ take_batch_at batch bytes.now }

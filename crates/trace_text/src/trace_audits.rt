@@ -10,7 +10,7 @@ use crate::faults::TraceFault;
 use crate::traces::{first_shape, read_event};
 use bits_core::{BitAuditor, Event, Shape, Verdict};
 
-// The events of the lines that have ended, with what is found of them so far.
+// The events of the lines that have ended, with the finding on them so far.
 #[derive(Drop)]
 struct TraceHearing {
     shape: Shape,
@@ -33,7 +33,7 @@ impl TraceHearing {
         }
     }
 
-    // Hears the event of the next line. Behind a fault the auditor is asked nothing.
+    // Hears the event of the next line. After a fault the auditor is not asked.
     fn hear(&mut self, event: Event) -> Result<(), TraceFault>
         ensures heard { OnOk result ((shape : Shape) (events : List Event) → HeardTrace self.old shape events →
             HeardTrace self.new shape (events ++ event ∷ [])) }
@@ -91,7 +91,7 @@ fn split_line(bytes: &[u8]) -> Option<(&[u8], &[u8])>
     None
 }
 
-// Of bytes that begin with no line: `Ok` if their first line has not ended, else the fault.
+// For bytes that start with no line: `Ok` if their first line has not ended, otherwise the fault.
 fn unread(bytes: &[u8], fault: TraceFault) -> Result<(), TraceFault>
     ensures unended { OnOk result (HasNoFeed bytes.now) }
     ensures refused { IfErr result (λ e. (line : List ℕ) × (rest : List ℕ) × (e ≡ fault) × EndsAtFeed line ×
@@ -159,7 +159,7 @@ fn read_lines<'a>(
     }
 }
 
-/// The audit of the bits of a trace, as far as its text was read: [`audit_bits`](bits_core::audit_bits) of a trace of any length.
+/// The audit of the bits of a trace, as far as its text has been read: [`audit_bits`](bits_core::audit_bits) of a trace of any length.
 ///
 /// The text comes in pieces, cut anywhere, and neither it nor its events are kept. No memory is taken. A piece takes time linear
 /// in its bytes.
@@ -175,7 +175,7 @@ pub struct TraceAudit {
 }
 
 impl TraceAudit {
-    /// An audit of which nothing was read.
+    /// An audit of which nothing has been read.
     pub fn new() -> TraceAudit
         ensures { HasReadTrace result [] }
     {
@@ -187,9 +187,9 @@ impl TraceAudit {
 
     /// Reads the next piece of the text.
     ///
-    /// `BadShape` if the numbers of line 1 are no shape; `BadLine` at the first line that is not of the format or names a bit
-    /// that is not in the shape, whatever follows, and even if the history has a fault before it; `TooLong` past 2^64 - 1
-    /// lines; never `OutOfMemory`. An audit that gave one of these is of no further use.
+    /// `BadShape` if the numbers of line 1 make no shape; `BadLine` at the first line that is not of the format or names a
+    /// bit that is not in the shape, whatever follows, and even if the history has a fault before it; `TooLong` after 2^64 -
+    /// 1 lines; never `OutOfMemory`. An audit that has returned one of these is of no further use.
     pub fn read(&mut self, piece: &[u8]) -> Result<(), TraceFault>
         ensures read { OnOk result ((bytes : List ℕ) → HasReadTrace self.old bytes →
             HasReadTrace self.new (bytes ++ piece.now)) }
@@ -237,7 +237,7 @@ impl TraceAudit {
         Ok(())
     }
 
-    // Keeps the bytes of a line that has not ended, unless no line is as long.
+    // Keeps the bytes of a line that has not ended, unless no line is that long.
     fn keep(&mut self, rest: &[u8]) -> Result<(), TraceFault>
         requires { HasNoFeed rest.now }
         ensures read { OnOk result ((before : List ℕ) → HasReadTrace self.old before →

@@ -12,10 +12,10 @@ use std::alloc::Allocator;
 
 /// The most events that a trace may have.
 ///
-/// For example, `lamport_ring audit` refuses a trace of one event more as `trace has too many events`.
+/// For example, `lamport_ring audit` refuses a trace of one more event as `trace has too many events`.
 pub const EVENT_LIMIT: usize = 1_000_000;
 
-/// The shape of the first line, if one stands at the front, and the bytes after it.
+/// The shape of the first line, if one is at the front, and the bytes after it.
 pub fn first_shape(bytes: &[u8]) -> Result<Option<(Shape, &[u8])>, ShapeFault>
     ensures read { IfOk result (λ found. MatchOption found
         ((capacity modulus width batch take_batch : ℕ) →
@@ -50,7 +50,7 @@ fn read_shape(bytes: &[u8]) -> Result<(Shape, &[u8]), TraceFault>
     }
 }
 
-/// The event of the shape whose line stands at the front, and the bytes after the line.
+/// The event of the shape whose line is at the front, and the bytes after the line.
 pub fn read_event<'a>(shape: &Shape, bytes: &'a [u8]) -> Option<(Event, &'a [u8])>
     ensures { MatchOption result (HasNoEvent shape.now bytes.now)
         (λ x. BeginsWithEvent shape.now bytes.now x.0 x.1.now) }
@@ -90,19 +90,19 @@ fn read_lines<S: Store<Event>>(store: &mut S, bytes: &[u8]) -> Result<Shape, Tra
 /// Reads a trace: the shape of line 1, and the event of each further line, all of the bytes.
 ///
 /// The first fault in the order of the lines is returned: line 1 is not of its form, then its numbers
-/// are no shape; for a further line, it is one event more than a trace may have, then it is
-/// unfinished, not of its form, or names a bit that is not in the shape. Neither sides nor turns
-/// are looked at: that is the audit's work. Memory is needed for the events alone, and a lack of it
-/// is reported if a growth was refused.
+/// make no shape; for a further line, it is one more event than a trace may have, then it is
+/// unfinished, not of its form, or names a bit that is not in the shape. Neither sides nor turns are
+/// checked: that is the audit's work. Memory is needed only for the events, and out of memory is
+/// reported if a growth was refused.
 ///
-/// For example, the text `shape 1 3 1` with its line feed is a trace of no event.
+/// For example, the text `shape 1 3 1` with its line feed is a trace with no event.
 pub fn read_trace<A: Allocator>(
     alloc: A,
     bytes: &[u8],
 ) -> Result<(Shape, Vec<Event, A>), TraceFault>
     // What is read is a trace.
     ensures read { IfOk result (λ trace. IsTrace bytes.now trace.0 trace.1.items) }
-    // What is a trace is read, unless memory runs out.
+    // A trace is read, unless memory runs out.
     ensures only { (shape : Shape) (events : List Event) → IsTrace bytes.now shape events
         → MatchResult result (λ trace. (trace.0 ≡ shape) × (trace.1.items ≡ events)) (λ e. e ≡ TraceFault.OutOfMemory) }
     // The fault is the first one.
@@ -128,11 +128,11 @@ fn read_filled(filled: &mut Filled<'_, Event>, bytes: &[u8]) -> Result<Shape, Tr
     read_lines(filled, bytes)
 }
 
-/// Reads a trace as [`read_trace`] does, into the first slots of a slice of the caller's, and returns
+/// Reads a trace as [`read_trace`] does, into the first slots of a caller-supplied slice, and returns
 /// the shape and how many events there are. It takes no memory.
 ///
-/// `OutOfMemory` says that the slice has no slot left for an event whose line is right, as are all before
-/// it: no fault was found before the slots ended. Whatever the fault, the first slots may hold the
+/// `OutOfMemory` means that the slice has no slot left for an event whose line is right, as are all
+/// before it: no fault was found before the slots ended. Whatever the fault, the first slots may hold the
 /// events of the lines before it.
 ///
 /// In use: the page, which reads into slots of its own.
@@ -141,7 +141,7 @@ pub fn read_trace_into(bytes: &[u8], events: &mut [Event]) -> Result<(Shape, usi
     ensures read { IfOk result (λ trace. IsTrace bytes.now trace.0 (take trace.1 events.new)) }
     // There are no more events than slots.
     ensures within { IfOk result (λ trace. trace.1 ≤ length events.new) }
-    // What is a trace is read, unless it has more events than there are slots.
+    // A trace is read, unless it has more events than there are slots.
     ensures only { (shape : Shape) (all : List Event) → IsTrace bytes.now shape all
         → MatchResult result (λ trace. (trace.0 ≡ shape) × (take trace.1 events.new ≡ all))
         (λ e. (e ≡ TraceFault.OutOfMemory) × (length events.new < length all)) }

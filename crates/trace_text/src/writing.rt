@@ -31,7 +31,7 @@ fn act_word(act: Act) -> &'static str
     }
 }
 
-// The value that an act answers or writes, after a space, if it has one.
+// The value that an act returns or writes, after a space, if it has one.
 fn value_word(act: Act) -> &'static str
     ensures { result.now ≡ value_text act }
 {
@@ -41,7 +41,7 @@ fn value_word(act: Act) -> &'static str
     }
 }
 
-// A text, with a lack of memory as a fault of the trace's text.
+// A text, with out of memory as a fault of the trace's text.
 fn push_text<A: Allocator>(text: &mut String<A>, word: &str) -> Result<(), TraceFault>
     ensures ok { OnOk result (string_bytes text.new ≡ string_bytes text.old ++ word.now) }
     ensures err { IfErr result (λ e. e ≡ TraceFault.OutOfMemory) }
@@ -78,9 +78,9 @@ fn push_bit<A: Allocator>(text: &mut String<A>, bit: Bit) -> Result<(), TraceFau
     }
 }
 
-/// Adds the line of an event to a text, as `P write c0.1 1` and a line feed.
+/// Appends the line of an event to a text, such as `P write c0.1 1` and a line feed.
 ///
-/// The only fault is `OutOfMemory`; a front of the line may have been added then.
+/// The only fault is `OutOfMemory`; a prefix of the line may then have been appended.
 ///
 /// In use: `lamport_ring audit --why`, which prints the events that were due.
 pub fn push_event<A: Allocator>(text: &mut String<A>, event: Event) -> Result<(), TraceFault>
@@ -106,7 +106,7 @@ fn push_batch<A: Allocator>(text: &mut String<A>, batch: u64) -> Result<(), Trac
     push_numbered(text, " ", batch)
 }
 
-// Both batches, each after a space, if the take batch is not 1; else the batch alone, if it is not 1.
+// Both batches, each after a space, if the take batch is not 1; otherwise the batch alone, if it is not 1.
 #[tactic(auto, unfolding(crate::specs::TraceText::batches_text))]
 fn push_batches<A: Allocator>(
     text: &mut String<A>,

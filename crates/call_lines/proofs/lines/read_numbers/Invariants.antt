@@ -2,7 +2,7 @@ use Rattle.std.proofs.Common.{◌≡◌, ◌++◌, length, List, ℕ}
 use Rattle.call_lines.specs.Lines.{AreSmall, numbers_text}
 use Rattle.call_lines.proofs.lines.read_numbers.Given as goal
 
--- the numbers so far and what is left are all; where all of it is numbers, what is left is
+-- the numbers so far and the rest are all; if all of it is numbers, the rest is
 abbrev pub invariant-loop-left : goal.invariant-loop-left
 invariant-loop-left g l = record {
   text : l.bytes ≡ numbers_text (g.R.Store.items l.numbers) ++ l.left;

@@ -9,7 +9,7 @@ use Rattle.trace_text.specs.declared.faults.TraceFault.TheVariants.{BadLine, Too
 use Rattle.trace_text.proofs.TraceTexts.{bad_shape_more, behind_ended, event_ends, first_ended, next_ended, no_line_refused, nothing_ended, shape_ends, too_many}
 use Rattle.trace_text.proofs.trace_audits.read_line.Goals as goal
 
--- bytes that stand behind the lines that have ended are refused with the fault, whatever follows
+-- bytes after the lines that have ended are refused with the fault, whatever follows
 abbrev Refused : Option TraceHearing → List ℕ → TraceFault → Type 0
 Refused h bytes fault = (text more : List ℕ) → HasEnded h text → RefusesTraceText (text ++ (bytes ++ more)) fault
 

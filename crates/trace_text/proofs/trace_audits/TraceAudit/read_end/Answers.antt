@@ -7,7 +7,7 @@ use Rattle.line_parts.specs.LineEnds.{HasNoFeed}
 use Rattle.trace_text.proofs.TraceTexts.{kept_refused, whole_line}
 use Rattle.trace_text.proofs.trace_audits.TraceAudit.read_end.Goals as goal
 
--- a line's end and what is behind it
+-- a line's end and what is after it
 end_parts : (end front more : List ℕ) → end ≡ front ++ 10 ∷ [] → front ++ 10 ∷ more ≡ end ++ more
 end_parts end front more is = sym (ap (λ (t : List ℕ). t ++ more) is ∙ append_assoc front (10 ∷ []) more)
 

@@ -8,7 +8,7 @@ use Rattle.lists.proofs.Results.{then_err, then_ok}
 use Rattle.trace_text.proofs.TraceTexts.{behind_it, with_it}
 use Rattle.trace_text.proofs.trace_audits.TraceAudit.read_on.Goals as goal
 
--- lines were read where none was cut
+-- lines were read, and none was cut
 read_more : (old new : TraceAudit) (before read : List ℕ) → old.cut ≡ [] → new.cut ≡ old.cut → HasReadTrace old before
     → ((text : List ℕ) → HasEnded old.hearing text → HasEnded new.hearing (text ++ read)) → HasReadTrace new (before ++ read)
 read_more old new before read none same has grows = record {

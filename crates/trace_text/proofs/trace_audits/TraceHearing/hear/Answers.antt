@@ -18,7 +18,7 @@ breaks_before shape events e place kind broken = record {
   fault = broken.fault;
 }
 
--- one event more was heard, by this auditor and with this verdict
+-- one more event was heard, by this auditor and with this verdict
 heard_more : (h now : TraceHearing) (shape : Shape) (events : List Event) (e : Event) → HeardTrace h shape events → now.shape ≡ h.shape → now.count ≡ h.count + 1
     → IsFoundSoFar now.verdict now.auditor shape (events ++ e ∷ []) → HeardTrace now shape (events ++ e ∷ [])
 heard_more h now shape events e had same more found = record {
