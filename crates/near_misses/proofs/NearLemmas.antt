@@ -1,4 +1,4 @@
--- A play by a near miss, with one letter more.
+-- A play by a near miss, with one more letter.
 use Rattle.std.proofs.Common.{◌≡◌, ◌⊎◌, ◌∙◌, inl, inr, ℕ, suc, ◌+◌, ◌≤◌, length, arith, Bool, true, false, Option, Some, None, List, [], ◌∷◌, ◌++◌, refl, ap, sym, subst, append_assoc, append-nil, ap₂, zero-add}
 use Rattle.std.specs.Prelude.{if◌then◌else◌, nat_lt, slice_get}
 use Rattle.std.proofs.lemmas.List.{length-append}
@@ -101,12 +101,12 @@ makes_more asked n letters s h after told told_after taken taken_after t mid nex
 
 -- ---- the items
 
--- a side that has read none tells none
+-- a side that has read none records none
 pub none_told : (t : Option (CallEvent ℕ ℕ)) → items_told t [] ≡ []
 none_told (Some (TakeItems k)) = refl
 none_told t = refl
 
--- the items that an event tells and those that are read and not told are so many more than before at most
+-- the items that an event records and those that are read and not recorded are at most this many more than before
 abbrev HoldsMore : (before : NearStand) (t : Option (CallEvent ℕ ℕ)) (after : NearStand) (more : ℕ) → Type 0
 HoldsMore before t after more = length (items_told t after.read) + items_untold after ≤ items_untold before + more
 
@@ -115,7 +115,7 @@ begins_held asked before None after (in_call, is) = omega (arith, ap items_untol
 begins_held asked before (Some (TakeBegins k)) after (a, b, c, d, is) = omega (arith, ap items_untold is)
 begins_held asked before t after x = absurd x
 
--- of a call under way all that is read is not told
+-- while a call is under way, nothing that it has read is recorded
 untold_is : (n : NearStand) → n.in_call ≡ true → items_untold n ≡ length n.read
 untold_is n is = ap (λ (b : Bool). if b then length n.read else 0) is
 
@@ -126,7 +126,7 @@ ends_held asked before (Some TakeEmpty) after (in_call, is) = omega (arith, ap i
 ends_held asked before (Some TakeClosed) after (in_call, is) = omega (arith, ap items_untold is)
 ends_held asked before t after x = absurd x
 
--- a digit more makes one item whole at most
+-- one more digit completes at most one item
 digit_held : (width : ℕ) (v : Bool) (i : ℕ) (n : NearStand) → items_untold (with_digit_read width v i n) ≤ items_untold n + 1
 digit_held width v i n = by_last (nat_lt (suc i) width) n.in_call
   where
@@ -190,14 +190,14 @@ moves_other changes asked s h before t after next stand (inl (e, is, side, goes,
     was access (sym (changes (other s) h e ∙ ap (λ (b : Bool). if b then begun_by e else open_access (other s) h) (not_by s e side)) ∙ ap (open_access (other s)) (sym is) ∙ opened)
 moves_other changes asked s h before t after next stand (inr (is, untold, none, stops, next_is)) was access opened = was access (ap (open_access (other s)) (sym is) ∙ opened)
 
--- where both sides stand, and that one side's step has left the other where it was
+-- the states of both sides, and that one side's step leaves the other unchanged
 abbrev pub stands_of : {E T I : Type 0} → NearWorld E T I → NearStands
 stands_of w = record { putting = put_stand w.putter; taking = take_stand w.taker }
 
 abbrev pub IsStepOf : Side → (before after : NearStands) → Type 0
 IsStepOf s before after = with_near_stand s (near_stand_of s after) before ≡ after
 
--- an access that either side has open behind one side's step is one of its call under way
+-- an access that either side has open after one side's step is one of its call under way
 pub both_open : OpenChanges → (asked : NearAsked) (s : Side) (h : List Event) (before : NearStands) (t : Option (CallEvent ℕ ℕ)) (h' : List Event) (after : NearStands) → IsStepOf s before after
     → NearMoves asked s h (near_stand_of s before) t h' (near_stand_of s after) → IsInOpenCall P h before.putting → IsInOpenCall C h before.taking
     → IsInOpenCall P h' after.putting × IsInOpenCall C h' after.taking
@@ -223,7 +223,7 @@ has_more told items asked letters oracle s w w' t same told_is items_is moves to
   turns = turns;
 }
 
--- where a side has nothing open, all that it has open is due
+-- if a side has nothing open, all that it has open is due
 pub none_due : (due : Access → Type 0) → (s : Side) (h : List Event) → open_access s h ≡ None → IsOpenDue s h due
 none_due due s h none a opened = absurd (none_some (sym none ∙ opened))
   where
@@ -249,7 +249,7 @@ row_told miss order bits value (Write b w) v told taken (i, is, due) (inl none) 
 row_told miss order bits value (Write b w) v told taken (i, is, due) (inr some) = subst (λ (x : Bit). IsToldByWrite miss x told) (sym is) (inr (taken, some))
 row_told miss order bits value (Read b) v told taken x way = absurd x
 
--- ---- at the begin and at the end
+-- ---- at the start and at the end
 
 none_opens : (s : Side) (h : List Event) (stand : NearStand) → h ≡ [] → IsInOpenCall s h stand
 none_opens s h stand none access opened = absurd (none_some s access (ap (open_access s) (sym none) ∙ opened))

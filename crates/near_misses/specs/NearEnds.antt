@@ -13,7 +13,7 @@ use Rattle.near_misses.specs.declared.misses.NearMiss.TheVariants.{CountBeforeCe
 use Rattle.near_misses.specs.declared.putting.Stage as put
 use Rattle.near_misses.specs.declared.taking.Stage as taking
 
--- both counts are below the number at which they go round
+-- both counts are below the number at which they wrap
 abbrev pub are_both_counts : NearMiss → Shape → (count seen : ℕ) → Bool
 are_both_counts miss shape count seen = nat_lt seen (near_modulus miss shape) && nat_lt count (near_modulus miss shape)
 
@@ -22,7 +22,8 @@ abbrev pub scan_stage : (again : Bool) → (zeros : ℕ) → taking.Stage
 scan_stage true zeros = taking.TheVariants.ScanningAgain zeros
 scan_stage false zeros = taking.TheVariants.Scanning zeros
 
--- how many items a consumer with this count sees where it scans that one of the producer: as many as that is ahead, if the ring holds as many
+-- how many items a consumer with this count sees when it scans this count of the producer: as many as that is ahead, if the ring holds that
+-- many
 abbrev pub items_seen : NearMiss → Shape → (count seen : ℕ) → ℕ
 items_seen miss shape count seen = if are_both_counts miss shape count seen && nat_le (distance (near_modulus miss shape) seen count) (capacity_of shape) then distance (near_modulus miss shape) seen count else 0
 
@@ -30,17 +31,17 @@ items_seen miss shape count seen = if are_both_counts miss shape count seen && n
 abbrev pub scan_told : (found : ℕ) → (again : Bool) → Option (CallEvent ℕ ℕ)
 scan_told found again = if nat_lt 0 found then None else if again then Some TakeClosed else None
 
--- and how it goes on: with the items, or past its end, or with the close bit
+-- and how it continues: with the items, or past its end, or with the close bit
 abbrev pub stage_after_scan : (found : ℕ) → (again : Bool) → taking.Stage
 stage_after_scan found again = if nat_lt 0 found then taking.TheVariants.Reading 0 else if again then taking.TheVariants.Over else taking.TheVariants.Looking
 
--- how a take ends that reads the close bit: Empty if that is 0, and Closed at once if that is 1 and there is no second scan
+-- how a take that reads the close bit ends: Empty if that is 0, and Closed at once if that is 1 and there is no second scan
 abbrev pub look_told : NearMiss → (closed : Bool) → Option (CallEvent ℕ ℕ)
 look_told miss false = Some TakeEmpty
 look_told NoSecondScan true = Some TakeClosed
 look_told _ true = None
 
--- how many items a producer with this count has room for where it scans that one of the consumer, and may put at a time
+-- how many items a producer with this count has room for when it scans this count of the consumer, and may put at a time
 abbrev pub room_seen : NearMiss → Shape → (count seen : ℕ) → ℕ
 room_seen miss shape count seen = if are_both_counts miss shape count seen then min (capacity_of shape - distance (near_modulus miss shape) count seen) (batch_of shape) else 0
 
@@ -48,22 +49,23 @@ room_seen miss shape count seen = if are_both_counts miss shape count seen then 
 abbrev pub room_told : (room : ℕ) → Option (CallEvent ℕ ℕ)
 room_told room = if nat_lt 0 room then None else Some PutFull
 
--- with what a put goes on that has found room: with its count, or with its items
+-- what a put that has found room continues with: with its count, or with its items
 abbrev pub first_stage : NearMiss → put.Stage
 first_stage CountBeforeCell = put.TheVariants.Counting
 first_stage _ = put.TheVariants.Storing 0 0
 
--- how a put ends that has written its items, or its count: how many it has stored, if it wrote the other before
+-- how a put ends that has written its items: it has stored this many, if it wrote its count before
 abbrev pub items_written_told : NearMiss → (storing : ℕ) → Option (CallEvent ℕ ℕ)
 items_written_told CountBeforeCell storing = Some (PutStored storing)
 items_written_told _ storing = None
 
+-- and how it ends when it has written its count
 abbrev pub count_written_told : NearMiss → (storing : ℕ) → Option (CallEvent ℕ ℕ)
 count_written_told CountBeforeCell storing = None
 count_written_told _ storing = Some (PutStored storing)
 
--- What ends with a read of a bit with this value: of the close bit as above; a read of a count ends a call at most if it
--- is 1, of a take that finds no item, or of a put that finds no room
+-- The end of a call with a read of a bit with this value: of the close bit as above; a read of a count ends a call only
+-- if it is 1, for a take that finds no item, or for a put that finds no room
 abbrev pub IsToldByRead : NearMiss → Bit → Bool → Option (CallEvent ℕ ℕ) → Type 0
 IsToldByRead miss X v told = told ≡ look_told miss v
 IsToldByRead miss (S i) v told = (told ≡ None) ⊎ ((v ≡ true) × (told ≡ Some TakeClosed))

@@ -1,5 +1,5 @@
--- What a play by a near miss is: a lawful history, which the letters of its script make, the calls that are told of it, and the items taken.
--- Each side is in one call after the other; an event of it begins a call, or goes on with it, or ends it, and what begins or ends is told.
+-- What a play by a near miss is: a lawful history, which the letters of its script make, its recorded calls, and the items taken. Each side
+-- makes one call after the other; an event of it starts a call, continues it or ends it, and each start and end is recorded.
 use Rattle.std.specs.Prelude.{◌≡◌, ◌⊎◌, ℕ, suc, ◌+◌, ◌-◌, ◌^◌, ◌<◌, ◌≤◌, min, Bool, true, false, ◌||◌, nat_lt, if◌then◌else◌, Option, Some, None, List, [], ◌∷◌, ◌++◌, length, bit_or}
 use Rattle.bits_core.specs.declared.events.Act.{Act}
 use Rattle.bits_core.specs.declared.events.Act.TheVariants.{ReadBegin, ReadEnd, WriteBegin, WriteEnd}
@@ -19,7 +19,7 @@ use Rattle.queue_calls.specs.declared.events.CallEvent.{CallEvent}
 use Rattle.queue_calls.specs.declared.events.CallEvent.TheVariants.{PutBegins, PutStored, PutFull, CloseBegins, CloseEnds, TakeBegins, TakeItems, TakeEmpty, TakeClosed}
 use Rattle.ring_script.specs.Content.{Content}
 
--- what a script asks for, and of which near miss: so many items, so many takes, and a close, of a ring of this shape
+-- what a script requests, and of which near miss: a number of items, a number of takes, and a close, of a ring of this shape
 pub record NearAsked : Type 0 where
   pub miss : NearMiss
   pub items : ℕ
@@ -27,12 +27,13 @@ pub record NearAsked : Type 0 where
   pub closes : Bool
   pub shape : Shape
 
+-- what this script requests of this near miss
 abbrev pub asked_by_script : NearMiss → Content → NearAsked
 asked_by_script miss script = record { miss = miss; items = length script.items; takes = script.takes; closes = script.closes; shape = script.shape }
 
--- Where a side is: whether it is in a call, and has stopped in it; how many items its puts have stored, or how many of the script's takes
--- its takes have used up; the items that the last take has read whole, and the item of the digits that it has read of the next; and
--- whether its close has ended, or a take was told that the ring is closed
+-- The state of a side: whether it is in a call, and has stopped in it; how many items its puts have stored, or how many of the script's
+-- takes its takes have used up; the items that the last take has read completely, and the digits read so far of the next; and whether its
+-- close has ended, or a take returned Closed
 pub record NearStand : Type 0 where
   pub in_call : Bool
   pub stopped : Bool
@@ -41,14 +42,15 @@ pub record NearStand : Type 0 where
   pub item : ℕ
   pub over : Bool
 
+-- the state of a side that has made no event
 abbrev pub near_start : NearStand
 near_start = record { in_call = false; stopped = false; count = 0; read = []; item = 0; over = false }
 
--- how many items a take wants where so many takes are used up: as many as one count write may count, or as takes are left
+-- how many items a take wants when `used` takes are used up: as many as one count write may count, or as takes are left
 abbrev pub near_wanted : NearAsked → ℕ → ℕ
 near_wanted asked used = min (take_batch_of asked.shape) (asked.takes - used)
 
--- an event that begins an access: one of the call under way, or the first of a call, which is told
+-- an event that begins an access: one of the call under way, or the first of a call, which is recorded
 abbrev pub NearBegins : NearAsked → Side → NearStand → Option (CallEvent ℕ ℕ) → NearStand → Type 0
 NearBegins asked s before None after = (before.in_call ≡ true) × (after ≡ before)
 NearBegins asked P before (Some (PutBegins stored)) after =
@@ -60,8 +62,8 @@ NearBegins asked C before (Some (TakeBegins wanted)) after =
     (after ≡ record before { in_call = true; read = []; item = 0 })
 NearBegins _ _ _ _ _ = ⊥
 
--- an event that ends an access: one of the call under way, or its last, which is told. A take uses up as many of the script's takes as it
--- took items, and one where it found the ring empty
+-- an event that ends an access: one of the call under way, or its last, which is recorded. A take uses up as many of the script's takes
+-- as it took items, and one if it found the ring empty
 abbrev pub NearEnds : NearAsked → Side → NearStand → Option (CallEvent ℕ ℕ) → NearStand → Type 0
 NearEnds asked s before None after = (before.in_call ≡ true) × (after ≡ before)
 NearEnds asked P before (Some (PutStored count)) after =
@@ -75,12 +77,12 @@ NearEnds asked C before (Some TakeEmpty) after = (before.in_call ≡ true) × (a
 NearEnds asked C before (Some TakeClosed) after = (before.in_call ≡ true) × (after ≡ record before { in_call = false; over = true })
 NearEnds _ _ _ _ _ = ⊥
 
--- an item with a digit more, where that was read as 1
+-- an item with one more digit, if that was read as 1
 abbrev pub with_digit : Bool → ℕ → ℕ → ℕ
 with_digit true i item = (if nat_lt i 64 then bit_or item (2 ^ i) else item)
 with_digit false i item = item
 
--- a take that has read a digit more: with the last digit of a cell an item is whole, and the next one begins
+-- a take that has read one more digit: with the last digit of a cell an item is complete, and the next one begins
 abbrev pub with_digit_read : (width : ℕ) → Bool → ℕ → NearStand → NearStand
 with_digit_read width v i n =
     if nat_lt (suc i) width then record n { item = with_digit v i n.item }
@@ -91,43 +93,48 @@ abbrev pub with_read : NearAsked → Side → Bool → Bit → NearStand → Nea
 with_read asked C v (Cell j i) n = with_digit_read (width_of asked.shape) v i n
 with_read asked s v b n = n
 
--- an event of a side, and what is told of it
+-- an event of a side, and what it records
 abbrev pub NearStep : NearAsked → Side → NearStand → Act → Bit → Option (CallEvent ℕ ℕ) → NearStand → Type 0
 NearStep asked s before ReadBegin b told after = NearBegins asked s before told after
 NearStep asked s before (WriteBegin v) b told after = NearBegins asked s before told after
 NearStep asked s before (ReadEnd v) b told after = NearEnds asked s (with_read asked s v b before) told after × IsToldByRead asked.miss b v told
 NearStep asked s before WriteEnd b told after = NearEnds asked s before told after × IsToldByWrite asked.miss b told
 
--- the items that an event tells, of a take that has read these
+-- the items of an event, for a take that has read these
 abbrev pub items_told : Option (CallEvent ℕ ℕ) → List ℕ → List ℕ
 items_told (Some (TakeItems taken)) read = read
 items_told _ read = []
 
--- a side has stopped, or may stop: in a call, for good, as it finds no count; else where nothing more is asked of it
+-- a side has stopped, or may stop: in a call, for good, because it finds no count; otherwise if nothing more is requested of it
 abbrev pub NearStops : NearAsked → Side → NearStand → Type 0
 NearStops asked P before = (before.stopped ≡ true) ⊎ ((before.in_call ≡ true) ⊎ ((before.over ≡ true) ⊎ ((asked.items ≤ before.count) × (asked.closes ≡ false))))
 NearStops asked C before = (before.stopped ≡ true) ⊎ ((before.in_call ≡ true) ⊎ ((before.over ≡ true) ⊎ (asked.takes ≤ before.count)))
 
+-- the state of a side after it stops
 abbrev pub near_stopped : NearStand → NearStand
 near_stopped n = record n { stopped = n.stopped || n.in_call }
 
--- both sides
+-- the states of both sides
 pub record NearStands : Type 0 where
   pub putting : NearStand
   pub taking : NearStand
 
+-- the states of both sides at the start
 abbrev pub near_starts : NearStands
 near_starts = record { putting = near_start; taking = near_start }
 
+-- the state of one side
 abbrev pub near_stand_of : Side → NearStands → NearStand
 near_stand_of P n = n.putting
 near_stand_of C n = n.taking
 
+-- both states, with another one of one side
 abbrev pub with_near_stand : Side → NearStand → NearStands → NearStands
 with_near_stand P stand n = record n { putting = stand }
 with_near_stand C stand n = record n { taking = stand }
 
--- letters make a history, so much is told of it, and these items are taken: at each letter its side makes an event, or it stops or has stopped
+-- letters make a history, with these recorded calls and these items taken: at each letter its side makes an event, or it stops or has
+-- stopped
 abbrev pub NearMakes : NearAsked → NearStands → List Side → List Event → List (CallEvent ℕ ℕ) → List ℕ → NearStands → Type 0
 NearMakes asked n [] h told taken after = (h ≡ []) × (told ≡ []) × (taken ≡ []) × (after ≡ n)
 NearMakes asked n (s ∷ letters) h told taken after =

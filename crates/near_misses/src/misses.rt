@@ -1,33 +1,33 @@
-//! Which rule is broken.
+//! The rule that is broken.
 ghost use Rattle.std.specs.Prelude.{◌≡◌, codes};
 ghost use Rattle.bits_core.specs.Shape.{capacity_of, modulus_of};
 ghost use Rattle.near_misses.specs.Misses.{miss_name, miss_named, near_modulus};
 
 use bits_core::Shape;
 
-/// A ring that is nearly right. Both sides break the same rule, where it is one of both.
+/// A ring that is nearly right. Both sides break the same rule, if it is a rule of both.
 ///
 /// For example, `NearMiss::named("no-second-scan")`. In use: `lamport_ring play --wrong`.
 #[derive(Clone, Copy, PartialEq, Eq, Debug)]
 pub enum NearMiss {
     /// A put writes its count, and then the item's cell. So a consumer that reads the new count may read the cell too soon.
     CountBeforeCell,
-    /// A take that finds no item and reads the close bit as 1 is told Closed at once, without a second scan. So an item that was
+    /// A take that finds no item and reads the close bit as 1 returns Closed at once, without a second scan. So an item that was
     /// stored between its scan and that read is lost.
     NoSecondScan,
-    /// The counts go round at capacity + the larger of batch and take batch, one too few. So a count that was read before the other side
-    /// wrote it again may look like one a whole round on.
+    /// The counts wrap at capacity + the larger of batch and take batch, one too few. So a count that was read before the other side
+    /// wrote it again may look like one a full round ahead.
     SmallModulus,
-    /// A count write clears the bits below its own first, and sets its own last. So a scan in between gives a count of long ago, or
+    /// A count write clears the bits below its own first, and sets its own last. So a scan in between may return an old count, or
     /// none.
     ClearsFirst,
-    /// A count write sets its bit and then clears the bits below from the lowest up. So a scan in between may give a count that was
-    /// never there: one between the old and the new, where one write counts several items.
+    /// A count write sets its bit and then clears the bits below from the lowest up. So a scan in between may return a count that
+    /// was never there: one between the old and the new, if one write counts several items.
     ClearsUpwards,
 }
 
 impl NearMiss {
-    /// The word for it: `count-before-cell`, `no-second-scan`, `small-modulus`, `clears-first`, `clears-upwards`.
+    /// Its name: `count-before-cell`, `no-second-scan`, `small-modulus`, `clears-first`, `clears-upwards`.
     pub fn name(self) -> &'static str
         ensures { result.now ≡ miss_name self }
     {
@@ -59,7 +59,7 @@ impl NearMiss {
         }
     }
 
-    /// The number at which its counts go round.
+    /// The number at which its counts wrap.
     pub fn modulus(self, shape: &Shape) -> u64
         ensures { result ≡ near_modulus self shape.now }
     {

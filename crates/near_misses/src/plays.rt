@@ -21,18 +21,18 @@ use queue_calls::CallEvent;
 use ring_script::{Script, ScriptRef};
 use std::alloc::Allocator;
 
-/// Why a script was not played: `OutOfMemory`, where memory ran out. Its number is 1.
+/// Why a script was not played: `OutOfMemory`, if memory ran out. Its number is 1.
 ///
 /// In use: `lamport_ring play --wrong`.
 pub type NearFault = MemoryFault;
 
-/// What an event of a play by a near miss tells of a call: a put that begins tells how many items of the script were stored before it, a
-/// take that begins how many it wants, and one that took some how many.
+/// What an event of a play by a near miss records of a call: the start of a put has how many items of the script were stored before it,
+/// the start of a take how many it wants, and the end of one that took some how many.
 ///
-/// For example, `CallEvent::TakeItems(1)` is what `C item 5` tells in a recording, and the item 5 lies with those of the other takes.
+/// For example, `CallEvent::TakeItems(1)` is `C item 5` in a recording, and the item 5 is among those of all takes.
 pub type NearCall = CallEvent<usize, usize>;
 
-/// What was played: the history of the bits, the begins and ends of the calls, and the items of the takes that have ended, in order.
+/// What was played: the history of the bits, the starts and ends of the calls, and the items of the takes that have ended, in order.
 ///
 /// In use: `lamport_ring play --wrong`.
 #[derive(Drop)]
@@ -42,8 +42,8 @@ pub struct NearPlay<E: Store<Event>, T: Store<NearCall>, I: Store<u64>> {
     pub taken: I,
 }
 
-// Begins the access, where it is of a bit of the shape by the side that may. (No near miss asks for another; that is looked at as it
-// plays, and not proved.)
+// Begins the access, if it is of a bit of the shape by the side that may make it. (No near miss requests another; that is checked at
+// run time, and not proved.)
 fn begin<E: Store<Event>>(
     memory: &mut Memory<E>,
     side: Side,
@@ -76,7 +76,7 @@ fn begin<E: Store<Event>>(
     Ok(true)
 }
 
-// Ends this access, which the side has open. A write answers nothing, told as 0.
+// Ends this access, which the side has open. A write has no answer, returned as 0.
 #[tactic(auto, using(ring_player::proofs::LawLemmas::turns_go_on))]
 fn end<E: Store<Event>, O: Oracle>(
     memory: &mut Memory<E>,
@@ -103,7 +103,7 @@ fn end<E: Store<Event>, O: Oracle>(
     }
 }
 
-// One step of a side, and what its event tells, if any: it begins the next access, or ends the one that is open, or stops.
+// One step of a side, and what its event records, if anything: it begins the next access, or ends the one that is open, or stops.
 #[tactic(auto, using(bits_core::proofs::LawLemmas::open_changes, ring_player::proofs::LawLemmas::turns_go_on))]
 fn step<E: Store<Event>, S: NearSide, O: Oracle>(
     memory: &mut Memory<E>,
@@ -141,7 +141,7 @@ fn step<E: Store<Event>, S: NearSide, O: Oracle>(
     Ok(machine.end(access, answer))
 }
 
-// Tells what an event tells, if anything.
+// Appends what an event records, if anything.
 fn tell<T: Store<NearCall>>(told: &mut T, event: Option<NearCall>) -> Result<(), NearFault>
     ensures told { OnOk result (T.items told.new ≡ T.items told.old ++ listed event) }
     ensures room { T.room told.new ≡ T.room told.old }
@@ -158,7 +158,7 @@ fn tell<T: Store<NearCall>>(told: &mut T, event: Option<NearCall>) -> Result<(),
     }
 }
 
-// Keeps the items that an event tells, of a take that has read these.
+// Keeps the items of an event, for a take that has read these.
 fn keep<I: Store<u64>>(
     taken: &mut I,
     event: Option<NearCall>,
@@ -177,7 +177,7 @@ fn keep<I: Store<u64>>(
     }
 }
 
-// Both sides at work on one memory.
+// Both sides running on one memory.
 #[derive(Drop)]
 struct NearWorld<'a, E: Store<Event>, T: Store<NearCall>, I: Store<u64>> {
     memory: Memory<E>,
@@ -226,7 +226,7 @@ impl<E: Store<Event>, T: Store<NearCall>, I: Store<u64>> NearWorld<'_, E, T, I> 
         }
     }
 
-    // Makes so many steps of one side.
+    // Makes this many steps of one side.
     fn repeat(&mut self, side: Side, count: u64) -> Result<(), NearFault>
         requires { IsNearReady self.old }
         ensures ready { OnOk result (IsNearReady self.new) }
@@ -250,7 +250,7 @@ impl<E: Store<Event>, T: Store<NearCall>, I: Store<u64>> NearWorld<'_, E, T, I> 
     }
 }
 
-// Makes one step for each of the first so many letters of the script's schedule, or for each letter where they are fewer.
+// Makes one step for each of the first `most` letters of the script's schedule, or for each letter if there are fewer.
 fn run_first<E: Store<Event>, T: Store<NearCall>, I: Store<u64>>(
     world: &mut NearWorld<'_, E, T, I>,
     script: ScriptRef<'_>,
@@ -279,11 +279,11 @@ fn run_first<E: Store<Event>, T: Store<NearCall>, I: Store<u64>>(
 }
 
 /// Plays a script by a near miss: one step for each letter of its schedule, of a side that has not stopped. The history of the bits is
-/// lawful, as a memory of safe bits makes it, and each read that a write overlaps has the oracle's next answer. Each begin and end of a
-/// call is told at the event that is its first or its last, and the items of a take are those of the digits which it read; of the items
-/// put and taken nothing more is promised.
+/// lawful, as a memory of safe bits makes it, and each read that a write overlaps has the oracle's next answer. Each start and end of a
+/// call is recorded at the event that is its first or its last, and the items of a take are those of the digits that it read; nothing
+/// more is guaranteed about the items put and taken.
 ///
-/// `OutOfMemory` tells that memory ran out.
+/// `OutOfMemory`: memory ran out.
 ///
 /// In use: `lamport_ring play --wrong`.
 pub fn play_near<A: Allocator + Copy, B: Allocator>(
@@ -306,10 +306,10 @@ pub fn play_near<A: Allocator + Copy, B: Allocator>(
     )
 }
 
-/// Plays the first so many letters of a script by a near miss, or all of them where they are fewer, as [`play_near`] does. The history,
-/// what is told and the items taken grow in these stores, which are empty.
+/// Plays the first `most` letters of a script by a near miss, or all of them if there are fewer, as [`play_near`] does. The history,
+/// the recorded calls and the items taken are added to these stores, which are empty.
 ///
-/// `OutOfMemory` tells that one of the stores had no room for as many as letters are played.
+/// `OutOfMemory`: one of the stores had no room for as many as letters are played.
 ///
 /// In use: the page, which shows a play up to a letter.
 pub fn play_near_first<E: Store<Event>, T: Store<NearCall>, I: Store<u64>>(
@@ -327,7 +327,7 @@ pub fn play_near_first<E: Store<Event>, T: Store<NearCall>, I: Store<u64>>(
         (take letters (content_of script.entry).letters) (E.items play.history) (T.items play.told)
         (I.items play.taken)) }
     ensures of_shape { IfOk result (λ play. AreOfShape (content_of script.entry).shape (E.items play.history)) }
-    // A letter gives one event at most, one begin or end of a call, and one item.
+    // A letter makes at most one event, one start or end of a call, and one item.
     ensures few { IfOk result (λ play. (length (E.items play.history) ≤ min letters
         (length (content_of script.entry).letters)) ×
         (length (T.items play.told) ≤ min letters (length (content_of script.entry).letters)) ×

@@ -14,15 +14,15 @@ use ring_core::distance;
 #[derive(Clone, Copy)]
 enum Stage {
     Between,
-    // so many bits of the consumer's count answered 0
+    // this many bits of the consumer's count returned 0
     Scanning(u8),
-    // so many items of the put are stored, and so many digits of the next one
+    // this many items of the put are stored, and this many digits of the next one
     Storing(usize, u8),
     Counting,
     Closing,
-    // behind the close
+    // after the close
     Over,
-    // a scan gave no count
+    // a scan returned no count
     Stuck,
 }
 
@@ -77,7 +77,7 @@ impl<'a> NearPutter<'a> {
         }
     }
 
-    // The write of a digit of an item to its cell, behind so many of the put.
+    // The write of a digit of an item to its cell, after this many of the put.
     fn digit_write(&self, done: usize, digit: u8) -> Access
         ensures { (cell : ℕ) × (value : Bool) × (result ≡ Access.Write (Bit.Cell cell digit) value) }
     {
@@ -88,7 +88,7 @@ impl<'a> NearPutter<'a> {
         Access::Write(Bit::Cell(cell as u8, digit), value)
     }
 
-    // This access, which was due, has ended with this answer. Tells the end of a call, where it is one.
+    // The due access has ended with this answer. Returns the end of a call, if it is one.
     fn ended(&mut self, _access: Access, answer: bool) -> Option<NearCall>
         requires in_call { (put_stand self.old).in_call ≡ true }
         requires due { IsDueToPut self.old _access }
@@ -113,7 +113,8 @@ impl<'a> NearPutter<'a> {
         }
     }
 
-    // A bit of the consumer's count answered 0: the next one is read. (One that answers 0 to the last gives no count, and the side stops.)
+    // A bit of the consumer's count returned 0: the next one is read. (A scan that reads 0 to the last bit returns no count, and the side
+    // stops.)
     fn scan_on(&mut self, zeros: u8) -> Option<NearCall>
         requires { (put_stand self.old).in_call ≡ true }
         ensures ends { PutterEnds self.old result self.new }
@@ -127,7 +128,7 @@ impl<'a> NearPutter<'a> {
         None
     }
 
-    // How many items a put stores that sees this count: as many as there is room for, of those that are left, and no more than a batch.
+    // How many items a put stores if it sees this count: as many as there is room for, of those left, and at most a batch.
     fn room_behind(&self, seen: u64) -> u64
         ensures { result ≡ min (room_seen self.now.miss self.now.shape self.now.count seen)
             (length self.now.items.now - self.now.stored) }
@@ -145,7 +146,7 @@ impl<'a> NearPutter<'a> {
             .min(left)
     }
 
-    // The scan gave this count: a put that finds room goes on, with its items or with its count.
+    // The scan returned this count: a put that finds room continues, with its items or with its count.
     fn scanned(&mut self, seen: u64) -> Option<NearCall>
         requires { (put_stand self.old).in_call ≡ true }
         ensures ends { PutterEnds self.old result self.new }
@@ -249,6 +250,7 @@ impl NearSide for NearPutter<'_> {
     fn begin(&mut self) -> Option<(Access, Option<NearCall>)> {
         if self.stored < self.items.len() {
             self.stage = Stage::Scanning(0);
+            // only for the proof: gives the bounds of the modulus
             let _modulus = self.shape.modulus();
             let access = Access::Read(Bit::R(0));
             Some((access, Some(NearCall::PutBegins(self.stored))))

@@ -79,7 +79,7 @@ impl Order {
     }
 }
 
-/// The bits of a count, as the side that writes them remembers them, and the value that they are to show.
+/// The bits of a count, as the side that writes them remembers them, and the value that they should show.
 #[derive(Drop)]
 pub(crate) struct NearRow {
     side: Side,
@@ -111,14 +111,14 @@ impl NearRow {
         self.value = value;
     }
 
-    /// The value that was written last, or that is being written.
+    /// The value that was last written, or that is being written.
     pub fn value(&self) -> u8
         ensures { result ≡ self.now.value }
     {
         self.value
     }
 
-    // The bit that is cleared next, of those below the value.
+    // The bit to be cleared next, of those below the value.
     fn clear_due(&self) -> Option<u8>
         ensures found { IfSome result (IsClearedNext self.now.order self.now.bits self.now.value) }
         ensures none { IfNone result (AreClear self.now.bits 0 self.now.value) }
@@ -129,7 +129,7 @@ impl NearRow {
         }
     }
 
-    // The bit that is written next, with its new value.
+    // The bit to be written next, with its new value.
     fn due(&self) -> Option<(u8, bool)>
         ensures { IsWriteDue self.now.order self.now.bits self.now.value result }
     {
@@ -147,7 +147,7 @@ impl NearRow {
         }
     }
 
-    // The write that sets the value's own bit, where that is clear.
+    // The write that sets the value's own bit, if that is clear.
     fn set_due(&self, is_set: bool) -> Option<(u8, bool)>
         ensures { result ≡ (if is_set then None else Some (self.now.value, true)) }
     {
@@ -158,7 +158,7 @@ impl NearRow {
         }
     }
 
-    /// The access that is due, and none once the row shows the value.
+    /// The access that is due, or `None` once the row shows the value.
     pub fn next(&self) -> Option<Access>
         ensures { IsRowAccess self.now.side self.now.order self.now.bits self.now.value result }
     {
@@ -166,7 +166,7 @@ impl NearRow {
         Some(Access::Write(row_bit(self.side, bit), value))
     }
 
-    /// The access that was due has ended.
+    /// Records that the due access has ended.
     pub fn feed(&mut self)
         ensures same { (self.new.side ≡ self.old.side) × (self.new.order ≡ self.old.order) ×
             (self.new.value ≡ self.old.value) }

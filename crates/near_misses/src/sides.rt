@@ -1,8 +1,8 @@
-//! One side of a near miss at work.
+//! One side of a near miss running.
 use crate::plays::NearCall;
 use bits_core::Access;
 
-/// One side at work.
+/// One side, running.
 pub(crate) trait NearSide {
     ghost use Rattle.std.specs.Prelude.{◌≡◌, true, false, Option, None, IfSome, IsSome};
     ghost use Rattle.bits_core.specs.declared.events.Access.{Access};
@@ -26,7 +26,7 @@ pub(crate) trait NearSide {
     // No call is under way, and one may begin.
     ghost between: { Self → Type 0 };
 
-    /// Begins the next call. Tells it, with its first access; none where the side stops.
+    /// Starts the next call. Returns its first access, with the start of the call; `None` if the side stops.
     fn begin(&mut self) -> Option<(Access, Option<NearCall>)>
         requires { between self.old × ((stand self.old).stopped ≡ false) }
         ensures side { (side self.new ≡ side self.old) × (shape self.new ≡ shape self.old) }
@@ -38,7 +38,7 @@ pub(crate) trait NearSide {
         ensures stops { result ≡ None → (a : NearAsked) → asked self.old a →
             NearStops a (side self.old) (stand self.old) × (stand self.new ≡ stand self.old) };
 
-    /// The access that is due, and what it tells where a call begins with it; none where the side stops.
+    /// The access that is due, with the start of a call if one starts with it; `None` if the side stops.
     fn next(&mut self) -> Option<(Access, Option<NearCall>)>
         ensures side { (side self.new ≡ side self.old) × (shape self.new ≡ shape self.old) }
         ensures asked { (a : NearAsked) → asked self.old a → asked self.new a }
@@ -50,13 +50,13 @@ pub(crate) trait NearSide {
         ensures stops { result ≡ None → (a : NearAsked) → asked self.old a →
             NearStops a (side self.old) (stand self.old) × (stand self.new ≡ stand self.old) };
 
-    /// The side stops: in a call for good.
+    /// The side stops; in a call, for good.
     fn stop(&mut self)
         ensures side { (side self.new ≡ side self.old) × (shape self.new ≡ shape self.old) }
         ensures asked { (a : NearAsked) → asked self.old a → asked self.new a }
         ensures stopped { stand self.new ≡ near_stopped (stand self.old) };
 
-    /// This access, which was due, has ended with this answer. Tells the end of a call, where it is one.
+    /// The due access has ended with this answer. Returns the end of a call, if it is one.
     fn end(&mut self, access: Access, answer: bool) -> Option<NearCall>
         requires in_call { (stand self.old).in_call ≡ true }
         requires due { due self.old access }

@@ -17,22 +17,22 @@ use ring_core::distance;
 #[derive(Clone, Copy)]
 enum Stage {
     Between,
-    // so many bits of the producer's count answered 0
+    // this many bits of the producer's count returned 0
     Scanning(u8),
     // the close bit is read
     Looking,
     // the same, in the second scan
     ScanningAgain(u8),
-    // so many digits of the next item are read
+    // this many digits of the next item are read
     Reading(u8),
     Counting,
-    // behind a take that was told that the ring is closed
+    // after a take that returned Closed
     Over,
-    // a scan gave no count
+    // a scan returned no count
     Stuck,
 }
 
-// Keeps an item behind so many.
+// Keeps an item after this many.
 fn keep_one(kept: &mut [u64; 64], at: usize, item: u64)
     requires room { at < 64 }
     ensures kept { take (at + 1) kept.new ≡ take at kept.old ++ item ∷ [] }
@@ -40,7 +40,7 @@ fn keep_one(kept: &mut [u64; 64], at: usize, item: u64)
     kept[at] = item;
 }
 
-// An item with a digit more, where that was read as 1.
+// An item with one more digit, if that was read as 1.
 fn with_digit(answer: bool, digit: u8, item: u64) -> u64
     ensures { result ≡ with_digit answer digit item }
 {
@@ -52,7 +52,7 @@ fn with_digit(answer: bool, digit: u8, item: u64) -> u64
 }
 
 /// The consumer of a script: it takes as many items as the script has takes, counting one for each that found the ring empty, and no more
-/// once it was told Closed.
+/// once a take has returned Closed.
 #[derive(Drop)]
 pub(crate) struct NearTaker {
     miss: NearMiss,
@@ -62,7 +62,7 @@ pub(crate) struct NearTaker {
     used: u64,
     taken: u64,
     count: u8,
-    // the items of the last take, so many of which are whole
+    // the items of the last take, of which this many are complete
     items: [u64; 64],
     whole: usize,
     // how many the take under way reads
@@ -110,25 +110,26 @@ impl NearTaker {
         }
     }
 
-    /// The items that the last take took, and during a take those that it has read so far.
+    /// The items that the last take took, or during a take those that it has read so far.
     pub fn items(&self) -> &[u64]
         ensures { result.now ≡ (take_stand self.now).read }
     {
         &self.items[..self.whole]
     }
 
-    // How many items the next take wants, or that under way: as many as one count write may count, or as takes are left.
+    // How many items the next take wants, or that under way: as many as one count write may count, or as many as takes are left.
     fn wanted(&self) -> u64
         ensures value { result ≡ taker_wants self.now }
         ensures few { result ≤ 64 }
     {
+        // only for the proof: gives the bounds of the capacity, which bound the take batch
         let _capacity = self.shape.capacity();
         self.shape
             .take_batch()
             .min(self.takes.saturating_sub(self.used))
     }
 
-    // A bit of the producer's count was read. (A scan that reads 0 to the last bit gives no count, and the side stops.)
+    // A bit of the producer's count was read. (A scan that reads 0 to the last bit returns no count, and the side stops.)
     fn scan_ends(&mut self, zeros: u8, answer: bool, again: bool) -> Option<NearCall>
         requires scan { self.old.stage ≡ scan_stage again zeros }
         requires none { (self.old.whole ≡ 0) × (1 ≤ taker_wants self.old) }
@@ -152,7 +153,7 @@ impl NearTaker {
         None
     }
 
-    // How many items a take reads that sees this count: as many as it shows, and no more than the take wants.
+    // How many items a take reads if it sees this count: as many as it shows, and at most as many as the take wants.
     fn shown(&self, seen: u64) -> u64
         ensures { result ≡ min (items_seen self.now.miss self.now.shape self.now.count seen) (taker_wants self.now) }
     {
@@ -169,7 +170,7 @@ impl NearTaker {
         }
     }
 
-    // A scan gave this count.
+    // A scan returned this count.
     fn scanned(&mut self, seen: u64, again: bool) -> Option<NearCall>
         requires in_take { (take_stand self.old).in_call ≡ true }
         requires none { (self.old.whole ≡ 0) × (1 ≤ taker_wants self.old) }
@@ -225,6 +226,7 @@ impl NearTaker {
         ensures read { take_stand self.new ≡ with_digit_read (width_of self.old.shape) answer digit
             (take_stand self.old) }
     {
+        // only for the proof: gives the bound of the items wanted
         let _wanted = self.wanted();
         self.item = with_digit(answer, digit, self.item);
         if u64::from(digit) + 1 < self.shape.width() {
@@ -255,6 +257,7 @@ impl NearTaker {
         if self.row.next().is_some() {
             return None;
         }
+        // only for the proof: gives the bound of the items wanted
         let _wanted = self.wanted();
         let taken = self.whole;
         self.count = self.row.value();
@@ -288,6 +291,7 @@ impl NearSide for NearTaker {
             self.whole = 0;
             self.item = 0;
             self.stage = Stage::Scanning(0);
+            // only for the proof: gives the bounds of the modulus
             let _modulus = self.shape.modulus();
             let access = Access::Read(Bit::S(0));
             Some((access, Some(NearCall::TakeBegins(wanted as usize))))

@@ -1,4 +1,4 @@
--- Lines that stand for events, and the lines with which a history lacks classes, after one more event.
+-- Lines that represent events, and the lines with which a history lacks classes, after one more event.
 use Rattle.std.proofs.Common.{◌≡◌, ◌≢◌, ◌∙◌, ℕ, suc, ◌+◌, ◌<◌, ◌≤◌, Option, Some, None, Result, Ok, Err, inr, List, [], ◌∷◌, ◌++◌, length, map, take, reverse, get_or, refl, sym, ap, ap₂, subst, length-append, arith}
 use Rattle.std.specs.Prelude.{IfErr, IfOk}
 use Rattle.std.proofs.lemmas.List.{map_more, map_push, length-map, reverse-append, take-append-le, take_all, take_at}
@@ -22,9 +22,9 @@ use Rattle.queue_calls_c.specs.declared.judges.JudgeFault.{JudgeFault}
 use Rattle.queue_calls_c.specs.declared.judges.JudgeFault.TheVariants.{BadLine, TooFewSlots}
 use Rattle.queue_calls_c.specs.declared.registers.EventLine.{EventLine}
 
--- ---- what lines stand for
+-- ---- what lines represent
 
--- one line more stands for one event more
+-- one more line represents one more event
 pub stand_more :
     (lines : List EventLine) (place : ℕ) (d : EventLine) (before : List RegisterEvent) (e : RegisterEvent) → place < length lines → StandFor (take place lines) before → line_event (get_or lines place d) ≡ Some e →
     StandFor (take (place + 1) lines) (before ++ e ∷ [])
@@ -39,7 +39,7 @@ as_many lines events stand = sym (length-map events (λ (x : RegisterEvent). Som
 
 module _ (c : Class) (r : Register) (events : List RegisterEvent) (e : RegisterEvent) where
   -- the first miss of events is that of more
-  -- again, since this crate stands on no text of registers
+  -- again, since this crate does not depend on the text of registers
   first_stays : (p : ℕ) → IsFirstMiss c r events p → IsFirstMiss c r (events ++ e ∷ []) p
   first_stays p miss =
       let within : p < length events = miss.within in
@@ -49,8 +49,8 @@ module _ (c : Class) (r : Register) (events : List RegisterEvent) (e : RegisterE
         with_it = subst (λ (es : List RegisterEvent). ¬ HasClass c r (reverse es)) (sym (take-append-le (p + 1) events (e ∷ []) (omega (arith, within)))) miss.with_it;
       }
 
-  -- the event that is added is the first miss
-  -- again, since this crate stands on no text of registers
+  -- the added event is the first miss
+  -- again, since this crate does not depend on the text of registers
   first_comes : HasClass c r (reverse events) → ¬ HasClass c r (e ∷ reverse events) → IsFirstMiss c r (events ++ e ∷ []) (length events)
   first_comes had lacks = record {
     within = omega (arith, length-append events (e ∷ []));
@@ -114,9 +114,9 @@ refuses_line fault.OutOfTurn slots readers number r h l e rooms within is count 
 refuses_line fault.TooMany slots readers number r h l e rooms within is count small refused = absurd (omega (arith, refused.3, few_started h, count, small))
 refuses_line fault.OutOfMemory slots readers number r h l e rooms within is count small refused = no_room slots readers 18446744073709551615 number r h l e rooms within is refused
 
--- ---- what is found
+-- ---- the finding
 
--- what is found of further lines, by the register of the first one
+-- the finding on further lines, by the register of the first one
 pub judgement :
     (numbers : List ℕ) (lines : List EventLine) (slots : ℕ) (r : Register) (result : Result JudgedHistory JudgeFault) → register_of numbers ≡ Some r →
     IfOk result (λ judged. (events : List RegisterEvent) × StandFor lines events × IsJudgedHistory r events judged) → IfErr result (λ refusal. IsRefusedAt slots r lines refusal) →

@@ -1,4 +1,4 @@
--- A hearing whose lists lie in slots has heard what one has heard whose lists are what lies there.
+-- A hearing with its lists in slots has heard the same as one whose lists are the contents of these.
 use Rattle.std.proofs.Common.{Bool, List, refl}
 use Rattle.queue_calls.specs.Hearings.{FollowsLines, hearing_of}
 use Rattle.queue_calls.specs.Recordings.{Line}

@@ -1,4 +1,4 @@
--- Lines that are told by numbers.
+-- Lines given by numbers.
 use Rattle.std.proofs.Common.{◌≡◌, ◌≢◌, ◌∙◌, ℕ, zero, suc, ◌+◌, ◌<◌, ◌≤◌, false, List, [], ◌∷◌, ◌++◌, Option, Some, None, Result, Ok, Err, length, take, drop, get_or, refl, sym, ap, ap₂, subst, arith}
 use Rattle.std.specs.Prelude.{IfOk, IfSome}
 use Rattle.std.proofs.lemmas.Option.{same_Some}
@@ -20,11 +20,11 @@ use Rattle.queue_calls.proofs.HeardLines.{first_heard, first_line}
 use Rattle.queue_calls_c.specs.Heard.{TellsLine, TellLines, SaysOf, StopsWith, HearsSome, found_of}
 use Rattle.queue_calls_c.specs.declared.hearings.WordLine.{WordLine}
 
--- a line is told in one way
+-- a line is given in one way
 told_once : (next : WordLine) (numbers : List ℕ) (word : Word) (own : List ℕ) (l : Line) → word_of next.word ≡ Some word → own ≡ take next.count numbers → TellsLine next numbers l → l ≡ line word own
 told_once next numbers word own l is own_is told = ap₂ line (same_Some l.word word (sym told.0 ∙ is)) (told.1 ∙ sym own_is)
 
--- what a hearing says of a line is what is said of it as it is told
+-- the verdict of a hearing on a line is that on the line as it is given
 pub says_of :
     {S O T N B : Type 0} (offered : O → List Offered) (last : T → List Taken) (o t : ℕ) (old new : Hearing S O T N B) (before : List Line) (number : ℕ) (next : WordLine) (numbers : List ℕ) (word : Word) (own : List ℕ)
     (result : Result (Option CallsFinding) RecordingFault) → word_of next.word ≡ Some word → own ≡ take next.count numbers → FollowsLines offered last old false before → length before + 1 ≡ number →
@@ -38,7 +38,7 @@ says_of offered last o t old new before number next numbers word own (Err (BadLi
 says_of offered last o t old new before number next numbers word own (Err TooLong) is own_is follows count hears = absurd (hears false before follows count)
 says_of offered last o t old new before number next numbers word own (Err OutOfMemory) is own_is follows count hears = (line word own, (is, own_is), hears false before follows count)
 
--- one line more is told
+-- one more line is given
 pub told_more :
     (lines : List WordLine) (numbers : List ℕ) (heard : List Line) (rest : List ℕ) (next : WordLine) (l : Line) → TellLines lines numbers heard rest → TellsLine next rest l →
     TellLines (lines ++ next ∷ []) numbers (heard ++ l ∷ []) (drop next.count rest)
@@ -47,7 +47,7 @@ told_more [] numbers (h ∷ heard) rest next l are told = absurd are
 told_more (first ∷ lines) numbers [] rest next l are told = absurd are
 told_more (first ∷ lines) numbers (h ∷ heard) rest next l are told = (are.0, told_more lines (drop first.count numbers) heard rest next l are.1 told)
 
--- what is said is not that there is no state, as what is found is not lawful
+-- the verdict is not that there is no state, since a finding is not lawful
 pub not_six : (room : ℕ) (said : Result (Option CallsFinding) RecordingFault) → IfOk said (λ found. IfSome found IsNotLawful) → (found_of room said).verdict ≢ 6
 not_six room (Ok None) not e = absurd (omega (arith, e))
 not_six room (Ok (Some (Lawful report))) not e = not
@@ -57,7 +57,7 @@ not_six room (Err (BadLine number)) not e = absurd (omega (arith, e))
 not_six room (Err TooLong) not e = absurd (omega (arith, e))
 not_six room (Err OutOfMemory) not e = absurd (omega (arith, e))
 
--- ---- what is followed
+-- ---- lines that are followed
 
 module _ (m o t : ℕ) where
   pub says_map :
@@ -86,7 +86,7 @@ module _ (m o t : ℕ) where
     stops = stops_map F G (before ++ s.heard) (drop count lines) s.rest said (f (before ++ s.heard)) s.stops;
   }
 
-  -- one is at hand of which something is said
+  -- there is a next line, with a verdict
   stops_at :
       (F : List Line → Type 0) (heard : List Line) (lines : List WordLine) (count : ℕ) (d : WordLine) (rest : List ℕ) (said : Result (Option CallsFinding) RecordingFault) → count < length lines → said ≢ Ok None →
       SaysOf m o t F heard (get_or lines count d) rest said → StopsWith m o t F heard (drop count lines) rest said
@@ -102,7 +102,7 @@ module _ (m o t : ℕ) where
   stops_none F heard (next ∷ more) zero rest l f = absurd (omega (arith, l))
   stops_none F heard (next ∷ more) (suc count) rest l f = stops_none F heard more count rest (omega (arith, l)) f
 
-  -- so many were heard, and this is said of the next one
+  -- this many were heard, and this is the verdict on the next one
   pub hears_at :
       (F : List Line → Type 0) (before heard : List Line) (lines : List WordLine) (numbers : List ℕ) (count : ℕ) (d : WordLine) (rest : List ℕ) (said : Result (Option CallsFinding) RecordingFault) →
       count < length lines → TellLines (take count lines) numbers heard rest → said ≢ Ok None → SaysOf m o t F (before ++ heard) (get_or lines count d) rest said →
@@ -110,7 +110,7 @@ module _ (m o t : ℕ) where
   hears_at F before heard lines numbers count d rest said within told other says =
       record { heard = heard; rest = rest; few = omega (arith, within); told = told; stops = stops_at F (before ++ heard) lines count d rest said within other says }
 
-  -- and where all were
+  -- and if all were
   pub hears_all :
       (F : List Line → Type 0) (before heard : List Line) (lines : List WordLine) (numbers : List ℕ) (count : ℕ) (rest : List ℕ) → length lines ≤ count → count ≤ length lines →
       TellLines (take count lines) numbers heard rest → F (before ++ heard) → HearsSome m o t F before lines numbers count (Ok None)

@@ -1,4 +1,4 @@
--- What is found of the history of a register that C records in numbers: a first line gives the register, and each further line stands for
+-- The finding on the history of a register that C records in numbers: a first line gives the register, and each further line represents
 -- an event. Lines are counted from 1.
 use Rattle.std.specs.Prelude.{◌≡◌, ◌⊎◌, ℕ, ◌+◌, ◌-◌, ◌<◌, ◌==◌, nat_lt, if◌then◌else◌, List, [], ◌∷◌, Option, Some, None, option_map, Result, Ok, Err, map, reverse, slice_get, take}
 use Rattle.register_calls.specs.Histories.{ComesInTurn, IsWellFormed, WritesValue}
@@ -31,7 +31,7 @@ register_of _ = None
 abbrev pub reader_of : ℕ → Option ℕ
 reader_of number = if nat_lt 0 number then (if nat_lt 64 number then None else Some (number - 1)) else None
 
--- the event that a line stands for, if it stands for one
+-- the event that a line represents, if it represents one
 abbrev pub line_event : EventLine → Option RegisterEvent
 line_event l =
     if l.kind == 0 then Some (WriteBegins l.value) else if l.kind == 1 then Some WriteEnds else if l.kind == 2 then option_map (λ i. ReadBegins i) (reader_of l.reader) else
@@ -44,7 +44,7 @@ IsWithinReaders WriteEnds = Unit {0}
 IsWithinReaders (ReadBegins i) = i < 64
 IsWithinReaders (ReadEnds i v) = i < 64
 
--- lines stand for these events, each for one, in their order
+-- lines represent these events, each for one, in their order
 abbrev pub StandFor : List EventLine → List RegisterEvent → Type 0
 StandFor lines events = map line_event lines ≡ map (λ e. Some e) events
 
@@ -59,13 +59,14 @@ line_of_place (Some place) = place + 2
 abbrev pub IsLostAt : Class → Register → List RegisterEvent → (line : ℕ) → Type 0
 IsLostAt class r events line = (place : Option ℕ) × IsMiss class r events place × (line ≡ line_of_place place)
 
+-- each class is lost at its line
 pub record AreLost (r : Register) (events : List RegisterEvent) (lost : LostClasses) : Type 0 where
   pub safe : IsLostAt Safe r events lost.safe
   pub regular : IsLostAt Regular r events lost.regular
   pub by_reader : IsLostAt AtomicByReader r events lost.by_reader
   pub atomic : IsLostAt Atomic r events lost.atomic
 
--- each event came in its turn; this is the strongest class of their history, and these are the lines with which it lacks classes
+-- each event came in turn; this is the strongest class of their history, and these are the lines with which it lacks classes
 abbrev pub IsJudgedHistory : Register → List RegisterEvent → JudgedHistory → Type 0
 IsJudgedHistory r events judged = IsWellFormed r (reverse events) × IsStrongest judged.class r (reverse events) × AreLost r events judged.lost
 
@@ -84,14 +85,14 @@ refusal_of fault.OutOfTurn line = OutOfTurn line
 refusal_of fault.TooMany line = TooFewSlots line
 refusal_of fault.OutOfMemory line = TooFewSlots line
 
--- why a line is refused after a history: its event is out of turn; it stands for no event, or writes no value of the register; or it
+-- why a line is refused after a history: its event is out of turn; it represents no event, or writes no value of the register; or it
 -- begins a write, and those that a read may be of, with it, are more than the slots
 abbrev pub RefusesEventLine : (slots : ℕ) → JudgeFault → Register → List RegisterEvent → EventLine → Type 0
 RefusesEventLine slots (OutOfTurn line) r h l = (e : RegisterEvent) × (line_event l ≡ Some e) × WritesValue r e × ¬ ComesInTurn h e
 RefusesEventLine slots (BadLine line) r h l = (e : RegisterEvent) → line_event l ≡ Some e → ¬ WritesValue r e
 RefusesEventLine slots (TooFewSlots line) r h l = (v : ℕ) × (line_event l ≡ Some (WriteBegins v)) × RefusesRegisterEvent slots 64 0 fault.OutOfMemory r h (WriteBegins v)
 
--- a further line is refused, after lines whose events came in their turn
+-- a further line is refused, after lines whose events came in turn
 pub record IsRefusedAt (slots : ℕ) (r : Register) (lines : List EventLine) (refusal : JudgeFault) : Type 0 where
   pub place : ℕ
   pub next : EventLine
@@ -108,13 +109,14 @@ RefusesHead slots (OutOfTurn line) numbers = ⊥
 RefusesHead slots (BadLine line) numbers = (line ≡ 1) × (register_of numbers ≡ None)
 RefusesHead slots (TooFewSlots line) numbers = (line ≡ 1) × (slots ≡ 0)
 
--- ---- what is found
+-- ---- the finding
 
--- what is found of lines after a first one of these numbers, with this many slots for writes
+-- the finding on lines after a first one with these numbers, with this many slots for writes
 abbrev pub IsJudgement : (numbers : List ℕ) → (lines : List EventLine) → (slots : ℕ) → Result JudgedHistory JudgeFault → Type 0
 IsJudgement numbers lines slots (Ok judged) = (r : Register) × (events : List RegisterEvent) × (register_of numbers ≡ Some r) × StandFor lines events × IsJudgedHistory r events judged
 IsJudgement numbers lines slots (Err refusal) = RefusesHead slots refusal numbers ⊎ ((r : Register) × (register_of numbers ≡ Some r) × IsRefusedAt slots r lines refusal)
 
+-- the number of a class, or 0
 abbrev pub class_number : Option Class → ℕ
 class_number None = 0
 class_number (Some Safe) = 1
@@ -122,6 +124,7 @@ class_number (Some Regular) = 2
 class_number (Some AtomicByReader) = 3
 class_number (Some Atomic) = 4
 
+-- a refusal as numbers
 abbrev pub refused_as : (verdict line : ℕ) → JudgeFound
 refused_as verdict line = record { line = line; not_safe = 0; not_regular = 0; not_by_reader = 0; not_atomic = 0; class = 0; verdict = verdict }
 
@@ -140,6 +143,7 @@ register_found (Err (OutOfTurn line)) = refused_as 1 line
 register_found (Err (BadLine line)) = refused_as 2 line
 register_found (Err (TooFewSlots line)) = refused_as 3 line
 
+-- the finding in numbers is that of some judgement
 abbrev pub JudgesRegister : (numbers : List ℕ) → (lines : List EventLine) → (slots : ℕ) → JudgeFound → Type 0
 JudgesRegister numbers lines slots found = (result : Result JudgedHistory JudgeFault) × IsJudgement numbers lines slots result × (found ≡ register_found result)
 

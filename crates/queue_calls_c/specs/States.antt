@@ -16,15 +16,19 @@ use Rattle.queue_calls.specs.declared.turns.TakeTurn.TheVariants.{Rests, Waits}
 use Rattle.queue_calls_c.specs.declared.states.Audit.{Audit}
 use Rattle.queue_calls_c.specs.declared.states.Calls.{Calls}
 
+-- the capacity of the queue
 abbrev pub kept_capacity : Calls → Capacity
 kept_capacity c = if c.bounded then Between c.full c.most else Unbounded
 
+-- the producer's call under way
 abbrev pub kept_put : Calls → PutTurn
 kept_put c = if c.put == 1 then Offers c.offered c.before_put else if c.put == 2 then Late c.offered else if c.put == 3 then Closes c.again else Free
 
+-- the consumer's call under way
 abbrev pub kept_take : Calls → TakeTurn
 kept_take c = if c.take then Waits c.wanted c.before_take c.ended else Rests
 
+-- what the producer began last
 abbrev pub kept_begun : Calls → Begun
 kept_begun c = if c.begun == 1 then begun.Put c.begun_items else if c.begun == 2 then begun.Close else begun.Nothing
 
@@ -48,9 +52,10 @@ state_of a = record {
   begun = kept_begun a.calls;
 }
 
--- the items that lie in its slots
+-- the items in its slots
 abbrev pub offered_there : Audit → List Offered
 offered_there a = take a.offered_used (round_from a.offered_first a.offered.now)
 
+-- the items taken last, in its slots
 abbrev pub taken_there : Audit → List Taken
 taken_there a = take a.taken_used (round_from a.taken_first a.taken.now)

@@ -14,7 +14,7 @@ use crate::states::{Audit, keep_state, state_of};
 use queue_calls::{CallsReport, Hearing, Lent, Slots, Word, allows};
 use std::mem;
 
-// Whether what an audit uses of its slots is no more than these.
+// Whether an audit uses no more slots than it has.
 fn fits(audit: &Audit<'_>) -> bool
     ensures { IsTrue result ↔ FitsSlots audit.now }
 {
@@ -24,8 +24,8 @@ fn fits(audit: &Audit<'_>) -> bool
         && audit.taken_used <= audit.taken.len()
 }
 
-// The hearing that goes on from an audit, whose slots it takes. None if the audit uses more slots than there are: then nothing is
-// taken, and the audit is as it was.
+// The hearing that continues an audit, whose slots it takes. `None` if the audit uses more slots than there are: then nothing is
+// taken, and the audit is unchanged.
 fn resume<'a>(audit: &mut Audit<'a>) -> Option<Hearing<Lent<'a>>>
     ensures goes_on { IfSome result (λ h. (lines : List recordings.Line) →
         FollowsLines (λ o. o) (λ t. t) (heard_by audit.old) false lines →
@@ -75,8 +75,8 @@ fn keep<'a>(audit: &mut Audit<'a>, hearing: Hearing<Lent<'a>>)
     audit.taken_used = used;
 }
 
-/// Begins an audit of a queue that these numbers tell, as they stand in the first line of a recording: none, of a queue with no
-/// bound; its capacity; or two that its capacity lies between. Tells whether they may stand there; where not, nothing changes.
+/// Starts an audit of a queue with these numbers, as they are in the first line of a recording: none, for an unbounded queue;
+/// its capacity; or two that its capacity lies between. Returns whether they may come there; if not, nothing changes.
 #[unsafe(no_mangle)]
 pub extern "C" fn ring_audit_begin(audit: &mut Audit<'_>, numbers: &[u64]) -> bool
     ensures begun { IsTrue result → HasHeardLines audit.new (line Queue numbers.now ∷ []) }
@@ -97,8 +97,8 @@ pub extern "C" fn ring_audit_begin(audit: &mut Audit<'_>, numbers: &[u64]) -> bo
     true
 }
 
-/// Hears lines behind those that it has heard, as many of them as are lawful, and tells how many these are; and in `found` what is found
-/// of the next one, with the words of its cause. A line at fault is not kept: more may be heard in its place.
+/// Hears lines after those already heard, as many of them as are lawful, and returns how many these are; and in `found` the finding on
+/// the next one, with the text of its cause. A line at fault is not kept: others may be heard instead.
 #[unsafe(no_mangle)]
 pub extern "C" fn ring_audit_hear(
     audit: &mut Audit<'_>,
@@ -129,7 +129,7 @@ pub extern "C" fn ring_audit_hear(
     heard
 }
 
-/// Tells the report on the lines that were heard. Whether there is one: not of a state that this library did not leave.
+/// Writes the report on the lines that were heard. Returns whether there is one: not for a state that this library did not leave.
 #[unsafe(no_mangle)]
 pub extern "C" fn ring_audit_report(audit: &mut Audit<'_>, report: &mut CallsReport) -> bool
     ensures reports { ReportsOn audit.old result audit.new report.new }

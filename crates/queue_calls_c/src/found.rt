@@ -1,27 +1,27 @@
-//! What is found, as numbers.
+//! A finding, as numbers.
 ghost use Rattle.std.specs.Prelude.{◌≡◌, length};
 ghost use Rattle.queue_calls_c.specs.Heard.{found_of, words_after};
 
 use crate::hearings::Heard;
 use queue_calls::{CallsFinding, RecordingFault, write_cause};
 
-/// What is found of lines, as numbers; those that it does not use are 0.
+/// The finding on lines, as numbers; those that it does not use are 0.
 #[repr(C)]
 #[derive(Clone, Copy, PartialEq, Eq, Debug)]
 pub struct HeardFound {
-    /// The line at fault, or the bad one, counted from 1 with that which tells the queue.
+    /// The line at fault, or the bad one, counted from 1 including the one with the capacity.
     pub line: u64,
-    /// The line that contradicts the one at fault; 0 where none does.
+    /// The line that contradicts the one at fault; 0 if none does.
     pub against: u64,
-    /// How many bytes hold the words of the cause.
+    /// How many bytes the text of the cause has.
     pub words: u64,
-    /// 0: all lines were heard, and the history that they tell is linearizable. 1: the next line is out of turn; 2: with it the
-    /// history is not linearizable; 3: no such line may stand there; 4: there is no room for its items; 5: there are too many lines;
-    /// 6: the state is none that this library left.
+    /// 0: all lines were heard, and their history is linearizable. 1: the next line is out of turn; 2: with it the history is not
+    /// linearizable; 3: no such line may come there; 4: there is no room for its items; 5: there are too many lines; 6: the state is
+    /// not one that this library left.
     pub verdict: u32,
 }
 
-// What is said of a line, with the words of a cause at the front of the slots.
+// The verdict on a line, with the text of a cause at the front of the slots.
 pub fn found_of(said: Heard, words: &mut [u8]) -> HeardFound
     ensures found { result ≡ found_of (length words.old) said }
     ensures words { words.new ≡ words_after said words.old }

@@ -1,4 +1,4 @@
-//! Lines that are told by numbers.
+//! Lines given by numbers.
 ghost use Rattle.std.specs.Prelude.{◌≡◌, ◌+◌, ◌↔◌, IfOk, IfSome, IsTrue, List, None, Ok, false, length, take, drop};
 ghost use Rattle.queue_calls.specs.Hearings.{FollowsLines, IsNotLawful};
 ghost use Rattle.queue_calls.specs.Recordings as recordings;
@@ -7,7 +7,7 @@ ghost use Rattle.queue_calls_c.specs.Heard.{HearsSome, SaysOf, offered_room, tak
 
 use queue_calls::{CallsFinding, Hearing, Lent, RecordingFault, Word};
 
-/// A line of a recording: its word, by its number, and how many numbers it has, which are told in a list of their own.
+/// A line of a recording: its word, by its number, and how many numbers it has, which come in a list of their own.
 #[repr(C)]
 #[derive(Clone, Copy, PartialEq, Eq, Debug)]
 pub struct WordLine {
@@ -15,7 +15,7 @@ pub struct WordLine {
     pub count: u32,
 }
 
-/// What a hearing says of a line.
+/// The verdict of a hearing on a line.
 pub type Heard = Result<Option<CallsFinding>, RecordingFault>;
 
 // The first of the numbers, as many as the line has.
@@ -25,14 +25,14 @@ fn own_numbers<'n>(line: &WordLine, numbers: &'n [u64]) -> &'n [u64]
     &numbers[..(line.count as usize).min(numbers.len())]
 }
 
-// The numbers behind these.
+// The numbers after these.
 fn other_numbers<'n>(line: &WordLine, numbers: &'n [u64]) -> &'n [u64]
     ensures { result.now ≡ drop line.now.count numbers.now }
 {
     &numbers[(line.count as usize).min(numbers.len())..]
 }
 
-// Hears one line, of this number, and says what it is.
+// Hears one line, of this number, and returns the verdict.
 fn hear_one(hearing: &mut Hearing<Lent<'_>>, number: u64, line: &WordLine, numbers: &[u64]) -> Heard
     ensures says { (before : List recordings.Line) → FollowsLines ring_items ring_items hearing.old false before →
         length before + 1 ≡ number →
@@ -49,7 +49,7 @@ fn hear_one(hearing: &mut Hearing<Lent<'_>>, number: u64, line: &WordLine, numbe
     }
 }
 
-// Whether a line was heard of which this is said.
+// Whether a line with this verdict was heard.
 fn is_heard(said: Heard) -> bool
     ensures { IsTrue result ↔ (said ≡ Ok None) }
 {
@@ -59,7 +59,7 @@ fn is_heard(said: Heard) -> bool
     }
 }
 
-// Hears lines behind so many others: how many of them, how many these are then, and what is said of the next one.
+// Hears lines after a number of others: returns how many of them were heard, the number of lines then, and the verdict on the next one.
 pub fn hear_lines(
     hearing: &mut Hearing<Lent<'_>>,
     before: u64,

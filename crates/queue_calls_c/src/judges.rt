@@ -11,7 +11,7 @@ use crate::registers::{EventLine, READERS, line_event, register_of};
 use lists::{Fifo, Slots};
 use register_calls::{Class, ReaderState, RegisterAuditor, RegisterFault};
 
-// Of each class the first line with which a history lacks it; 0 if it has the class.
+// For each class the first line with which a history lacks it; 0 if it has the class.
 #[derive(Clone, Copy, PartialEq, Eq, Debug)]
 pub struct LostClasses {
     pub safe: u64,
@@ -20,7 +20,7 @@ pub struct LostClasses {
     pub atomic: u64,
 }
 
-// What is found of a history whose events came in their turn.
+// The finding on a history whose events came in turn.
 #[derive(Clone, Copy, PartialEq, Eq, Debug)]
 pub struct JudgedHistory {
     // its strongest class, if it is safe
@@ -55,7 +55,7 @@ fn lost_at(known: u64, has: bool, line: u64) -> u64
 }
 
 impl LostClasses {
-    // None is lost before any event.
+    // No class is lost before any event.
     fn none() -> LostClasses
         ensures { result ≡ record { safe = 0; regular = 0; by_reader = 0; atomic = 0 } }
     {
@@ -137,7 +137,7 @@ fn hear_line<W: Fifo<u64>, R: Fifo<ReaderState>>(
     }
 }
 
-// Hears the events of all lines after the first one, and returns what is found of their history.
+// Hears the events of all lines after the first one, and returns the finding on their history.
 fn hear_lines<W: Fifo<u64>, R: Fifo<ReaderState>>(
     auditor: &mut RegisterAuditor<W, R>,
     lines: &[EventLine],
@@ -162,7 +162,7 @@ fn hear_lines<W: Fifo<u64>, R: Fifo<ReaderState>>(
     })
 }
 
-// What is kept of readers that have not read yet.
+// The states of readers that have not read yet.
 fn fresh_readers() -> [ReaderState; READERS]
     ensures { length result ≡ 64 }
 {

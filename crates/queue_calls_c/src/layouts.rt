@@ -22,7 +22,7 @@ const SIZES: [u64; 8] = [
 ];
 
 /// Writes how many bytes the structs of this library have to the front, if there is room for them: an audit, the entry of an item
-/// inside and of one taken, a line, a report, and what is found; an event of a register, and what is found of its history. A header
+/// inside and of one taken, a line, a report, and a finding; an event of a register, and the finding on its history. A header
 /// compares them with its own.
 #[unsafe(no_mangle)]
 pub extern "C" fn ring_audit_layout(sizes: &mut [u64])

@@ -1,5 +1,5 @@
-//! The audits of recordings for C and what calls C: that of recorded calls line by line, its state in a struct and in slots of the
-//! caller's; and that of a register's whole history in one call. They take no memory.
+//! The audits of recordings for C and what calls C: that of recorded calls line by line, with its state in a struct and in
+//! caller-supplied slots; and that of a register's whole history in one call. They take no memory.
 #![tactic(auto)]
 
 mod audits;

@@ -19,7 +19,7 @@ pub struct EventLine {
     pub value: u64,
 }
 
-/// What is found of a history, as numbers. Lines are counted from 1 with that which gives the register; 0 is none.
+/// The finding on a history, as numbers. Lines are counted from 1 including the one that gives the register; 0 is none.
 #[repr(C)]
 #[derive(Clone, Copy, PartialEq, Eq, Debug)]
 pub struct JudgeFound {
@@ -32,8 +32,8 @@ pub struct JudgeFound {
     pub not_atomic: u64,
     /// The strongest class of the history: 0 if it is not safe, 1 safe, 2 regular, 3 atomic by reader, 4 atomic.
     pub class: u32,
-    /// 0: the history is judged. 1: the event of the line is out of turn; 2: the line may not be there; 3: for the write of the line
-    /// there are too few slots.
+    /// 0: the history is judged. 1: the event of the line is out of turn; 2: the line may not come there; 3: there are too few slots
+    /// for the write of the line.
     pub verdict: u32,
 }
 
@@ -77,7 +77,7 @@ fn reader_of(number: u32) -> Option<usize>
     }
 }
 
-// The event that a line stands for, if it stands for one.
+// The event that a line represents, if it represents one.
 pub fn line_event(line: &EventLine) -> Option<RegisterEvent>
     ensures event { result ≡ line_event line.now }
     ensures reader { IfSome result IsWithinReaders }
@@ -125,7 +125,7 @@ fn refused_as(verdict: u32, line: u64) -> JudgeFound
     }
 }
 
-// What is found, as numbers.
+// A finding, as numbers.
 fn register_found(judgement: Result<JudgedHistory, JudgeFault>) -> JudgeFound
     ensures { result ≡ register_found judgement }
 {
@@ -146,11 +146,11 @@ fn register_found(judgement: Result<JudgedHistory, JudgeFault>) -> JudgeFound
 }
 
 /// Judges the history of a register: of a first line with these numbers, the first value and perhaps the bound that the values are below,
-/// and of further lines, each of which stands for an event. The slots are for writes: as many as a history has, and one more, are enough.
+/// and of further lines, each of which represents an event. The slots are for writes: as many as a history has, and one more, are enough.
 ///
-/// It finds the strongest class of the history, and of each class the first line with which the history lacks it. Or it refuses the first
-/// line that may not be there, whose event is out of turn, or for whose write there is no slot. What is in the slots after that is not
-/// said.
+/// It finds the strongest class of the history, and for each class the first line with which the history lacks it. Or it refuses the
+/// first line that may not be there, whose event is out of turn, or for whose write there is no slot. The contents of the slots after
+/// that are unspecified.
 #[unsafe(no_mangle)]
 pub extern "C" fn ring_register_judge(
     numbers: &[u64],

@@ -10,7 +10,7 @@ use queue_calls::{
 #[repr(C)]
 #[derive(Clone, Copy, PartialEq, Eq, Debug)]
 pub struct Calls {
-    /// How many items are inside where the queue may say that it is full, and how many at most.
+    /// How many items are inside when the queue may report that it is full, and how many at most.
     pub full: usize,
     pub most: usize,
     /// How many items the put under way offers, and how many were inside before it.
@@ -19,7 +19,7 @@ pub struct Calls {
     /// How many items the take under way wants, and how many were inside before it.
     pub wanted: usize,
     pub before_take: usize,
-    /// How many items the put offered that began last.
+    /// How many items the put that began last offered.
     pub begun_items: usize,
     /// What the producer has under way: 0 nothing, 1 a put, 2 a put that began after a close had ended, 3 a close.
     pub put: u32,
@@ -32,11 +32,11 @@ pub struct Calls {
     /// Whether a take is under way, and whether a close had ended before it.
     pub take: bool,
     pub ended: bool,
-    /// Whether a close has ended, or a take was told that the queue is closed.
+    /// Whether a close has ended, or a take has returned Closed.
     pub shut: bool,
 }
 
-/// An audit of recorded calls. C sets all of it to 0 but for the two lists of slots, begins it, and then leaves it alone.
+/// An audit of recorded calls. C sets all of it to 0 except the two lists of slots, begins it, and then leaves it alone.
 #[repr(C)]
 #[derive(Drop)]
 pub struct Audit<'a> {
@@ -54,15 +54,15 @@ pub struct Audit<'a> {
     pub last_taken: Taken,
     /// How many lines were heard.
     pub line: u64,
-    /// The line that ended the first close, that of the first take that was told closed, and those of the last put.
+    /// The line that ended the first close, that of the first take that returned Closed, and those of the last put.
     pub ended_at: u64,
     pub told_at: u64,
     pub put_at: u64,
     pub stored_at: u64,
     pub calls: Calls,
-    /// The report so far, but for the calls under way.
+    /// The report so far, except for the calls under way.
     pub report: CallsReport,
-    /// Whether a close has ended, and whether a take was told closed.
+    /// Whether a close has ended, and whether a take returned Closed.
     pub has_ended: bool,
     pub has_told: bool,
     /// Whether the last call of a side has overlapped one of the other.
@@ -127,7 +127,7 @@ pub fn kept_begun(calls: &Calls) -> Begun
     }
 }
 
-// What an auditor keeps, of these numbers.
+// What an auditor keeps, from these numbers.
 pub fn auditor_state(calls: &Calls) -> AuditorState
     ensures { result ≡ auditor_state calls.now }
 {
@@ -185,7 +185,7 @@ pub fn calls_of(state: AuditorState, last: Begun) -> Calls
     }
 }
 
-// What a hearing keeps, of an audit.
+// What a hearing keeps, from an audit.
 pub fn state_of(audit: &Audit<'_>) -> HearingState
     ensures { result ≡ state_of audit.now }
 {
@@ -212,7 +212,7 @@ pub fn state_of(audit: &Audit<'_>) -> HearingState
     }
 }
 
-// Keeps this in an audit, whose slots and number of lines stay.
+// Keeps this in an audit, whose slots and number of lines are unchanged.
 pub fn keep_state(audit: &mut Audit<'_>, state: HearingState)
     ensures state { state_of audit.new ≡ state }
     ensures offered { (audit.new.offered ≡ audit.old.offered) × (audit.new.offered_first ≡ audit.old.offered_first) ×

@@ -6,7 +6,7 @@ use crate::{
 use queue_calls::{CAUSE_WORDS, CallsReport, Offered, Taken};
 use std::process::Abort;
 
-// A row of numbers, each behind its name.
+// A row of numbers, each after its name.
 macro_rules! numbers {
     ($kind:ident: $($name:ident $number:expr),*) => {
         $kind { $($name: $number),* }
@@ -86,7 +86,7 @@ const EMPTY: WordLine = WordLine { word: 11, count: 0 };
 
 const TOLD: WordLine = WordLine { word: 14, count: 0 };
 
-// How many of the lines are heard, what is found of the next one, and its words.
+// How many of the lines are heard, the finding on the next one, and its text.
 fn heard(
     audit: &mut Audit<'_>,
     lines: &[WordLine],
@@ -176,12 +176,12 @@ fn what_cannot_stand_there_is_refused(rt: HostRuntime) {
     assert!(rt; !ring_audit_begin(&mut audit, &[2, 1]));
     assert!(rt; !ring_audit_begin(&mut audit, &[1, 2, 3]));
     assert!(rt; ring_audit_begin(&mut audit, &[1, 2]));
-    // a put of nothing, a first line, a word that there is not, a number too many
+    // a put of nothing, a first line, a word that does not exist, one number too many
     for bad in [line(0, 0), line(15, 0), line(17, 0), line(11, 1)] {
         let (count, found, _) = heard(&mut audit, &[bad, TAKE], &[1]);
         assert_eq!(rt; (count, found), (0, fault(3, 2, 0, 0)));
     }
-    // numbers that are not there are not told
+    // numbers that do not exist are not heard
     let (count, found, _) = heard(&mut audit, &[line(0, 3)], &[4, 5]);
     assert_eq!(rt; (count, found), (1, NOTHING_FOUND));
     let (count, found, _) = heard(&mut audit, &[STORED, TAKE, line(9, 1)], &[4]);
@@ -256,7 +256,7 @@ const READ: EventLine = numbers!(EventLine: kind 2, reader 1, value 0);
 
 const GOT: EventLine = numbers!(EventLine: kind 3, reader 1, value 1);
 
-// What is found of the history of a register, with this many slots for its writes.
+// The finding on the history of a register, with this many slots for its writes.
 fn judged(numbers: &[u64], lines: &[EventLine], slots: usize) -> JudgeFound {
     let mut window = [7; 4];
     let room = slots.min(window.len());

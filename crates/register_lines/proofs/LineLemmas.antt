@@ -1,4 +1,4 @@
--- A line: what is read of bytes is their line, they have no other, it is not long, and there is no line feed in it.
+-- A line: what is read from bytes is their line, they have no other, it is not long, and there is no line feed in it.
 use Rattle.std.proofs.Common.{◌≡◌, ℕ, ◌+◌, ◌<◌, ◌≤◌, ◌^◌, true, Option, Some, None, List, [], ◌++◌, length, length-append, refl, ap, sym, subst, ◌∙◌, append_assoc, inl, inr, arith}
 use Rattle.std.specs.List.{list_all}
 use Rattle.std.specs.Prelude.{codes, decimal, nat_lt, option_map, option_and_then}
@@ -19,7 +19,7 @@ use Rattle.register_lines.proofs.LineReadings.{option_map-some, at_end-some, las
 
 -- ---- what is read is the line of the bytes
 
--- bytes and what is before them are the text of a line
+-- bytes and what comes before them are the text of a line
 abbrev IsText : List ℕ → List ℕ → RegisterLine → Type 0
 IsText front bytes line = front ++ bytes ≡ register_line_text line
 
@@ -115,7 +115,7 @@ line_at-again (Got reader value) allowed =
 pub line_is : (bytes : List ℕ) (line : RegisterLine) → Some line ≡ line_at bytes → AllowsNumbers line → IsRegisterLine bytes line
 line_is bytes line read allowed = record { text = line_at-text bytes line (sym read); allowed = allowed }
 
--- what is read of a line
+-- what is read from a line
 read_of_line : (bytes : List ℕ) (line : RegisterLine) → IsRegisterLine bytes line → line_at bytes ≡ Some line
 read_of_line bytes line is = ap line_at is.text ∙ line_at-again line is.allowed
 
@@ -125,7 +125,7 @@ no_line_read bytes none line is = none-some line (none ∙ read_of_line bytes li
 pub no_line_allowed : (bytes : List ℕ) (this : RegisterLine) → Some this ≡ line_at bytes → ¬ AllowsNumbers this → (line : RegisterLine) → ¬ IsRegisterLine bytes line
 no_line_allowed bytes this read none line is = none (subst AllowsNumbers (sym (same_Some this line (read ∙ read_of_line bytes line is))) is.allowed)
 
--- bytes are one line at most
+-- bytes are at most one line
 pub line_same : (bytes : List ℕ) (one other : RegisterLine) → IsRegisterLine bytes one → IsRegisterLine bytes other → one ≡ other
 line_same bytes one other is too = same_Some one other (sym (read_of_line bytes one is) ∙ read_of_line bytes other too)
 

@@ -1,4 +1,4 @@
--- How a line is read, part by part: what the bytes are read as, or none.
+-- How a line is read, part by part: what the bytes are read as, or nothing.
 use Rattle.std.specs.Prelude.{◌==◌, ℕ, List, length, codes, Option, Some, None, option_map, option_and_then}
 use Rattle.std.specs.Bool.{then_some}
 use Rattle.line_parts.specs.Parts.{after, then_or_else, number_at}
@@ -17,21 +17,25 @@ last_number bytes = option_and_then (λ x. at_end x.0 x.1) (number_at bytes)
 abbrev pub register_numbers_after : ℕ → List ℕ → Option (ℕ × Option ℕ)
 register_numbers_after first rest = then_or_else (after (codes " ") rest) (λ digits. option_map (λ values. (first, Some values)) (last_number digits)) (at_end (first, None) rest)
 
+-- the first value, and the number of values if it is given
 unfoldable pub register_numbers : List ℕ → Option (ℕ × Option ℕ)
 register_numbers bytes = option_and_then (λ x. register_numbers_after x.0 x.1) (number_at bytes)
 
+-- the first line with these numbers
 abbrev pub register_line_of : ℕ × Option ℕ → RegisterLine
 register_line_of (first, None) = Register first
 register_line_of (first, Some values) = Valued first values
 
+-- the first line with these numbers, of a recording that lacks the later operations
 abbrev pub cut_line_of : ℕ × Option ℕ → RegisterLine
 cut_line_of (first, None) = Cut first
 cut_line_of (first, Some values) = CutValued first values
 
--- the bytes after `register `, and those after `cut register `
+-- the bytes after `register `
 unfoldable pub register_line : List ℕ → Option RegisterLine
 register_line bytes = option_map register_line_of (register_numbers bytes)
 
+-- the bytes after `cut register `
 unfoldable pub cut_register_line : List ℕ → Option RegisterLine
 cut_register_line bytes = option_map cut_line_of (register_numbers bytes)
 
@@ -43,6 +47,7 @@ writer_line bytes = then_or_else (after (codes "write ") bytes) (λ digits. opti
 abbrev pub reader_line_after : ℕ → List ℕ → Option RegisterLine
 reader_line_after reader rest = then_or_else (after (codes " got ") rest) (λ digits. option_map (Got reader) (last_number digits)) (option_and_then (at_end (Read reader)) (after (codes " read") rest))
 
+-- the bytes after `R`
 unfoldable pub reader_line : List ℕ → Option RegisterLine
 reader_line bytes = option_and_then (λ x. reader_line_after x.0 x.1) (number_at bytes)
 

@@ -24,7 +24,7 @@ pub enum RegisterLine {
     Register(u64),
     /// `register FIRST VALUES`: the same, and its values are the numbers below VALUES.
     Valued(u64, u64),
-    /// `cut register FIRST`: as `register FIRST`, of a recording that lacks the later operations.
+    /// `cut register FIRST`: as `register FIRST`, in a recording that lacks the later operations.
     Cut(u64),
     /// `cut register FIRST VALUES`.
     CutValued(u64, u64),
@@ -38,10 +38,10 @@ pub enum RegisterLine {
     Got(u64, u64),
 }
 
-/// Reads one line, without its line feed. `None` if the bytes are no line of the format.
+/// Reads one line, without its line feed. `None` if the bytes are not a line of the format.
 ///
-/// For example, `R1 got 0` is a line, and `R0 got 0`, `R1 got 00` and `register 3 3` are none. It takes time linear in the bytes that it
-/// looks at, of which there are at most [`LINE_LIMIT`] and one.
+/// For example, `R1 got 0` is a line, and `R0 got 0`, `R1 got 00` and `register 3 3` are not. It takes time linear in the bytes that it
+/// examines, at most [`LINE_LIMIT`] + 1.
 pub fn read_register_line(bytes: &[u8]) -> Option<RegisterLine>
     ensures line { IfSome result (λ line. IsRegisterLine bytes.now line) }
     ensures none { result ≡ None → (line : RegisterLine) → ¬ IsRegisterLine bytes.now line }

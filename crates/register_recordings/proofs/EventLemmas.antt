@@ -1,4 +1,4 @@
--- The events of further lines: what one more event makes of what was read, and what an event that is refused says.
+-- The events of further lines: what one more event makes of what was read, and what the refusal of an event implies.
 use Rattle.std.proofs.Common.{◌≡◌, ℕ, ◌+◌, ◌-◌, ◌^◌, ◌≤◌, Option, Some, None, List, [], ◌∷◌, ◌++◌, length, reverse, refl, ap, sym, subst, ◌∙◌, append_assoc, arith}
 use Rattle.std.proofs.lemmas.List.{length-reverse}
 use Rattle.register_calls.specs.declared.auditors.ReaderState.{ReaderState}
@@ -41,7 +41,7 @@ module _ {W R P C : Type 0} (window : W → List ℕ) (states : R → List Reade
   in_turn lines events none read = subst (λ (o : Option ℕ). HasReadEvents window states places chains lines o events) none read
 
   module _ (old new : JudgedLines W R P C) (number : ℕ) (event : RegisterEvent) (events : List RegisterEvent) where
-    -- an event comes in its turn
+    -- an event comes in turn
     pub event_heard :
         new.count ≡ number → new.is_cut ≡ old.is_cut → new.witness.auditor.register ≡ old.witness.auditor.register → new.out_of_turn ≡ None → RemembersRegister window states places chains new.witness (event ∷ reverse events) →
         AreMisses new.witness.auditor.register (events ++ event ∷ []) new.misses → HasReadLineEvent window states places chains old number event events new

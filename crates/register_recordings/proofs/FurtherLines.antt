@@ -1,4 +1,4 @@
--- One more line after lines, and bytes that are no line after them.
+-- One more line after lines, and bytes that are not a line after them.
 use Rattle.std.proofs.Common.{◌≡◌, ◌≢◌, ℕ, suc, ◌+◌, Option, Some, None, Result, Ok, Err, OnOk, IfErr, List, [], ◌∷◌, ◌++◌, length, get_or, drop, refl, ap, sym, subst, ◌∙◌, length-append, arith}
 use Rattle.std.specs.Prelude.{All}
 use Rattle.std.specs.List.{cons_option, filter_map}
@@ -39,7 +39,7 @@ first_is_value line.Wrote r allowed is = absurd (none-some r is)
 first_is_value (line.Read reader) r allowed is = absurd (none-some r is)
 first_is_value (line.Got reader value) r allowed is = absurd (none-some r is)
 
--- lines as they have to be have the numbers that they may have
+-- well-formed lines have the numbers that they may have
 pub all_allowed : (lines : List RegisterLine) → AreRegisterLines lines → All AllowsNumbers lines
 all_allowed [] are = All-nil AllowsNumbers
 all_allowed (head ∷ further) are =

@@ -30,7 +30,7 @@ first_stays c r events e p miss =
       with_it = subst (λ (es : List RegisterEvent). ¬ HasClass c r (reverse es)) (sym (take-append-le (p + 1) events (e ∷ []) (omega (arith, within)))) miss.with_it;
     }
 
--- the event that is added is the first miss
+-- the added event is the first miss
 first_comes : (c : Class) (r : Register) (events : List RegisterEvent) (e : RegisterEvent) → HasClass c r (reverse events) → ¬ HasClass c r (e ∷ reverse events) → IsFirstMiss c r (events ++ e ∷ []) (length events)
 first_comes c r events e had lacks = record {
   within = omega (arith, length-append events (e ∷ []));
@@ -80,7 +80,7 @@ all_kept r events e misses keeps are = record {
   atomic = of_kept Atomic r events e misses.atomic (keeps Atomic) are.atomic;
 }
 
--- an event that ends no read is one
+-- an event that ends no read is such an event
 pub no_end_keeps : (r : Register) (h : List RegisterEvent) (e : RegisterEvent) → ((i v : ℕ) → ¬ (e ≡ ReadEnds i v)) → (c : Class) → HasClass c r h → HasClass c r (e ∷ h)
 no_end_keeps r h (WriteBegins w) never Safe has = has
 no_end_keeps r h (WriteBegins w) never Regular has = has

@@ -29,11 +29,11 @@ use Rattle.register_recordings.proofs.FurtherLines.{all_allowed, last_allowed}
 line_and : (l : RegisterLine) (more : List ℕ) → register_line_bytes l ++ more ≡ register_line_text l ++ 10 ∷ more
 line_and l more = append_assoc (register_line_text l) (10 ∷ []) more
 
--- again, as register_lines keeps its own inside
+-- again, as register_lines keeps its own private
 line_text_limit : (l : RegisterLine) → AllowsNumbers l → length (register_line_text l) ≤ 54
 line_text_limit l allowed = line_limit (register_line_text l) l (record { text = refl; allowed = allowed })
 
--- again, as register_lines keeps its own inside
+-- again, as register_lines keeps its own private
 no_feed_within : (l : RegisterLine) → AllowsNumbers l → HasNoFeed (register_line_text l)
 no_feed_within l allowed = line_no_feed (register_line_text l) l (record { text = refl; allowed = allowed })
 
@@ -113,7 +113,7 @@ module _ {W R P C B : Type 0} (window : W → List ℕ) (states : R → List Rea
 -- ---- refusals
 
 -- no line ends in bytes without a line feed, if it is shorter
--- again, since this crate stands on no text of traces
+-- again, since this crate does not depend on the text of traces
 feed_later : (xs ys more others : List ℕ) → HasNoFeed xs → length ys < length xs → xs ++ more ≢ ys ++ 10 ∷ others
 feed_later [] ys more others none fewer e = absurd (omega (arith, fewer))
 feed_later (x ∷ xs) [] more others none fewer e = All-head IsOther x xs none (ap (λ (t : List ℕ). get_or t 0 0) e)
@@ -216,7 +216,7 @@ module _ {W R P C : Type 0} (window : W → List ℕ) (states : R → List Reade
       let read = has.events l ended refl in
       sym read.1 ∙ ap (λ (x : RegisterLine). lacks_operations x) same.0 ∙ gives
 
-  -- its first line says what that of every recording says with which the bytes begin
+  -- its first line says what that of every recording that the bytes begin with says
   pub cut_is :
       {B : Type 0} (bytes_of : B → List ℕ) (recording : RegisterRecording W R P C B) (bytes : List ℕ) → HasReadRegister window states places chains bytes_of recording bytes →
       (front rest : List ℕ) → bytes ≡ front ++ rest → (r : Register) (events : List RegisterEvent) (is : IsRegisterRecording front r events) → recording.lines.is_cut ≡ is.is_cut

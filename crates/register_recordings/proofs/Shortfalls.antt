@@ -44,7 +44,7 @@ module _ {W R P C : Type 0} (window : W → List ℕ) (states : R → List Reade
   by_finding class bytes r events None is short = inr (r, events, is, short)
   by_finding class bytes r events (Some finding) is short = ((r, events, is, short.0), short.1)
 
-  -- what holds of the history of lines that have ended holds of their bytes
+  -- what holds for the history of lines that have ended holds for their bytes
   pub bytes_fall_short :
       (lines : JudgedLines W R P C) (class : Class) (ended : List RegisterLine) (found : Option RegisterFinding) → ended ≢ [] → HasJudged window states places chains lines ended →
       ((events : List RegisterEvent) → HasReadEvents window states places chains lines lines.out_of_turn events → FallsShort class lines.witness.auditor.register events found) → IsShortfall class (register_text ended) found

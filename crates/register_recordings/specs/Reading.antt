@@ -31,7 +31,7 @@ pub record HasJudged {W R P C : Type 0} (window : W → List ℕ) (states : R �
       (head : RegisterLine) (further : List RegisterLine) → ended ≡ head ∷ further →
       (recorded_register head ≡ Some lines.witness.auditor.register) × (lacks_operations head ≡ lines.is_cut) × HasReadEvents window states places chains lines lines.out_of_turn (filter_map recorded_event further)
 
--- bytes without a line feed are a line that goes on with lines
+-- bytes without a line feed are a line that continues these lines
 abbrev pub ContinuesRegister : List RegisterLine → List ℕ → RegisterLine → Type 0
 ContinuesRegister before bytes l = AreRegisterLines (before ++ l ∷ []) × (bytes ≡ register_line_text l)
 

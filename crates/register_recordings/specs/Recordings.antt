@@ -1,4 +1,4 @@
--- The text of a recorded register, and what is found of it: a first line gives the register, and further lines record its events.
+-- The text of a recorded register, and the finding on it: a first line gives the register, and further lines record its events.
 use Rattle.std.specs.Prelude.{◌≡◌, ◌≢◌, ◌⊎◌, ℕ, ◌+◌, ◌-◌, ◌^◌, ◌≤◌, List, [], ◌∷◌, ◌++◌, Bool, true, false, not, Option, Some, None, length, codes, reverse, All, flat_map}
 use Rattle.std.specs.List.{filter_map}
 use Rattle.register_calls.specs.declared.events.Register.{Register}
@@ -29,6 +29,7 @@ recorded_register line.Wrote = None
 recorded_register (line.Read reader) = None
 recorded_register (line.Got reader value) = None
 
+-- whether the line says that later operations are missing
 abbrev pub lacks_operations : RegisterLine → Bool
 lacks_operations (line.Cut first) = true
 lacks_operations (line.CutValued first values) = true
@@ -49,6 +50,7 @@ recorded_event (line.Got reader value) = Some (ReadEnds (reader - 1) value)
 abbrev pub register_line_bytes : RegisterLine → List ℕ
 register_line_bytes l = register_line_text l ++ codes "\n"
 
+-- the text of lines
 abbrev pub register_text : List RegisterLine → List ℕ
 register_text lines = flat_map register_line_bytes lines
 
@@ -56,7 +58,7 @@ register_text lines = flat_map register_line_bytes lines
 abbrev pub MayComeAfter : Register → RegisterLine → Type 0
 MayComeAfter r l = AllowsNumbers l × ((e : RegisterEvent) × (recorded_event l ≡ Some e) × WritesValue r e)
 
--- lines as they have to be: the first one gives the register, and no other one does
+-- well-formed lines: the first one gives the register, and no other one does
 abbrev pub AreRegisterLines : List RegisterLine → Type 0
 AreRegisterLines [] = Unit {0}
 AreRegisterLines (head ∷ further) = AllowsNumbers head × ((r : Register) × (recorded_register head ≡ Some r) × All (MayComeAfter r) further)
@@ -72,8 +74,8 @@ pub record IsRegisterRecording (bytes : List ℕ) (r : Register) (events : List 
   pub gives_register : recorded_register head ≡ Some r
   pub gives_events : filter_map recorded_event further ≡ events
 
--- the line of this number is the first that is missing, unfinished, or not as it has to be: lines before it, and something after them, or
--- nothing before the first one, that does not begin with a line that may come there
+-- the line of this number is the first that is missing, unfinished, or malformed: lines before it, and something after them, or nothing
+-- before the first one, that does not begin with a line that may come there
 pub record IsBadRegisterLine (bytes : List ℕ) (number : ℕ) : Type 0 where
   pub before : List RegisterLine
   pub rest : List ℕ
@@ -83,7 +85,7 @@ pub record IsBadRegisterLine (bytes : List ℕ) (number : ℕ) : Type 0 where
   pub is_bad : (l : RegisterLine) (more : List ℕ) → AreRegisterLines (before ++ l ∷ []) → rest ≢ register_line_bytes l ++ more
   pub is_there : rest ≡ [] → before ≡ []
 
--- why bytes are no recording that is read to its end: a bad line; or that there are as many bytes as lines that can be counted
+-- why bytes are not a recording that is read to its end: a bad line; or that there are as many bytes as lines that can be counted
 abbrev pub RefusesRegisterText : RegisterTextFault → List ℕ → Type 0
 RefusesRegisterText (BadLine number) bytes = IsBadRegisterLine bytes number
 RefusesRegisterText TooLong bytes = 2 ^ 64 - 1 ≤ length bytes
@@ -99,19 +101,19 @@ pub record LeavesTurn (r : Register) (events : List RegisterEvent) (number : ℕ
   pub so_far : IsWellFormed r (reverse before)
   pub leaves : ¬ ComesInTurn (reverse before) event
 
--- what is found of a history
+-- the finding on a history
 abbrev pub IsRegisterFound : Register → List RegisterEvent → RegisterFinding → Type 0
 IsRegisterFound r events (Judged class misses report) =
     IsWellFormed r (reverse events) × IsStrongest class r (reverse events) × AreMisses r events misses × (report ≡ report_of (reverse events))
 IsRegisterFound r events (OutOfTurn number) = LeavesTurn r events number
 
--- what is found of a text
+-- the finding on a text
 abbrev pub IsRegisterFinding : List ℕ → RegisterFinding → Type 0
 IsRegisterFinding bytes finding = (r : Register) × (events : List RegisterEvent) × IsRegisterRecording bytes r events × IsRegisterFound r events finding
 
--- ---- a class that is asked for
+-- ---- a class that is requested
 
--- a history has the class, and each of its events comes in its turn
+-- a history has the class, and each of its events comes in turn
 abbrev pub HasInTurn : Class → Register → List RegisterEvent → Type 0
 HasInTurn c r events = IsWellFormed r (reverse events) × HasClass c r (reverse events)
 
@@ -119,18 +121,18 @@ HasInTurn c r events = IsWellFormed r (reverse events) × HasClass c r (reverse 
 abbrev pub KeepsClass : Class → List ℕ → Type 0
 KeepsClass c bytes = (bytes ≡ []) ⊎ ((r : Register) × (events : List RegisterEvent) × IsRegisterRecording bytes r events × HasInTurn c r events)
 
--- whether what is found falls short of the class
+-- whether the finding falls short of the class
 abbrev pub falls_short : Class → RegisterFinding → Bool
 falls_short c (Judged None misses report) = true
 falls_short c (Judged (Some d) misses report) = not (is_at_least d c)
 falls_short c (OutOfTurn number) = true
 
--- a history falls short of the class, by what is found of it, or it does not
+-- a history falls short of the class, by the finding on it, or it does not
 abbrev pub FallsShort : Class → Register → List RegisterEvent → Option RegisterFinding → Type 0
 FallsShort c r events None = HasInTurn c r events
 FallsShort c r events (Some finding) = IsRegisterFound r events finding × (falls_short c finding ≡ true)
 
--- the same of bytes
+-- the same for bytes
 abbrev pub IsShortfall : Class → List ℕ → Option RegisterFinding → Type 0
 IsShortfall c bytes None = KeepsClass c bytes
 IsShortfall c bytes (Some finding) = IsRegisterFinding bytes finding × (falls_short c finding ≡ true)

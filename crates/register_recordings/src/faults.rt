@@ -1,17 +1,17 @@
-//! Why bytes are no recording of a register.
+//! Why bytes are not a recording of a register.
 ghost use Rattle.std.specs.Prelude.{◌≡◌, Some};
 
 use std::alloc::AllocError;
 use std::fmt;
 
-/// Why bytes are no recording of a register.
+/// Why bytes are not a recording of a register.
 ///
 /// For example, it is printed as `register line 5 is not a line of the format`.
 #[derive(Clone, Copy, PartialEq, Eq, Debug)]
 pub enum RegisterTextFault {
     /// This line, counted from 1, is missing or unfinished, or may not be there.
     BadLine(u64),
-    /// There are more lines than a number of 64 bits counts.
+    /// There are more lines than a number of 64 bits can count.
     TooLong,
     /// Memory ran out.
     OutOfMemory,
@@ -37,7 +37,7 @@ impl fmt::Display for RegisterTextFault {
 
     ghost output = { λ fault. Some (register_fault_words fault) };
 
-    /// The words of the fault.
+    /// The text of the fault.
     fn fmt<W: fmt::Write>(&self, f: &mut fmt::Formatter<W>) -> fmt::Result {
         match self {
             RegisterTextFault::BadLine(line) => write!(

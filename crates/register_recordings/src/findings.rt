@@ -1,11 +1,11 @@
-//! What is found of a recording of a register.
+//! The finding on a recording of a register.
 ghost use Rattle.std.specs.Prelude.{◌≡◌, None};
 ghost use Rattle.register_recordings.specs.Misses.{is_same_line};
 ghost use Rattle.register_recordings.specs.Recordings.{falls_short};
 
 use register_calls::{Chain, Class, MissReason, RegisterReport};
 
-/// The first read with which a history lacks a class, and what speaks against it.
+/// The first read with which a history lacks a class, and what contradicts it.
 ///
 /// For example, it is printed as `line 7: R1 got 0, but a read of R1 that ended at line 5 gave the later value 1, of line 2`.
 #[derive(Clone, Copy, PartialEq, Eq, Debug)]
@@ -16,24 +16,24 @@ pub struct RegisterMiss {
     pub reader: usize,
     /// What it returned.
     pub value: u64,
-    /// What speaks against it. The event at place *i*, from 0, stands on line *i* + 2.
+    /// What contradicts it. The event at place *i*, from 0, is on line *i* + 2.
     pub reason: MissReason<Chain>,
 }
 
-/// Of each class that a history lacks, the first read with which it lacks the class.
+/// For each class that a history lacks, the first read with which it lacks the class.
 #[derive(Clone, Copy, PartialEq, Eq, Debug)]
 pub struct Misses {
     /// The read with which it stops being safe.
     pub safe: Option<RegisterMiss>,
     /// The read with which it stops being regular.
     pub regular: Option<RegisterMiss>,
-    /// The read with which the reads of some reader by itself stop being atomic.
+    /// The read with which the reads of some reader alone stop being atomic.
     pub by_reader: Option<RegisterMiss>,
     /// The read with which it stops being atomic.
     pub atomic: Option<RegisterMiss>,
 }
 
-/// What is found of a recording of a register.
+/// The finding on a recording of a register.
 #[derive(Clone, Copy, PartialEq, Eq, Debug)]
 pub enum RegisterFinding {
     /// The strongest class of the history, or `None` if it is not safe; the reads with which it stops having the others; and how much

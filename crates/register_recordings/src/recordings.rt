@@ -1,4 +1,4 @@
-//! The text of a recorded register, read in pieces, and what is found.
+//! The text of a recorded register, read in pieces, and the finding.
 ghost use Rattle.std.specs.Prelude.{◌≡◌, ◌++◌, ◌∷◌, [], ◌+◌, ◌≤◌, ◌↔◌, ℕ, List, None, IsTrue, OnOk, IfOk, IfErr, IfSome, length, reverse, true};
 ghost use Rattle.line_parts.specs.LineEnds.{HasNoFeed};
 ghost use Rattle.register_calls.specs.Histories.{IsWellFormed, WritesValue};
@@ -136,8 +136,8 @@ impl<W: Fifo<u64>, R: Fifo<ReaderState>, P: Fifo<usize>, C: Fifo<Chain>> JudgedL
         Ok(())
     }
 
-    // Reads the event of a further line, of this number. After an event that is out of turn no history is judged, but a write is still
-    // one of a value of the register.
+    // Reads the event of a further line, of this number. After an event that is out of turn no history is judged, but a write must
+    // still be of a value of the register.
     fn hear(&mut self, count: u64, event: RegisterEvent) -> Result<(), RegisterTextFault>
         ensures { ReadsLineEvent W.items R.items P.items C.items self.old count event result self.new }
     {
@@ -152,7 +152,7 @@ impl<W: Fifo<u64>, R: Fifo<ReaderState>, P: Fifo<usize>, C: Fifo<Chain>> JudgedL
         Ok(())
     }
 
-    // Reads the event of a further line, if each event before it came in its turn.
+    // Reads the event of a further line, if each event before it came in turn.
     fn judge(&mut self, count: u64, event: RegisterEvent) -> Result<(), RegisterTextFault>
         requires { self.old.out_of_turn ≡ None }
         ensures { ReadsLineEvent W.items R.items P.items C.items self.old count event result self.new }
@@ -176,7 +176,7 @@ impl<W: Fifo<u64>, R: Fifo<ReaderState>, P: Fifo<usize>, C: Fifo<Chain>> JudgedL
         }
     }
 
-    // Notes the classes that the history would lack with this event, of this line.
+    // Records the classes that the history would lack with this event, of this line.
     fn note(&mut self, line: u64, event: RegisterEvent)
         ensures misses { (before : List RegisterEvent) → length before + 2 ≡ line →
             RemembersRegister W.items R.items P.items C.items self.old.witness (reverse before) →
@@ -252,7 +252,7 @@ impl<W: Fifo<u64>, R: Fifo<ReaderState>, P: Fifo<usize>, C: Fifo<Chain>> JudgedL
         }
     }
 
-    // What is found of the lines, if an event is out of turn or their history lacks the class.
+    // The finding on the lines, if an event is out of turn or their history lacks the class.
     fn shortfall(&self, class: Class) -> Option<RegisterFinding>
         ensures { (events : List RegisterEvent) →
             HasReadEvents W.items R.items P.items C.items self.now self.now.out_of_turn events →
@@ -273,7 +273,7 @@ impl<W: Fifo<u64>, R: Fifo<ReaderState>, P: Fifo<usize>, C: Fifo<Chain>> JudgedL
         }
     }
 
-    // What is found of the lines.
+    // The finding on the lines.
     fn finding(&self) -> RegisterFinding
         ensures { (events : List RegisterEvent) → HasReadEvents W.items R.items P.items C.items self.now self.now.out_of_turn events →
             IsRegisterFound self.now.witness.auditor.register events result }
@@ -289,7 +289,7 @@ impl<W: Fifo<u64>, R: Fifo<ReaderState>, P: Fifo<usize>, C: Fifo<Chain>> JudgedL
     }
 }
 
-/// A recording of a register, as far as it was read.
+/// A recording of a register, as far as it has been read.
 ///
 /// The text comes in pieces, cut anywhere, and is not kept: the memory is that of a [`RegisterWitness`], and of one line.
 #[derive(Drop)]
@@ -314,7 +314,7 @@ impl<
     C: Fifo<Chain>,
     B: Store<u8>,
 > RegisterRecording<W, R, P, C, B> {
-    /// A recording of which nothing was read, with these lists to read it in. What they hold is taken away.
+    /// A recording of which nothing has been read, with these lists to read it in. Their contents are removed.
     ///
     /// It is an error if the list of writes or that of places has no room for one number.
     pub fn within(
@@ -350,9 +350,10 @@ impl<
 
     /// Reads the next piece of the text.
     ///
-    /// `BadLine` at the first line that is not of the format, that writes no value of the register, or that is a first line and not the
-    /// first; at its end, or before its end if it grew longer than any line is. `TooLong` past 2^64 - 1 lines; `OutOfMemory` if a growth
-    /// was refused, or if a list in slots is too short. A recording that returned one of these is of no further use.
+    /// `BadLine` at the first line that is not of the format, that writes a number that is not a value of the register, or that is a
+    /// first line and not the first; at its end, or before its end if it grew longer than any line is. `TooLong` after 2^64 - 1 lines;
+    /// `OutOfMemory` if a growth was refused, or if a list in slots is too short. A recording that returned one of these is of no
+    /// further use.
     pub fn read(&mut self, piece: &[u8]) -> Result<(), RegisterTextFault>
         ensures read { OnOk result ((bytes : List ℕ) → HasReadRegister W.items R.items P.items C.items B.items self.old bytes →
             HasReadRegister W.items R.items P.items C.items B.items self.new (bytes ++ piece.now)) }
@@ -458,8 +459,8 @@ impl<
         Some(self.cut.as_slice())
     }
 
-    /// Whether its first line says that the operations after the last line are missing. It is `false` of a text of which no line has
-    /// ended.
+    /// Whether its first line says that the operations after the last line are missing. It is `false` for a text of which no line
+    /// has ended.
     pub fn is_cut(&self) -> bool
         ensures { (bytes : List ℕ) → HasReadRegister W.items R.items P.items C.items B.items self.now bytes →
             (front rest : List ℕ) → bytes ≡ front ++ rest → (r : _) →
@@ -468,7 +469,7 @@ impl<
         self.lines.is_cut
     }
 
-    /// What is found of the lines that have ended, if their history lacks the class or an event of it is out of turn. `None` if there are
+    /// The finding on the lines that have ended, if their history lacks the class or an event of it is out of turn. `None` if there are
     /// no such lines, or if they have the class.
     pub fn shortfall(&self, class: Class) -> Option<RegisterFinding>
         ensures { (bytes : List ℕ) → HasReadRegister W.items R.items P.items C.items B.items self.now bytes →
@@ -481,7 +482,7 @@ impl<
         self.lines.shortfall(class)
     }
 
-    /// What is found, if the text ends here: `BadLine` if its last line has not ended, or if there is none. No memory is taken.
+    /// The finding, if the text ends here: `BadLine` if its last line has not ended, or if there is none. No memory is taken.
     pub fn finding(&self) -> Result<RegisterFinding, RegisterTextFault>
         ensures found { IfOk result (λ finding. (bytes : List ℕ) →
             HasReadRegister W.items R.items P.items C.items B.items self.now bytes → IsRegisterFinding bytes finding) }

@@ -1,4 +1,4 @@
-//! What is found of a class that a history lacks, in words.
+//! The finding on a class that a history lacks, as text.
 ghost use Rattle.std.specs.Prelude.{Some};
 
 use crate::findings::RegisterMiss;
@@ -35,7 +35,7 @@ impl fmt::Display for Reader {
     }
 }
 
-// The first of the reads that a reason names.
+// The first of the reads that a reason reports.
 #[derive(Clone, Copy)]
 struct First(Option<EarlierRead>);
 
@@ -96,7 +96,7 @@ impl fmt::Display for Cut {
     }
 }
 
-// The reads that a reason names.
+// The reads that a reason reports.
 #[derive(Clone, Copy)]
 struct Reads(Chain);
 
@@ -139,7 +139,7 @@ impl fmt::Display for Since {
     }
 }
 
-// What speaks against a read that returned this value.
+// What contradicts a read that returned this value.
 #[derive(Clone, Copy)]
 struct Against(u64, MissReason<Chain>);
 
@@ -171,7 +171,7 @@ impl fmt::Display for RegisterMiss {
 
     ghost output = { λ miss. Some (miss_words miss) };
 
-    /// The line, what was read, and what speaks against it.
+    /// The line, what was read, and what contradicts it.
     fn fmt<W: fmt::Write>(&self, f: &mut fmt::Formatter<W>) -> fmt::Result {
         write!(
             f,

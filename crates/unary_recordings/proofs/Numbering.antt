@@ -1,4 +1,5 @@
--- The numbered writes among the unary writes of the first values: how many there are, what has ended and begun of them, and their values.
+-- The numbered writes among the unary writes of the first values: how many there are, how many of them have ended and begun, and their
+-- values.
 use Rattle.std.proofs.Common.{◌≡◌, ℕ, zero, suc, ◌+◌, ◌-◌, ◌≤◌, Bool, true, false, List, [], ◌∷◌, ◌++◌, length, take, Some, slice_get, length-append, refl, sym, ap, arith, zero-le, suc-le-suc, ◌∙◌, inl, inr}
 use Rattle.std.proofs.lemmas.Bool.{cases_lt, le-leb}
 use Rattle.register_core.specs.Row.{RowWrite, first_bits, bits_after}
@@ -14,7 +15,7 @@ bit_count bits values k = length (row_writes (unary_writes bits (take k values))
 abbrev pub numbered_count : (bits : ℕ → Bool) (values : List ℕ) (k : ℕ) → ℕ
 numbered_count bits values k = length (having_writes (unary_writes bits (take k values)))
 
--- ---- where the bit writes of the first values have ended, their numbered writes have
+-- ---- if the bit writes of the first values have ended, so have their numbered writes
 
 ends_step :
     (w : ℕ) (writes : List RowWrite) (some all : List UnaryWrite) →
@@ -38,7 +39,7 @@ ends_count (w ∷ values) bits (suc k) t fits =
     let next : ℕ → Bool = bits_after bits (unary_phrase bits w) in
     ends_step w (unary_phrase bits w) (unary_writes next (take k values)) (unary_writes next values) (ends_count values next k) t fits
 
--- ---- where none but bit writes of the first values have begun, none but their numbered writes have
+-- ---- if only bit writes of the first values have begun, only their numbered writes have
 
 begins_step :
     (w : ℕ) (writes : List RowWrite) (some all : List UnaryWrite) →
@@ -65,7 +66,7 @@ begins_count (w ∷ values) bits (suc k) t fits =
     let next : ℕ → Bool = bits_after bits (unary_phrase bits w) in
     begins_step w (unary_phrase bits w) (unary_writes next (take k values)) (unary_writes next values) (begins_count values next k) t fits
 
--- ---- one value more has at most one numbered write more
+-- ---- one more value has at most one more numbered write
 
 more_step :
     (w : ℕ) (writes : List RowWrite) (more some : List UnaryWrite) → length (having_writes more) ≤ suc (length (having_writes some)) →
@@ -84,7 +85,7 @@ count_more (w ∷ values) bits (suc k) =
     let next : ℕ → Bool = bits_after bits (unary_phrase bits w) in
     more_step w (unary_phrase bits w) (unary_writes next (take (suc k) values)) (unary_writes next (take k values)) (count_more values next k)
 
--- a count that grows by at most one at a time is each number between two that it is
+-- a count that grows by at most one at a time takes each value between two of its values
 pub passes :
     (count : ℕ → ℕ) → ((k : ℕ) → count (suc k) ≤ suc (count k)) →
     (n d f g : ℕ) → g ≡ d + f → count f ≤ n → n ≤ count g →
@@ -101,7 +102,7 @@ passes count step n (suc d) f g e low high = elim (cases_lt (count f) n) [
 
 -- ---- the value at a number
 
--- a row shows one value
+-- a row shows at most one value
 shown_once : (v w : ℕ) (bits : ℕ → Bool) → Shows v bits → Shows w bits → v ≡ w
 shown_once v w bits a b = elim (cases_lt v w) [
   | inl lt ↦ let p : true ≡ false = sym a.here ∙ b.below v lt in absurd (cc)

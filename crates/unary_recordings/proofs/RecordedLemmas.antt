@@ -69,7 +69,7 @@ module _ (s : Side) (h : List Event) (values : List ℕ) (at : ℕ → ℕ) wher
     abbrev HasEnded : List RegisterEvent → Type 0
     HasEnded x = bit_writes_of values (finished x) ≤ bits_ended (at (length x))
 
-    -- and no fewer have ended by the next event
+    -- and at least as many have ended by the next event
     later : (n : ℕ) → bits_ended (at n) ≤ bits_ended (at (suc n))
     later n = bits_ended-rises (at n) (at (suc n)) (rises n (suc n) (omega arith))
 
@@ -82,12 +82,12 @@ module _ (s : Side) (h : List Event) (values : List ℕ) (at : ℕ → ℕ) wher
     have_ended (ReadBegins i ∷ x) well a = omega (arith, have_ended x well.0 a.0, later (length x))
     have_ended (ReadEnds i v ∷ x) well a = omega (arith, have_ended x well.0 a.0, later (length x))
 
-    -- so of either of two recordings, by a test
+    -- the same for one of two recordings, by a test
     either : (b : Bool) (x y : List RegisterEvent) → HasEnded x → HasEnded y → HasEnded (if b then x else y)
     either true x y p q = p
     either false x y p q = q
 
-    -- those that had finished where a read began
+    -- those that had finished when a read began
     read_ended : (i : ℕ) (x : List RegisterEvent) → IsWellFormed r x → AreRecorded s h values at x → HasEnded (before_read i x)
     read_ended i [] well a = zero-le
     read_ended i (WriteBegins v ∷ x) well a = read_ended i x well.0 a.0
@@ -98,7 +98,7 @@ module _ (s : Side) (h : List Event) (values : List ℕ) (at : ℕ → ℕ) wher
     -- ---- a read
 
     module _ (shape : Shape) (lawful : IsLawful shape h) (writes : WritesUnary s h values) where
-      -- one that ends after these events is of the write that has the number found
+      -- one that ends after these events is of the write with the number found
       read_is_of :
           (i v : ℕ) (x : List RegisterEvent) → IsWellFormed r x → AreRecorded s h values at x →
           (start stop : ℕ → ℕ) → IsScan s h v start stop → at (length (before_read i x)) ≤ start 0 → stop v < at (length x) →

@@ -16,8 +16,8 @@ use Rattle.register_calls.specs.Classes.{IsRegular}
 abbrev pub bit_writes_of : (values : List ℕ) → (count : ℕ) → ℕ
 bit_writes_of values count = length (writes_of (take count values))
 
--- What an event records that comes after these: a write that begins is the next one, with its value; of one that ends all bit writes have
--- ended; a read that ends returned the value of a scan that began after the read began, and that had ended.
+-- What an event records that comes after these: a write that begins is the next one, with its value; for one that ends, all bit writes
+-- have ended; a read that ends returned the value of a scan that began after the read began, and that had ended.
 abbrev pub IsRecorded : (s : Side) (h : List Event) (values : List ℕ) (at : ℕ → ℕ) → List RegisterEvent → RegisterEvent → Type 0
 IsRecorded s h values at before (WriteBegins v) = slice_get values (started before) ≡ Some v
 IsRecorded s h values at before WriteEnds = bit_writes_of values (started before) ≤ length (count_ended s (take (at (length before)) h))
@@ -25,7 +25,7 @@ IsRecorded s h values at before (ReadBegins i) = Unit {0}
 IsRecorded s h values at before (ReadEnds i v) =
     (start : ℕ → ℕ) × (stop : ℕ → ℕ) × IsScan s h v start stop × (at (length (before_read i before)) ≤ start 0) × (stop v < at (length before))
 
--- The writes and reads of the count of a side, recorded: `at` has, for each event by its place, how many events of the bits had come. And no
+-- The writes and reads of the count of a side, recorded: `at` has, for each event by its place, how many events of the bits had come. No
 -- bit write begins before its write is recorded to have begun.
 abbrev pub AreRecorded : (s : Side) (h : List Event) (values : List ℕ) (at : ℕ → ℕ) → List RegisterEvent → Type 0
 AreRecorded s h values at [] = Unit {0}
@@ -36,7 +36,7 @@ AreRecorded s h values at (e ∷ before) =
 abbrev pub NeverFalls : (ℕ → ℕ) → Type 0
 NeverFalls at = (m n : ℕ) → m ≤ n → at m ≤ at n
 
--- A unary register is regular, whatever it is given to write: so are all well-formed recordings of its writes and scans.
+-- A unary register is regular, whatever is written to it: all well-formed recordings of its writes and scans are regular.
 abbrev pub RecordedUnaryIsRegular : Type 0
 RecordedUnaryIsRegular =
     (shape : Shape) (h : List Event) → IsLawful shape h →

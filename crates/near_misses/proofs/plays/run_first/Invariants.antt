@@ -5,7 +5,7 @@ use Rattle.near_misses.specs.NearPlays.{NearAsked}
 use Rattle.near_misses.specs.NearSides.{IsNearReady, NearHas, items_held}
 use Rattle.near_misses.proofs.plays.run_first.Given as goal
 
--- the letters of the first runs, of the first so many, have made what both sides have done
+-- the letters of the first runs, as far as they are to be played, have made what both sides have done
 abbrev pub invariant-loop-run : goal.invariant-loop-run
 invariant-loop-run g l = record {
   ready : IsNearReady l.world;

@@ -5,7 +5,7 @@ use Rattle.lists.specs.Rings.{ring_items}
 use Rattle.queue_calls_c.specs.Heard.{TellLines, offered_room, taken_room}
 use Rattle.queue_calls_c.proofs.hearings.hear_lines.Given as goal
 
--- so many lines were heard behind those before
+-- this many lines were heard after those before
 abbrev pub invariant-loop-heard : goal.invariant-loop-heard
 invariant-loop-heard l =
     (l.heard ≤ length l.lines) × (offered_room l.hearing ≡ offered_room l.initial.hearing) × (taken_room l.hearing ≡ taken_room l.initial.hearing) × (l.hearing.witness.limit ≡ l.initial.hearing.witness.limit) ×

@@ -4,7 +4,7 @@ use Rattle.near_misses.specs.NearPlays.{NearAsked}
 use Rattle.near_misses.specs.NearSides.{IsNearReady, NearHas, items_held}
 use Rattle.near_misses.proofs.plays.NearWorld.repeat.Given as goal
 
--- both sides can go on; and the letters so far have made what both sides have done
+-- both sides can continue; and the letters so far have made what both sides have done
 abbrev pub invariant-loop : goal.invariant-loop
 invariant-loop g l = record {
   ready : IsNearReady l.self;

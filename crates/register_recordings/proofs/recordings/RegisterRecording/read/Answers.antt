@@ -6,13 +6,13 @@ use Rattle.register_recordings.specs.Reading.{HasReadRegister}
 use Rattle.register_recordings.proofs.recordings.RegisterRecording.read.Goals as goal
 
 -- a piece that was read in part, and then a line
--- again, since this crate stands on no recordings of calls
+-- again, since this crate does not depend on recordings of calls
 line_read : (piece read rest end more : List ℕ) → piece ≡ read ++ rest → rest ≡ end ++ 10 ∷ more → piece ≡ (read ++ (end ++ 10 ∷ [])) ++ more
 line_read piece read rest end more one two =
     one ∙ ap (λ (t : List ℕ). read ++ t) (two ∙ sym (append_assoc end (10 ∷ []) more)) ∙ sym (append_assoc read (end ++ 10 ∷ []) more)
 
 -- the bytes before and after what ends a line
--- again, since this crate stands on no recordings of calls
+-- again, since this crate does not depend on recordings of calls
 line_refused : (bytes piece read rest end left more : List ℕ) → piece ≡ read ++ rest → rest ≡ end ++ 10 ∷ left → (bytes ++ read) ++ (end ++ 10 ∷ (left ++ more)) ≡ bytes ++ (piece ++ more)
 line_refused bytes piece read rest end left more one two =
     append_assoc bytes read (end ++ 10 ∷ (left ++ more))
