@@ -14,7 +14,7 @@ use Rattle.queue_calls.specs.declared.hearings.Begun.{Begun}
 use Rattle.queue_calls.specs.declared.hearings.Begun.TheVariants.{Nothing}
 use Rattle.ring_page.specs.Order.{HaveCome, LeadsNowhere, TellMarks, TellsMark, begun_with, begun_last, count_put, does_in, line_in, mark_told}
 
--- one more is told
+-- one more is read
 pub told_one : (b : Begun) (numbers : List ℕ) (came : List Came) (order : List Mark) (c : Came) (mark : Mark) →
     TellMarks b numbers came order → TellsMark (begun_last b numbers came) numbers c mark → TellMarks b numbers (came ++ c ∷ []) (order ++ mark ∷ [])
 told_one b numbers [] [] c mark told one = (one, tt)
@@ -22,7 +22,7 @@ told_one b numbers [] (m ∷ order) c mark told one = absurd told
 told_one b numbers (x ∷ came) [] c mark told one = absurd told
 told_one b numbers (x ∷ came) (m ∷ order) c mark told one = (told.0, told_one (begun_with b (line_in numbers x)) numbers came order c mark told.1 one)
 
--- what the producer began last, behind one more
+-- what the producer began last, after one more
 pub begun_one : (b : Begun) (numbers : List ℕ) (came : List Came) (c : Came) → begun_last b numbers (came ++ c ∷ []) ≡ begun_with (begun_last b numbers came) (line_in numbers c)
 begun_one b numbers [] c = refl
 begun_one b numbers (x ∷ came) c = begun_one (begun_with b (line_in numbers x)) numbers came c
@@ -51,7 +51,7 @@ came_one numbers items before c capacity mark old new b after h one begun accept
       place_is = accepts.3 ∙ ap (λ n. n + puts_in mark) h.place_is ∙ sym (put_one h.order mark);
     }
 
--- where it was accepted
+-- if it was accepted
 pub came_so : (numbers items : List ℕ) (before : List Came) (c : Came) (capacity : Capacity) (mark : Mark) (result : Bool) (old new : LinearizationPoints) (b after : Begun) →
     HaveCome numbers items before capacity old b → TellsMark b numbers c mark → after ≡ begun_with b (line_in numbers c) → Accepts old mark result new → IsTrue result
     → HaveCome numbers items (before ++ c ∷ []) capacity new after
@@ -61,7 +61,7 @@ came_so numbers items before c capacity mark false old new b after h one begun a
 told_is_one : {mark other : Mark} → Some mark ≡ Some other → mark ≡ other
 told_is_one same = cc
 
--- where it was refused, no mark that is told leads on
+-- if it was refused, no mark of these numbers leads on
 pub refused_so : (b : Begun) (numbers : List ℕ) (c : Came) (mark : Mark) (result : Bool) (old new : LinearizationPoints) → TellsMark b numbers c mark → Accepts old mark result new →
     result ≡ false → LeadsNowhere b numbers old.row.now c (meant old.capacity) (point_of old) old.tail
 refused_so b numbers c mark true old new one accepts is = absurd (true≢false is)
@@ -95,19 +95,19 @@ module _ (numbers : List ℕ) (c : Came) (b : Begun) (word : Word) (told : List 
       λ mark tells. (let (event, told_is, same) = happens_one (event_told b word told) mark (sym (ap (λ (l : Option Line). mark_told b l (does_in c)) is_line) ∙ tells) in
       subst (λ (m : Mark). PutsIn old.row.now old.tail m → (t : Point) → ¬ Leads (meant old.capacity) (point_of old) m t) same (refused event told_is).1)
 
--- numbers that tell no line tell the mark of an operation
+-- numbers that are not of a line are those of an operation's mark
 pub tells_effect : (numbers : List ℕ) (c : Came) (b : Begun) (does : Operation) → line_in numbers c ≡ None → does_in c ≡ Some does → TellsMark b numbers c (Effect does)
 tells_effect numbers c b does none is =
     ap (λ (l : Option Line). mark_told b l (does_in c)) none ∙ ap (λ (x : Option Operation). option_map (λ d. Effect d) x) is
 
--- and where they tell none, nothing leads on
+-- and if they are of none, nothing leads on
 pub tells_nothing : (numbers : List ℕ) (c : Came) (b : Begun) (old : LinearizationPoints) → line_in numbers c ≡ None → does_in c ≡ None
     → LeadsNowhere b numbers old.row.now c (meant old.capacity) (point_of old) old.tail
 tells_nothing numbers c b old none is =
     λ mark tells. (let clash : None ≡ Some mark =
     sym (ap (λ (l : Option Line). mark_told b l (does_in c)) none ∙ ap (λ (x : Option Operation). option_map (λ d. Effect d) x) is) ∙ tells in absurd (cc))
 
--- said of what has come
+-- the same for what has come
 pub nowhere_behind : (numbers items : List ℕ) (before : List Came) (c next : Came) (capacity : Capacity) (m : LinearizationPoints) (b : Begun) (h : HaveCome numbers items before capacity m b) → c ≡ next →
     LeadsNowhere b numbers m.row.now c (meant m.capacity) (point_of m) m.tail
     → LeadsNowhere (begun_last Nothing numbers before) numbers items next capacity (point_of m) (count_put h.order)

@@ -1,4 +1,4 @@
--- Marks that are put one by one.
+-- Marks that are written one by one.
 use Rattle.std.proofs.Common.{◌≡◌, ◌≢◌, ℕ, ◌+◌, ◌<◌, ◌≤◌, Some, List, length, ap, sym, subst, ◌∙◌, arith, inl, inr}
 use Rattle.std.proofs.Math.ListN.{set}
 use Rattle.std.specs.Prelude.{slice_get, min}
@@ -14,7 +14,7 @@ use Rattle.ring_page.specs.declared.marks.Mark.{Mark}
 abbrev pub ArePutTo : ℕ → List Event → List Seen → List Mark → Type 0
 ArePutTo n events seen marks = (place : ℕ) (e : Event) (x : Seen) (m : Mark) → place < n → slice_get events place ≡ Some e → slice_get seen place ≡ Some x → slice_get marks place ≡ Some m → m ≡ mark_of e x
 
--- an item that was set stands where it was set, and the others where they stood
+-- an item that was set is at its place, and the others are unchanged
 set_here : (xs : List Mark) (i : ℕ) (y z : Mark) → slice_get (set xs i y) i ≡ Some z → z ≡ y
 set_here xs i y z at =
     let within : i < length xs = subst (λ (n : ℕ). i < n) (length-set xs i y) (slice_get_within _ i z at) in

@@ -13,14 +13,14 @@ use Rattle.ring_page.specs.declared.near_plays.Telling.{Telling}
 use Rattle.ring_page.specs.declared.plays.Played.{Played}
 use Rattle.ring_page.specs.declared.plays.TheConstants.{ANSWER_ROOM, RUN_ROOM}
 
--- the slices have as many slots as the page has room
+-- the slices have as many slots as the page has room for
 pub short_or_fault : (held : HeldFields) (letters : ℕ) (why : ScriptFault) (Fault : Type 0) (runs answers : ℕ) → runs ≡ RUN_ROOM → answers ≡ ANSWER_ROOM
     → ((why ≡ OutOfMemory) × ((runs < run_count held.schedule) ⊎ (answers < length held.oracle))) ⊎ Fault → ((why ≡ OutOfMemory) × HasNoRoom held letters) ⊎ Fault
 short_or_fault held letters why Fault runs answers r a (inl (is, inl few)) = inl (is, inl (subst (λ (n : ℕ). n < run_count held.schedule) r few))
 short_or_fault held letters why Fault runs answers r a (inl (is, inr few)) = inl (is, inr (inl (subst (λ (n : ℕ). n < length held.oracle) a few)))
 short_or_fault held letters why Fault runs answers r a (inr fault) = inr fault
 
--- the values of the fields as they were laid out
+-- the values of the fields unchanged laid out
 pub told_of_fields : (held asked : HeldFields) (letters : ℕ) (marks : List Mark) (put taken : List ℕ) (told : Played) → held ≡ asked → TellsPlay held letters marks put taken told
     → TellsPlay asked letters marks put taken told
 told_of_fields held asked letters marks put taken told is tells = subst (λ (h : HeldFields). TellsPlay h letters marks put taken told) is tells

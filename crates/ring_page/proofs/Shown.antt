@@ -22,14 +22,14 @@ use Rattle.bits_core.proofs.LawLemmas.{fault_breaks, flicker_is_by_interval}
 
 -- ---- lists
 
--- a place in a beginning
+-- a place in a prefix
 in_take : (h : List Event) (n p : ℕ) (e : Event) → slice_get h p ≡ Some e → p < n → slice_get (take n h) p ≡ Some e
 in_take [] n p e at below = absurd (none-some e at)
 in_take (x ∷ h) zero p e at below = absurd (omega (arith, below))
 in_take (x ∷ h) (suc n) zero e at below = at
 in_take (x ∷ h) (suc n) (suc p) e at below = in_take h n p e at (omega (arith, below))
 
--- one event more
+-- one more event
 one_more : (h : List Event) (p : ℕ) (e : Event) → slice_get h p ≡ Some e → take (suc p) h ≡ take p h ++ e ∷ []
 one_more h p e at = take-suc h p e (slice_get_within h p e at) ∙ ap (λ (x : Event). take p h ++ x ∷ []) (get_or_from_slice_get h p e e at)
 
@@ -43,7 +43,7 @@ sound : (shape : Shape) (h : List Event) (verdict : Verdict) → IsVerdict shape
 sound shape h Lawful is = subst (IsLawful shape) (sym (take-length h)) is
 sound shape h (Fault place kind) is = (fault_breaks shape h place kind is).0
 
--- what is seen at a place is what the beginning that is lawful shows there
+-- what is seen at a place is what the lawful prefix shows there
 shown : (shape : Shape) (h : List Event) (n p : ℕ) (e : Event) (x : Seen) (m : Mark) → IsLawful shape (take n h) → p < n → slice_get h p ≡ Some e → IsSeen (take p h) e x → m ≡ mark_of e x
     → ShowsPlace (take n h) p e m
 shown shape h n p e x m lawful below at seen is = record {
@@ -70,7 +70,7 @@ shown shape h n p e x m lawful below at seen is = record {
     flicker : m.overlapped ≡ is_flicker_at (take n h) p
     flicker = ap (λ (k : Mark). k.overlapped) is ∙ seen.overlapped_is ∙ here
 
--- nothing is shown where nothing is seen
+-- nothing is shown if nothing is seen
 shows_nothing : (e : Event) (x : Seen) (m : Mark) → m ≡ mark_of e x → x ≡ nothing → ShowsNothing m
 shows_nothing e x m is none = record {
   held_is = ap (λ (k : Mark). k.held) is ∙ ap (λ (s : Seen). s.held) none;

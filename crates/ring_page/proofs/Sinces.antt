@@ -1,4 +1,4 @@
--- What was due at a place; since when a bit held what it held; and that breaks are at events.
+-- What was due at a place; since when a bit held what it held; and that faults are at events.
 use Rattle.std.proofs.Common.{◌≡◌, ◌↔◌, ◌≤◌, ℕ, Option, None, Some, List, length, slice_get, take, get_or, subst, refl, arith}
 use Rattle.std.proofs.lemmas.Option.{get_or_from_slice_get, slice_get_within}
 use Rattle.bits_core.specs.Audit.{IsVerdict}

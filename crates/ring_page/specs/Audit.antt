@@ -1,4 +1,4 @@
--- What the page is told of a text.
+-- What the page receives for a text.
 use Rattle.std.specs.Prelude.{◌≡◌, ◌⊎◌, ◌↔◌, ◌<◌, ◌≤◌, true, false, ℕ, suc, List, length, take, Some, slice_get, slice_index_or}
 use Rattle.bits_core.specs.Audit.{IsVerdict}
 use Rattle.bits_core.specs.Faults.{kind_number}
@@ -41,6 +41,7 @@ pub record ShowsPlace (lawful : List Event) (place : ℕ) (e : Event) (m : Mark)
   pub overlapped_is : (m.overlapped ≡ true) ↔ EndsOverlappedRead lawful place
   pub clashes_is : m.clashes ≡ clashes (take (suc place) lawful)
 
+-- the mark shows nothing
 pub record ShowsNothing (m : Mark) : Type 0 where
   pub held_is : m.held ≡ false
   pub overlapped_is : m.overlapped ≡ false
@@ -57,6 +58,7 @@ pub record AreMarksOf (events : List Event) (n : ℕ) (marks : List Mark) : Type
 abbrev pub nothing : Seen
 nothing = record { held = false; overlapped = false; clashes = false }
 
+-- nothing is seen at any place
 abbrev pub IsNothingSeen : List Seen → Type 0
 IsNothingSeen seen = (place : ℕ) → place < length seen → slice_index_or seen place nothing ≡ nothing
 
@@ -76,8 +78,8 @@ pub record TellsShape (shape : Shape) (told : AuditTold) : Type 0 where
   pub take_batch : told.take_batch ≡ take_batch_of shape
   pub no_fault : told.shape_fault ≡ 0
 
--- the text is a trace, this is the verdict on it, and these are the marks of its events; and this is found of its programs, with the items
--- put and taken
+-- the text is a trace, this is the verdict on it, and these are the marks of its events; and this is the finding on its programs, with the
+-- items put and taken
 pub record TellsAudit (text : List ℕ) (marks : List Mark) (put taken : List ℕ) (told : AuditTold) : Type 0 where
   pub shape : Shape
   pub events : List Event
@@ -91,9 +93,9 @@ pub record TellsAudit (text : List ℕ) (marks : List Mark) (put taken : List �
   pub programs : TellsPrograms shape events put taken told.programs
   pub are_marks : AreMarksOf events (sound_count events verdict) marks
 
--- ---- no trace
+-- ---- not a trace
 
--- where the fault is; a number that it does not use is 0
+-- the place of the fault; a number that it does not use is 0
 abbrev pub TellsPlace : TraceFault → AuditTold → Type 0
 TellsPlace (BadShape fault) told = (told.shape_fault ≡ shape_fault_number fault) × (told.place ≡ 0)
 TellsPlace (BadLine line) told = (told.shape_fault ≡ 0) × (told.place ≡ line)
@@ -118,18 +120,18 @@ pub record TellsFault (fault : TraceFault) (told : AuditTold) : Type 0 where
   pub place : TellsPlace fault told
   pub nothing : TellsNoTrace told
 
--- The text begins with a trace of more events than the page has room for, so no fault was found before the room ended; it is no trace
--- of fewer.
+-- The text begins with a trace of more events than the page has room for, so no fault was found before the room ended; it is not a
+-- trace of fewer.
 pub record HasTooManyEvents (text : List ℕ) : Type 0 where
   pub begins : BeginsWithMore text EVENT_ROOM
   pub only : (shape : Shape) (events : List Event) → IsTrace text shape events → EVENT_ROOM < length events
 
--- the text is no trace, for this fault; or the page has no room for its events
+-- the text is not a trace, for this fault; or the page has no room for its events
 pub record TellsRefusal (text : List ℕ) (told : AuditTold) : Type 0 where
   pub fault : TraceFault
   pub cause : IsTraceFault text fault ⊎ ((fault ≡ OutOfMemory) × HasTooManyEvents text)
   pub tells : TellsFault fault told
 
--- what is told of a text
+-- the result for a text
 abbrev pub TellsText : List ℕ → List Mark → List ℕ → List ℕ → AuditTold → Type 0
 TellsText text marks put taken told = TellsAudit text marks put taken told ⊎ TellsRefusal text told

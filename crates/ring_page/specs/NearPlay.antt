@@ -1,4 +1,4 @@
--- What the page is told of a play by a near miss.
+-- What the page receives for a play by a near miss.
 use Rattle.std.specs.Prelude.{◌≡◌, ◌⊎◌, ◌==◌, if◌then◌else◌, ℕ, Option, Some, None, List, [], length, map, take}
 use Rattle.bits_core.specs.declared.events.Event.{Event}
 use Rattle.near_misses.specs.Misses.{near_modulus}
@@ -31,7 +31,7 @@ near_numbered n =
     if n == 5 then Some ClearsUpwards else
     None
 
--- the number that an event of a call tells beside its word
+-- the number that an event of a call has besides its word
 abbrev pub number_told : CallEvent ℕ ℕ → ℕ
 number_told (PutBegins stored) = stored
 number_told (PutStored count) = count
@@ -41,20 +41,21 @@ number_told (TakeItems taken) = taken
 number_told (TakeSome taken) = taken
 number_told _ = 0
 
--- what it tells: the word of its line, and the number
+-- what it records: the word of its line, and the number
 abbrev pub said_by : CallEvent ℕ ℕ → Option Word × ℕ
 said_by event = (Some (line_of Nothing (event_by (λ stored. []) (λ taken. []) event)).word, number_told event)
 
--- and what numbers tell
+-- and what numbers record
 abbrev pub said_in : Telling → Option Word × ℕ
 said_in telling = (word_of telling.word, telling.number)
 
--- what is told of a play of so many events, tellings and items taken, of a schedule of so many letters, whose counts go round at this modulus
+-- the result of a play with these numbers of events, recorded calls and items taken, of a schedule of this many letters, whose counts wrap
+-- at this modulus
 abbrev pub near_played : (events tellings items letters modulus : ℕ) → NearPlayed
 near_played events tellings items letters modulus =
     record { outcome = 0; number = 0; place = 0; shape_fault = 0; count = events; told = tellings; taken = items; all_letters = letters; modulus = modulus }
 
--- this is told of the play of the script's first letters
+-- this is the result of the play of the script's first letters
 pub record TellsNearLetters (miss : NearMiss) (script : Content) (letters : ℕ) (marks : List Mark) (tellings : List Telling) (items : List ℕ) (told : NearPlayed) : Type 0 where
   pub history : List Event
   pub calls : List (CallEvent ℕ ℕ)
@@ -65,18 +66,19 @@ pub record TellsNearLetters (miss : NearMiss) (script : Content) (letters : ℕ)
   pub fills_items : Fills taken items
   pub numbers : told ≡ near_played (length history) (length calls) (length taken) (length script.letters) (near_modulus miss script.shape)
 
--- the values stand for a script, which is that of any bytes whose fields hold them, and this is told of its play
+-- the values represent a script, which is that of any bytes whose fields hold them, and this is the result of its play
 pub record TellsNearPlayed (miss : NearMiss) (held : HeldFields) (letters : ℕ) (marks : List Mark) (tellings : List Telling) (items : List ℕ) (told : NearPlayed) : Type 0 where
   pub script : Content
   pub is_content : IsContentOf held script
   pub is_script : (bytes : List ℕ) → HoldsFields bytes held → IsScript bytes script
   pub is_play : TellsNearLetters miss script letters marks tellings items told
 
--- a fault, as `page_play` tells it
+-- a fault, as `page_play` returns it
 abbrev pub near_refused : Played → NearPlayed
 near_refused told =
     record (near_played 0 0 0 0 0) { outcome = told.outcome; number = told.number; place = told.place; shape_fault = told.shape_fault }
 
+-- the fault of the values, or of the page's room, is returned
 abbrev pub TellsNearRefused : HeldFields → ℕ → NearPlayed → Type 0
 TellsNearRefused held letters told = (fault : Played) × TellsRefused held letters fault × (told ≡ near_refused fault)
 
@@ -84,7 +86,7 @@ TellsNearRefused held letters told = (fault : Played) × TellsRefused held lette
 abbrev pub no_near_miss : NearPlayed
 no_near_miss = record (near_played 0 0 0 0 0) { outcome = 3 }
 
--- what is told of the values of a script's fields and of a near miss
+-- the result for the values of a script's fields and a near miss
 abbrev pub TellsNearPlay : Option NearMiss → HeldFields → ℕ → List Mark → List Telling → List ℕ → NearPlayed → Type 0
 TellsNearPlay None held letters marks tellings items told = told ≡ no_near_miss
 TellsNearPlay (Some miss) held letters marks tellings items told = TellsNearPlayed miss held letters marks tellings items told ⊎ TellsNearRefused held letters told

@@ -1,4 +1,4 @@
--- What the page is told of a play.
+-- What the page receives for a play.
 use Rattle.std.specs.Prelude.{◌≡◌, ◌⊎◌, ◌↔◌, ◌<◌, min, not, nat_eq, ℕ, List, length, take}
 use Rattle.bits_core.specs.Faults.{shape_fault_number}
 use Rattle.bits_core.specs.declared.events.Event.{Event}
@@ -21,16 +21,16 @@ use Rattle.ring_page.specs.declared.marks.Mark.{Mark}
 use Rattle.ring_page.specs.declared.plays.Asked.{Asked}
 use Rattle.ring_page.specs.declared.plays.Played.{Played}
 
--- the values of a script's fields that the page asks for
+-- the values of a script's fields that the page requests
 abbrev pub fields_of : Asked → List ℕ → List ℕ → List ℕ → HeldFields
 fields_of asked items schedule oracle =
     held_fields asked.capacity asked.modulus asked.width items asked.takes (not (nat_eq asked.closes 0)) schedule oracle asked.batch asked.take_batch
 
--- the list stands at the front of the room, as much of it as there is room for
+-- the list is at the front of the room, as much of it as there is room for
 abbrev pub Fills : List ℕ → List ℕ → Type 0
 Fills list room = take (length list) room ≡ take (length room) list
 
--- the numbers of the report of a history
+-- the numbers of the report on a history
 pub record TellsReport (script : Content) (history : List Event) (put taken : List ℕ) (told : Played) : Type 0 where
   pub count : told.count ≡ length history
   pub put_is : (puts : Puts) → FollowsPuts script.shape history puts → Fills (items_put_in script.shape history puts) put × (told.put ≡ length (items_put_in script.shape history puts))
@@ -41,14 +41,14 @@ pub record TellsReport (script : Content) (history : List Event) (put taken : Li
   pub flickers_is : HasFlickers history told.flickers
   pub all_letters_is : told.all_letters ≡ length script.letters
 
--- no fault is told
+-- no fault is returned
 pub record TellsNoFault (told : Played) : Type 0 where
   pub outcome : told.outcome ≡ 0
   pub number : told.number ≡ 0
   pub place : told.place ≡ 0
   pub shape_fault : told.shape_fault ≡ 0
 
--- this is told of the play of the script's first letters
+-- this is the result of the play of the script's first letters
 pub record TellsFirstLetters (script : Content) (letters : ℕ) (marks : List Mark) (put taken : List ℕ) (told : Played) : Type 0 where
   pub history : List Event
   pub no_fault : TellsNoFault told
@@ -82,7 +82,7 @@ pub record TellsPlayFault (x : ScriptFault) (told : Played) : Type 0 where
   pub place : TellsFaultPlace x told
   pub nothing : ReportsNothing told
 
--- the values stand for a script, which is that of any bytes whose fields hold them, and this is told of its play
+-- the values represent a script, which is that of any bytes whose fields hold them, and this is the result of its play
 pub record TellsPlayed (held : HeldFields) (letters : ℕ) (marks : List Mark) (put taken : List ℕ) (told : Played) : Type 0 where
   pub script : Content
   pub is_content : IsContentOf held script
@@ -100,6 +100,6 @@ pub record TellsRefused (held : HeldFields) (letters : ℕ) (told : Played) : Ty
   pub cause : ((why ≡ fault.OutOfMemory) × HasNoRoom held letters) ⊎ ((bytes : List ℕ) → HoldsFields bytes held → IsScriptFault bytes why)
   pub tells : TellsPlayFault why told
 
--- what is told of the values of a script's fields
+-- the result for the values of a script's fields
 abbrev pub TellsPlay : HeldFields → ℕ → List Mark → List ℕ → List ℕ → Played → Type 0
 TellsPlay held letters marks put taken told = TellsPlayed held letters marks put taken told ⊎ TellsRefused held letters told

@@ -8,13 +8,13 @@ use Rattle.bits_core.specs.declared.reasons.Reason.{Reason}
 use Rattle.bits_core.specs.declared.reasons.Reason.TheVariants.{NotInShape, OnlyBy, StillOpen, NothingOpen, Held}
 use Rattle.bits_core.specs.declared.shapes.Shape.{Shape}
 
--- behind how many events a place is; 0 for none
+-- after how many events a place comes; 0 for none
 abbrev pub behind : Option ℕ → ℕ
 behind None = 0
 behind (Some place) = suc place
 
--- of an answer that is not permitted: behind how many events the last write of its bit had ended, since when the bit held what it
--- held; 0 where none had, and of any other reason
+-- for an answer that is not permitted: after how many events the last write of its bit had ended, since when the bit held what it
+-- held; 0 if none had, and for any other reason
 abbrev pub since_in : Option Reason → ℕ
 since_in None = 0
 since_in (Some NotInShape) = 0
@@ -23,7 +23,7 @@ since_in (Some (StillOpen access begun)) = 0
 since_in (Some NothingOpen) = 0
 since_in (Some (Held value since begun)) = behind since
 
--- since when the bit held what it had to be, where a verdict tells a fault; 0 of a lawful history
+-- since when the bit held the right answer, if a verdict reports a fault; 0 for a lawful history
 abbrev pub TellsSince : Shape → List Event → Verdict → ℕ → Type 0
 TellsSince shape h Lawful since = since ≡ 0
 TellsSince shape h (Fault place kind) since =

@@ -1,4 +1,4 @@
--- What the page is told of a recorded register.
+-- What the page receives for a recorded register.
 use Rattle.std.specs.Prelude.{◌≡◌, ◌⊎◌, ℕ, Bool, List, Option, Some, None, slice_index_or}
 use Rattle.register_calls.specs.declared.chains.Chain.{Chain}
 use Rattle.register_calls.specs.declared.events.Class.{Class}
@@ -22,7 +22,7 @@ use Rattle.ring_page.specs.declared.registers.RegisterCounts.{RegisterCounts}
 use Rattle.ring_page.specs.declared.registers.RegisterTold.{RegisterTold}
 
 -- the number of a class, or of none
--- again, as queue_calls_c, on which no crate stands, has it as class_number
+-- again, as queue_calls_c, on which no crate depends, has it as class_number
 abbrev pub class_told : Option Class → ℕ
 class_told None = 0
 class_told (Some Safe) = 1
@@ -30,7 +30,7 @@ class_told (Some Regular) = 2
 class_told (Some AtomicByReader) = 3
 class_told (Some Atomic) = 4
 
--- the numbers of a report, and of none
+-- the numbers of a report
 abbrev pub register_counts : RegisterReport → RegisterCounts
 register_counts report = record {
   writes = report.writes;
@@ -40,15 +40,17 @@ register_counts report = record {
   could_invert = report.could_invert;
 }
 
+-- the numbers of no report
 abbrev pub no_register_counts : RegisterCounts
 no_register_counts = record { writes = 0; reads = 0; overlapped = 0; by_several = 0; could_invert = 0 }
 
 -- ---- a class that is missed
 
--- an earlier read that a reason names, as numbers, and none
+-- no earlier read, as numbers
 abbrev pub no_read : ReadTold
 no_read = record { is_there = 0; reader = 0; ended = 0; value = 0; written = 0 }
 
+-- an earlier read that a reason reports, as numbers, if there is one
 abbrev pub read_told : Option EarlierRead → ReadTold
 read_told None = no_read
 read_told (Some read) = record { is_there = 1; reader = read.reader; ended = read.ended; value = read.value; written = read.written }
@@ -74,7 +76,7 @@ no_miss = record {
   eighth = no_read;
 }
 
--- a miss with the reason of this number, of which no more is said
+-- a miss with the reason of this number, without details
 abbrev pub plain_miss : RegisterMiss → ℕ → MissTold
 plain_miss miss number = record no_miss { line = miss.line; reader = miss.reader; value = miss.value; reason = number }
 
@@ -83,10 +85,11 @@ abbrev pub held_told : RegisterMiss → ℕ → Option ℕ → MissTold
 held_told miss value None = record (plain_miss miss 2) { held = value }
 held_told miss value (Some place) = record (plain_miss miss 2) { held = value; is_since = 1; since = place }
 
--- one against which the reads of a chain speak
+-- the read at a place of a chain, as numbers
 abbrev pub chain_read : Chain → ℕ → ReadTold
 chain_read chain place = read_told (slice_index_or chain.reads place None)
 
+-- a miss that the reads of a chain contradict
 abbrev pub chain_told : RegisterMiss → Chain → MissTold
 chain_told miss chain = record (plain_miss miss 4) {
   first = chain_read chain 0;
@@ -100,19 +103,21 @@ chain_told miss chain = record (plain_miss miss 4) {
   is_cut = bit_number chain.is_cut;
 }
 
+-- a miss, by its reason
 abbrev pub told_by_reason : RegisterMiss → MissReason Chain → MissTold
 told_by_reason miss NoValue = plain_miss miss 1
 told_by_reason miss (Held value since) = held_told miss value since
 told_by_reason miss NotWritten = plain_miss miss 3
 told_by_reason miss (Inverted chain) = chain_told miss chain
 
+-- a miss as numbers, if there is one
 abbrev pub miss_told : Option RegisterMiss → MissTold
 miss_told None = no_miss
 miss_told (Some miss) = told_by_reason miss miss.reason
 
 -- ---- a text
 
--- nothing is found
+-- nothing found
 abbrev pub nothing_told : RegisterTold
 nothing_told = record {
   outcome = 0;
@@ -146,12 +151,12 @@ told_of_register_refusal (BadLine line) = record nothing_told { outcome = 2; num
 told_of_register_refusal TooLong = record nothing_told { outcome = 2; number = 2 }
 told_of_register_refusal OutOfMemory = record nothing_told { outcome = 2; number = 3 }
 
--- what is found of a text, and whether its first line says that later operations are missing
+-- the finding on a text, and whether its first line says that later operations are missing
 abbrev pub IsRegisterFindingIn : List ℕ → RegisterFinding → (is_cut : Bool) → Type 0
 IsRegisterFindingIn text finding is_cut =
     (r : Register) × (events : List RegisterEvent) × (recording : IsRegisterRecording text r events) × IsRegisterFound r events finding × (is_cut ≡ recording.is_cut)
 
--- what is reported of a text: what is found of it, and whether it is cut; or why it is refused
+-- the result for a text: the finding on it, and whether it is cut; or why it is refused
 abbrev pub ReportsRegister : List ℕ → RegisterTold → Type 0
 ReportsRegister text told =
     ((finding : RegisterFinding) × (is_cut : Bool) × IsRegisterFindingIn text finding is_cut × (told ≡ told_of_register_finding finding is_cut)) ⊎

@@ -13,17 +13,17 @@ use trace_text::{TraceFault, read_trace_into};
 /// The most events that a page reads or plays.
 pub const EVENT_ROOM: usize = 10_000;
 
-/// What is told of a text, as numbers.
+/// The result for a text, as numbers.
 #[repr(C)]
 #[derive(Clone, Copy, PartialEq, Eq, Debug)]
 pub struct AuditTold {
-    /// 0 lawful, 1 a fault of the history, 2 no trace.
+    /// 0 lawful, 1 a fault of the history, 2 not a trace.
     pub outcome: u64,
     /// The number of the kind of the fault, or of the trace's fault.
     pub number: u64,
     /// The place of the event at fault, from 0; of a bad line its number, from 1.
     pub place: u64,
-    /// The number of the shape's fault, where line 1 is no shape.
+    /// The number of the shape's fault, if line 1 makes no shape.
     pub shape_fault: u64,
     /// How many events the trace has.
     pub count: u64,
@@ -33,9 +33,9 @@ pub struct AuditTold {
     pub width: u64,
     pub batch: u64,
     pub take_batch: u64,
-    /// Of an answer that is not permitted: behind how many events the last write of its bit had ended; 0 where none had.
+    /// For an answer that is not permitted: after how many events the last write of its bit had ended; 0 if none had.
     pub since: u64,
-    /// What the audit of programs tells.
+    /// The result of the audit of programs.
     pub programs: Judged,
 }
 
@@ -96,7 +96,7 @@ fn told_fault(fault: TraceFault) -> AuditTold
     }
 }
 
-// What is told of the text, with the marks of its events.
+// The result for the text, with the marks of its events.
 fn audited(
     text: &[u8],
     events: &mut [Event],
@@ -134,7 +134,7 @@ pub fn no_events() -> [Event; EVENT_ROOM]
     [blank; EVENT_ROOM]
 }
 
-/// Room for what is seen at them, where nothing is.
+/// Room for what is seen at them, with nothing seen.
 pub fn nothing_seen() -> [Seen; EVENT_ROOM]
     ensures size { length result ≡ EVENT_ROOM }
     ensures nothing { IsNothingSeen result }
@@ -147,10 +147,10 @@ pub fn nothing_seen() -> [Seen; EVENT_ROOM]
     [nothing; EVENT_ROOM]
 }
 
-/// Tells the verdict on the trace that the text is, with the marks of its events, as many as there is room for, and what the
-/// audit of programs finds of it, with the items put and taken in the first slots of two slices; or why it is no trace, or that
-/// it begins with a trace of more events than `EVENT_ROOM`, so that no fault was found before the room ended. As many slots as
-/// there are events are enough. It takes no memory.
+/// Returns the verdict on the trace in the text, with the marks of its events, as many as there is room for, and the finding of
+/// the audit of programs, with the items put and taken in the first slots of two slices; or why the text is not a trace, or
+/// that it begins with a trace of more events than `EVENT_ROOM`, so that no fault was found before the room ended. As many
+/// slots as there are events are enough. It takes no memory.
 #[unsafe(no_mangle)]
 pub extern "C" fn page_audit(
     text: &[u8],

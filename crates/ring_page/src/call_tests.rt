@@ -6,11 +6,11 @@ const NO_COUNTS: Counts = numbers!(Counts:
     calls 0, stored 0, taken 0, full 0, empty 0, nothing 0, told 0, surely_inside 0, perhaps_inside 0,
     overlapped 0, under_way 0);
 
-// What is told of a lawful recording of no calls.
+// The result for a lawful recording with no calls.
 const NO_CALLS: CallsTold = numbers!(CallsTold:
     outcome 0, number 0, line 0, against 0, words 0, cut 0, counts NO_COUNTS);
 
-// What is told of a text with so many slots of each kind, and the slots for words, which held 7s.
+// The result for a text with this many slots of each kind, and the slots for text, which held 7s.
 fn calls_with(text: &str, room: usize, word_room: usize) -> (CallsTold, [u8; CAUSE_WORDS]) {
     let blank = numbers!(Offered: item 7, offered_at 7, stored_at 7);
     let gone = numbers!(Taken: item 7, taken_at 7);
@@ -34,7 +34,7 @@ fn calls_with(text: &str, room: usize, word_room: usize) -> (CallsTold, [u8; CAU
     (told, words)
 }
 
-// What is told of a text that has no cause.
+// The result for a text that has no cause.
 fn calls(text: &str, room: usize) -> CallsTold {
     let (told, _) = calls_with(text, room, CAUSE_WORDS);
     told
@@ -56,7 +56,7 @@ fn a_lawful_recording_is_told_with_its_report(rt: HostRuntime) {
     assert!(rt; calls("queue\n", 0).outcome == 0);
 }
 
-// A text, the line at fault, the one that contradicts it, and the words of the cause.
+// A text, the line at fault, the one that contradicts it, and the text of the cause.
 static CAUSES: [(&str, u64, u64, &str); 6] = [
     (
         "queue 8\nP put 12\nP stored\nC take\nC empty\n",
@@ -97,7 +97,7 @@ static CAUSES: [(&str, u64, u64, &str); 6] = [
     ),
 ];
 
-// The slots have the first bytes of the words, so many, and behind them what they held.
+// The slots have this many of the first bytes of the words, and after them what they held.
 fn are_words(slots: &[u8; CAUSE_WORDS], words: &str, count: usize) -> bool {
     let count = count.min(words.len()).min(CAUSE_WORDS);
     let (front, behind) = slots.split_at(count);
@@ -167,7 +167,7 @@ fn calls_that_do_not_say_why_not_more_are_told(rt: HostRuntime) {
     );
 }
 
-// A recording whose first line says that later calls are missing, and the outcome, the number and the line that are told.
+// A recording whose first line says that later calls are missing, and the outcome, the number and the line that are returned.
 static CUT: [(&str, u64, u64, u64); 4] = [
     ("cut queue 2\nP put 1\n", 0, 0, 0),
     ("cut queue\n", 0, 0, 0),

@@ -11,7 +11,7 @@ use queue_calls::{
     Taken, write_cause,
 };
 
-/// The numbers of the report on a recording that is lawful; all 0 on another.
+/// The numbers of the report on a lawful recording; otherwise all 0.
 #[repr(C)]
 #[derive(Clone, Copy, Default, PartialEq, Eq, Debug)]
 pub struct Counts {
@@ -21,7 +21,7 @@ pub struct Counts {
     pub full: u64,
     pub empty: u64,
     pub nothing: u64,
-    /// 1 where a take was told that the queue is closed.
+    /// 1 if a take returned Closed.
     pub told: u64,
     pub surely_inside: u64,
     pub perhaps_inside: u64,
@@ -29,21 +29,21 @@ pub struct Counts {
     pub under_way: u64,
 }
 
-/// What is told of a text of recorded calls, as numbers; those that it does not use are 0.
+/// The result for a text of recorded calls, as numbers; those that it does not use are 0.
 #[repr(C)]
 #[derive(Clone, Copy, PartialEq, Eq, Debug)]
 pub struct CallsTold {
-    /// 0 lawful, 1 a fault of the history, 2 no recording, or one for which there is no room.
+    /// 0 lawful, 1 a fault of the history, 2 not a recording, or one for which there is no room.
     pub outcome: u64,
-    /// Of a fault of the history: 1 out of turn, 2 not linearizable. Of no recording: 1 a bad line, 2 too many lines, 3 no room.
+    /// For a fault of the history: 1 out of turn, 2 not linearizable. If not a recording: 1 a bad line, 2 too many lines, 3 no room.
     pub number: u64,
     /// The line at fault, or the bad one, from 1.
     pub line: u64,
-    /// The line that contradicts the one at fault, from 1; 0 where none does.
+    /// The line that contradicts the one at fault, from 1; 0 if none does.
     pub against: u64,
-    /// How many bytes hold the words of the cause.
+    /// How many bytes the text of the cause has.
     pub words: u64,
-    /// 1 where the first line says that later calls are missing, of a recording that is lawful or has a fault of the history.
+    /// 1 if the first line says that later calls are missing, for a recording that is lawful or has a fault of the history.
     pub cut: u64,
     /// The report.
     pub counts: Counts,
@@ -68,7 +68,7 @@ fn counts_of(report: &CallsReport) -> Counts
     }
 }
 
-// What is told of a finding, and whether later calls are missing, with the words of its cause at the front of the slots.
+// The result for a finding, and whether later calls are missing, with the text of its cause at the front of the slots.
 fn told_finding(finding: CallsFinding, is_cut: bool, words: &mut [u8]) -> CallsTold
     ensures told { result ≡ told_of_finding (length words.old) finding is_cut }
     ensures words { words.new ≡ words_told finding words.old }
@@ -119,7 +119,7 @@ fn told_refusal(fault: RecordingFault) -> CallsTold
     }
 }
 
-// What is found of the text, in these lists, and whether its first line says that later calls are missing.
+// The finding on the text, in these lists, and whether its first line says that later calls are missing.
 fn found_in(text: &[u8], lists: Lists<Lent<'_>>) -> Result<(CallsFinding, bool), RecordingFault>
     ensures found { IfOk result (λ x. IsFindingIn text.now x.0 x.1) }
     ensures refused { IfErr result (λ e. RefusesText e text.now) }
@@ -133,13 +133,13 @@ fn found_in(text: &[u8], lists: Lists<Lent<'_>>) -> Result<(CallsFinding, bool),
     Ok((finding, recording.is_cut()))
 }
 
-/// Tells what is found of the text of recorded calls, which is what `audit --calls` finds, with the words of the cause, and whether later
-/// calls are missing; or why it is none, or that one of the lists has too few slots. It takes no memory.
+/// Returns the finding on the text of recorded calls, which is that of `audit --calls`, with the text of the cause, and whether later
+/// calls are missing; or why the text is not a recording, or that one of the lists has too few slots. It takes no memory.
 ///
-/// Enough are: of `offered` as many as there are items inside at most, with those that a put offers; of `taken` as many as are
-/// taken, or [`TAKEN_LIMIT`](queue_calls::TAKEN_LIMIT); of `numbers` as many as a line has; of `bytes` as many as stand behind the
-/// last line feed; and of `words` [`CAUSE_WORDS`](queue_calls::CAUSE_WORDS), where with fewer a front of the words is told. What the slots hold before counts for
-/// nothing; behind it those of `words` that hold no words are as they were, and the others may hold anything.
+/// These are enough: for `offered` as many as there ever are items inside, with those that a put offers; for `taken` as many as are taken,
+/// or [`TAKEN_LIMIT`](queue_calls::TAKEN_LIMIT); for `numbers` as many as a line has; for `bytes` as many as come after the last line feed;
+/// and for `words` [`CAUSE_WORDS`](queue_calls::CAUSE_WORDS); with fewer a prefix of the text is written. The contents of the slots before
+/// the call do not matter; after it the slots of `words` without text are unchanged, and the others may hold anything.
 #[unsafe(no_mangle)]
 pub extern "C" fn page_calls(
     text: &[u8],

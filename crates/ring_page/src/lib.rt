@@ -1,4 +1,4 @@
-//! What the web page calls: the proved reader, audit and player over bytes and numbers, in room that the caller gives.
+//! What the web page calls: the proved reader, audit and player over bytes and numbers, in caller-supplied buffers.
 #![tactic(auto)]
 
 mod audits;

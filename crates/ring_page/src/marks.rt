@@ -62,7 +62,7 @@ pub fn index_of(bit: Bit) -> u8
     }
 }
 
-/// The digit, of a cell's bit.
+/// The digit, for a cell's bit.
 pub fn digit_of(bit: Bit) -> u8
     ensures { result ≡ digit_of bit }
 {
@@ -84,7 +84,7 @@ pub fn act_number(act: Act) -> u8
     }
 }
 
-/// The value that it tells.
+/// Its value.
 pub fn value_of(act: Act) -> bool
     ensures { result ≡ value_of act }
 {
@@ -117,7 +117,7 @@ fn mark_of(event: Event, seen: Seen) -> Mark
     }
 }
 
-/// Puts the marks of the events, as many as there is room for.
+/// Writes the marks of the events, as many as there is room for.
 pub fn put_marks(events: &[Event], seen: &[Seen], marks: &mut [Mark])
     requires { length events.now ≤ length seen.now }
     ensures { ArePut events.now seen.now marks.new }

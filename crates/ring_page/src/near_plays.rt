@@ -13,22 +13,22 @@ use bits_core::{Filled, Side};
 use near_misses::{NearCall, NearFault, NearMiss, play_near_first};
 use ring_script::{LetterRun, ScriptFault, ScriptRef};
 
-/// A begin or an end of a call, as numbers.
+/// A start or an end of a call, as numbers.
 #[repr(C)]
 #[derive(Clone, Copy, PartialEq, Eq, Debug)]
 pub struct Telling {
     /// The number of the word of its line (`queue_calls::Word`).
     pub word: u64,
-    /// Of a put that begins, how many items of the script are stored; of one that stored items, how many; of a take that begins, how many
-    /// items it wants; of one that took some, how many. Else 0.
+    /// For the start of a put, how many items of the script are stored; for its end, how many it stored; for the start of a take, how
+    /// many items it wants; for its end, how many it took. Otherwise 0.
     pub number: u64,
 }
 
-/// What is told of a play by a near miss, as numbers.
+/// The result of a play by a near miss, as numbers.
 #[repr(C)]
 #[derive(Clone, Copy, PartialEq, Eq, Debug)]
 pub struct NearPlayed {
-    /// 0 played, 2 no script, or one for which the page has no room, 3 no near miss.
+    /// 0 played, 2 not a script, or one for which the page has no room, 3 not a near miss.
     pub outcome: u64,
     /// The number of the script's fault.
     pub number: u64,
@@ -38,13 +38,13 @@ pub struct NearPlayed {
     pub shape_fault: u64,
     /// How many events the history has.
     pub count: u64,
-    /// How many begins and ends of calls are told.
+    /// How many starts and ends of calls are recorded.
     pub told: u64,
     /// How many items were taken.
     pub taken: u64,
-    /// How many letters the schedule stands for.
+    /// How many letters the schedule represents.
     pub all_letters: u64,
-    /// The number at which the counts go round.
+    /// The number at which the counts wrap.
     pub modulus: u64,
 }
 
@@ -62,7 +62,7 @@ fn near_numbered(number: u64) -> Option<NearMiss>
     }
 }
 
-// A begin or an end of a call, as numbers.
+// A start or an end of a call, as numbers.
 fn telling_of(event: NearCall) -> Telling
     ensures { said_in result ≡ said_by event }
 {
@@ -80,7 +80,7 @@ fn telling_of(event: NearCall) -> Telling
     }
 }
 
-// Puts what is told into the room, as much of it as there is room for.
+// Writes what is recorded into the room, as much of it as there is room for.
 fn put_tellings(calls: &[NearCall], tellings: &mut [Telling])
     ensures { map said_in (take (length calls.now) tellings.new) ≡ map said_by (take (length tellings.new) calls.now) }
 {
@@ -89,7 +89,7 @@ fn put_tellings(calls: &[NearCall], tellings: &mut [Telling])
     }
 }
 
-// What is told of the play of a script's first letters.
+// The result of the play of a script's first letters.
 fn tell_near_play(
     miss: NearMiss,
     script: ScriptRef<'_>,
@@ -118,7 +118,7 @@ fn tell_near_play(
     let items = play.taken.into_slice();
     let shape = script.shape();
     if history.len() > EVENT_ROOM {
-        // Never so, since the events lie in that room.
+        // This never happens, since the events are in that room.
         return Err(NearFault::OutOfMemory);
     }
     put_lawful(&shape, history, marks);
@@ -155,8 +155,8 @@ fn near_refused(fault: ScriptFault) -> NearPlayed
 }
 
 /// Plays the first letters of the script whose fields have these values by the near miss of this number, from 1, in the order of
-/// [`NearMiss`]: the marks of the history's events, the begins and ends of calls, and the items taken, as many as there is room for; or
-/// why it is no script, as [`page_play`](crate::page_play) tells it. It takes no memory.
+/// [`NearMiss`]: the marks of the history's events, the starts and ends of calls, and the items taken, as many as there is room for; or
+/// why it is not a script, as [`page_play`](crate::page_play) returns it. It takes no memory.
 #[unsafe(no_mangle)]
 pub extern "C" fn page_play_near(
     miss: u64,

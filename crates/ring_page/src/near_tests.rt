@@ -3,7 +3,7 @@ use crate::{Asked, Mark, NearPlayed, Telling, page_play_near};
 
 const NOTHING_TOLD: Telling = numbers!(Telling: word 99, number 99);
 
-// What is told before anything is told.
+// What is returned before anything is played.
 const NOTHING_PLAYED: NearPlayed = numbers!(NearPlayed:
     outcome 9, number 9, place 9, shape_fault 9, count 9, told 9, taken 9, all_letters 9, modulus 9);
 
@@ -49,7 +49,7 @@ fn play_in(
     )
 }
 
-// The same, where the items taken are not asked for.
+// The same, without the items taken.
 fn play(
     miss: u64,
     asked: &Asked,
@@ -60,9 +60,9 @@ fn play(
     play_in(miss, asked, items, schedule, oracle, &mut [])
 }
 
-// Counts go round at 4, and not at 5. Two items are put and read, and of the count write of their take the clearing of r0 is open. Two more
-// are put, and the third put sees r0 as 1, the count of long ago: the ring looks empty, and it writes over the cell of the third item. C takes
-// what it finds there.
+// Counts wrap at 4, not at 5. Two items are put and read, and of the count write of their take the clearing of r0 is open. Two more are
+// put, and the third put sees r0 as 1, an old count: the ring looks empty, and it writes over the cell of the third item. C takes what it
+// finds there.
 #[test]
 fn by_takes_of_several_an_item_is_taken_that_was_not_put(rt: HostRuntime) {
     let two = numbers!(Asked: capacity 2, modulus 5, width 3, take_batch 2, takes 4; ASKED);
@@ -111,7 +111,7 @@ fn without_a_second_scan_an_item_is_lost(rt: HostRuntime) {
     assert_eq!(rt; (played.outcome, played.told), (0, 6));
 }
 
-// The producer stops between two writes of its count: a scan finds the count of long ago, and the ring empty with items inside.
+// The producer stops between two writes of its count: a scan finds an old count, and the ring empty with items inside.
 #[test]
 fn where_bits_are_cleared_first_a_count_comes_back(rt: HostRuntime) {
     let two = numbers!(Asked: capacity 2, modulus 4, takes 5; ASKED);

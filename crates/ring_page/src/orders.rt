@@ -21,9 +21,9 @@ pub struct Came {
     /// From 0 to 14 a line, by the number of its word (`queue_calls::Word`); from 17 to 23 an operation, in the order of
     /// `queue_points::Operation`.
     pub kind: u64,
-    /// The item of an operation; where in the list of numbers those of a line begin.
+    /// The item of an operation; for a line, where its numbers begin in the list.
     pub value: u64,
-    /// How many numbers the line has; for how many items an operation found no room, or than how many it found fewer.
+    /// How many numbers the line has; for an operation, for how many items it found no room, or fewer than how many it found.
     pub count: u64,
 }
 
@@ -33,7 +33,7 @@ pub struct Came {
 pub struct Holds {
     /// 0 for a queue that holds any number.
     pub bounded: u64,
-    /// How many items are inside where it may say that it is full, and how many at most.
+    /// How many items are inside when it may report that it is full, and how many at most.
     pub full: u64,
     pub most: u64,
 }
@@ -72,7 +72,7 @@ fn listed_in<'a>(numbers: &'a [u64], came: &Came) -> Option<&'a [u64]>
     Some(&numbers[from..from + count])
 }
 
-// The line that these numbers tell, of recorded calls.
+// The line of recorded calls with these numbers.
 fn line_in<'a>(numbers: &'a [u64], came: &Came) -> Option<(Word, &'a [u64])>
     ensures { option_map (λ l. line l.0 l.1.now) result ≡ line_in numbers.entry.now came.now }
 {
@@ -81,7 +81,7 @@ fn line_in<'a>(numbers: &'a [u64], came: &Came) -> Option<(Word, &'a [u64])>
     Some((word, told))
 }
 
-// The operation that they tell.
+// The operation with these numbers.
 fn does_in(came: &Came) -> Option<Operation>
     ensures { option_map done result ≡ does_in came.now }
 {
@@ -98,7 +98,7 @@ fn does_in(came: &Came) -> Option<Operation>
     }
 }
 
-// The event of a line comes next, where the producer began this last. Whether it can.
+// The event of a line comes next, if the producer began this last. Returns whether it can.
 fn follow_line<'a>(
     points: &mut LinearizationPoints<'a>,
     begun: &mut Begun,
@@ -122,7 +122,7 @@ fn follow_line<'a>(
     true
 }
 
-// The next mark comes, where the producer began this last. Whether it can.
+// The next mark comes, if the producer began this last. Returns whether it can.
 fn follow<'a>(
     points: &mut LinearizationPoints<'a>,
     begun: &mut Begun,
@@ -146,11 +146,11 @@ fn follow<'a>(
     }
 }
 
-/// Tells how many of the first marks of a history of calls can come one after the other, at a queue of this capacity, and no more. Where
-/// these are all, the history of the events among them is linearizable, and the operations take effect at the points at which they stand.
+/// Returns how many of the first marks of a history of calls can come one after the other, for a queue of this capacity, and no more. If
+/// these are all, the history of the events among them is linearizable, and the operations take effect at the points at which they are.
 ///
-/// The items are those that the operations put in, in their order: an operation that puts in another item than the next of them is not
-/// counted either. The numbers are those of the lines. It takes no memory.
+/// The items are those that the operations put in, in order: an operation that puts in another item than the next one is not counted
+/// either. The numbers are those of the lines. It takes no memory.
 #[unsafe(no_mangle)]
 pub extern "C" fn page_order(
     holds: &Holds,

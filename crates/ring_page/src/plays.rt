@@ -33,11 +33,11 @@ pub struct Asked {
     pub letters: u64,
 }
 
-/// What is told of a play, as numbers.
+/// The result of a play, as numbers.
 #[repr(C)]
 #[derive(Clone, Copy, PartialEq, Eq, Debug)]
 pub struct Played {
-    /// 0 played, 2 no script, or one for which the page has no room.
+    /// 0 played, 2 not a script, or one for which the page has no room.
     pub outcome: u64,
     /// The number of the script's fault.
     pub number: u64,
@@ -50,14 +50,14 @@ pub struct Played {
     /// How many items were put, and how many taken.
     pub put: u64,
     pub taken: u64,
-    /// 1 where a take was told that the ring is closed.
+    /// 1 if a take returned Closed.
     pub told: u64,
     /// How many puts found the ring full, and how many takes found it empty.
     pub full: u64,
     pub empty: u64,
-    /// How many reads ended that a write overlapped.
+    /// How many overlapped reads ended.
     pub flickers: u64,
-    /// How many letters the schedule stands for.
+    /// How many letters the schedule represents.
     pub all_letters: u64,
 }
 
@@ -88,7 +88,7 @@ pub fn told_fault(fault: ScriptFault) -> Played
     }
 }
 
-/// Puts the list into the room, as much of it as there is room for.
+/// Writes the list into the room, as much of it as there is room for.
 pub fn put_list(list: &[u64], room: &mut [u64])
     ensures { Fills list.now room.new }
 {
@@ -96,7 +96,7 @@ pub fn put_list(list: &[u64], room: &mut [u64])
     room[..count].copy_from_slice(&list[..count]);
 }
 
-/// Puts the marks of a lawful history, as many as there is room for.
+/// Writes the marks of a lawful history, as many as there is room for.
 pub fn put_lawful(shape: &Shape, history: &[Event], marks: &mut [Mark])
     requires lawful { IsLawful shape.now history.now }
     requires few { length history.now ≤ EVENT_ROOM }
@@ -107,7 +107,7 @@ pub fn put_lawful(shape: &Shape, history: &[Event], marks: &mut [Mark])
     put_marks(history, &seen, marks);
 }
 
-// What is told of the play of a script's first letters.
+// The result of the play of a script's first letters.
 fn tell_play(
     script: ScriptRef<'_>,
     letters: u64,
@@ -119,12 +119,14 @@ fn tell_play(
     ensures refused { OnErr result (EVENT_ROOM < min letters (length (content_of script.entry).letters)) }
 {
     let mut events = no_events();
-    // As many slots more than items can be taken as a take may take, since a world asks for these wherever an access of the
+    // As many more slots than items can be taken as a take may take, since a world requests these whenever an access of the
     // consumer ends.
     let mut taken_room = [0; ITEM_LIMIT + 64];
     script.items();
     let shape = script.shape();
+    // only for the proof: gives the bounds of the capacity
     let _capacity = shape.capacity();
+    // only for the proof: gives the bounds of the take batch
     let _take_batch = shape.take_batch();
     let report = play_first(
         script,
@@ -134,7 +136,7 @@ fn tell_play(
     )?;
     let history = report.history.into_slice();
     if history.len() > EVENT_ROOM {
-        // Never so, since the events lie in that room.
+        // This never happens, since the events are in that room.
         return Err(PlayFault::OutOfMemory);
     }
     let taken_items = report.taken.into_slice();
@@ -180,10 +182,10 @@ pub fn fields<'a>(
     }
 }
 
-/// Plays the first letters of the script whose fields have these values, from nothing, and tells what was played:
-/// the marks of the history's events, the items put and the items taken, as many as there is room for, and the
-/// numbers of the report; or why it is no script, or that it has more runs than `RUN_ROOM`, more answers than
-/// `ANSWER_ROOM`, or a play of more letters than `EVENT_ROOM`. It takes no memory.
+/// Plays the first letters of the script whose fields have these values, from the start, and returns what was
+/// played: the marks of the history's events, the items put and the items taken, as many as there is room for,
+/// and the numbers of the report; or why it is not a script, or that it has more runs than `RUN_ROOM`, more
+/// answers than `ANSWER_ROOM`, or a play of more letters than `EVENT_ROOM`. It takes no memory.
 #[unsafe(no_mangle)]
 pub extern "C" fn page_play(
     asked: &Asked,

@@ -1,4 +1,4 @@
-//! The audit of programs, as numbers: whether a trace is one of a ring, and what was due where it is not.
+//! The audit of programs, as numbers: whether a trace is one of a ring, and what was due if it is not.
 ghost use Rattle.std.specs.Prelude.{◌≡◌, ◌↔◌, ◌<◌, IsTrue, length};
 ghost use Rattle.ring_audit.specs.Dues.{IsDueOf};
 ghost use Rattle.ring_page.specs.Programs.{BreakIsWithin, TellsFound, TellsPrograms, WereDue, broken, no_due, none_due, of_programs, told_due, unjudged};
@@ -7,11 +7,11 @@ use crate::marks::{act_number, bit_number, digit_of, index_of, row_of, value_of}
 use bits_core::{Act, Bit, Event, Kind, Shape, Side};
 use ring_audit::{Dues, Found, audit_into, due_behind, dues_of_both};
 
-/// An event that was due; all is 0 where there is none.
+/// An event that was due; all is 0 if there is none.
 #[repr(C)]
 #[derive(Clone, Copy, Default, PartialEq, Eq, Debug)]
 pub struct Due {
-    /// 1 where there is one.
+    /// 1 if there is one.
     pub is_due: u64,
     /// As in a `Mark`.
     pub row: u64,
@@ -21,11 +21,11 @@ pub struct Due {
     pub value: u64,
 }
 
-/// What the audit of programs tells, as numbers.
+/// The result of the audit of programs, as numbers.
 #[repr(C)]
 #[derive(Clone, Copy, Default, PartialEq, Eq, Debug)]
 pub struct Judged {
-    /// 0 the history is lawful and both sides follow their programs, 1 they do not, 2 nothing is told.
+    /// 0 the history is lawful and both sides follow their programs, 1 they do not, 2 no result.
     pub outcome: u64,
     /// The number of the kind of the fault.
     pub number: u64,
@@ -34,13 +34,13 @@ pub struct Judged {
     /// How many items were put, and how many taken.
     pub put: u64,
     pub taken: u64,
-    /// 1 where a take was told that the ring is closed.
+    /// 1 if a take returned Closed.
     pub told: u64,
-    /// 1 where the producer may close next: it is between two calls.
+    /// 1 if the producer may close next: it is between two calls.
     pub may_close: u64,
-    /// 1 where the consumer may begin to scan next: it is between two calls, or has just read the close bit as 1.
+    /// 1 if the consumer may begin to scan next: it is between two calls, or has just read the close bit as 1.
     pub may_scan: u64,
-    /// What was due, where the event at fault is not of its side's program: the events of its side that were.
+    /// What was due, if the event at fault is not of its side's program: the events of its side that were due.
     pub first: Due,
     pub second: Due,
     pub third: Due,
@@ -132,7 +132,7 @@ fn told_programs(put: usize, taken: usize, told: bool, may_close: bool, may_scan
     }
 }
 
-/// Nothing is told.
+/// No result.
 pub fn unjudged() -> Judged
     ensures { result ≡ unjudged }
 {
@@ -142,7 +142,7 @@ pub fn unjudged() -> Judged
     }
 }
 
-// What was found, as numbers.
+// A finding as numbers.
 fn tell_found(shape: &Shape, events: &[Event], found: Found) -> Judged
     requires { BreakIsWithin (length events.now) found }
     ensures { TellsFound shape.now events.now found result }
@@ -171,8 +171,8 @@ fn tell_found(shape: &Shape, events: &[Event], found: Found) -> Judged
     }
 }
 
-/// Tells what the audit of programs finds of the events, with the items put and taken in the first slots of two slices, as
-/// `audit_into` does; or nothing, where these are too short.
+/// Returns the finding of the audit of programs on the events, with the items put and taken in the first slots of two
+/// slices, as `audit_into` does; or no result, if these are too short.
 pub fn tell_programs(shape: &Shape, events: &[Event], put: &mut [u64], taken: &mut [u64]) -> Judged
     ensures { TellsPrograms shape.now events.now put.new taken.new result }
 {

@@ -14,7 +14,7 @@ const NOTHING: RegisterTold = numbers!(RegisterTold:
     outcome 0, number 0, line 0, class 0, cut 0, counts NO_COUNTS, safe NO_MISS, regular NO_MISS, by_reader NO_MISS,
     atomic NO_MISS);
 
-// What is reported of a text, in slots that held 7s.
+// The result for a text, in slots that held 7s.
 fn register(text: &str, room: usize) -> RegisterTold {
     let mut window = [7; 8];
     let mut places = [7; 8];
@@ -29,7 +29,7 @@ fn register(text: &str, room: usize) -> RegisterTold {
     told
 }
 
-// The read of the first reader that ended at a place, of the write of a place.
+// The read of the first reader that ended at a place, of the write at a place.
 fn earlier(ended: u64, value: u64, written: u64) -> ReadTold {
     numbers!(ReadTold: is_there 1, reader 0, ended ended, value value, written written)
 }
@@ -61,7 +61,7 @@ fn a_value_that_was_held_since_the_start_has_no_place(rt: HostRuntime) {
     assert!(rt; told.safe == numbers!(MissTold: line 3, value 5, reason 1; NO_MISS));
 }
 
-// A recording in which each read leans on the one before it: nine of them, and one more that none of them allows.
+// A recording in which each read depends on the one before it: nine of them, and one more that none of them allows.
 static LEANING: &str =
     "register 0 2\nW write 1\nR1 read\nR1 got 1\nR1 read\nW wrote\nW write 0\nR1 got 0\nR1 read\nW wrote\nW write 1\n\
     R1 got 1\nR1 read\nW wrote\nW write 0\nR1 got 0\nR1 read\nW wrote\nW write 1\nR1 got 1\nR1 read\nW wrote\nW write 0\nR1 got 0\n\

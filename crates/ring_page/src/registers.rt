@@ -14,7 +14,7 @@ pub const READER_ROOM: usize = 64;
 // How many bytes a line has at most.
 const LINE_ROOM: usize = 64;
 
-/// An earlier read that a reason names; all is 0 if there is none.
+/// An earlier read that a reason reports; all is 0 if there is none.
 #[repr(C)]
 #[derive(Clone, Copy, Default, PartialEq, Eq, Debug)]
 pub struct ReadTold {
@@ -22,11 +22,11 @@ pub struct ReadTold {
     pub is_there: u64,
     /// Its reader, from 0.
     pub reader: u64,
-    /// The place of the event with which it ended, from 0; that event stands two lines further on, counted from 1.
+    /// The place of the event with which it ended, from 0; that event is two lines further on, counted from 1.
     pub ended: u64,
     /// What it returned.
     pub value: u64,
-    /// The place of the event with which the write began that it is of at the earliest.
+    /// The place of the event with which the earliest write that it can be of began.
     pub written: u64,
 }
 
@@ -40,12 +40,12 @@ pub struct MissTold {
     pub reader: u64,
     /// What it returned.
     pub value: u64,
-    /// Why: 1 no value of the register, 2 the register held another value, 3 none of the writes that it may be of wrote the value,
-    /// 4 earlier reads are of a later write.
+    /// Why: 1 not a value of the register, 2 the register held another value, 3 none of the writes that it may be of wrote the
+    /// value, 4 earlier reads are of a later write.
     pub reason: u64,
     /// The value that the register held.
     pub held: u64,
-    /// 1 if it held that since an event, whose place follows; else since the start.
+    /// 1 if it held that since an event, whose place follows; otherwise since the start.
     pub is_since: u64,
     pub since: u64,
     /// The earlier reads, the first eight of them.
@@ -72,13 +72,13 @@ pub struct RegisterCounts {
     pub could_invert: u64,
 }
 
-/// What is found of a text of a recorded register, as numbers; those that it does not use are 0.
+/// The finding on a text of a recorded register, as numbers; those that it does not use are 0.
 #[repr(C)]
 #[derive(Clone, Copy, Default, PartialEq, Eq, Debug)]
 pub struct RegisterTold {
-    /// 0 a history that is judged, 1 one with an event out of turn, 2 no recording, or one for which there is no room.
+    /// 0 a history that is judged, 1 one with an event out of turn, 2 not a recording, or one for which there is no room.
     pub outcome: u64,
-    /// Of no recording: 1 a bad line, 2 too many lines, 3 no room.
+    /// If not a recording: 1 a bad line, 2 too many lines, 3 no room.
     pub number: u64,
     /// The line that is out of turn, or the bad one, from 1.
     pub line: u64,
@@ -88,7 +88,7 @@ pub struct RegisterTold {
     pub cut: u64,
     /// How much the history could have shown.
     pub counts: RegisterCounts,
-    /// Of each class the first read with which the history lacks it.
+    /// For each class the first read with which the history lacks it.
     pub safe: MissTold,
     pub regular: MissTold,
     pub by_reader: MissTold,
@@ -134,7 +134,7 @@ fn read_told(read: Option<EarlierRead>) -> ReadTold
     }
 }
 
-// A miss with this reason, of which no more is said.
+// A miss with this reason, without details.
 fn plain_miss(miss: &RegisterMiss, reason: u64) -> MissTold
     ensures { result ≡ plain_miss miss.now reason }
 {
@@ -147,7 +147,7 @@ fn plain_miss(miss: &RegisterMiss, reason: u64) -> MissTold
     }
 }
 
-// A miss against which earlier reads speak.
+// A miss that earlier reads contradict.
 fn inverted(miss: &RegisterMiss, chain: &Chain) -> MissTold
     ensures { result ≡ chain_told miss.now chain.now }
 {
@@ -190,7 +190,7 @@ fn miss_told(miss: &Option<RegisterMiss>) -> MissTold
     }
 }
 
-// What is found, and whether later operations are missing, as numbers.
+// The finding, and whether later operations are missing, as numbers.
 fn finding_told(finding: &RegisterFinding, is_cut: bool) -> RegisterTold
     ensures { result ≡ told_of_register_finding finding.now is_cut }
 {
@@ -234,7 +234,7 @@ fn refusal_told(fault: RegisterTextFault) -> RegisterTold
     }
 }
 
-// What is found of the text in slots for writes, and whether its first line says that later operations are missing.
+// The finding on the text in slots for writes, and whether its first line says that later operations are missing.
 fn found_in(
     text: &[u8],
     window: &mut [u64],
@@ -262,13 +262,13 @@ fn found_in(
     Ok((finding, recording.is_cut()))
 }
 
-/// Finds what `audit --register` finds of the text of a recorded register: its strongest class, of each class that it lacks the first read
-/// with which it lacks the class and why, and the report; or the event that is out of turn, or why the text is no recording. It takes
-/// no memory.
+/// Returns what `audit --register` finds in the text of a recorded register: its strongest class, for each class that it lacks the first
+/// read with which it lacks the class and why, and the report; or the event that is out of turn, or why the text is not a recording. It
+/// takes no memory.
 ///
 /// The slots are for writes: as many in both as a recording has, and one more, are enough. No room is reported for a recording with more
-/// writes in use at a time than that, or with more than [`READER_ROOM`] readers. What the slots hold before counts for nothing, and
-/// after it they may hold anything.
+/// writes in use at a time than that, or with more than [`READER_ROOM`] readers. The contents of the slots before the call do not
+/// matter, and after it they may hold anything.
 #[unsafe(no_mangle)]
 pub extern "C" fn page_register(
     text: &[u8],

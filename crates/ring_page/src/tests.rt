@@ -5,7 +5,7 @@ use crate::{
 use std::alloc::AllocGlobal;
 use std::process::Abort;
 
-// A row of numbers, each behind its name; and of the others those of another row.
+// A row of numbers, each after its name; the others are those of another row.
 macro_rules! numbers {
     ($kind:ident: $($name:ident $number:expr),*; $others:expr) => {
         $kind { $($name: $number,)* ..$others }
@@ -26,12 +26,12 @@ const UNJUDGED: Judged = numbers!(Judged:
     outcome 2, number 0, place 0, put 0, taken 0, told 0, may_close 0, may_scan 0, first NO_DUE,
     second NO_DUE, third NO_DUE);
 
-// What is told before anything is told.
+// What is returned before anything is played.
 const NOTHING_TOLD: AuditTold = numbers!(AuditTold:
     outcome 9, number 9, place 9, shape_fault 9, count 9, capacity 9, modulus 9, width 9, batch 9,
     take_batch 9, since 9, programs UNJUDGED);
 
-// What is told, with the first items put and taken.
+// The result, with the first items put and taken.
 fn audit_with_items(text: &str, marks: &mut [Mark]) -> (AuditTold, [u64; 4], [u64; 4]) {
     let mut told = NOTHING_TOLD;
     let mut put = [7; 4];
@@ -45,13 +45,13 @@ fn audit(text: &str, marks: &mut [Mark]) -> AuditTold {
     told
 }
 
-// What the audit of programs tells, with the first items put and taken.
+// The result of the audit of programs, with the first items put and taken.
 fn judge(text: &str) -> (Judged, [u64; 4], [u64; 4]) {
     let (told, put, taken) = audit_with_items(text, &mut []);
     (told.programs, put, taken)
 }
 
-// It holds; else what of which text does not. (A message is dear to prove, so this one is for all.)
+// It holds; otherwise the message says what fails for which text. (A message is expensive to prove, so this one serves all.)
 fn expect(rt: &impl Abort, holds: bool, what: &str, text: &str) {
     assert!(rt; holds, "{what} of {text}");
 }
@@ -165,7 +165,7 @@ fn what_was_due_is_told(rt: HostRuntime) {
     }
     assert_eq!(rt; [judged.outcome, judged.number, judged.place], [1, 4, 2]);
     assert_eq!(rt; dues, [cell, Due { value: 1, ..cell }, NO_DUE]);
-    // none is told of a fault of the bits
+    // none is returned for a fault of the bits
     let (judged, _, _) = judge("shape 1 3 1\nC write s0 1\n");
     assert_eq!(rt; judged, numbers!(Judged: outcome 1, number 1; UNJUDGED));
 }
@@ -189,7 +189,7 @@ fn too_few_slots_are_told(rt: HostRuntime) {
     assert_eq!(rt; (told.outcome, told.programs), (0, UNJUDGED));
 }
 
-// A text that is no trace, with the number of its fault, its place and that of the shape's fault.
+// A text that is not a trace, with the number of its fault, its place and that of the shape's fault.
 type Refusal<'a> = (&'a str, [u64; 3]);
 
 static REFUSALS: [Refusal<'static>; 7] = [
@@ -214,7 +214,7 @@ fn a_text_that_is_no_trace_is_refused(rt: HostRuntime) {
     }
 }
 
-// The consumer reads r2 in a row, so many times begun. (A `?` is dear to prove, so where memory is lacking the test ends here.)
+// The consumer reads r2 in a row, started this many times. (A `?` is expensive to prove, so if memory is lacking the test ends here.)
 fn reads(rt: &(impl Abort + AllocGlobal), begun: usize) -> String {
     let made = String::from_str(rt.alloc(), "shape 1 3 1\n");
     let mut text = made.expect(rt, "memory for the text");
@@ -240,7 +240,7 @@ fn a_trace_of_more_events_than_there_is_room_for_is_refused(rt: HostRuntime) {
     assert_eq!(rt; (told.outcome, told.number, told.count), (2, 4, 0));
 }
 
-// As many events as there is room for, then what is no line; and one event more before it.
+// As many events as there is room for, then something that is not a line; and one more event before it.
 #[test]
 fn a_fault_is_told_where_it_comes_before_the_room_ends(rt: HostRuntime) {
     let mut marks = [NO_MARK; 1];
@@ -261,7 +261,7 @@ const NOTHING_PLAYED: Played = numbers!(Played:
     outcome 9, number 9, place 9, shape_fault 9, count 9, put 9, taken 9, told 9, full 9, empty 9,
     flickers 9, all_letters 9);
 
-// The play of the script with these items and this schedule, in room for three items of each list.
+// The play of the script with these items and this schedule, in room for three items in each list.
 fn play(
     asked: &Asked,
     items: &[u64],
@@ -333,14 +333,14 @@ fn a_play_fills_the_room_for_events(rt: HostRuntime) {
 
 #[test]
 fn an_overlapped_read_has_the_oracles_answer(rt: HostRuntime) {
-    // s0 is being written while the consumer reads it twice: by its answers 0 and 1 the first scan goes on to s1.
+    // s0 is being written while the consumer reads it twice: with the answers 0 and 1 the first scan continues to s1.
     let (played, _, taken) = play(&ASKED, &[5, 2], "P11C2P1C20", "0");
     assert_eq!(rt; (played.flickers, played.taken, taken), (1, 1, [5, 7, 7]));
     let (played, _, taken) = play(&ASKED, &[5, 2], "P11C2P1C20", "1");
     assert_eq!(rt; (played.flickers, played.empty, taken), (1, 1, [5, 7, 7]));
 }
 
-// What is no script: the items, the schedule, the oracle; the numbers of the fault and of its place.
+// What is not a script: the items, the schedule, the oracle; the numbers of the fault and of its place.
 type Stray<'a> = (&'a [u64], &'a str, &'a str, [u64; 2]);
 
 static STRAYS: [Stray<'static>; 4] = [
@@ -369,7 +369,7 @@ fn what_is_no_script_is_refused(rt: HostRuntime) {
     );
 }
 
-// A text of so many parts.
+// A text of this many parts.
 fn repeated(rt: &(impl Abort + AllocGlobal), part: &str, count: usize) -> String {
     let made = String::from_str(rt.alloc(), "");
     let mut text = made.expect(rt, "memory for the text");

@@ -1,4 +1,4 @@
--- A producer that is driven by hand: one event more.
+-- A producer driven by hand: one more event.
 use Rattle.std.proofs.Common.{◌≡◌, ◌≢◌, ◌⊎◌, ⊎_elim, inl, inr, ℕ, suc, ◌↔◌, Bool, true, false, IsTrue, if◌then◌else◌, Some, None, List, [], ◌∷◌, ◌++◌, length, refl, ap, sym, subst, ◌∙◌, arith, append-nil, append_assoc}
 use Rattle.std.proofs.lemmas.List.{length-append}
 use Rattle.bits_core.specs.declared.shapes.Shape.{Shape}
@@ -60,7 +60,7 @@ no_zero seen shape h takes lawful follows made i size zeros is =
     let lt = (seen shape h takes lawful follows).1 (before ++ reads) before [] ([], append-nil (subhistory P h) ∙ now) (ap (λ (l : List Made). before ++ l) (sym (append-nil reads))) in
     absurd (omega (arith, lt, ap length now, length-events P (before ++ reads), length-append before reads, length_zeros (row_read_by P) (modulus_of shape)))
 
--- ---- one event more
+-- ---- one more event
 
 module _ (subhistory_changes : SubhistoryChanges) where
   own_more : (s : Side) (h : List Event) (e : Event) → is_by s e ≡ true → subhistory s (h ++ e ∷ []) ≡ subhistory s h ++ e ∷ []
@@ -69,7 +69,7 @@ module _ (subhistory_changes : SubhistoryChanges) where
   own_same : (s : Side) (h : List Event) (e : Event) → is_by s e ≡ false → subhistory s (h ++ e ∷ []) ≡ subhistory s h
   own_same s h e by = subhistory_changes s h e ∙ ap (λ (b : Bool). if b then subhistory s h ++ e ∷ [] else subhistory s h) by
 
-  -- the consumer's events are those that they were
+  -- the consumer's events are unchanged
   follows_on : (shape : Shape) (h h' : List Event) (e : Event) (takes : Takes) → h' ≡ h ++ e ∷ [] → is_by C e ≡ false → FollowsTakes shape h takes → FollowsTakes shape h' takes
   follows_on shape h h' e takes is by f = record { are = f.are; events = subst (λ (l : List Event). IsPrefix l (events_of C (take_program shape takes))) (sym (ap (subhistory C) is ∙ own_same C h e by)) f.events }
 

@@ -9,11 +9,11 @@ use Rattle.queue_calls.specs.declared.capacities.Capacity.{Capacity}
 use Rattle.queue_calls.specs.declared.events.CallEvent.{CallEvent}
 use Rattle.uses.specs.Judged.{JudgesCalls}
 
--- an event whose items are listed
+-- an event with its items in lists
 abbrev pub Event : Type 0
 Event = CallEvent (Bor (List ℕ)) (Bor (List ℕ))
 
--- one event more is told behind those before it
+-- one more event is read after those before it
 pub one_more : (events : List Event) (number : ℕ) (d : Event) → number < length events → map told (take (number + 1) events) ≡ map told (take number events) ++ told (get_or events number d) ∷ []
 one_more events number d within = ap (map told) (take_more events number d within) ∙ map-append told (take number events) (get_or events number d ∷ [])
 

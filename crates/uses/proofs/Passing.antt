@@ -45,7 +45,7 @@ first_first (suc r) zero xs le = absurd (omega (arith, le))
 first_first (suc r) (suc n) [] le = refl
 first_first (suc r) (suc n) (x ∷ xs) le = ap (λ (l : List ℕ). x ∷ l) (first_first r n xs (omega (arith, le)))
 
--- the first k items, and the first r of the chunk behind them
+-- the first k items, and the first r of the chunk after them
 pub chunk_first : (items : List ℕ) (k next r : ℕ) → r ≤ length (take (next - k) (drop k items)) → take k items ++ take r (take (next - k) (drop k items)) ≡ take (k + r) items
 chunk_first items k next r le = ap (λ (l : List ℕ). take k items ++ l) (first_first r (next - k) (drop k items) le) ∙ sym (take-add k r items)
 
@@ -55,7 +55,7 @@ chunk_within items k next r some within le =
     let long : length (take (next - k) (drop k items)) ≡ next - k = length-take-le (next - k) (drop k items) (omega (arith, some, within, left)) in
     omega (arith, long, some, within, le)
 
--- a beginning of the first items is one of all
+-- a prefix of the first items is a prefix of all
 pub of_first : (n : ℕ) (taken items : List ℕ) → IsPrefix taken (take n items) → IsPrefix taken items
 of_first n taken items (rest, e) = (rest ++ drop n items, sym (append_assoc taken rest (drop n items)) ∙ ap (λ (l : List ℕ). l ++ drop n items) e ∙ take-append-drop n items)
 
@@ -71,7 +71,7 @@ module _ (p c : RingEnd) (same : p.ring ≡ c.ring) (h : List Event) (meets : Me
   abbrev shape : Shape
   shape = p.ring.shape
 
-  -- by the words that the ring leaves
+  -- by the words that remain of the ring
   module _ (words : List ℕ) (shows : ShowsWords p.ring.shape words h) where
     pub counts_put : PutsAreShown → slice_index words 1 ≡ length put % modulus_of p.ring.shape
     counts_put law =

@@ -1,4 +1,4 @@
--- What a play's report says of its items.
+-- What a play's report implies about its items.
 use Rattle.std.proofs.Common.{◌+◌, ◌≡◌, ◌↔◌, ◌≤◌, ◌∙◌, Bool, true, List, ap, length, subst, sym, ℕ}
 use Rattle.bits_core.specs.declared.events.Side.{Side}
 use Rattle.bits_core.specs.declared.events.Side.TheVariants.{P, C}

@@ -1,4 +1,4 @@
--- A producer that is driven by hand over a memory.
+-- A producer driven by hand over a memory.
 use Rattle.std.specs.Prelude.{◌≡◌, ◌⊎◌, Option, Some, None, List, [], ◌∷◌, ◌++◌}
 use Rattle.bits_core.specs.declared.events.Side.TheVariants.{P}
 use Rattle.bits_core.specs.declared.events.Access.{Access}
@@ -12,7 +12,7 @@ use Rattle.ring_core.specs.Takes.{Takes, FollowsTakes}
 use Rattle.ring_core.specs.ProducerState.{ProducerState, due_put, item_reply}
 use Rattle.ring_core.specs.ProducerCalls.{ProducerStands, IsReplyToCall}
 
--- the events are those of the accesses made, and perhaps the begin of the one that is due
+-- the events are those of the accesses made, and perhaps the start of the one that is due
 abbrev pub AreOf : List Event → List Made → Option Access → Type 0
 AreOf list made due = (list ≡ events_of P made) ⊎ ((access : Access) × (due ≡ Some access) × (list ≡ events_of P made ++ opening_event P access ∷ []))
 
@@ -27,7 +27,7 @@ pub record IsDriven (m : MemoryState) (p : ProducerState) : Type 0 where
   pub takes : Takes
   pub others : FollowsTakes m.shape m.events takes
 
--- the producer's events in the history are those of whole calls, the last of which was a put that was answered so
+-- the producer's events in the history are those of complete calls, the last of which was a put with this reply
 pub record HasReplied (m : MemoryState) (reply : PutReply) : Type 0 where
   pub calls : Puts
   pub are : ArePuts m.shape 0 calls.puts

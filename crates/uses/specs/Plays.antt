@@ -1,4 +1,4 @@
--- What is told of the play of a script's text.
+-- The results of the play of a script's text.
 use Rattle.std.specs.Prelude.{◌≡◌, ◌↔◌, ℕ, ◌+◌, Bool, true, List, length}
 use Rattle.bits_core.specs.declared.events.Event.{Event}
 use Rattle.ring_core.specs.Puts.{Puts, FollowsPuts}
@@ -9,7 +9,7 @@ use Rattle.ring_player.specs.Plays.{HasFlickers}
 use Rattle.ring_script.specs.Content.{Content}
 use Rattle.ring_script.specs.Script.{IsScript}
 
--- in the play of the script that the text is so many items are taken, and the consumer is told this
+-- in the play of the script with this text this many items are taken, and a take returns Closed or not
 pub record TakesSoMany (text : List ℕ) (taken : ℕ) (told : Bool) : Type 0 where
   pub script : Content
   pub is_script : IsScript text script
@@ -18,7 +18,7 @@ pub record TakesSoMany (text : List ℕ) (taken : ℕ) (told : Bool) : Type 0 wh
   pub taken_is : (takes : Takes) → FollowsTakes script.shape history takes → taken ≡ length (items_taken_in script.shape history takes)
   pub told_is : (takes : Takes) → FollowsTakes script.shape history takes → (told ≡ true) ↔ ToldIn script.shape history takes
 
--- in it so many items more are put than taken, and so many reads end that a write overlapped
+-- in it this many more items are put than taken, and this many overlapped reads end
 pub record LeavesInside (text : List ℕ) (left flickers : ℕ) : Type 0 where
   pub script : Content
   pub is_script : IsScript text script

@@ -30,8 +30,8 @@ fn taken_by(reply: TakeBatchReply) -> usize
     }
 }
 
-/// Puts the items under one count write, from the first on as many as there is room for: how many were stored. None
-/// are where the ring is full, or closed.
+/// Puts the items under one count write, starting with the first, as many as there is room for: returns how many
+/// were stored, none if the ring is full or closed.
 pub fn put_batch<E: PutEnd>(putter: &mut E, items: &[u64]) -> usize
     requires idle { E.idle putter.old }
     requires batch { IsBatch (E.end putter.old).ring.shape items.now }
@@ -44,12 +44,13 @@ pub fn put_batch<E: PutEnd>(putter: &mut E, items: &[u64]) -> usize
     ensures stored { (before : List ℕ) → HasStored (E.end putter.old) before →
         HasStored (E.end putter.new) (before ++ take result items.now) }
 {
+    // a law that the proof needs
     puts_are_read();
     stored_by(putter.put_all(items))
 }
 
-/// Takes the next items under one count write, those that the producer's count shows, at most as many as there are places: how many
-/// were taken. They are in the first places, in order. None are where the ring is empty, or closed.
+/// Takes the next items under one count write, those that the producer's count shows, at most as many as there are places: returns
+/// how many were taken, none if the ring is empty or closed. They are in the first places, in order.
 pub fn take_batch<E: TakeEnd>(taker: &mut E, into: &mut [u64]) -> usize
     requires idle { E.idle taker.old }
     requires some { 1 ≤ length into.old }
@@ -64,6 +65,7 @@ pub fn take_batch<E: TakeEnd>(taker: &mut E, into: &mut [u64]) -> usize
     ensures took { (before : List ℕ) → HasTook (E.end taker.old) before →
         HasTook (E.end taker.new) (before ++ take result into.new) }
 {
+    // a law that the proof needs
     takes_are_read();
     taken_by(taker.take_all(into))
 }

@@ -1,5 +1,5 @@
-//! A `Producer` over a `Memory` by hand: the machine tells the next access, the caller begins and ends it in the memory and
-//! feeds the answer, until the call is over.
+//! A `Producer` over a `Memory` by hand: the machine yields the next access, the caller begins and ends it in the memory
+//! and feeds the answer, until the call is over.
 ghost use Rattle.std.specs.Prelude.{◌≡◌, ◌^◌, ◌<◌, None, false, IfOk, IfSome};
 ghost use Rattle.bits_core.specs.Lawful.{IsLawful};
 ghost use Rattle.bits_core.specs.Shape.{width_of};
@@ -24,8 +24,8 @@ pub fn nothing_done<A: Allocator>(alloc: A, shape: Shape) -> (Memory<Vec<Event, 
     (memory, producer)
 }
 
-/// One event of the producer: the begin of the access that is due, or the end of the one that is open, with whose answer the
-/// machine is fed. Between two of them the consumer may make events of its own.
+/// One event of the producer: the start of the access that is due, or the end of the one that is open, whose answer is fed
+/// to the machine. Between two of them the consumer may make events of its own.
 pub fn step_producer<S: Store<Event>, O: Oracle>(
     memory: &mut Memory<S>,
     producer: &mut Producer,
@@ -36,14 +36,17 @@ pub fn step_producer<S: Store<Event>, O: Oracle>(
     ensures shape { memory.new.shape ≡ memory.old.shape }
     ensures kind { producer.new.batched ≡ producer.old.batched }
 {
+    // the laws that the proof needs
     subhistory_changes();
     open_changes();
     open_from_own();
     made_leave_none_open();
     last_bit_is_one();
     let due = producer.next();
+    // only for the proof: gives the contract of `expects_one` for the due access
     let _expects = producer.expects_one();
     let step = next_event(memory, Side::P, due, oracle)?;
+    // only for the proof: the history is lawful
     let _lawful = memory.events();
     match step {
         Step::Nothing => Ok(()),
@@ -55,7 +58,7 @@ pub fn step_producer<S: Store<Event>, O: Oracle>(
     }
 }
 
-/// A put by hand, with at most so many events: its reply, if it is over by then.
+/// A put by hand, with at most this many events: its reply, if it is over by then.
 pub fn put_by_hand<S: Store<Event>, O: Oracle>(
     memory: &mut Memory<S>,
     producer: &mut Producer,
@@ -75,6 +78,7 @@ pub fn put_by_hand<S: Store<Event>, O: Oracle>(
     'events: for _ in 0..events {
         step_producer(memory, producer, oracle)?;
     }
+    // only for the proof: the history is lawful
     let _lawful = memory.events();
     match producer.next() {
         Some(_) => Ok(None),

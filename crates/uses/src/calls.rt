@@ -9,7 +9,7 @@ ghost use Rattle.uses.specs.Judged.{IsFaultFound, JudgesCalls, OutgrowsSlots};
 use queue_calls::{CallAuditor, Event, Fault, Fifo, Slots, exactly};
 use std::alloc::Allocator;
 
-// The number of the first event, from 0, with which the history is not linearizable, told by an auditor that has read nothing.
+// The number of the first event, from 0, with which the history is not linearizable, from an auditor that has read nothing.
 fn first_of<Q: Fifo<u64>>(
     auditor: &mut CallAuditor<Q>,
     events: &[Event<'_>],
@@ -32,7 +32,7 @@ fn first_of<Q: Fifo<u64>>(
     Ok(None)
 }
 
-/// The number of the first event, from 0, with which the history is not linearizable as one of a queue of this capacity; none where
+/// The number of the first event, from 0, with which the history is not linearizable as one of a queue of this capacity; `None` if
 /// it is.
 pub fn first_at_fault<A: Allocator + Copy>(
     alloc: A,
@@ -45,7 +45,7 @@ pub fn first_at_fault<A: Allocator + Copy>(
     first_of(&mut CallAuditor::new(alloc, exactly(capacity)), events)
 }
 
-/// The same with no memory but these slots; refused only where there are more items inside, with those that a put offers, than slots.
+/// The same with no memory but these slots; refused only if there are more items inside, with those that a put offers, than slots.
 pub fn first_at_fault_in_slots(
     slots: &mut [u64],
     capacity: usize,

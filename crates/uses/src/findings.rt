@@ -1,4 +1,4 @@
-//! What an audit found, read: how many items are still inside, a sentence, and the finding of a text that comes in pieces.
+//! Findings of audits, as they are read: how many items are still inside, a sentence, and the finding on a text that comes in pieces.
 ghost use Rattle.std.specs.Prelude.{◌≡◌, ◌↔◌, IfErr, IfOk, IfSome, IsSome, flat_map, string_bytes};
 ghost use Rattle.ring_audit.specs.Audit.{IsOfPrograms, statement};
 ghost use Rattle.queue_calls.specs.Recordings.{IsFindingOf, RefusesText};
@@ -10,7 +10,7 @@ use queue_calls::{CallsFinding, Lent, Lists, Recording, RecordingFault, Recordin
 use ring_audit::{AuditFault, Finding, audit};
 use std::alloc::{AllocError, Allocator};
 
-/// How many items of a history of the ring were put and not taken. None where the history is not one.
+/// How many items of a history of the ring were put and not taken. `None` if the history is not one.
 pub fn left_inside<A: Allocator + Copy>(
     alloc: A,
     shape: &Shape,
@@ -29,7 +29,7 @@ pub fn left_inside<A: Allocator + Copy>(
     }
 }
 
-// Of a history of the ring: how many items were put and taken, and how it ends.
+// For a history of the ring: how many items were put and taken, and how it ends.
 fn history_words<A: Allocator>(
     alloc: A,
     put: usize,
@@ -41,14 +41,14 @@ fn history_words<A: Allocator>(
     Ok(format!(in alloc; "a history of the ring: {put} put, {taken} taken, {end}")?)
 }
 
-// Of a fault.
+// For a fault.
 fn fault_words<A: Allocator>(alloc: A, place: usize, kind: Kind) -> Result<String<A>, AllocError>
     ensures { IfOk result (λ text. string_bytes text ≡ fault_words place kind) }
 {
     Ok(format!(in alloc; "event {place} is at fault: {kind}")?)
 }
 
-/// The finding in words.
+/// The finding as text.
 pub fn sentence_of<A: Allocator, B: Allocator>(
     alloc: A,
     finding: &Finding<B>,
@@ -64,7 +64,7 @@ pub fn sentence_of<A: Allocator, B: Allocator>(
     }
 }
 
-/// What is found of a text of recorded calls that comes in pieces, cut anywhere.
+/// The finding on a text of recorded calls that comes in pieces, cut anywhere.
 pub fn found_in<A: Allocator + Copy>(
     alloc: A,
     pieces: &[&[u8]],
@@ -79,7 +79,7 @@ pub fn found_in<A: Allocator + Copy>(
     recording.finding()
 }
 
-/// What is found of a text, with no memory but these lists in slots of the caller's.
+/// The finding on a text, with no memory but these lists in caller-supplied slots.
 pub fn found_in_slots(lists: Lists<Lent<'_>>, text: &[u8]) -> Result<CallsFinding, RecordingFault>
     ensures found { IfOk result (IsFindingOf text.now) }
     ensures refused { IfErr result (λ e. RefusesText e text.now) }
@@ -89,7 +89,7 @@ pub fn found_in_slots(lists: Lists<Lent<'_>>, text: &[u8]) -> Result<CallsFindin
     recording.finding()
 }
 
-/// The line at which the history of such a text stops being linearizable, counted from 1; none where it never does.
+/// The line at which the history of such a text stops being linearizable, counted from 1; `None` if it never does.
 pub fn line_at_fault<A: Allocator + Copy>(
     alloc: A,
     pieces: &[&[u8]],

@@ -1,4 +1,4 @@
-//! What a caller of the libraries writes: each use of a public call in a few lines, proved, and run by a test of the crate
+//! Example callers of the libraries: each use of a public call in a few lines, proved, and run by a test of the crate
 //! `test_uses`.
 #![tactic(auto)]
 

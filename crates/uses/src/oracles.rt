@@ -1,4 +1,4 @@
-//! An oracle of one's own: a flickering ring whose overlapped reads are answered by a linear congruential generator.
+//! A custom oracle: a flickering ring whose overlapped reads are answered by a linear congruential generator.
 ghost use Rattle.std.specs.Prelude.{◌≡◌, ◌<◌, ◌%◌, IfOk};
 ghost use Rattle.bits_core.specs.Made.{IsPrefix};
 ghost use Rattle.bits_core.specs.Shape.{AllFit};
@@ -8,8 +8,8 @@ use ring_run::{FreeGate, Limits, RunFault, relay_flicker};
 use std::alloc::Allocator;
 use std::thread::Threads;
 
-/// Answers by the generator of Park, Miller and Stockmeyer (1993): the next number is 48271 times the last one modulo
-/// 2^31 - 1, and its answer is whether it is in the upper half. From 0 on it answers 0 always.
+/// Answers with the generator of Park, Miller and Stockmeyer (1993): the next number is 48271 times the last one
+/// modulo 2^31 - 1, and its answer is whether it is in the upper half. Starting from 0 it always answers 0.
 #[derive(Clone, Copy, PartialEq, Eq, Debug)]
 pub struct Minstd {
     /// The last number.
@@ -18,7 +18,7 @@ pub struct Minstd {
 }
 
 impl Minstd {
-    /// The generator that begins with this number, modulo 2^31 - 1.
+    /// The generator that starts with this number, modulo 2^31 - 1.
     pub fn new(seed: u64) -> Minstd
         ensures { result.number ≡ seed % 2147483647 }
     {
@@ -40,8 +40,8 @@ impl Oracle for Minstd {
     }
 }
 
-/// The items through a ring over words that flicker, whose overlapped reads are answered so: what was taken is a beginning of
-/// the items, whatever the seed.
+/// The items through a ring over words that flicker, whose overlapped reads are answered in this way: what was taken is a
+/// prefix of the items, whatever the seed.
 pub fn pass_flickering<R: Threads, A: Allocator + Copy>(
     rt: &R,
     alloc: A,

@@ -1,4 +1,4 @@
-//! Items that are no numbers: packed into one each, or the places at which the caller keeps them.
+//! Items that are not numbers: packed into one number each, or represented by the places at which the caller keeps them.
 ghost use Rattle.std.specs.Prelude.{◌≡◌, ℕ, ◌^◌, ◌<◌, ◌≤◌, IfOk, length, slice_index, map};
 ghost use Rattle.bits_core.specs.Made.{IsPrefix};
 ghost use Rattle.bits_core.specs.Shape.{AllFit, width_of};
@@ -66,7 +66,7 @@ fn unpack_all<A: Allocator>(alloc: A, items: &[u64]) -> Result<Vec<Reading, A>, 
     Ok(readings)
 }
 
-/// The readings through a ring between two threads: what was taken is a beginning of them.
+/// The readings through a ring between two threads: what was taken is a prefix of them.
 pub fn pass_readings<R: Threads, A: Allocator + Copy>(
     rt: &R,
     alloc: A,

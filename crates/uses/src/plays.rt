@@ -9,7 +9,7 @@ use thiserror::Error;
 /// Why a text was not played.
 #[derive(Clone, Copy, PartialEq, Eq, Debug, Error)]
 pub enum Unplayed {
-    /// It is no script.
+    /// It is not a script.
     #[error(transparent)]
     Script(#[from] ScriptFault),
     /// Memory ran out.
@@ -17,7 +17,7 @@ pub enum Unplayed {
     Play(#[from] PlayFault),
 }
 
-/// How many items the consumer of a script takes, and whether it is told that the ring is closed.
+/// How many items the consumer of a script takes, and whether one of its takes returns Closed.
 pub fn takes_of(alloc: Global, text: &[u8]) -> Result<(usize, bool), Unplayed>
     ensures { IfOk result (λ r. TakesSoMany text.now r.0 r.1) }
 {
@@ -26,8 +26,8 @@ pub fn takes_of(alloc: Global, text: &[u8]) -> Result<(usize, bool), Unplayed>
     Ok((report.taken.len(), report.told))
 }
 
-/// How many items of a script are still in the ring where its schedule ends, and how many reads a write overlapped. The
-/// difference is no less than 0: by the sentence of the ring, which holds of every play, those taken are a beginning of those put.
+/// How many items of a script are still in the ring when its schedule ends, and how many reads a write overlapped. The difference
+/// is not negative: by the main theorem, which holds for every play, those taken are a prefix of those put.
 pub fn left_inside(alloc: Global, text: &[u8]) -> Result<(usize, u64), Unplayed>
     ensures { IfOk result (λ r. LeavesInside text.now r.0 r.1) }
 {

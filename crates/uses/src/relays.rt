@@ -8,8 +8,8 @@ use ring_run::{FreeGate, Limits, RunFault, relay_counter};
 use std::alloc::Allocator;
 use std::thread::Threads;
 
-/// Puts the items into a ring in one thread and takes them in another, with at most so many calls of each: what was
-/// taken is a beginning of the items.
+/// Puts the items into a ring in one thread and takes them in another, with at most this many calls of each: what
+/// was taken is a prefix of the items.
 pub fn pass_on<R: Threads, A: Allocator + Copy>(
     rt: &R,
     alloc: A,

@@ -1,5 +1,5 @@
-//! The flickering ring step by step, in one thread: a take begins while a put is under way, and an oracle says what a read finds
-//! that a write overlaps.
+//! The flickering ring step by step, in one thread: a take begins while a put is under way, and an oracle answers a read that a
+//! write overlaps.
 ghost use Rattle.std.specs.Prelude.{◌≡◌, ◌^◌, ◌<◌, [], ◌∷◌, IfOk, IfSome};
 ghost use Rattle.bits_core.specs.Made.{IsPrefix};
 ghost use Rattle.bits_core.specs.Shape.{width_of};
@@ -14,7 +14,7 @@ use ring_core::{PutReply, TakeReply};
 use ring_run::{FlickerRing, Putter, RunFault, Taker};
 use std::alloc::Allocator;
 
-/// One step of the putter's first put, where that is not over: its reply, once it is.
+/// One step of the putter's first put, if that is not over: its reply, once it is.
 pub fn step_putter<'a, O: Oracle + Drop>(
     putter: &mut Putter<'a, O>,
     item: u64,
@@ -31,7 +31,7 @@ pub fn step_putter<'a, O: Oracle + Drop>(
     }
 }
 
-/// One step of the taker's first take, where that is not over: its reply, once it is.
+/// One step of the taker's first take, if that is not over: its reply, once it is.
 pub fn step_taker<'a, O: Oracle + Drop>(
     taker: &mut Taker<'a, O>,
     reply: Option<TakeReply>,
@@ -46,8 +46,8 @@ pub fn step_taker<'a, O: Oracle + Drop>(
     }
 }
 
-/// A put makes so many steps, and then a take and it a step each in turn: what the take is answered, if both are over by then.
-/// Whatever the oracle says, an item that it took is the one that was put.
+/// A put makes `lead` steps, and then the take and the put make one step each in turn: returns the take's reply, if both are
+/// over by then. Whatever the oracle says, an item that it took is the one that was put.
 pub fn take_amid_put<A: Allocator + Copy, O: Oracle + Drop>(
     alloc: A,
     shape: Shape,
@@ -59,6 +59,7 @@ pub fn take_amid_put<A: Allocator + Copy, O: Oracle + Drop>(
     requires { item < 2 ^ width_of shape }
     ensures { IfOk result (λ r. IfSome r (λ reply. IsPrefix (reply_items reply) (item ∷ []))) }
 {
+    // the laws that the proof needs
     ring_law();
     whole_calls_count();
     puts_are_read();
@@ -77,6 +78,7 @@ pub fn take_amid_put<A: Allocator + Copy, O: Oracle + Drop>(
     }
     match (put, take) {
         (Some(_), Some(reply)) => {
+            // ends the run; by its contract there is one lawful history of both ends
             let _finished = FlickerRing::finish(putter, taker);
             Ok(Some(reply))
         }

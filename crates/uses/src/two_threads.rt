@@ -1,5 +1,5 @@
-//! Two threads of one's own over the ends of a ring: what the one took is a beginning of what the other stored, and the ring's words
-//! tell how many these were.
+//! Two threads over the ends of a ring: what one took is a prefix of what the other stored, and the ring's words show how many these
+//! were.
 ghost use Rattle.std.specs.Prelude.{◌≡◌, ◌≤◌, ◌%◌, true, [], IfOk, length, take};
 ghost use Rattle.bits_core.specs.Made.{IsPrefix};
 ghost use Rattle.bits_core.specs.Shape.{AllFit, modulus_of};
@@ -17,8 +17,8 @@ use ring_run::{CounterRing, PutEnd, RunFault, TakeEnd};
 use std::alloc::Allocator;
 use std::thread::{Threads, join_mut};
 
-/// Puts the items in order, as many at a time as the shape's batch has, again while the ring is full, with at most so many
-/// puts, and closes the ring. How many were stored.
+/// Puts the items in order, as many at a time as the shape's batch has, again while the ring is full, with at most this
+/// many puts, and closes the ring. Returns how many were stored.
 pub fn put_each<E: PutEnd>(putter: &mut E, items: &[u64], calls: u64) -> usize
     requires idle { E.idle putter.old }
     requires fresh { (E.end putter.old).list ≡ [] }
@@ -28,6 +28,7 @@ pub fn put_each<E: PutEnd>(putter: &mut E, items: &[u64], calls: u64) -> usize
     ensures few { result ≤ length items.now }
     ensures stored { HasStored (E.end putter.new) (take result items.now) }
 {
+    // a law that the proof needs
     puts_are_read();
     let shape = putter.shape();
     let mut stored = 0;
@@ -42,7 +43,7 @@ pub fn put_each<E: PutEnd>(putter: &mut E, items: &[u64], calls: u64) -> usize
     stored
 }
 
-// One take, whose item comes behind the others. Whether it was told that the ring is closed.
+// One take, whose item is appended to the others. Returns whether the take returned Closed.
 fn take_one<A: Allocator, E: TakeEnd>(
     taken: &mut Vec<u64, A>,
     taker: &mut E,
@@ -53,6 +54,7 @@ fn take_one<A: Allocator, E: TakeEnd>(
     ensures same { IsSameEnd (E.end taker.old) (E.end taker.new) }
     ensures took { IfOk result (λ _. HasTook (E.end taker.new) taken.new.items) }
 {
+    // the laws that the proof needs
     takes_are_read();
     programs_by_one_call();
     match taker.take() {
@@ -65,7 +67,7 @@ fn take_one<A: Allocator, E: TakeEnd>(
     }
 }
 
-/// Takes until it is told that the ring is closed, with at most so many takes, into a list with no item yet.
+/// Takes until a take returns Closed, with at most this many takes, into a list with no item yet.
 pub fn take_each<A: Allocator, E: TakeEnd>(
     taken: &mut Vec<u64, A>,
     taker: &mut E,
@@ -128,15 +130,15 @@ pub struct Passed<A: Allocator> {
     pub stored: usize,
     /// The items taken, in order.
     pub taken: Vec<u64, A>,
-    /// Whether the taker was told that the ring is closed.
+    /// Whether a take returned Closed.
     pub told: bool,
     /// What the words of the two counts hold at the end, the producer's and the consumer's.
     pub counts: (u64, u64),
 }
 
-/// A ring of one's own between two threads of one's own: what was taken is a beginning of what was stored, and all of it
-/// once the taker was told that the ring is closed. The ring is closed behind them, and its words read: the count of each side is
-/// how many items it stored, or took, modulo the modulus.
+/// A ring between two threads: what was taken is a prefix of what was stored, and all of it once a take has returned Closed. The
+/// ring is closed after them, and its words are read: the count of each side is the number of items it stored, or took, modulo
+/// the modulus.
 pub fn pass_through<R: Threads, A: Allocator + Copy>(
     rt: &R,
     alloc: A,
@@ -150,6 +152,7 @@ pub fn pass_through<R: Threads, A: Allocator + Copy>(
     ensures counts { IfOk result (λ r. (r.counts.0 ≡ r.stored % modulus_of shape) ×
         (r.counts.1 ≡ length r.taken.items % modulus_of shape)) }
 {
+    // the laws that the proof needs
     ring_law();
     whole_calls_count();
     takes_are_read();

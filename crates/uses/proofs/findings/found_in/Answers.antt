@@ -8,7 +8,7 @@ use Rattle.lists.proofs.Results.{then_value as if_ok}
 use Rattle.uses.proofs.findings.found_in.Goals as goal
 use Rattle.lists.proofs.Results.{then_err as if_err}
 
--- the bytes of one piece more
+-- the bytes of one more piece
 one_more : (pieces : List (Bor (List ℕ))) (index : ℕ) (d : Bor (List ℕ)) → index < length pieces
     → flat_map (λ piece. piece.now) (take index pieces) ++ (slice_index_or pieces index d).now ≡ flat_map (λ piece. piece.now) (take (index + 1) pieces)
 one_more pieces index d less =
@@ -23,7 +23,7 @@ pieces-preserved g c = (
   refl,
 )
 
--- the pieces before this one, this one, and those behind it
+-- the pieces before this one, this one, and those after it
 all_pieces : (pieces : List (Bor (List ℕ))) (index : ℕ) (d : Bor (List ℕ)) → index < length pieces
     → flat_map (λ piece. piece.now) (take index pieces) ++ ((slice_index_or pieces index d).now ++ flat_map (λ piece. piece.now) (drop (index + 1) pieces))
     ≡ flat_map (λ piece. piece.now) pieces
