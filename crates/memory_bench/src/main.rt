@@ -1,10 +1,10 @@
-//! For the bench: makes 10,000 events by a memory of safe bits, and prints how many there are.
+//! For the bench: makes 10,000 events with a memory of safe bits, and prints how many there are.
 #![tactic(auto)]
 
 use bits_core::{Access, Bit, Event, Flip, Memory, MemoryFault, Oracle, Shape, Side, Store};
 use std::process::ExitCode;
 
-/// Makes the side's next event: it ends what it has open, or else begins an access of the bit.
+/// Makes the side's next event: it ends what it has open, or begins an access of the bit.
 fn step<S: Store<Event>, O: Oracle>(
     memory: &mut Memory<S>,
     side: Side,
@@ -28,7 +28,7 @@ fn step<S: Store<Event>, O: Oracle>(
     Ok(())
 }
 
-/// The producer writes the bits s in turn, and the consumer reads them under its writes.
+/// The producer writes the bits s in turn, and the consumer reads them during its writes.
 fn work<S: Store<Event>>(memory: &mut Memory<S>, rounds: u32) -> Result<(), MemoryFault> {
     let mut oracle = Flip::new();
     for round in 0..rounds {

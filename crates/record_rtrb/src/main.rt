@@ -1,8 +1,8 @@
 //! record_rtrb: the kit's rtrb. No argument: lists its ways; NAME CALLS: writes a recording.
 //!
-//! Each begin takes the next ticket of one counter before the call, each end after it, so an interval is only ever widened. All atomic
-//! operations are sequentially consistent: where the ticket of an end is below that of a begin, the one call happens before the other. The logs
-//! are as large as they can become before the threads begin.
+//! Each start takes the next ticket of one counter before the call, each end after it, so an interval is only ever widened. All atomic
+//! operations are sequentially consistent: if the ticket of an end is below that of a start, the first call happens before the second. The
+//! logs are as large as they can become before the threads begin.
 #![tactic(auto)]
 
 use rtrb::{Consumer, Producer, RingBuffer};
@@ -26,7 +26,7 @@ enum Line {
     Told,
 }
 
-// Takes for each put that was asked for; what is recorded behind them is lawful all the same.
+// Takes for each requested put; what is recorded after them is linearizable all the same.
 const TAKES: u64 = 8;
 
 // What both threads share: the next ticket, and whether the producer has closed.
@@ -39,13 +39,13 @@ struct Shared {
 // The events of a side, each with its ticket.
 type Events = Vec<(u64, Line)>;
 
-// An event now. It answers whether there was room for it.
+// Records an event now. Returns whether there was room for it.
 fn tell(shared: &Shared, events: &mut Events, line: Line) -> bool {
     let ticket = shared.ticket.fetch_add(1, Ordering::SeqCst);
     events.push((ticket, line)).is_ok()
 }
 
-// Puts 0, 1, 2, .. in so many calls, and closes.
+// Puts 0, 1, 2, .. in this many calls, and closes.
 fn produce(shared: &Shared, producer: Producer<u64>, calls: u64, events: Events) -> Events {
     let mut producer = producer;
     let mut events = events;
@@ -128,7 +128,7 @@ fn write_calls<W: Write>(out: &mut W, puts: Events, takes: Events) -> io::Result
     out.flush()
 }
 
-// A recording of so many puts.
+// A recording of this many puts.
 fn record<R: Threads + Sync, W: Write>(
     rt: &R,
     alloc: Global,

@@ -1,4 +1,4 @@
--- What one step of a side over a memory comes to.
+-- The result of one step of a side over a memory.
 use Rattle.std.specs.Prelude.{◌≡◌, Bool, false, if◌then◌else◌, Option, Some, None, List, [], ◌∷◌, ◌++◌}
 use Rattle.bits_core.specs.declared.events.Side.{Side}
 use Rattle.bits_core.specs.declared.events.Event.{Event}
@@ -12,8 +12,8 @@ use Rattle.bits_core.specs.Open.{IsOpenRight}
 use Rattle.ring_steps.specs.declared.Step.{Step}
 use Rattle.ring_steps.specs.declared.Step.TheVariants.{Nothing, Begin, End}
 
--- what the open access is answered: a read that a write overlapped what an oracle says, any other read what its bit held where it
--- began, and a write false
+-- the answer of the open access: for an overlapped read what an oracle says, for any other read what its bit held when it began,
+-- and for a write false
 abbrev pub IsAnswerOf : Side → MemoryState → Bool → Access → Bool → Type 0
 IsAnswerOf side m said (Read bit) v = v ≡ (if is_read_overlapped side m.events then said else held_for_read side m.events)
 IsAnswerOf side m said (Write bit value) v = v ≡ false
@@ -33,8 +33,8 @@ abbrev pub MayBegin : Shape → Side → Option Access → Type 0
 MayBegin shape side None = ⊥
 MayBegin shape side (Some access) = IsOpenRight shape side access
 
--- Nothing was done, where the side has no access open and none is due that it may make; or the due access was begun; or the open one
--- was ended, and answered so. The first memory is that before the step, and said is what its oracle says next.
+-- Nothing was done, if the side has no access open and none is due that it may make; or the due access was begun; or the open one
+-- was ended, with this answer. The first memory is that before the step, and `said` is the oracle's next answer.
 abbrev pub HasMadeStep : Side → Option Access → Bool → MemoryState → MemoryState → Step → Type 0
 HasMadeStep side due said m m' Nothing = (m' ≡ m) × (open_access side m.events ≡ None) × ¬ MayBegin m.shape side due
 HasMadeStep side due said m m' Begin =

@@ -1,8 +1,8 @@
-//! One step of a side over a memory of safe bits: for who drives a machine of the ring by hand.
+//! One step of a side over a memory of safe bits: for code that drives a machine of the ring by hand.
 //!
-//! A machine, as `ring_core`'s `Producer`, tells the access that is due. Each step here begins it, or ends the one that is
-//! open and tells its answer, which is then fed to the machine; between two steps of the one side come those of the other, as
-//! one likes. The crate `uses` has a whole put so.
+//! A machine, such as `ring_core`'s `Producer`, yields the access that is due. Each step here begins it, or ends the one that
+//! is open and returns its answer, which is then fed to the machine; steps of the two sides may be interleaved freely. The
+//! crate `uses` has a complete put made in this way.
 #![tactic(auto)]
 
 ghost use Rattle.std.specs.Prelude.{◌≡◌, ◌+◌, ◌≤◌, ℕ, true, false, if◌then◌else◌, length, IfOk, OnOk, OnErr};
@@ -17,15 +17,15 @@ pub enum Step {
     Nothing,
     /// The due access was begun.
     Begin,
-    /// The open access has ended: what a read answered, and false of a write.
+    /// The open access has ended: what a read returned, and false for a write.
     End(bool),
 }
 
-/// The side's next event: the end of the access that it has open, or the begin of the one that is due. An access that is due is
-/// begun only where it is of a bit of the memory's shape and by the side that may. The oracle is asked once where a read ends that
-/// a write overlapped, and else it is left alone.
+/// The side's next event: the end of the access that it has open, or the start of the one that is due. A due access is begun only
+/// if it is of a bit of the memory's shape and by the side that may make it. The oracle is asked once if an overlapped read ends,
+/// and otherwise not at all.
 ///
-/// `OutOfMemory`, only where the history has as many events as there is room for, leaves all as it was.
+/// `OutOfMemory` is returned only if the history has as many events as there is room for; it leaves everything unchanged.
 pub fn next_event<S: Store<Event>, O: Oracle>(
     memory: &mut Memory<S>,
     side: Side,

@@ -1,7 +1,7 @@
-//! For bench/soak: items through the flickering ring by an oracle that is named, and the recording of its calls.
+//! For bench/soak: passes items through the flickering ring with a named oracle, and records its calls.
 //!
-//! The words are the oracle, the capacity, the modulus, the width, the batch, the take batch and how many items: `0` and `1` answer so
-//! always, `flip` in turn, `tape` by a tape of seven answers, and any other number as the generator that begins with it draws.
+//! The arguments are the oracle, the capacity, the modulus, the width, the batch, the take batch and the number of items: `0` and `1`
+//! always give that answer, `flip` alternates, `tape` uses a tape of seven answers, and any other number seeds the generator.
 #![tactic(auto)]
 
 use bits_core::{Always, Flip, Oracle, Shape, Tape};
@@ -14,7 +14,7 @@ use std::process::ExitCode;
 use std::thread::Threads;
 use uses::oracles::Minstd;
 
-/// How many lines of either side a recording has room for, as that of `run --record`.
+/// How many lines of either side a recording has room for, like that of `run --record`.
 const RECORDED: usize = 1 << 21;
 
 const TAPE: &[bool] = &[true, true, false, true, false, false, true];
@@ -41,7 +41,7 @@ fn slots(alloc: Global) -> Result<Vec<Slot>, AllocError> {
     Ok(slots)
 }
 
-// Relays the items by one oracle for both sides; none where one of them does not fit the shape.
+// Relays the items with one oracle for both sides; `None` if one of them does not fit the shape.
 fn relay<R: Threads, O: Oracle + Copy + Drop + Send>(
     rt: &R,
     alloc: Global,
@@ -55,7 +55,7 @@ fn relay<R: Threads, O: Oracle + Copy + Drop + Send>(
     relay_flicker(rt, alloc, shape, oracle, oracle, fitting, limits, recorder)
 }
 
-// The same by the oracle of this name.
+// The same with the oracle of this name.
 fn relay_by<R: Threads>(
     rt: &R,
     alloc: Global,
@@ -99,7 +99,7 @@ fn write_calls<W: Write>(
     out.flush()
 }
 
-// Relays so many items, and writes the recording. Whether all of them were taken, in order, and the taker was told that the ring is closed.
+// Relays this many items, and writes the recording. Returns whether all of them were taken, in order, and a take returned Closed.
 fn record<R: Threads, W: Write>(
     rt: &R,
     alloc: Global,

@@ -1,4 +1,5 @@
-//! Tests of the machines of registers: by themselves, the accesses that they tell and the values that they read; over one memory, what they read while others write.
+//! Tests of the machines of registers: alone, the accesses that they yield and the values that they read; over one memory, what they read
+//! while others write.
 #![tactic(auto)]
 
 #[cfg(test)]

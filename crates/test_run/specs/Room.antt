@@ -1,4 +1,4 @@
--- What a putter may know of the room in its ring.
+-- What a putter may know about the room in its ring.
 use Rattle.std.specs.Prelude.{ℕ, ◌+◌, ◌<◌, length}
 use Rattle.bits_core.specs.declared.events.Side.TheVariants.{P, C}
 use Rattle.bits_core.specs.Shape.{capacity_of}

@@ -60,7 +60,7 @@ static DUE: [Case<'static>; 9] = [
         Side::P,
         &[(Bit::X, Act::WriteEnd)],
     ),
-    // where a count is written before the cell, the cell is due
+    // if a count is written before the cell, the cell is due
     (
         "shape 1 3 1\nP read r0\nP got r0 1\n",
         Side::P,
@@ -69,13 +69,13 @@ static DUE: [Case<'static>; 9] = [
             (Bit::Cell(0, 0), Act::WriteBegin(true)),
         ],
     ),
-    // the last read of a scan answers 1
+    // the last read of a scan returns 1
     (
         "shape 1 3 1\nP read r0\nP got r0 0\nP read r1\nP got r1 0\nP read r2\n",
         Side::P,
         &[(Bit::R(2), Act::ReadEnd(true))],
     ),
-    // behind a whole word of a batch: the next word, or the count
+    // after a whole word of a batch: the next word, or the count
     (
         "shape 2 5 1 2\nP read r0\nP got r0 1\nP write c0.0 1\nP wrote c0.0\n",
         Side::P,
@@ -85,7 +85,7 @@ static DUE: [Case<'static>; 9] = [
             (Bit::S(1), Act::WriteBegin(true)),
         ],
     ),
-    // the same of a take of two, of which one item is read
+    // the same for a take of two, of which one item is read
     (
         "shape 2 5 1 1 2\nC read s0\nC got s0 0\nC read s1\nC got s1 0\nC read s2\nC got s2 1\nC read c0.0\nC got c0.0 1\n",
         Side::C,
@@ -94,7 +94,7 @@ static DUE: [Case<'static>; 9] = [
             (Bit::R(1), Act::WriteBegin(true)),
         ],
     ),
-    // behind a history that is not of the programs, nothing
+    // after a history that is not of the programs, nothing
     ("shape 1 3 1\nP write s1 1\n", Side::C, &[]),
 ];
 

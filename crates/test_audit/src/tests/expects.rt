@@ -4,7 +4,7 @@ use std::alloc::{AllocGlobal, Allocator};
 use std::process::Abort;
 use std::test::Fail;
 
-/// What is to be found: the items put, the items taken and whether the end was told, or the place of a fault and its kind.
+/// The expected finding: the items put, the items taken and whether a take returned Closed, or the place of a fault and its kind.
 #[derive(Clone, Copy)]
 pub(crate) enum Expected<'a> {
     Lawful(&'a [u64], &'a [u64], bool),
@@ -41,7 +41,7 @@ pub fn is_found_in(found: &Found, put: &[u64], taken: &[u64], expected: Expected
 // How many items of each kind there are slots for.
 const SLOTS: usize = 64;
 
-// So does the audit in slots, unless there are too few.
+// The audit in slots finds it too, unless there are too few.
 fn expect_found_in_slots(rt: &impl Abort, shape: &Shape, events: &[Event], expected: Expected) {
     let mut put = [0; SLOTS];
     let mut taken = [0; SLOTS];

@@ -11,7 +11,7 @@ use trace_text::read_trace;
 const TRACE: &[u8] =
     b"shape 1 3 1\nP read r0\nP got r0 1\nP write c0.0 1\nP wrote c0.0\nP write s1 1\nP wrote s1\nP write s0 0\nC read s0\nC got s0 0\nC read s1\nC got s1 1\nC read c0.0\nC got c0.0 1\nC write r1 1\nC wrote r1\nC write r0 0\nC wrote r0\n";
 
-// Whether the audit fails, and whether an allocation was refused, where so many are granted; one that does not fail finds this.
+// Whether the audit fails, and whether an allocation was refused, if this many are granted; one that does not fail finds this.
 fn audit_with(
     rt: &(impl Abort + AllocGlobal),
     shape: &Shape,

@@ -4,8 +4,8 @@ use std::alloc::AllocGlobal;
 use std::process::Abort;
 use std::test::Fail;
 
-// A play: the shape's fields, the items, how many takes, whether the producer closes, the schedule and the oracle's answers; and
-// the items put, the items taken and whether the end was told.
+// A play: the shape's fields, the items, the number of takes, whether the producer closes, the schedule and the oracle's
+// answers; and the items put, the items taken and whether a take returned Closed.
 struct Play<'a> {
     shape: &'a str,
     items: &'a str,
@@ -18,7 +18,7 @@ struct Play<'a> {
     told: bool,
 }
 
-// A play, with what each of its parts is.
+// A play, with its parts named.
 macro_rules! play {
     ($shape:expr, $items:literal, takes $takes:literal, close $close:literal, by $schedule:literal, $oracle:literal;
      put $put:expr, taken $taken:expr, told $told:literal) => {
@@ -86,9 +86,9 @@ fn the_worked_plays_have_their_lists(rt: HostRuntime) -> Result<(), Fail> {
 }
 
 const OVERLAPS: [Play<'static>; 4] = [
-    // a read spans a whole put and answers 1
+    // a read spans a complete put and returns 1
     play!(SMALL, "1", takes 1, close false, by "C1P8C13", "1"; put [1], taken [1], told false),
-    // it answers 0
+    // it returns 0
     play!(SMALL, "1", takes 1, close false, by "C1P8C9", "0"; put [1], taken [1], told false),
     // largest shape
     play!("\"capacity\":1,\"modulus\":256,\"width\":64", "18446744073709551615", takes 1, close false, by "P134C136", "";

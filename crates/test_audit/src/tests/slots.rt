@@ -6,7 +6,7 @@ use std::process::Abort;
 use std::test::Fail;
 use trace_text::read_trace;
 
-// Whether one item is found, in so many slots; nothing where they are too few.
+// Whether one item is found, in this many slots; `None` if they are too few.
 fn found_in(
     rt: &(impl Abort + AllocGlobal),
     put: &mut [u64],

@@ -6,7 +6,7 @@ use std::process::Abort;
 use std::test::Fail;
 use trace_text::read_trace;
 
-// A trace, and what is to be found.
+// A trace, and the expected finding.
 type Case<'a> = (&'a str, Expected<'a>);
 
 fn expect_finding(
@@ -45,7 +45,7 @@ fn the_lists_are_those_of_the_calls(rt: HostRuntime) -> Result<(), Fail> {
 
 // A trace, and the place of the event that no call makes.
 static NO_PROGRAM: [(&str, usize); 6] = [
-    // two reads of s0 under a write of it that no put makes
+    // two reads of s0 during a write of it that no put makes
     (
         "shape 1 3 1\nP write s0 0\nC read s0\nC got s0 1\nC read s0\nC got s0 0\nP wrote s0\nC read s0\nC got s0 0\n",
         0,
@@ -85,17 +85,17 @@ static CLOSES: [Case<'static>; 5] = [
         "shape 1 3 1\nP write x 1\nP wrote x\n",
         Expected::Lawful(&[], &[], false),
     ),
-    // the consumer is told while the close bit is being written
+    // a take returns Closed while the close bit is being written
     (
         "shape 1 3 1\nP write x 1\nC read s0\nC got s0 1\nC read x\nC got x 1\nC read s0\nC got s0 1\n",
         Expected::Lawful(&[], &[], true),
     ),
-    // cut before it is told
+    // cut before it returns
     (
         "shape 1 3 1\nP write x 1\nC read s0\nC got s0 1\nC read x\nC got x 1\nC read s0\n",
         Expected::Lawful(&[], &[], false),
     ),
-    // no take comes behind
+    // no take follows
     (
         "shape 1 3 1\nP write x 1\nC read s0\nC got s0 1\nC read x\nC got x 1\nC read s0\nC got s0 1\nC read s0\n",
         Expected::Fault(7, Kind::NotProgram),
@@ -118,7 +118,7 @@ static BOTH_FAULTS: [Case<'static>; 4] = [
         "shape 1 3 1\nC read x\nC got x 1\n",
         Expected::Fault(0, Kind::NotProgram),
     ),
-    // both are at the same event, which the consumer may not make and a take does not
+    // both are at the same event, which the consumer may not make, and a take does not make
     (
         "shape 1 3 1\nC write s0 0\n",
         Expected::Fault(0, Kind::WrongSide),
@@ -138,7 +138,7 @@ fn a_fault_of_the_bits_is_told_where_both_are_at_fault(rt: HostRuntime) -> Resul
 const THREE_ITEMS: &str =
     "P read r0\nP got r0 1\nP write c0.0 1\nP wrote c0.0\nP write c1.0 0\nP wrote c1.0\nP write c2.0 1\nP wrote c2.0\nP write s3 1\nP wrote s3\nP write s0 0\nC read s0\nC got s0 0\nC read s1\nC got s1 0\nC read s2\nC got s2 0\nC read s3\nC got s3 1\nC read c0.0\nC got c0.0 1\nC write r1 1\nC wrote r1\nC write r0 0\nC wrote r0\nC read s0\nC got s0 0\nC read s1\nC got s1 0\nC read s2\nC got s2 0\nC read s3\nC got s3 1\nC read c1.0\nC got c1.0 0\nC write r2 1\nC wrote r2\nC write r1 0\nC wrote r1\nC read s0\nC got s0 0\nC read s1\nC got s1 0\nC read s2\nC got s2 0\nC read s3\nC got s3 1\nC read c2.0\nC got c2.0 1\nC write r3 1\nC wrote r3\nC write r2 0\nC wrote r2\nC read s0\nC got s0 1\nC read x\nC got x 0\n";
 
-// With this first line the three items are found so.
+// With this first line the three items are found.
 fn expect_three(
     rt: &(impl Abort + AllocGlobal),
     first: &str,
@@ -156,7 +156,7 @@ fn a_batch_is_of_the_program_of_its_batch_alone(rt: HostRuntime) -> Result<(), F
         "shape 3 7 1 3\n",
         Expected::Lawful(&[1, 0, 1], &[1, 0, 1], false),
     )?;
-    // by a shape of batch one the second word is not
+    // with batch 1 the second word is not of the program
     expect_three(&rt, "shape 3 7 1\n", Expected::Fault(4, Kind::NotProgram))
 }
 
@@ -185,7 +185,7 @@ fn a_trace_cut_after_any_line_has_the_lists_of_that_beginning(rt: HostRuntime) -
     Ok(())
 }
 
-// The events, with the one at a place left out, said twice, or exchanged with the next.
+// The events, with the one at a place left out, doubled, or exchanged with the next.
 #[derive(Clone, Copy)]
 enum Change {
     LeftOut,
@@ -224,7 +224,7 @@ fn changed<A: Allocator>(
     Ok(made)
 }
 
-// The items that are taken where the plain path, changed at a place, is lawful; elsewhere it is at fault.
+// The items that are taken if the plain path, changed at a place, is lawful; elsewhere it is at fault.
 type Lawful<'a> = (usize, &'a [u64]);
 
 // Whether the place is one of these, and its items were taken.
@@ -269,6 +269,6 @@ fn an_event_said_twice_is_found(rt: HostRuntime) -> Result<(), Fail> {
 
 #[test]
 fn two_events_exchanged_are_found(rt: HostRuntime) -> Result<(), Fail> {
-    // the take may begin before the put has ended; the last event has no next
+    // the take may begin before the put has ended; the last event has no next one
     expect_lawful_places(&rt, Change::Exchanged, &[(7, &[1]), (17, &[1])])
 }

@@ -3,7 +3,7 @@ use std::alloc::AllocGlobal;
 use std::process::Abort;
 use trace_text::read_trace;
 
-// A trace, and what the audit says of it.
+// A trace, and the audit's verdict on it.
 type Case<'a> = (&'a str, Verdict);
 
 const LAWFUL: Verdict = Verdict::Lawful;

@@ -7,16 +7,16 @@ use std::alloc::AllocGlobal;
 use std::process::Abort;
 use trace_text::{TraceFault, read_trace, write_trace};
 
-// What a side is to do: to end the access that it has open, or else to begin one of the bit, which
-// writes the value where the side is the bit's writer.
+// What a side should do: end the access that it has open, or begin one of the bit, which writes the
+// value if the side is the bit's writer.
 pub(crate) type Choice = (Side, Bit, bool);
 
-// What a side is to do, the answer where that ends a read, and the access that it has open then.
+// What a side should do, the answer if that ends a read, and the access that it then has open.
 type Step = (Side, bool, Option<bool>, Option<Access>);
 
 const S0: Bit = Bit::S(0);
 
-// The choice, and the answer where it ends a read.
+// The choice, and the answer if it ends a read.
 pub fn make<S: Store<Event>, O: Oracle>(
     memory: &mut Memory<S>,
     oracle: &mut O,
@@ -35,7 +35,7 @@ pub fn make<S: Store<Event>, O: Oracle>(
     Ok(None)
 }
 
-// The same, where there is memory for the event. (A `?` is dear to prove, so where memory is lacking the test ends here.)
+// The same, if there is memory for the event. (A `?` is expensive to prove, so if memory is lacking the test ends here.)
 pub fn expect_made<S: Store<Event>, O: Oracle>(
     rt: &impl Abort,
     memory: &mut Memory<S>,
@@ -45,7 +45,7 @@ pub fn expect_made<S: Store<Event>, O: Oracle>(
     make(memory, oracle, choice).expect(rt, "memory for the event")
 }
 
-// So many events and flickers; the history is lawful, and the same once it was written and read again.
+// This many events and flickers; the history is lawful, and the same after it was written and read again.
 fn expect_history<S: Store<Event>>(
     rt: &(impl Abort + AllocGlobal),
     memory: &Memory<S>,
@@ -62,7 +62,7 @@ fn expect_history<S: Store<Event>>(
     assert!(rt; events_again.as_slice() == events);
 }
 
-// The text of the history that a memory hands out.
+// The text of the history that a memory returns.
 fn expect_text<S: Store<Event>>(rt: &(impl Abort + AllocGlobal), memory: Memory<S>, wanted: &str) {
     let shape = memory.shape();
     let events = memory.into_events();
@@ -87,8 +87,8 @@ fn oracles_answer_in_turn(rt: HostRuntime) {
     expect_answers(&rt, &mut Tape::new(&[]), &[false, false, false]);
 }
 
-// The steps on s0 over a new memory of the smallest shape, where the tape answers what a write overlaps:
-// how many of the steps ask it, and the text that they leave.
+// The steps on s0 over a new memory of the smallest shape, where the tape answers overlapped reads: how
+// many of the steps ask it, and the resulting text.
 fn expect_steps(
     rt: &(impl Abort + AllocGlobal),
     tape: &[bool],
@@ -146,7 +146,7 @@ fn a_read_spanned_by_a_write_flickers(rt: HostRuntime) {
     );
 }
 
-// A write that begins during a read of the bit marks that read alone: not the next one after the write.
+// A write that begins during a read of the bit marks only that read: not the next one after the write.
 #[test]
 fn a_read_after_an_overlapped_one_does_not_ask(rt: HostRuntime) {
     expect_steps(
@@ -186,7 +186,7 @@ pub fn expect_true(rt: &impl Abort, holds: bool) {
     assert!(rt; holds);
 }
 
-// The memory and its oracle are as the others.
+// The memory and its oracle equal the others.
 pub fn expect_same<S: Store<Event>, T: Store<Event>>(
     rt: &impl Abort,
     memory: &Memory<S>,
@@ -210,8 +210,8 @@ fn call_of<S: Store<Event>>(memory: &Memory<S>, choice: Choice) -> usize {
     }
 }
 
-// The choices over a memory whose allocator refuses one growth, beside one that is never refused. Which of the
-// four calls was refused, if one was: it changed nothing, and is made once more.
+// The choices over a memory whose allocator refuses one growth, next to one that is never refused. Returns
+// which of the four calls was refused, if one was: it changed nothing, and is made once more.
 fn refused_call(rt: &(impl Abort + AllocGlobal), allocations: u64) -> Option<usize> {
     let shape = Shape::new(1, 3, 1).expect(rt, "a shape");
     let alloc = Refusing::after(rt.alloc(), allocations);
@@ -244,11 +244,11 @@ fn each_refused_growth_changes_nothing(rt: HostRuntime) {
             _ => break,
         }
     }
-    // Each of the two begins and the two ends was refused once.
+    // Each of the two starts and the two ends was refused once.
     expect_true(&rt, seen == [true; 4]);
 }
 
-// So many choices, each event's number from the one before, over all kinds of bits and both sides.
+// This many choices, each event's number derived from the one before, over all kinds of bits and both sides.
 fn make_many<S: Store<Event>>(rt: &impl Abort, memory: &mut Memory<S>, events: u64) {
     let mut oracle = Flip::new();
     let bits = [
@@ -269,7 +269,7 @@ fn make_many<S: Store<Event>>(rt: &impl Abort, memory: &mut Memory<S>, events: u
     }
 }
 
-// A body that gives up past 1,000 or past 10,000 events would meet its contract.
+// A body that gives up after 1,000 or after 10,000 events would satisfy its contract.
 #[test]
 fn twenty_thousand_events_are_made_written_and_read_again(rt: HostRuntime) {
     let shape = Shape::with_batch(2, 5, 2, 2).expect(&rt, "a shape");

@@ -4,7 +4,7 @@ use std::fmt::Display;
 use std::process::Abort;
 use trace_text::TraceFault;
 
-// Why numbers are no shape, where they are none, and such numbers.
+// Why numbers make no shape, if they make none, and such numbers.
 type Made<const COUNT: usize> = (Option<ShapeFault>, &'static [[u64; COUNT]]);
 
 const CAPACITY: Option<ShapeFault> = Some(ShapeFault::Capacity);
@@ -19,7 +19,7 @@ const BATCH: Option<ShapeFault> = Some(ShapeFault::Batch);
 
 const TAKE_BATCH: Option<ShapeFault> = Some(ShapeFault::TakeBatch);
 
-// What was made of the numbers, and how. (A message is dear to prove, so this one is for all.)
+// What was made of the numbers, and how. (A message is expensive to prove, so this one serves all.)
 fn expect_made(
     rt: &impl Abort,
     how: &str,
@@ -41,7 +41,7 @@ fn expect_numbers(rt: &impl Abort, numbers: &[u64; 4], refused: Option<ShapeFaul
     }
 }
 
-// Each row, and where it is a shape of batch 1, `Shape::new` too.
+// Each row, and if it is a shape of batch 1, `Shape::new` too.
 fn expect_shapes(rt: &impl Abort, rows: &[Made<4>]) {
     for (refused, shapes) in rows {
         for numbers in shapes.iter() {
@@ -67,7 +67,7 @@ static BATCHES: [Made<4>; 7] = [
     // one less than capacity + batch + 1
     (MODULUS, &[[3, 6, 1, 3], [64, 128, 64, 64]]),
     (BATCH, &[[3, 7, 1, 4], [3, 7, 1, 0]]),
-    // the capacity is told before the batch, the batch before the modulus, the modulus before the width
+    // the capacity is reported before the batch, the batch before the modulus, the modulus before the width
     (CAPACITY, &[[65, 0, 0, 0]]),
     (BATCH, &[[3, 3, 0, 4]]),
     (MODULUS, &[[3, 6, 0, 3]]),
@@ -79,7 +79,7 @@ fn batches_accepted_and_refused(rt: HostRuntime) {
     expect_shapes(&rt, &BATCHES);
 }
 
-// Of capacity, modulus, width, batch and take batch.
+// Rows of capacity, modulus, width, batch and take batch.
 static TAKE_BATCHES: [Made<5>; 9] = [
     (None, &[[3, 7, 1, 1, 3], [3, 7, 1, 3, 3], [3, 6, 1, 1, 2]]),
     (
@@ -93,7 +93,7 @@ static TAKE_BATCHES: [Made<5>; 9] = [
         &[[64, 80, 64, 1, 16], [3, 257, 1, 1, 3]],
     ),
     (MODULUS, &[[3, 6, 1, 3, 1]]),
-    // the batch is told before the take batch, the take batch before the modulus, the modulus before the width
+    // the batch is reported before the take batch, the take batch before the modulus, the modulus before the width
     (BATCH, &[[3, 7, 1, 4, 4]]),
     (
         TAKE_BATCH,
@@ -172,7 +172,7 @@ fn expect_flag(rt: &impl Abort, found: bool, wanted: bool) {
     assert_eq!(rt; found, wanted);
 }
 
-// No bits of the shape 2 5 3.
+// Bits that are not of the shape 2 5 3.
 static OUTSIDE: [Bit; 5] = [
     Bit::S(5),
     Bit::R(5),
@@ -192,7 +192,7 @@ fn a_shape_has_its_bits(rt: HostRuntime) {
     }
 }
 
-// The words that a value is written as.
+// The text that a value is written as.
 fn expect_words(rt: &(impl Abort + AllocGlobal), value: &impl Display, words: &str) {
     let written = value
         .to_string(rt.alloc())
@@ -200,7 +200,7 @@ fn expect_words(rt: &(impl Abort + AllocGlobal), value: &impl Display, words: &s
     assert_eq!(rt; written.as_str(), words);
 }
 
-// A value with this number has the wanted number and words.
+// A value with this number has the expected number and text.
 fn expect_named(
     rt: &(impl Abort + AllocGlobal),
     value: &impl Display,
@@ -237,7 +237,7 @@ static SHAPE_FAULTS: [(ShapeFault, u8, &str); 6] = [
 fn shape_faults_have_their_numbers_and_words(rt: HostRuntime) {
     for (fault, number, words) in SHAPE_FAULTS.iter() {
         expect_named(&rt, fault, fault.number(), (*number, words));
-        // a bad shape has the words of its fault
+        // a bad shape has the text of its fault
         expect_words(&rt, &TraceFault::BadShape(*fault), words);
     }
 }

@@ -13,7 +13,7 @@ const UNUSED: Event = Event {
 
 const TRACE: &[u8] = b"shape 1 3 1\nP write s0 1\nC read s0\nP wrote s0\nC got s0 0\n";
 
-// The trace is read into so many slots as with an allocator, where there is room for its four events.
+// The trace is read into this many slots as with an allocator, if there is room for its four events.
 fn expect_read(rt: &(impl Abort + AllocGlobal), slots: &mut [Event]) {
     let (shape, events) = read_trace(rt.alloc(), TRACE).expect(rt, "a trace");
     expect_true(rt, events.len() == 4);
@@ -36,11 +36,11 @@ fn a_trace_is_read_into_slots(rt: HostRuntime) {
     for count in 0..=slots.len() {
         expect_read(&rt, &mut slots[..count]);
     }
-    // What stands behind the events stays.
+    // What comes after the events is unchanged.
     expect_true(&rt, slots[4] == UNUSED && slots[5] == UNUSED);
 }
 
-// Of a store of one number: whether it makes room for so many more.
+// For a store of one number: whether it makes room for this many more.
 fn makes_room<S: Store<u64>>(rt: &impl Abort, mut store: S, more: usize) -> bool {
     store.reserve().expect(rt, "room for one");
     store.add(7);
@@ -75,7 +75,7 @@ fn room_is_made_for_several(rt: HostRuntime) {
     }
 }
 
-// The fault of bytes, whatever room there is.
+// The fault of the bytes, whatever room there is.
 fn expect_fault(rt: &impl Abort, bytes: &[u8], slots: &mut [Event], fault: TraceFault) {
     assert_eq!(rt; read_trace_into(bytes, slots).err(), Some(fault));
 }
@@ -101,8 +101,8 @@ fn a_line_is_read_before_room_is_wanted(rt: HostRuntime) {
     );
 }
 
-// How many of the choices a memory makes whose history has these slots. Beside it is one with an allocator: they
-// are the same, also where no slot was left.
+// How many of the choices a memory makes whose history has these slots. Next to it is one with an allocator:
+// they are the same, even if no slot was left.
 fn made_in(rt: &(impl Abort + AllocGlobal), slots: &mut [Event]) -> usize {
     let shape = Shape::new(1, 3, 1).expect(rt, "a shape");
     let mut memory = Memory::over(Filled::new(slots), shape);

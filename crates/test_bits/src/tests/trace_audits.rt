@@ -2,13 +2,13 @@ use bits_core::{Act, Bit, BitAuditor, Event, Kind, Shape, ShapeFault, Side, Verd
 use std::process::Abort;
 use trace_text::{TraceAudit, TraceFault};
 
-// What an audit finds of a text: a verdict, or the fault of the text.
+// What an audit finds in a text: a verdict, or the fault of the text.
 type Found = Result<Verdict, TraceFault>;
 
-// A text, and what is found of it.
+// A text, and the finding on it.
 type Case = (&'static str, Found);
 
-// Two events of a lawful history, which leave it as it was.
+// Two events of a lawful history, which do not change the outcome.
 const TWO_EVENTS: &str = "P write s1 1\nP wrote s1\n";
 
 static CASES: [Case; 12] = [
@@ -35,7 +35,7 @@ static CASES: [Case; 12] = [
             kind: Kind::NotPermitted,
         }),
     ),
-    // a bad line behind a fault of the history
+    // a bad line after a fault of the history
     (
         "shape 1 3 1\nC write s1 1\nC wrote\n",
         Err(TraceFault::BadLine(3)),
@@ -75,7 +75,7 @@ fn found_by_bytes(text: &[u8]) -> Found {
     audit.verdict()
 }
 
-// The same is found wherever the text is cut.
+// The finding is the same wherever the text is cut.
 fn expect_found(rt: &impl Abort, text: &[u8], found: Found) {
     for cut in 0..text.len() {
         let (front, back) = text.split_at(cut);
@@ -96,7 +96,7 @@ fn no_line_is_no_trace(rt: HostRuntime) {
     assert_eq!(rt; found_by_bytes(b""), Err(TraceFault::BadLine(1)));
 }
 
-// The audit reads the piece. (A `?` is dear to prove.)
+// The audit reads the piece. (A `?` is expensive to prove.)
 fn expect_read(rt: &impl Abort, audit: &mut TraceAudit, piece: &str) {
     assert_eq!(rt; audit.read(piece.as_bytes()), Ok(()));
 }

@@ -45,7 +45,7 @@ fn each_line_is_one_event(rt: HostRuntime) {
     );
 }
 
-// The same of a shape with these numbers.
+// The same for a shape with these numbers.
 fn expect_batch(rt: &(impl Abort + AllocGlobal), text: &str, numbers: [u64; 4], rows: &[Row]) {
     let [capacity, modulus, width, batch] = numbers;
     let shape = Shape::with_batch(capacity, modulus, width, batch);
@@ -64,7 +64,7 @@ fn line_one_names_a_batch_over_1(rt: HostRuntime) {
     );
 }
 
-// The same of a shape with a take batch.
+// The same for a shape with a take batch.
 fn expect_batches(rt: &(impl Abort + AllocGlobal), text: &str, numbers: [u64; 5], rows: &[Row]) {
     let [capacity, modulus, width, batch, take_batch] = numbers;
     let shape = Shape::with_batches(capacity, modulus, width, batch, take_batch);
@@ -190,7 +190,7 @@ fn numbers_that_are_no_shape_are_told(rt: HostRuntime) {
     }
 }
 
-// Each is a bad line behind the first one.
+// Each is a bad line after the first one.
 fn expect_bad_lines(rt: &(impl Abort + AllocGlobal), lines: &[&str], first: &str) {
     for line in lines {
         let text = format!(in rt.alloc(); "{first}{line}");

@@ -53,7 +53,7 @@ fn what_may_begin_a_line(rt: HostRuntime) -> Result<(), Fail> {
     Ok(())
 }
 
-// How many times a piece is read after the text, at most as many as that, until it is refused; and how many bytes are kept then.
+// How often a piece is read after the text until it is refused, at most this often; and how many bytes are kept then.
 fn refused_after<A: Allocator + Copy>(
     alloc: A,
     text: &[u8],

@@ -1,7 +1,7 @@
-//! Histories of calls, and what is told of each.
+//! Histories of calls, and the verdict on each.
 use queue_calls::{Capacity, Event, Fault};
 
-/// A history of a queue of this capacity, and the fault of its last event, where it is refused.
+/// A history of a queue of this capacity, and the fault of its last event, if it is refused.
 pub(crate) struct Case {
     pub name: &'static str,
     pub capacity: Capacity,
@@ -9,7 +9,7 @@ pub(crate) struct Case {
     pub events: &'static [Event<'static>],
 }
 
-// A name, a capacity and what is told; and the events, with a number in round brackets and items in square ones.
+// A name, a capacity and the verdict; and the events, with a number in round brackets and items in square ones.
 macro_rules! case {
     ($name:literal, $capacity:expr, $fault:expr; $($event:ident $(($number:literal))? $([$($item:literal),*])?),*) => {
         Case {
@@ -35,13 +35,13 @@ const TWO: Capacity = Capacity::Between { full: 2, most: 2 };
 
 const THREE: Capacity = Capacity::Between { full: 3, most: 3 };
 
-// A queue that may tell that it is full with 2 items inside, and may hold 3.
+// A queue that may report that it is full with 2 items inside, and may hold 3.
 const TWO_OR_THREE: Capacity = Capacity::Between { full: 2, most: 3 };
 
-// A queue that may tell at any time that it is full, and holds one item at most.
+// A queue that may report at any time that it is full, and holds at most one item.
 const NONE_OR_ONE: Capacity = Capacity::Between { full: 0, most: 1 };
 
-/// Each with its events in their order.
+/// Each with its events in order.
 pub static CASES: [Case; 45] = [
     // One item is put and taken; the queue is then found empty, closed, and found closed, by the consumer and by the producer.
     case!("all answers", ONE, LAWFUL;
@@ -49,41 +49,41 @@ pub static CASES: [Case; 45] = [
         TakeBegins(2), TakeItems[7], TakeBegins(1), TakeEmpty, TakeBegins(2), TakeShort, TakeBegins(1),
         TakeNothing, CloseBegins, TakeBegins(1), TakeClosed, CloseEnds, PutBegins[9], PutClosed, PutBegins[9],
         PutNothing),
-    // The take may have taken the first item when the second was stored, and then tells that the queue was empty.
+    // The take may have taken the first item when the second was stored, and then reports that the queue was empty.
     case!("empty of full", ONE, NOT_LINEARIZABLE;
         TakeBegins(1), PutBegins[1], PutStored(1), PutBegins[2], PutStored(1), TakeEmpty),
     // The item was stored before the take began.
     case!("empty of one", TWO, NOT_LINEARIZABLE; PutBegins[1], PutStored(1), TakeBegins(1), TakeEmpty),
-    // A put of two tells that one was stored, and the second was taken.
+    // A put of two reports that one was stored, and the second was taken.
     case!("taken not stored", ONE, NOT_LINEARIZABLE;
         PutBegins[1, 2], TakeBegins(1), TakeItems[1], TakeBegins(1), TakeItems[2], PutStored(1)),
     // One item was inside, of two.
     case!("full of one", TWO, NOT_LINEARIZABLE; PutBegins[1], PutStored(1), PutBegins[2], PutFull),
     // The second item before the first.
     case!("other item", TWO, NOT_LINEARIZABLE; PutBegins[1, 2], TakeBegins(1), TakeItems[2]),
-    // The end is told, and then that the queue is empty.
+    // A take returns Closed, and then one returns Empty.
     case!("empty after end", TWO, NOT_LINEARIZABLE; CloseBegins, TakeBegins(1), TakeClosed, TakeBegins(1), TakeEmpty),
     case!("two takes", ONE, OUT_OF_TURN; TakeBegins(1), TakeBegins(1)),
     case!("answer to close", ONE, OUT_OF_TURN; CloseBegins, PutClosed),
-    // ---- unbounded, and of a capacity that is told inexactly
-    // A queue with no bound holds them all, and tells that it is full.
+    // ---- unbounded, and of a capacity known only as a range
+    // A queue with no bound holds them all, and reports that it is full.
     case!("full with no bound", UNBOUNDED, NOT_LINEARIZABLE; PutBegins[1, 2, 3, 4], PutStored(4), PutBegins[5], PutFull),
     case!("no room with no bound", UNBOUNDED, NOT_LINEARIZABLE; PutBegins[1, 2], PutShort),
     case!("some stored with no bound", UNBOUNDED, NOT_LINEARIZABLE; PutBegins[1, 2], PutStored(1)),
-    // With two inside it may tell that it is full, and hold a third one.
+    // With two inside it may report that it is full, and hold a third one.
     case!("full or not", TWO_OR_THREE, LAWFUL;
         PutBegins[1, 2], PutStored(2), PutBegins[3], PutFull, PutBegins[3], PutStored(1), PutBegins[4],
         PutFull),
     case!("full too early", TWO_OR_THREE, NOT_LINEARIZABLE; PutBegins[1], PutStored(1), PutBegins[2], PutFull),
     case!("four in three", TWO_OR_THREE, NOT_LINEARIZABLE; PutBegins[1, 2, 3, 4], PutStored(4)),
     // ---- several items at once, and the reasons why not all
-    // One was taken while the put was under way, which found room for two of three at its begin.
+    // One was taken while the put was under way, which found room for two of three at its start.
     case!("some stored", THREE, LAWFUL;
         PutBegins[1], PutStored(1), PutBegins[2, 3, 4], TakeBegins(2), TakeItems[1, 2], PutStored(2),
         TakeBegins(3), TakeItems[3]),
     // There was room for all three.
     case!("some stored of room", THREE, NOT_LINEARIZABLE; PutBegins[1, 2, 3], PutStored(2)),
-    // The reason is that of the put's begin: the item taken since makes no room that counts.
+    // The reason holds at the put's start: the item taken since makes no room that counts.
     case!("some stored before a take", TWO, LAWFUL;
         PutBegins[1], PutStored(1), PutBegins[2, 3], TakeBegins(1), TakeItems[1], PutStored(1)),
     case!("short with room", TWO, NOT_LINEARIZABLE; PutBegins[1, 2], PutShort),
@@ -96,7 +96,7 @@ pub static CASES: [Case; 45] = [
     case!("fewer than came", TWO, LAWFUL;
         PutBegins[1], PutStored(1), TakeBegins(2), PutBegins[2], PutStored(1), TakeItems[1], TakeBegins(1),
         TakeItems[2]),
-    // A take of three goes on past a capacity of one.
+    // A take of three takes more than a capacity of one.
     case!("more than a capacity", ONE, LAWFUL; TakeBegins(3), PutBegins[1, 2, 3, 4], PutStored(4), TakeItems[1, 2, 3]),
     case!("too short with two", TWO, NOT_LINEARIZABLE; PutBegins[1, 2], PutStored(2), TakeBegins(2), TakeShort),
     // One is inside a closed queue: fewer than two, and not the end.
@@ -106,10 +106,10 @@ pub static CASES: [Case; 45] = [
     // None is inside a closed queue.
     case!("short at the end", TWO, NOT_LINEARIZABLE; CloseBegins, CloseEnds, TakeBegins(2), TakeShort),
     case!("short take of one", TWO, OUT_OF_TURN; TakeBegins(1), TakeShort),
-    // It may have taken one of them, and tells that it took none.
+    // It may have taken one of them, and reports that it took none.
     case!("nothing of too many", ONE, NOT_LINEARIZABLE;
         TakeBegins(1), PutBegins[1], PutStored(1), PutBegins[2], PutStored(1), TakeNothing),
-    // ---- numbers out of their range
+    // ---- numbers out of range
     case!("no item", ONE, OUT_OF_TURN; PutBegins[]),
     case!("none stored", ONE, OUT_OF_TURN; PutBegins[1], PutStored(0)),
     case!("more stored", ONE, OUT_OF_TURN; PutBegins[1], PutStored(2)),
@@ -118,8 +118,8 @@ pub static CASES: [Case; 45] = [
     case!("wants none", ONE, OUT_OF_TURN; TakeBegins(0)),
     case!("takes none", ONE, OUT_OF_TURN; TakeBegins(1), TakeItems[]),
     case!("takes more", TWO, OUT_OF_TURN; PutBegins[1, 2], PutStored(2), TakeBegins(1), TakeItems[1, 2]),
-    // ---- calls that do not say why not more
-    // With room for more, and with more inside: neither call says why it does not pass more.
+    // ---- calls that report no reason for not passing more
+    // With room for more, and with more inside: neither call reports why it does not pass more.
     case!("some", THREE, LAWFUL;
         PutBegins[1, 2], PutSome(1), PutBegins[2, 3], PutSome(2), TakeBegins(3), TakeSome[1], TakeBegins(2),
         TakeSome[2, 3]),

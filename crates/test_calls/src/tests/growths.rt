@@ -27,7 +27,7 @@ const FAULTS: &[(Fault, u8)] = &[
     (Fault::OutOfMemory, 3),
 ];
 
-// The same of a recording.
+// The same for a recording.
 const RECORDING_FAULTS: &[(RecordingFault, u8)] = &[
     (RecordingFault::BadLine(7), 1),
     (RecordingFault::TooLong, 2),

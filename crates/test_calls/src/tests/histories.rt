@@ -18,7 +18,7 @@ fn is_proper(capacity: Capacity) -> bool
     }
 }
 
-// Feeds the events in turn: none is refused but the last one, and that as the case says.
+// Feeds the events in turn: none is refused except the last one, and that as the case says.
 fn is_told<Q: Fifo<u64>>(auditor: &mut CallAuditor<Q>, case: &Case) -> bool {
     let mut left = case.events.len();
     for event in case.events {
@@ -43,7 +43,7 @@ fn is_told_in_memory(rt: &HostRuntime, case: &Case) -> bool {
     is_proper(case.capacity) && is_told(&mut CallAuditor::new(rt.alloc(), case.capacity), case)
 }
 
-// As many slots as a case has items inside at most.
+// As many slots as any case ever has items inside.
 const ROOM: usize = 5;
 
 fn is_told_in_slots(case: &Case) -> bool {

@@ -21,7 +21,7 @@ const LINES: &[(&str, RegisterLine)] = &[
     ),
 ];
 
-// Bytes that are no line.
+// Bytes that are not a line.
 const OTHERS: &[&str] = &[
     "",
     "register",

@@ -23,7 +23,7 @@ const BIT: Register = Register {
     values: Some(2),
 };
 
-// A history, a class, a reader and the value that it reads, and what speaks against the class then; of an inversion the earlier reads.
+// A history, a class, a reader and the value that it reads, and what contradicts the class then; for an inversion the earlier reads.
 struct Case {
     register: Register,
     events: &'static [RegisterEvent],

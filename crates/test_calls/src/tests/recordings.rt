@@ -4,8 +4,8 @@ use std::alloc::{AllocGlobal, Allocator};
 use std::process::Abort;
 use std::test::Fail;
 
-// A queue of 2 cells: a put of two items while a take is under way, one that is full, one of which a part is stored, a take of
-// several, an empty take, and the end.
+// A queue of capacity 2: a put of two items while a take is under way, one that is full, one of which a part is stored, a take
+// of several, an empty take, and the end.
 pub const TEXT: &[u8] = b"queue 2
 C take
 P put 7 8
@@ -50,7 +50,7 @@ pub const ITEM_1_NOT_INSIDE: CallsFinding = CallsFinding::NotLinearizable {
     },
 };
 
-// A text that is refused, and at which line.
+// A text that is refused, and the line at which it is.
 pub static REFUSED: [(&[u8], u64); 37] = [
     (b"", 1),
     (b"\n", 1),
@@ -91,7 +91,7 @@ pub static REFUSED: [(&[u8], u64); 37] = [
     (b"queue 8\nC take", 2),
 ];
 
-// What is found of a text that comes in two pieces.
+// The finding on a text that comes in two pieces.
 fn found_in_two<A: Allocator + Copy>(
     alloc: A,
     text: &[u8],
@@ -104,7 +104,7 @@ fn found_in_two<A: Allocator + Copy>(
     recording.finding()
 }
 
-// What is found of a text that comes byte by byte.
+// The finding on a text that comes byte by byte.
 fn found_by_bytes<A: Allocator + Copy>(
     alloc: A,
     text: &[u8],

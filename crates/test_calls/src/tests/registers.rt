@@ -7,7 +7,7 @@ use std::alloc::AllocGlobal;
 use std::process::Abort;
 use std::test::Fail;
 
-// A history of a register, the strongest class of it, and the places of the events with which it stops being safe, regular, atomic by
+// A history of a register, its strongest class, and the places of the events with which it stops being safe, regular, atomic by
 // reader and atomic.
 struct Case {
     name: &'static str,
@@ -156,7 +156,7 @@ const BIT: Register = Register {
     values: Some(2),
 };
 
-// Events of a bit, over two slots for writes and one for a reader, and how each is answered: a refused one leaves the auditor as it was.
+// Events of a bit, over two slots for writes and one for a reader, and the result of each: a refused one leaves the auditor unchanged.
 const REFUSED: [(RegisterEvent, Result<Option<Class>, RegisterFault>); 14] = [
     (RegisterEvent::WriteEnds, Err(RegisterFault::OutOfTurn)),
     (RegisterEvent::ReadEnds(0, 0), Err(RegisterFault::OutOfTurn)),
@@ -196,7 +196,7 @@ fn what_is_refused_leaves_the_register(rt: HostRuntime) -> Result<(), Fail> {
     Ok(())
 }
 
-// A write and two readers, fed over an allocator that refuses one growth: what is refused is fed again.
+// A write and two readers, fed with an allocator that refuses one growth: what is refused is fed again.
 fn goes_on_after_a_refusal(rt: &HostRuntime, allocations: u64) -> Option<bool> {
     let alloc = Refusing::after(rt.alloc(), allocations);
     let Ok(auditor) = RegisterAuditor::new(&alloc, BIT) else {

@@ -6,7 +6,7 @@ use queue_calls::{
 use std::process::Abort;
 use std::test::Fail;
 
-// Events, over two slots, and how each is answered: where there is no slot, the auditor is as it was.
+// Events, over two slots, and the result of each: if there is no slot, the auditor is unchanged.
 static FED: [(Event<'static>, Result<(), Fault>); 11] = [
     (Event::PutBegins(&[1, 2, 3]), Err(Fault::OutOfMemory)),
     (Event::PutBegins(&[1, 2]), Ok(())),
@@ -62,7 +62,7 @@ struct Room {
     bytes: usize,
 }
 
-// What is just enough for the text: 2 items inside and 2 of a put, 3 taken, a line of 2 numbers, and one of 10 bytes that is cut.
+// Exactly enough for the text: 2 items inside and 2 of a put, 3 taken, a line of 2 numbers, and one of 10 bytes that is cut.
 const ENOUGH: Room = Room {
     offered: 3,
     taken: 3,
@@ -70,7 +70,7 @@ const ENOUGH: Room = Room {
     bytes: 10,
 };
 
-// What is found of a text that comes in pieces of so many bytes, with so many slots.
+// The finding on a text that comes in pieces of this many bytes, with this many slots.
 fn found(text: &[u8], size: usize, room: Room) -> Result<CallsFinding, RecordingFault> {
     let blank = Offered {
         item: 9,

@@ -27,7 +27,7 @@ struct MissLines {
     atomic: Option<u64>,
 }
 
-// What is found of a text: the strongest class, and the lines of the misses; or the line that is out of turn; or why it is refused.
+// The finding on a text: the strongest class, and the lines of the misses; or the line that is out of turn; or why it is refused.
 #[derive(Clone, Copy, PartialEq, Eq, Debug)]
 enum Found {
     Judged(Option<Class>, MissLines),
@@ -77,7 +77,7 @@ fn new_recording<A: Allocator + Copy>(alloc: A) -> Result<Recorded<A>, AllocErro
     )
 }
 
-// Texts, and what is found of each.
+// Texts, and the finding on each.
 static TEXTS: &[(&str, Found)] = &[
     ("register 0\n", judged!(Some(Class::Atomic), NO_MISSES)),
     (
@@ -149,7 +149,7 @@ fn lines_of(misses: &Misses) -> MissLines {
     }
 }
 
-// A recording of which a text was read, in pieces of this many bytes.
+// A recording that has read a text, in pieces of this many bytes.
 fn read<A: Allocator + Copy>(
     alloc: A,
     text: &[u8],
@@ -170,7 +170,7 @@ fn read<A: Allocator + Copy>(
     Ok(recording)
 }
 
-// What is found of a text that is read in pieces of this many bytes.
+// The finding on a text that is read in pieces of this many bytes.
 fn found_in<A: Allocator + Copy>(alloc: A, text: &[u8], piece: usize) -> Found
     requires { 1 ≤ piece }
 {
@@ -210,7 +210,7 @@ fn an_endless_line_is_not_kept(rt: HostRuntime) -> Result<(), Fail> {
             assert!(rt; recording.read(b"register 0\nR1 got ") == Ok(()));
             assert!(rt; recording.read(&[b'1'; 47]) == Ok(()));
             assert!(rt; recording.read(b"1") == Err(RegisterTextFault::BadLine(2)));
-            // the front of the bad line, to be shown
+            // the start of the bad line, to be shown
             assert!(rt;
                 recording.line() == Some(b"R1 got 111111111111111111111111111111111111111111111111")
             );
@@ -258,12 +258,12 @@ static REPORTS: &[(&str, RegisterReport)] = &[
         "register 0\nW write 1\nR1 read\nR1 got 0\nR2 read\n",
         report!(1, 1, 1, 0, 0),
     ),
-    // R1 has returned the value that is being written: R2 could go back
+    // R1 has returned the value that is being written: R2 could return the older one
     (
         "register 0\nW write 1\nR1 read\nR1 got 1\nR2 read\nR2 got 1\nW wrote\n",
         report!(1, 2, 2, 0, 1),
     ),
-    // the write has ended: no read can go back
+    // the write has ended: no read can return an older one
     (
         "register 0\nW write 1\nR1 read\nR1 got 1\nW wrote\nR2 read\nR2 got 1\n",
         report!(1, 2, 1, 0, 0),

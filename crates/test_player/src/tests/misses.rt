@@ -7,10 +7,10 @@ use ring_player::play;
 use std::alloc::{AllocGlobal, Global};
 use std::process::Abort;
 
-// What a near miss is to tell of a script, and the items taken.
+// What a near miss should record of a script, and the items taken.
 type Near<'a> = (NearMiss, Numbers, Asked<'a>, &'a [NearCall], &'a [u64]);
 
-// A near miss and a script; what is told, with a number in brackets; and the items taken.
+// A near miss and a script; what is recorded, with a number in brackets; and the items taken.
 macro_rules! near {
     ($miss:ident, $shape:expr, $asked:expr; $($call:ident $(($number:literal))?),*; $taken:expr) => {
         (NearMiss::$miss, $shape, $asked, &[$(NearCall::$call $(($number))?),*], $taken)
@@ -25,10 +25,10 @@ static CASES: [Near<'static>; 9] = [
     // The count write spans the take, which reads the cell before the item is there: 0 for 1.
     near!(CountBeforeCell, ONE, ("[1]", 1, false, "P5C10", "");
         PutBegins(0), TakeBegins(1), TakeItems(1); &[0]),
-    // Item 1 is stored, and the take that began before is told Closed.
+    // Item 1 is stored, and the take that began before returns Closed.
     near!(NoSecondScan, ONE, ("[1]", 2, true, "C2P10C2", "");
         TakeBegins(1), PutBegins(0), PutStored(1), CloseBegins, CloseEnds, TakeClosed; &[]),
-    // The count write is open: it is seen new, and then old, which looks like a round more, and item 1 is taken twice.
+    // The count write is open: it is seen new, and then old, which looks like one round more, and item 1 is taken twice.
     near!(SmallModulus, [1, 3, 2, 1, 1], ("[1,2,3]", 3, false, "P9C20", "01");
         PutBegins(0), TakeBegins(1), TakeItems(1), TakeBegins(1), TakeItems(1); &[1, 1]),
     // The fifth put has cleared s0 and not yet set s1, so a scan finds s3, which was set a round ago: Empty, with the fourth item inside.
@@ -36,18 +36,18 @@ static CASES: [Near<'static>; 9] = [
         PutBegins(0), PutStored(1), TakeBegins(1), TakeItems(1), PutBegins(1), PutStored(1), TakeBegins(1),
         TakeItems(1), PutBegins(2), PutStored(1), TakeBegins(1), TakeItems(1), PutBegins(3), PutStored(1),
         PutBegins(4), TakeBegins(1), TakeEmpty; &[1, 2, 3]),
-    // Where nothing overlaps, it is as with a ring: a batch of two, of which the second put finds room for one.
+    // If nothing overlaps, it is as with a ring: a batch of two, of which the second put finds room for one.
     near!(ClearsUpwards, [3, 6, 2, 2, 1], ("[1,2,3,1]", 1, false, "P26", "");
         PutBegins(0), PutStored(2), PutBegins(2), PutStored(1), PutBegins(3), PutFull; &[]),
     near!(SmallModulus, [2, 5, 3, 1, 2], OVERWRITTEN;
         PutBegins(0), PutStored(1), PutBegins(1), PutStored(1), TakeBegins(2), PutBegins(2), PutStored(1),
         PutBegins(3), PutStored(1), PutBegins(4), TakeItems(2), TakeBegins(2), TakeItems(2); &[1, 2, 0, 5]),
-    // One item is there of two that the take wants, and then none: a take that finds the ring empty uses up one of three, and the last one
-    // wants what is left.
+    // One item is there, of two that the take wants, and then none: a take that finds the ring empty uses up one of three, and the last
+    // one wants what is left.
     near!(ClearsUpwards, [2, 5, 1, 1, 2], ("[1,0]", 3, false, "P8C16P10C12", "");
         PutBegins(0), PutStored(1), TakeBegins(2), TakeItems(1), TakeBegins(2), TakeEmpty, PutBegins(1),
         PutStored(1), TakeBegins(1), TakeItems(1); &[1, 0]),
-    // The last event of the count write is missing, so the take has not ended, and its items are not told.
+    // The last event of the count write is missing, so the take has not ended, and its items are not recorded.
     near!(CountBeforeCell, [2, 5, 1, 1, 2], ("[1,1]", 2, false, "P16C13", "");
         PutBegins(0), PutStored(1), PutBegins(1), PutStored(1), TakeBegins(2); &[]),
     // With its last event it has.
@@ -102,10 +102,10 @@ fn near_misses_have_their_names(rt: HostRuntime) {
     assert!(rt; NearMiss::named("torus").is_none());
 }
 
-// As many allocations as none makes.
+// More allocations than any play makes.
 const MANY: u64 = 1_000_000;
 
-/// Whether the play was refused, where the allocation after so many is.
+/// Whether the play was refused, if the allocation after this many is.
 pub fn is_refused(rt: &(impl Abort + AllocGlobal), allocations: u64) -> bool {
     let alloc: Refusing<Global> = Refusing::after(rt.alloc(), MANY);
     let (miss, shape, asked, wanted, taken) = &CASES[2];
@@ -125,6 +125,6 @@ pub fn is_refused(rt: &(impl Abort + AllocGlobal), allocations: u64) -> bool {
 #[test]
 fn each_growth_of_a_near_miss_may_be_refused(rt: HostRuntime) {
     let refused = refusals(&rt, Played::NearMiss);
-    // the first growths of the history, of what is told and of the items taken
+    // the first growths of the history, of the recorded calls and of the items taken
     assert!(rt; 3 <= refused && refused < 40);
 }

@@ -13,10 +13,10 @@ pub const WRAP: Asked<'static> = ("[1,0,1]", 3, false, "P8C10P10C12P9C14", "01")
 
 pub const WRAPPED: Wanted<'static> = (63, &[1, 0, 1], &[1, 0, 1], false, [0, 1, 2]);
 
-// As many allocations as none makes.
+// More allocations than any play makes.
 const MANY: u64 = 1_000_000;
 
-// What is seen of a world: its events, items put, items taken; the last one taken; told; full, empty, flickers.
+// What is compared of a world: its events, items put, items taken; the last one taken; Closed; full, empty, flickers.
 pub(crate) type Seen = ([usize; 3], Option<u64>, bool, [u64; 3]);
 
 pub fn seen<E: Store<Event>, T: Store<u64>>(world: &World<E, T>) -> Seen {
@@ -32,8 +32,8 @@ pub fn seen<E: Store<Event>, T: Store<u64>>(world: &World<E, T>) -> Seen {
     )
 }
 
-// A step whose growth is refused leaves the world as it was, and is then made again.
-// Answers whether it was refused.
+// A step whose growth is refused leaves the world unchanged, and is then made again. Returns
+// whether it was refused.
 fn step_again<E: Store<Event>, T: Store<u64>>(
     rt: &impl Abort,
     alloc: &Refusing<Global>,
@@ -59,7 +59,7 @@ fn step_again<E: Store<Event>, T: Store<u64>>(
     }
 }
 
-// Makes the steps of the schedule. Answers how many were refused first.
+// Makes the steps of the schedule. Returns how many were refused first.
 fn steps_again<E: Store<Event>, T: Store<u64>>(
     rt: &impl Abort,
     alloc: &Refusing<Global>,
@@ -87,7 +87,7 @@ fn steps_that_were_refused_can_be_made_again(rt: HostRuntime) {
     expect_report(&rt, "a world refused", &script, &world.report(), &WRAPPED);
 }
 
-/// Plays the wrap, where the allocation after so many is refused, and answers whether one was.
+/// Plays the wrap, with the allocation after this many refused, and returns whether one was.
 pub fn is_refused(rt: &(impl Abort + AllocGlobal), allocations: u64) -> bool {
     let alloc = Refusing::after(rt.alloc(), MANY);
     let script = script_of(rt, &alloc, &ONE, &WRAP);

@@ -7,10 +7,10 @@ use std::process::Abort;
 /// A shape: capacity, modulus, width, batch, take batch.
 pub(crate) type Numbers = [u64; 5];
 
-/// What a script says beside its shape: items, takes, close, schedule, oracle.
+/// What a script has besides its shape: items, takes, close, schedule, oracle.
 pub(crate) type Asked<'a> = (&'a str, u64, bool, &'a str, &'a str);
 
-/// What a report says: events, items put, items taken, told, and how often full, empty and flicker.
+/// What a report says: events, items put, items taken, Closed, and how often full, empty and flicker.
 pub(crate) type Wanted<'a> = (usize, &'a [u64], &'a [u64], bool, [u64; 3]);
 
 /// A name, a script and its report.
@@ -31,7 +31,7 @@ fn text_of(alloc: Global, shape: &Numbers, asked: &Asked) -> Result<String, Allo
     format!(in alloc; "{{{numbers},{takes_of},{calls},{texts}}}")
 }
 
-/// The script, its lists in memory of the allocator. (A `?` is dear to prove, so where memory or a script is lacking the test ends here.)
+/// The script, its lists in memory of the allocator. (A `?` is expensive to prove, so if memory or a script is lacking the test ends here.)
 pub fn script_of<A: Allocator + Copy>(
     rt: &(impl Abort + AllocGlobal),
     lists: A,
@@ -43,12 +43,12 @@ pub fn script_of<A: Allocator + Copy>(
     script.expect(rt, "a script")
 }
 
-/// It holds; else what of which case does not. (A message is dear to prove, so this one is for all.)
+/// It holds; otherwise the message says what fails in which case. (A message is expensive to prove, so this one serves all.)
 pub fn expect(rt: &impl Abort, holds: bool, what: &str, case: &str) {
     assert!(rt; holds, "{what} of {case}");
 }
 
-/// The report says what is wanted of it, and its history is lawful.
+/// The report is as expected, and its history is lawful.
 pub fn expect_report<A: Allocator, E: Store<Event>, T: Store<u64>>(
     rt: &impl Abort,
     name: &str,

@@ -19,7 +19,7 @@ const PAIRED: Asked<'static> = ("[1,0,1,1]", 0, false, "P20", "");
 
 const PAIRS_PUT: Wanted<'static> = (20, &[1, 0, 1], &[], false, [1, 0, 0]);
 
-// The play of so many letters in slots: the whole play begins so, and is this once there are no more letters.
+// The play of this many letters in slots: the whole play starts with it, and equals it once there are no more letters.
 fn expect_first<A: Allocator, E: Store<Event>, T: Store<u64>>(
     rt: &impl Abort,
     script: &Script<A>,
@@ -56,7 +56,7 @@ fn expect_play(rt: &(impl Abort + AllocGlobal), shape: &Numbers, asked: &Asked, 
     }
 }
 
-// Makes the steps of the schedule till one is refused, which leaves the world as it was.
+// Makes the steps of the schedule until one is refused, which leaves the world unchanged.
 fn expect_steps<A: Allocator, E: Store<Event>, T: Store<u64>>(
     rt: &impl Abort,
     script: &Script<A>,
@@ -74,7 +74,7 @@ fn expect_steps<A: Allocator, E: Store<Event>, T: Store<u64>>(
     }
 }
 
-// The wrap, where the history and the items taken have so many slots. Answers how many steps were made.
+// The wrap, if the history and the items taken have this many slots. Returns how many steps were made.
 fn steps_made(rt: &(impl Abort + AllocGlobal), events: usize, taken: usize) -> usize {
     let script = script_of(rt, rt.alloc(), &ONE, &WRAP);
     let (mut slots, mut items) = ([UNUSED; 63], [0; 3]);

@@ -92,7 +92,7 @@ fn begins_call(event: &Event) -> bool {
     event.act == Act::ReadBegin && (event.bit == Bit::R(0) || event.bit == Bit::S(0))
 }
 
-// The calls of the play follow each other, and each has so many events.
+// The calls of the play follow each other, and each has this many events.
 fn expect_calls(
     rt: &(impl Abort + AllocGlobal),
     shape: &Numbers,
@@ -122,7 +122,7 @@ fn calls_have_their_events(rt: HostRuntime) {
     expect_calls(&rt, &[3, 6, 1, 2, 1], &partial, &[10, 8, 2]);
 }
 
-// The next steps of a side: so many that add an event, and then two that add none.
+// The next steps of a side: this many that add an event, and then two that add none.
 fn expect_steps<E: Store<Event>, T: Store<u64>>(
     rt: &impl Abort,
     world: &mut World<E, T>,

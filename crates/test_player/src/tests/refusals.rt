@@ -10,7 +10,7 @@ pub(crate) enum Played {
     NearMiss,
 }
 
-/// How many of the allocations are refused, each in turn, up to the first that is not there; 40 at most.
+/// How many of the allocations are refused, each in turn, up to the first that does not exist; at most 40.
 pub fn refusals(rt: &(impl Abort + AllocGlobal), played: Played) -> u64 {
     for allocations in 0..40 {
         let is_refused = match played {

@@ -7,7 +7,7 @@ use std::test::Fail;
 const SCRIPT: &[u8] =
     b"{\"capacity\":1,\"modulus\":3,\"width\":1,\"items\":[1,0,1,1,0],\"takes\":1,\"close\":false,\"schedule\":\"P8C10PCPCPCPC\",\"oracle\":\"01101\"}";
 
-// The script holds what its bytes say.
+// The script has what its bytes say.
 fn expect_whole<A: Allocator>(rt: &impl Abort, script: &Script<A>) {
     assert!(rt; script.items() == [1, 0, 1, 1, 0].as_slice());
     assert!(rt; script.len() == 26);

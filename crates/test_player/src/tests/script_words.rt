@@ -1,4 +1,4 @@
-//! The words of the faults of scripts.
+//! The texts of the faults of scripts.
 use bits_core::ShapeFault;
 use ring_script::{Field, ScriptFault};
 use std::alloc::AllocGlobal;
@@ -40,7 +40,7 @@ static WORDS: [(ScriptFault, u8, &str); 12] = [
     ),
 ];
 
-// A shape that is refused, with its words: the fault of a script has the number 6.
+// A shape that is refused, with its text: the fault of a script has the number 6.
 static SHAPE_WORDS: [(ShapeFault, &str); 4] = [
     (ShapeFault::Capacity, "capacity must be from 1 to 64"),
     (
@@ -51,7 +51,7 @@ static SHAPE_WORDS: [(ShapeFault, &str); 4] = [
     (ShapeFault::Batch, "batch must be from 1 to capacity"),
 ];
 
-/// A fault of this number has the wanted number and words.
+/// A fault of this number has the expected number and text.
 pub fn expect_words(
     rt: &(impl Abort + AllocGlobal),
     fault: &impl Display,

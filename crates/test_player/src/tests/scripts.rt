@@ -15,8 +15,8 @@ static PLAIN: [(&str, &str); 8] = [
     ("oracle", "\"\""),
 ];
 
-// A plain script with its batch named, without some fields, and with further members behind it, each
-// with a comma before it. Since the last of two equal names counts, these change what is plain.
+// A plain script with its batch named, without some fields, and with further members after it, each
+// with a comma before it. Since the last of two equal names counts, these change the plain fields.
 fn script_with(alloc: Global, left_out: &[&str], members: &str) -> Result<String, AllocError> {
     let mut text = String::from_str(alloc, "{\"batch\":1")?;
     for (name, value) in PLAIN.iter() {
@@ -41,7 +41,7 @@ fn expect_fault(rt: &(impl Abort + AllocGlobal), bytes: &[u8], fault: Option<Scr
     assert_eq!(rt; Script::read(rt.alloc(), bytes).err(), fault);
 }
 
-// A plain script with these members behind it has this fault, or none.
+// A plain script with these members after it has this fault, or none.
 fn expect_with(rt: &(impl Abort + AllocGlobal), members: &str, fault: Option<ScriptFault>) {
     let text = script_with(rt.alloc(), &[], members).expect(rt, "memory for the text");
     let found = Script::read(rt.alloc(), text.as_bytes()).err();
@@ -58,7 +58,7 @@ macro_rules! refused {
     };
 }
 
-// Plain scripts with members behind them have these faults.
+// Plain scripts with members after them have these faults.
 fn expect_refused(rt: &(impl Abort + AllocGlobal), rows: &[Refused]) {
     for (fault, texts) in rows {
         for members in texts.iter() {
@@ -67,7 +67,7 @@ fn expect_refused(rt: &(impl Abort + AllocGlobal), rows: &[Refused]) {
     }
 }
 
-// The same where the members are a text, so many of a part, and a text.
+// The same if the members are a text, a part repeated this often, and a text.
 fn expect_repeated(
     rt: &(impl Abort + AllocGlobal),
     members: (&str, &str, usize, &str),
@@ -139,7 +139,7 @@ fn reads_fields_in_another_order(rt: HostRuntime) {
     expect_letters(&rt, &script, "");
 }
 
-// Of a name that stands twice the last value counts, whatever the first one was.
+// For a name that occurs twice the last value counts, whatever the first one was.
 #[test]
 fn reads_the_last_of_a_name(rt: HostRuntime) {
     let twice = ",\"takes\":5,\"takes\":6,\"close\":0,\"close\":true";
@@ -261,7 +261,7 @@ static NEEDED: [(&str, Field); 8] = [
     ("oracle", Field::Oracle),
 ];
 
-// Without the field, and without the later one too, the field is the one that is missing.
+// Without the field, and without the later one too, the field is the one reported missing.
 fn expect_missing(rt: &(impl Abort + AllocGlobal), name: &str, later: &str, field: Field) {
     assert!(rt; field.name() == name);
     let text = script_with(

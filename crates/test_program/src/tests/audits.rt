@@ -4,7 +4,7 @@ use bits_core::Kind;
 static FOUND: [(&str, u8, &str); 14] = [
     // nothing
     ("shape 1 3 1\n", 0, "lawful\nput\ntaken\ntold no\n"),
-    // new and then old: lawful by the bits, and of no program
+    // new and then old: lawful for the bits, and of no program
     (
         "shape 1 3 1\nP write s0 0\nC read s0\nC got s0 1\nC read s0\nC got s0 0\nP wrote s0\nC read s0\nC got s0 0\n",
         3,
@@ -44,7 +44,7 @@ static FOUND: [(&str, u8, &str); 14] = [
         0,
         "lawful\nput\ntaken\ntold no\n",
     ),
-    // closed is told while the close bit is being written; then nothing comes
+    // a take returns Closed while the close bit is being written; then nothing comes
     (
         "shape 1 3 1\nP write x 1\nC read s0\nC got s0 1\nC read x\nC got x 1\nC read s0\nC got s0 1\n",
         0,
@@ -55,7 +55,7 @@ static FOUND: [(&str, u8, &str); 14] = [
         3,
         "fault: line 9: not of the program\n",
     ),
-    // a fault of the bits, where it comes first or together with the program's
+    // a fault of the bits, if it comes first or together with the program's
     (
         "shape 1 3 1\nC read s0\nC got s0 0\nP write s1 1\n",
         3,

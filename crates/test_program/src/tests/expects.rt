@@ -28,8 +28,7 @@ pub const TRACE: &[&str] = &["lamport_ring", "play", "--trace"];
 
 pub const CALLS: &[&str] = &["lamport_ring", "play", "--calls"];
 
-/// What a run has answered: its status, whether the standard error took what it was to be told, and the texts that it has
-/// written.
+/// The result of a run: its status, whether everything for standard error was written, and the texts that it has written.
 #[derive(Drop)]
 pub(crate) struct Ended {
     pub status: u8,
@@ -39,7 +38,7 @@ pub(crate) struct Ended {
 }
 
 impl Ended {
-    /// Whether it is this, and the standard error took all.
+    /// Whether it is this, with everything for standard error written.
     pub fn is(&self, status: u8, out: &str, err: &str) -> bool {
         let is_written = self.out.as_slice() == out.as_bytes()
             && self.err.as_slice() == err.as_bytes();
@@ -65,7 +64,7 @@ pub fn run_in<A: Allocator + Copy, R: Read>(
     }
 }
 
-/// It holds of these words. (A message is dear to prove, so this one is for all.)
+/// It holds for these words. (A message is expensive to prove, so this one serves all.)
 pub fn expect_of(rt: &impl Abort, holds: bool, words: &[&str]) {
     assert!(rt; holds, "{words:?}");
 }
@@ -83,7 +82,7 @@ pub fn expect_run_on<R: Read>(
     expect_of(rt, ended.is(status, out, err), words);
 }
 
-/// The words of a command line, between which a space stands.
+/// The words of a command line, separated by spaces.
 pub fn words_of(rt: &(impl Abort + AllocGlobal), line: &'static str) -> Vec<&'static str> {
     let mut words = Vec::new(rt.alloc());
     for word in line.split(' ') {
@@ -122,7 +121,7 @@ pub fn expect_unread(
     assert!(rt; input == b"unread".as_slice());
 }
 
-/// The words of a run are wrong, of which the standard error has this complaint. It reads nothing.
+/// The words of a run are wrong, with this complaint on standard error. It reads nothing.
 pub fn expect_wrong(
     rt: &(impl Abort + AllocGlobal + Threads + Clock),
     front: &'static str,
@@ -137,7 +136,7 @@ pub fn expect_wrong(
     expect_unread(rt, front, words.as_slice(), 2, "", text.as_str());
 }
 
-/// Each run with these words and more is refused, with these words. It reads nothing.
+/// Each run with these words and more is refused, with this text. It reads nothing.
 pub fn expect_refused_runs(
     rt: &(impl Abort + AllocGlobal + Threads + Clock),
     front: &'static str,
@@ -157,7 +156,7 @@ fn expect_text(rt: &impl Abort, told: &str, text: &str) {
     assert!(rt; told == text, "{told}");
 }
 
-/// The text of a relay that came to this.
+/// The text of a relay with this result.
 pub fn expect_relay_text(
     rt: &(impl Abort + AllocGlobal),
     put: u64,
@@ -178,7 +177,7 @@ pub fn expect_relay_text(
     expect_text(rt, &told.expect(rt, "memory for the text"), text);
 }
 
-/// A relay that came to some numbers, with the time that it took, and the text of its report.
+/// A relay with some resulting numbers, the time that it took, and the text of its report.
 pub(crate) struct Reported {
     pub put: u64,
     pub calls: u64,
@@ -207,7 +206,7 @@ pub fn expect_relay_reports(rt: &(impl Abort + AllocGlobal), rows: &[Reported]) 
     }
 }
 
-// Behind the word there is a space and a number, or `unknown` where it may be.
+// After the word comes a space and a number, or `unknown` if allowed.
 fn tells_number(line: &str, word: &str, may_be_unknown: bool) -> bool {
     match line.strip_prefix(word) {
         Some(" unknown") => may_be_unknown,
@@ -218,7 +217,7 @@ fn tells_number(line: &str, word: &str, may_be_unknown: bool) -> bool {
     }
 }
 
-/// The run has this status and this text in front, and behind it a line with a number for each of these words.
+/// The run has this status and this text in front, and after it a line with a number for each of these words.
 pub fn expect_reported_runs(
     rt: &(impl Abort + AllocGlobal + Threads + Clock),
     rows: &[(&'static str, u8, &'static str, &'static [&'static str])],
@@ -250,7 +249,7 @@ fn text_in<'a>(rt: &impl Abort, bytes: &'a [u8]) -> &'a str {
     std::str::from_utf8(bytes).expect(rt, "a text")
 }
 
-/// Each input has this status and this text on the output, by this command.
+/// Each input has this status and this text on the output, with this command.
 pub fn expect_verdicts(
     rt: &(impl Abort + AllocGlobal + Threads + Clock),
     words: &[&str],
@@ -262,7 +261,7 @@ pub fn expect_verdicts(
     }
 }
 
-/// Each input has this text on the output, by these commands, with the status of a fault where it tells one.
+/// Each input has this text on the output, with these commands, with the status of a fault if it reports one.
 pub fn expect_whys(
     rt: &(impl Abort + AllocGlobal + Threads + Clock),
     commands: &[&[&str]],
@@ -276,7 +275,7 @@ pub fn expect_whys(
     }
 }
 
-/// Each input is refused by these commands, with these words.
+/// Each input is refused by these commands, with this text.
 pub fn expect_refusals(
     rt: &(impl Abort + AllocGlobal + Threads + Clock),
     commands: &[&[&str]],
@@ -290,7 +289,7 @@ pub fn expect_refusals(
     }
 }
 
-/// Each script has this report and, where one stands there, this trace.
+/// Each script has this report and, if one is given, this trace.
 pub fn expect_plays(
     rt: &(impl Abort + AllocGlobal + Threads + Clock),
     rows: &[(&'static str, &'static str, Option<&'static str>)],
@@ -315,7 +314,7 @@ pub fn expect_calls(
     }
 }
 
-/// The trace of each script is lawful, and the audit of programs finds this of it.
+/// The trace of each script is lawful, with this finding of the audit of programs.
 pub fn expect_lawful_plays(
     rt: &(impl Abort + AllocGlobal + Threads + Clock),
     rows: &[(&'static str, &'static str)],
@@ -349,7 +348,7 @@ pub fn expect_report(
     expect_text(rt, &told.expect(rt, "memory for the text"), text);
 }
 
-/// Each refusal has these words.
+/// Each refusal has this text.
 pub fn expect_refusal_words(rt: &(impl Abort + AllocGlobal), rows: &[(Refusal, &'static str)]) {
     for (refusal, words) in rows {
         expect_refusal_text(rt, refusal, words);
@@ -361,8 +360,8 @@ fn expect_refusal_text(rt: &(impl Abort + AllocGlobal), refusal: &Refusal, words
     expect_text(rt, &told.expect(rt, "memory for the words"), words);
 }
 
-/// Each command line has this status: with 0 there is a text on the output alone, with 2 on the
-/// standard error alone.
+/// Each command line has this status: with 0 there is a text on the output only, with 2 on standard
+/// error only.
 pub fn expect_statuses(
     rt: &(impl Abort + AllocGlobal + Threads + Clock),
     rows: &[(&'static str, u8)],
@@ -401,7 +400,7 @@ fn expect_verdict(rt: &(impl Abort + AllocGlobal), verdict: &Verdict, text: &str
     expect_text(rt, &told.expect(rt, "memory for the text"), text);
 }
 
-/// Each fault has this text, and the lawful verdict its own.
+/// Each fault has this text, and so has the lawful verdict.
 pub fn expect_texts(rt: &(impl Abort + AllocGlobal), rows: &[(usize, Kind, &'static str)]) {
     for (place, kind, text) in rows {
         let verdict = Verdict::Fault {
@@ -419,7 +418,7 @@ fn expect_finding(rt: &(impl Abort + AllocGlobal), finding: &Finding<Global>, te
     expect_text(rt, &told.expect(rt, "memory for the text"), text);
 }
 
-/// A fault that an audit found has this text, and these lists theirs.
+/// A fault that an audit found has this text, and so have these lists.
 pub fn expect_finding_texts(
     rt: &(impl Abort + AllocGlobal),
     fault: (usize, Kind, &str),
@@ -436,7 +435,7 @@ pub fn expect_finding_texts(
     expect_finding(rt, &finding, text);
 }
 
-/// Each fault has this number and these words, also as a refusal.
+/// Each fault has this number and this text, even as a refusal.
 pub fn expect_faults(rt: &(impl Abort + AllocGlobal), rows: &[(AppFault, u8, &'static str)]) {
     for (fault, number, words) in rows {
         assert!(rt; fault.number() == *number);

@@ -27,7 +27,7 @@ macro_rules! each_growth {
     };
 }
 
-/// A run on a reader that fails after so many reads ends with this status and these texts.
+/// A run on a reader that fails after this many reads ends with this status and these texts.
 pub fn expect_read(
     rt: &(impl Abort + AllocGlobal + Threads + Clock),
     words: &[&str],
@@ -64,7 +64,7 @@ pub fn expect_failed_reads(
     expect_read(rt, words, input, 0, out, "");
 }
 
-/// A run with this writer ends with the status, and has written so many bytes.
+/// A run with this writer ends with the status, and has written this many bytes.
 pub fn expect_written(
     rt: &(impl Abort + AllocGlobal + Threads + Clock),
     words: &[&str],
@@ -112,11 +112,11 @@ pub fn expect_failed_writes(
     expect_written(rt, words, bytes, HaltingWriter::unflushed(), 1, length);
 }
 
-/// A command line, an input, the status of a run on them, and what the standard error is to be told.
+/// A command line, an input, the status of a run on them, and the text for standard error.
 pub(crate) type Unheard = (&'static [&'static str], &'static str, u8, &'static str);
 
-/// A standard error that fails after so many writes changes no status, has a front of what it was to be told, and is said to
-/// have been told just where that was all.
+/// A standard error that fails after this many writes changes no status, has a prefix of its text, and is reported as
+/// written exactly if that was all.
 pub fn expect_unheard(
     rt: &(impl Abort + AllocGlobal + Threads + Clock),
     writes_before: u64,
@@ -134,7 +134,7 @@ pub fn expect_unheard(
     }
 }
 
-/// A standard error that takes every byte and fails at each flush was not told where a refusal was.
+/// A standard error that takes every byte and fails at each flush is reported as not written if there was a refusal.
 pub fn expect_unflushed(rt: &(impl Abort + AllocGlobal + Threads + Clock), row: &Unheard) {
     let (words, input, status, err) = row;
     let mut bytes = input.as_bytes();
@@ -148,7 +148,7 @@ pub fn expect_unflushed(rt: &(impl Abort + AllocGlobal + Threads + Clock), row: 
 /// A command line and an input, the status of a run on them, and how many growths it has at least.
 pub(crate) type Growing = (&'static [&'static str], &'static str, u8, u64);
 
-// A run without the growth that comes after so many: whether there was one to refuse.
+// A run without the growth after this many: whether there was one to refuse.
 fn expect_growth(
     rt: &(impl Abort + AllocGlobal + Threads + Clock),
     row: &Growing,
@@ -172,7 +172,7 @@ pub fn expect_refused_growths(rt: &(impl Abort + AllocGlobal + Threads + Clock),
     }
 }
 
-// A run without the growth that comes after so many: whether it was refused, and whether there was one to refuse.
+// A run without the growth after this many: whether it was refused, and whether there was one to refuse.
 fn expect_ended(
     rt: &(impl Abort + AllocGlobal + Threads + Clock),
     words: &[&str],
@@ -194,7 +194,7 @@ fn expect_ended(
 }
 
 /// Each growth of a run refused in turn, and none: it is refused, or a vector makes do with a
-/// smaller growth and the output is the right one. At least so many are refused.
+/// smaller growth and the output is right. At least this many are refused.
 pub fn expect_refused_or_right(
     rt: &(impl Abort + AllocGlobal + Threads + Clock),
     words: &[&str],
@@ -215,11 +215,11 @@ pub fn expect_refused_or_right(
     assert!(rt; false, "a growth was refused each time");
 }
 
-/// A command line, an input that is refused, and what the standard error is told.
+/// A command line, an input that is refused, and the text on standard error.
 pub(crate) type Told = (&'static [&'static str], &'static str, &'static str);
 
-// A run without the growth that comes after so many: whether there was one to refuse. The standard error is told that
-// memory ran out, or why the input is refused.
+// A run without the growth after this many: whether there was one to refuse. Standard error says that memory ran out,
+// or why the input is refused.
 fn expect_told(
     rt: &(impl Abort + AllocGlobal + Threads + Clock),
     row: &Told,
@@ -243,7 +243,7 @@ pub fn expect_told_at_each_growth(
     }
 }
 
-// Whether there was a growth to refuse, where the one after so many is: it was refused so, and else none was.
+// Whether there was a growth to refuse, if the one after this many is: it was refused in this way, otherwise none was.
 fn expect_growth_refused<F: PartialEq + Copy, A: Allocator>(
     rt: &impl Abort,
     fault: Option<F>,

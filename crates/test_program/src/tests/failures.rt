@@ -16,7 +16,7 @@ const PLAIN: &str =
 
 const PLAIN_CALLS: &str = "queue 1\nP put 1\nP stored\nC take\nC item 1\n";
 
-// A run whose outcome does not hang on how its threads take turns: no call is made.
+// A run whose result does not depend on the schedule of its threads: no call is made.
 const HELD: &[&str] = &[
     "lamport_ring",
     "run",
@@ -27,7 +27,7 @@ const HELD: &[&str] = &[
     "--limit=0",
 ];
 
-// One that takes until it is told that the ring is closed.
+// One that takes until a take returns Closed.
 const RELAY: &[&str] = &[
     "lamport_ring",
     "run",
@@ -38,7 +38,7 @@ const RELAY: &[&str] = &[
     "--limit=1000000000",
 ];
 
-// One of numbers that are no shape's.
+// One with numbers that make no shape.
 const RUN_OF_NO_RING: &[&str] = &[
     "lamport_ring",
     "run",
@@ -126,7 +126,7 @@ static UNHEARD: [Unheard; 7] = [
 
 #[test]
 fn says_that_standard_error_failed(rt: HostRuntime) {
-    // at the first byte, at the last of the shortest line, behind it, at the first of the line that tells the cause, and within it
+    // at the first byte, at the last of the shortest line, after it, at the first of the line with the cause, and within it
     expect_unheard(&rt, 0, &UNHEARD);
     expect_unheard(&rt, 22, &UNHEARD);
     expect_unheard(&rt, 23, &UNHEARD);
@@ -186,7 +186,7 @@ fn a_play_is_refused_or_right_at_each_growth(rt: HostRuntime) {
     // the input, the items, the letters, the oracle, the events, the items taken and the text
     expect_refused_or_right(&rt, PLAY, PLAIN.as_bytes(), PLAIN_REPORT, 7);
     expect_refused_or_right(&rt, TRACE, PLAIN.as_bytes(), PLAIN_TRACE, 7);
-    // the input, the items, the letters, what is told and the text
+    // the input, the items, the letters, the recorded calls and the text
     expect_refused_or_right(&rt, CALLS, PLAIN.as_bytes(), PLAIN_CALLS, 5);
 }
 

@@ -2,7 +2,7 @@
 use std::io;
 use std::io::{ErrorKind, Read, Write};
 
-/// Gives one byte a read, and fails at the read that comes after so many.
+/// Returns one byte per read, and fails at the read after this many.
 #[derive(Drop)]
 pub(crate) struct HaltingReader<'a> {
     pub bytes: &'a [u8],
@@ -27,7 +27,7 @@ impl Read for HaltingReader<'_> {
     }
 }
 
-/// Takes one byte a write, and fails at the write that comes after so many, or at each flush.
+/// Accepts one byte per write, and fails at the write after this many, or at each flush.
 #[derive(Drop)]
 pub(crate) struct HaltingWriter {
     pub taken: usize,
@@ -36,7 +36,7 @@ pub(crate) struct HaltingWriter {
 }
 
 impl HaltingWriter {
-    /// Fails at the write that comes after so many.
+    /// Fails at the write after this many.
     pub fn after(writes_before: u64) -> HaltingWriter {
         HaltingWriter {
             taken: 0,
@@ -45,7 +45,7 @@ impl HaltingWriter {
         }
     }
 
-    /// Takes every byte, and fails at each flush.
+    /// Accepts every byte, and fails at each flush.
     pub fn unflushed() -> HaltingWriter {
         HaltingWriter {
             taken: 0,

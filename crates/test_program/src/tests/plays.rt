@@ -27,7 +27,7 @@ const CLOSED: &str =
 
 static PLAYS: [(&str, &str, Option<&str>); 9] = [
     (PLAIN, PLAIN_REPORT, Some(PLAIN_TRACE)),
-    // a batch of 1 is what a script without one has
+    // a script without a batch has a batch of 1
     (
         "{\"capacity\":1,\"modulus\":3,\"width\":1,\"items\":[1],\"takes\":1,\"close\":false,\"schedule\":\"P8C10\",\"oracle\":\"\",\"batch\":1}",
         PLAIN_REPORT,
@@ -50,7 +50,7 @@ static PLAYS: [(&str, &str, Option<&str>); 9] = [
         "events 10\nput 1\ntaken\ntold no\nfull 1\nempty 0\nflicker 0\n",
         None,
     ),
-    // told that the ring is closed, behind the item that the second scan found
+    // Closed, after the item that the second scan found
     (
         CLOSED,
         "events 34\nput 1\ntaken 1\ntold yes\nfull 0\nempty 0\nflicker 0\n",
@@ -113,7 +113,7 @@ static CALLS: [(&str, &str); 10] = [
         BATCH,
         "queue 3\nP put 1 0 1\nC take\nC item 1\nC take\nC item 0\nC take\nC item 1\nC take\nC empty\n",
     ),
-    // a take that begins before the put, and one that is told that the ring is closed
+    // a take that begins before the put, and one that returns Closed
     (
         CLOSED,
         "queue 1\nC take\nP put 1\nP stored\nP close\nP closed\nC item 1\nC take\nC closed\n",
@@ -123,7 +123,7 @@ static CALLS: [(&str, &str); 10] = [
         "{\"capacity\":1,\"modulus\":3,\"width\":1,\"items\":[],\"takes\":1,\"close\":true,\"schedule\":\"P1C5\",\"oracle\":\"1\"}",
         "queue 1\nP close\nC take\n",
     ),
-    // a take that is cut where its item is gone: the next put finds room
+    // a take that is cut when its item is gone: the next put finds room
     (
         "{\"capacity\":1,\"modulus\":3,\"width\":1,\"items\":[1,0,1],\"takes\":2,\"close\":false,\"schedule\":\"P8C9P12\",\"oracle\":\"01\"}",
         "queue 1\nP put 1\nP stored\nC take\nP put 0\nP stored\nP put 1\nP full\n",

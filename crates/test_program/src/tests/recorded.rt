@@ -11,13 +11,13 @@ const NOTHING_CUT: &str =
 
 const FAULT: &str = "fault: line 2: out of turn\n";
 
-// By whether the reading stops at the first fault or not, the same is found.
+// Whether the reading stops at the first fault or not, the finding is the same.
 static FOUND: [(&str, u8, &str); 6] = [
     ("queue 1\n", 0, NOTHING),
     ("cut queue 1\n", 0, NOTHING_CUT),
     ("cut queue\n", 0, NOTHING_CUT),
     ("cut queue 1 2\n", 0, NOTHING_CUT),
-    // a fault is told in one line
+    // a fault is reported in one line
     ("queue 1\nP stored\n", 3, FAULT),
     (
         "cut queue 1\nP put 1\nP put 2\nP stored\n",
@@ -32,7 +32,7 @@ fn tells_whether_a_recording_is_cut(rt: HostRuntime) {
     expect_verdicts(&rt, STOP, &FOUND);
 }
 
-// Behind the first fault nothing is read.
+// After the first fault nothing is read.
 static STOPPED: [(&str, u8, &str); 4] = [
     ("queue 1\nP stored\nP storde\n", 3, FAULT),
     ("queue 1\nP stored\nP sto", 3, FAULT),
@@ -45,7 +45,7 @@ fn stops_at_the_first_fault(rt: HostRuntime) {
     expect_verdicts(&rt, STOP, &STOPPED);
 }
 
-// A byte a read, and a fault of the read that comes after so many.
+// One byte per read, and a fault of the read after this many.
 fn halting(bytes: &[u8], reads_before: u64) -> HaltingReader<'_> {
     HaltingReader {
         bytes,
@@ -98,7 +98,7 @@ static BAD: [(&[u8], &str); 33] = [
         b" {\"capacity\":1}",
         "refused: calls line 1 is not a line of the format\n  it looks like a script: lamport_ring play reads it\n",
     ),
-    // a further line is none
+    // a further line is not one
     (
         b"queue 1\nshape 1 3 1\n",
         "refused: calls line 2 is not a line of the format\n  line 2 begins with neither P nor C: \"shape 1 3 1\"\n",
@@ -149,7 +149,7 @@ static BAD: [(&[u8], &str); 33] = [
         b"queue 18446744073709551616\n",
         "refused: calls line 1 is not a line of the format\n  line 1 has a number that is not from 0 to 18446744073709551615, or begins with 0: \"queue 18446744073709551616\"\n",
     ),
-    // the words of no line
+    // words that are no line's
     (
         b"queue 0\n",
         "refused: calls line 1 is not a line of the format\n  line 1 has a capacity of 0: it is from 1: \"queue 0\"\n",
@@ -214,7 +214,7 @@ static BAD: [(&[u8], &str); 33] = [
         b"queue 1\ncut queue 1\n",
         "refused: calls line 2 is not a line of the format\n  line 2 begins with neither P nor C: \"cut queue 1\"\n",
     ),
-    // bytes that are not printed as they are
+    // bytes that are not printed unchanged
     (
         b"queue 1\nP\tput \"\\\x1b\x7f\xc3\xa9\n",
         "refused: calls line 2 is not a line of the format\n  line 2 has a tab or another control character: between two words stands one space: \"P\\tput \\\"\\\\\\x1b\\x7f\\xc3\\xa9\"\n",

@@ -19,7 +19,7 @@ static TRACES: [(&[u8], &str); 51] = [
         b"\xfe\xff\x00s\x00\n",
         "refused: trace line 1 is not a line of the format\n  line 1 is UTF-16 text: \"\\xfe\\xff\\x00s\\x00\"\n",
     ),
-    // a mark is one at the front alone
+    // a mark is one only at the front
     (
         b"shape 1 3 1\n\xef\xbb\xbfP read r0\n",
         "refused: trace line 2 is not a line of the format\n  line 2 is none of: S read BIT, S got BIT V, S write BIT V, S wrote BIT: \"\\xef\\xbb\\xbfP read r0\"\n",
@@ -33,7 +33,7 @@ static TRACES: [(&[u8], &str); 51] = [
         b"\n\t {",
         "refused: trace line 1 is not a line of the format\n  it looks like a script: lamport_ring play reads it\n",
     ),
-    // a further line is none
+    // a further line is not one
     (
         b"shape 1 3 1\n{\n",
         "refused: trace line 2 is not a line of the format\n  line 2 is none of: S read BIT, S got BIT V, S write BIT V, S wrote BIT: \"{\"\n",
@@ -104,7 +104,7 @@ static TRACES: [(&[u8], &str); 51] = [
         b"shape 1 3 1\nP read s300\n",
         "refused: trace line 2 is not a line of the format\n  line 2 names a bit that is not in the shape: \"P read s300\"\n",
     ),
-    // the words of no line
+    // words that are no line's
     (
         b"shape 1 3\n",
         "refused: trace line 1 is not a line of the format\n  line 1 is not: shape CAPACITY MODULUS WIDTH [BATCH [TAKE_BATCH]], in numbers of at most 4 digits: \"shape 1 3\"\n",
@@ -182,7 +182,7 @@ static TRACES: [(&[u8], &str); 51] = [
         b"shape 1 3 1\nP read c3.x\n",
         "refused: trace line 2 is not a line of the format\n  line 2 is none of: S read BIT, S got BIT V, S write BIT V, S wrote BIT: \"P read c3.x\"\n",
     ),
-    // bytes that are not printed as they are
+    // bytes that are not printed unchanged
     (
         b"shape 1 3 1\nP\tread \"\\\x1b\x7f\xc3\xa9\n",
         "refused: trace line 2 is not a line of the format\n  line 2 has a tab or another control character: between two words stands one space: \"P\\tread \\\"\\\\\\x1b\\x7f\\xc3\\xa9\"\n",
@@ -200,7 +200,7 @@ static TRACES: [(&[u8], &str); 51] = [
         b"shape 1 3 1\naaaaaaaaaaaaaaaaaaaaaaaaaaaaaaaaaaaaaaaaaaaaaaaaaaaaaaaaaaaaaaaaaaaaaaaaaaaaaaa\t\n",
         "refused: trace line 2 is not a line of the format\n  line 2 has a tab or another control character: between two words stands one space: \"aaaaaaaaaaaaaaaaaaaaaaaaaaaaaaaaaaaaaaaaaaaaaaaaaaaaaaaaaaaaaaaaaaaaaaaaaaaaaaa\"..\n",
     ),
-    // numbers of no shape
+    // numbers that make no shape
     (
         b"shape 1 2 1\n",
         "refused: modulus must be from capacity + batch + 1 to 256\n",
@@ -222,7 +222,7 @@ fn says_what_is_wrong_in_a_trace(rt: HostRuntime) {
 }
 
 static SCRIPTS: [(&[u8], &str); 28] = [
-    // no JSON
+    // not JSON
     (
         b"",
         "refused: script is not JSON\n  there is no text: a script is a JSON object, lamport_ring play --help shows one\n",
@@ -251,7 +251,7 @@ static SCRIPTS: [(&[u8], &str); 28] = [
         b"\xff",
         "refused: script is not JSON\n  invalid JSON at line 1 column 1\n",
     ),
-    // the refusal says it all
+    // the refusal already says it
     (b"[]", "refused: script is not an object\n"),
     (b"{}", "refused: field capacity is missing\n"),
     (
@@ -311,7 +311,7 @@ static SCRIPTS: [(&[u8], &str); 28] = [
         b"{\"capacity\":1,\"modulus\":3,\"width\":1,\"items\":[1],\"takes\":1,\"close\":false,\"schedule\":\"P8C10\",\"oracle\":0}",
         "refused: field oracle has the wrong kind\n  oracle is a text of 0 and 1\n",
     ),
-    // bytes that cannot stand in a text
+    // bytes that cannot come in a text
     (
         b"{\"capacity\":1,\"modulus\":3,\"width\":1,\"items\":[1],\"takes\":1,\"close\":false,\"schedule\":\"P0C\",\"oracle\":\"\"}",
         "refused: schedule is wrong at byte 1\n  byte 1 of schedule is \"0\"\n",

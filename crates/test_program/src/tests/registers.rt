@@ -37,7 +37,7 @@ const TWO: &str = "register 0\nW write 1\nR1 read\nR1 got 1\nR2 read\nR2 got 0\n
 const TWO_FOUND: &str =
     "atomic by reader\nnot atomic: line 6: R2 got 0, but a read of R1 that ended at line 4 gave the later value 1, of line 2\n";
 
-// By whether the reading stops at the first line with which the history is not atomic or not, the same is found.
+// By whether the reading stops at the first line with which the history is not atomic or not, the finding is the same.
 static FOUND: [(&str, u8, &str); 12] = [
     ("register 0\n", 0, "atomic\n"),
     ("cut register 0 1\n", 0, "atomic\ncut yes\n"),
@@ -68,7 +68,7 @@ static FOUND: [(&str, u8, &str); 12] = [
         3,
         "safe\nnot regular: line 4: R1 got 3, but neither the last write before the read nor one that overlapped it wrote 3\n",
     ),
-    // a value that was written twice: two reads say why the first one is of no earlier write
+    // a value that was written twice: two reads show why the first one is of no earlier write
     (
         "register 0\nW write 1\nR1 read\nR1 got 1\nR2 read\nW wrote\nW write 0\nR2 got 0\nR3 read\nR3 got 1\n",
         3,

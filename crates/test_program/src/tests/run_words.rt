@@ -89,7 +89,7 @@ fn refuses_numbers_of_no_shape(rt: HostRuntime) {
 
 const FRONT: &str = "lamport_ring run --modulus=3 --width=1 --count=1 --limit=1";
 
-// What follows, and how the ring is named.
+// What follows, and how the ring is printed.
 static NO_RINGS: [(&str, &str); 6] = [
     ("--capacity=1 --ring torus", "torus"),
     ("--ring=Flicker --capacity=1", "Flicker"),
@@ -114,7 +114,7 @@ static NO_RINGS: [(&str, &str); 6] = [
     ),
 ];
 
-// The ring that these words ask for is none, and is named so.
+// The ring that these words ask for does not exist, and is printed like this.
 fn expect_no_ring(
     rt: &(impl Abort + AllocGlobal + Threads + Clock),
     more: &[&'static str],

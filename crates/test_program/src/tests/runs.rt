@@ -43,7 +43,7 @@ static RUNS: [(&str, u8, &str, &str); 13] = [
         "put 1\ntaken 0\nclosed no\n",
         LIMIT,
     ),
-    // the taker is over, so the putter ends, with more calls than a test makes
+    // the taker is over, so the putter ends, with more calls allowed than a test makes
     (
         "--count 2 --limit 18446744073709551615 --takes 0",
         1,
@@ -126,7 +126,7 @@ fn relays_batches(rt: HostRuntime) {
     );
 }
 
-// Of the widest items each is its number.
+// Each of the widest items is its number.
 static WIDE_RUNS: [(&str, u8, &str, &str); 1] = [(
     "--count 20 --limit 1000000000",
     0,
@@ -155,7 +155,7 @@ fn relays_have_their_text(rt: HostRuntime) {
     expect_relay_text(&rt, 2, &[5, 6], true, "put 2\ntaken 2\nclosed yes\n");
 }
 
-// What a relay came to, the time that it took, and the text.
+// The result of a relay, the time that it took, and the text.
 macro_rules! reported {
     (put $put:literal, calls $calls:literal, full $full:literal, taken $taken:expr, empty $empty:literal,
      closed $closed:literal, $nanos:expr; $text:literal) => {
@@ -184,7 +184,7 @@ static REPORTS: [Reported; 6] = [
     // no time passed
     reported!(put 1, calls 1, full 0, taken [1], empty 0, closed true, Some(0);
         "put 1\ntaken 1\nclosed yes\ncalls 1\nfull 0\nempty 0\nitems a second unknown\n"),
-    // the clock told none
+    // the clock returned none
     reported!(put 1, calls 1, full 0, taken [1], empty 0, closed true, None;
         "put 1\ntaken 1\nclosed yes\ncalls 1\nfull 0\nempty 0\nitems a second unknown\n"),
 ];

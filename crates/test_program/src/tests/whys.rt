@@ -4,19 +4,19 @@ const WHY: &[&str] = &["lamport_ring", "audit", "--why"];
 
 const BITS_WHY: &[&str] = &["lamport_ring", "audit", "--bits", "--why"];
 
-// What is due by the programs, where the bits are lawful.
+// What is due by the programs, if the bits are lawful.
 static DUES: [(&str, &str); 5] = [
     // a lawful history has no further line
     (
         "shape 1 3 1\nP read r0\nP got r0 1\n",
         "lawful\nput\ntaken\ntold no\n",
     ),
-    // behind the scan of a put comes its cell, of an item that nobody knows yet, and not its count
+    // after the scan of a put comes its cell, for an item not known yet, and not its count
     (
         "shape 1 3 1\nP read r0\nP got r0 1\nP write s1 1\n",
         "fault: line 4: not of the program\ndue: P write c0.0 0\ndue: P write c0.0 1\n",
     ),
-    // behind the cell the count
+    // after the cell the count
     (
         "shape 1 3 1\nP read r0\nP got r0 1\nP write c0.0 1\nP wrote c0.0\nP read r0\n",
         "fault: line 6: not of the program\ndue: P write s1 1\n",
@@ -26,7 +26,7 @@ static DUES: [(&str, &str); 5] = [
         "shape 1 3 1\nP write s1 1\n",
         "fault: line 2: not of the program\ndue: P read r0\ndue: P write x 1\n",
     ),
-    // behind its close the producer makes no call
+    // after its close the producer makes no call
     (
         "shape 1 3 1\nP write x 1\nP wrote x\nP read r0\n",
         "fault: line 4: not of the program\ndue: nothing\n",
@@ -45,12 +45,12 @@ static REASONS: [(&str, &str); 6] = [
         "shape 1 3 1\nC read s0\nC got s0 0\n",
         "fault: line 3: not permitted\nheld: 1 since the start, where the read began at line 2\n",
     ),
-    // an end without a begin
+    // an end without a start
     (
         "shape 1 3 1\nP got r0 1\n",
         "fault: line 2: out of turn\nopen: nothing\n",
     ),
-    // two begins; the other side's access between them is no matter
+    // two starts; the other side's access between them does not matter
     (
         "shape 1 3 1\nP read r0\nC read s0\nP read r0\n",
         "fault: line 4: out of turn\nopen since line 2: P read r0\n",
@@ -71,7 +71,7 @@ static REASONS: [(&str, &str); 6] = [
     ),
 ];
 
-// What a bit held that was written: the value of the last write that ended, before the read began.
+// What a written bit held: the value of the last write that ended, before the read began.
 static HELD: [(&str, &str); 3] = [
     (
         "shape 1 3 1\nP write s0 0\nP wrote s0\nC read s0\nC got s0 1\n",

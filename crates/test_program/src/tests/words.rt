@@ -36,7 +36,7 @@ static VERDICTS: [(&str, u8, &str); 11] = [
         0,
         "lawful\n",
     ),
-    // the count before the cell, by the bits alone
+    // the count before the cell, for the bits alone
     (
         "shape 1 3 1\nP read r0\nP got r0 1\nP write s1 1\n",
         0,

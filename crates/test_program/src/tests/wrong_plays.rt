@@ -33,7 +33,7 @@ fn a_take_of_several_tells_its_items(rt: HostRuntime) {
     expect_run_on(&rt, words.as_slice(), &mut bytes, 0, SEVERAL_CALLS, "");
 }
 
-// A complaint, and words behind the program's name that do not go together.
+// A complaint, and words after the program's name that do not go together.
 static CLASHES: [(&str, &[&str]); 8] = [
     (
         "no near miss is called 'torus': there are count-before-cell, no-second-scan, small-modulus, clears-first and clears-upwards",

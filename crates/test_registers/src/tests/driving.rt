@@ -1,4 +1,4 @@
-//! One form for all machines, and what tests expect of them.
+//! One interface for all machines, and what tests expect of them.
 ghost use Rattle.std.specs.Prelude.{◌≡◌};
 
 use bits_core::{Access, Bit, Event, Memory, Oracle, Shape, Side, Store, Verdict, audit_bits};
@@ -13,7 +13,7 @@ pub(crate) trait Machine {
     fn answered(&mut self, answer: bool);
 }
 
-// Feeds a machine the answer, where it has an access due.
+// Feeds a machine the answer, if it has an access due.
 macro_rules! feed_due {
     ($machine:expr, $answer:expr) => {
         if $machine.next().is_some() {
@@ -120,8 +120,8 @@ impl Machine for Flag {
     }
 }
 
-/// The side's next event: the end of the access that it has open, or the begin of the one that is due.
-/// True where there was one. That the memory runs out fails the test.
+/// The side's next event: the end of the access that it has open, or the start of the one that is due.
+/// True if there was one. If memory runs out the test fails.
 pub fn step<S: Store<Event>, M: Machine, O: Oracle>(
     rt: &impl Abort,
     memory: &mut Memory<S>,
@@ -140,7 +140,7 @@ pub fn step<S: Store<Event>, M: Machine, O: Oracle>(
     }
 }
 
-/// So many of these steps, or until there is none.
+/// This many of these steps, or until there is none.
 pub fn steps<S: Store<Event>, M: Machine, O: Oracle>(
     rt: &impl Abort,
     memory: &mut Memory<S>,
@@ -156,7 +156,7 @@ pub fn steps<S: Store<Event>, M: Machine, O: Oracle>(
     }
 }
 
-/// So many events and flickers, and a lawful history.
+/// This many events and flickers, and a lawful history.
 pub fn expect_lawful<S: Store<Event>>(rt: &impl Abort, memory: &Memory<S>, counts: (usize, u64)) {
     assert!(rt; (memory.events().len(), memory.flickers()) == counts);
     assert!(rt; audit_bits(&memory.shape(), memory.events()) == Verdict::Lawful);

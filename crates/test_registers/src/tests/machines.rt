@@ -26,7 +26,7 @@ fn expect_word_written(rt: &impl Abort, shape: &Shape, cell: u8, item: u64, digi
     }
 }
 
-// Reads of these digits make the item, which is told once they were all read.
+// Reads of these digits make the item, which is returned once all were read.
 fn expect_word_read(rt: &impl Abort, shape: &Shape, cell: u8, digits: &[bool], item: u64) {
     if u64::from(cell) < shape.capacity() {
         let mut reader = WordReader::new(shape, u64::from(cell));

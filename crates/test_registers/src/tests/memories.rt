@@ -17,7 +17,7 @@ fn an_overlapped_word_read_may_answer_anything(rt: HostRuntime) -> Result<(), Fa
     let mut ones = Always(true);
     let mut writer = WordWriter::new(&shape, 0, 6);
     let mut reader = WordReader::new(&shape, 0);
-    // each digit's read lies over its write: the digits read make 7, which was never written
+    // each digit's read overlaps its write: the digits read make 7, which was never written
     for _ in 0..6 {
         step(&rt, &mut memory, Side::P, &mut writer, &mut ones);
         step(&rt, &mut memory, Side::C, &mut reader, &mut ones);
@@ -25,7 +25,7 @@ fn an_overlapped_word_read_may_answer_anything(rt: HostRuntime) -> Result<(), Fa
     expect_due(&rt, writer.due(), None);
     expect_value(&rt, reader.value(), Some(7));
     expect_lawful(&rt, &memory, (12, 3));
-    // with no write under way the read gives the item
+    // with no write under way the read returns the item
     let mut later = WordReader::new(&shape, 0);
     steps(&rt, &mut memory, Side::C, &mut later, &mut ones, 10);
     expect_value(&rt, later.value(), Some(6));
@@ -67,10 +67,10 @@ fn a_bit_is_written_where_it_changes(rt: HostRuntime) -> Result<(), Fail> {
     Ok(())
 }
 
-// The values of one count, each other than the one before it; at first it is 0.
+// The values of one count, each different from the one before it; at first it is 0.
 static VALUES: [u64; 16] = [2, 0, 2, 1, 3, 1, 0, 3, 2, 1, 2, 3, 0, 1, 3, 0];
 
-// Whether the value is that of a write with a number from the one to the other, where number 0 is the first value.
+// Whether the value is that of a write with a number from one to the other, where number 0 is the first value.
 fn is_value_of(value: u64, first: usize, last: usize) -> bool {
     let mut found = false;
     for number in first..=last {
@@ -83,8 +83,8 @@ fn is_value_of(value: u64, first: usize, last: usize) -> bool {
     found
 }
 
-// A scan while values are written, by a schedule that the seed makes: it gives the value of a write whose
-// number lies from those ended at its begin to those begun at its end.
+// A scan while values are written, by a schedule that the seed makes: it returns the value of a write
+// whose number is at least the number ended at its start and at most the number begun at its end.
 fn expect_regular_scans<S: Store<Event>, O: Oracle>(
     rt: &impl Abort,
     memory: &mut Memory<S>,
@@ -148,12 +148,12 @@ fn scans_under_writes_are_regular(rt: HostRuntime) -> Result<(), Fail> {
             flickers = flickers.saturating_add(memory.flickers());
         }
     }
-    // the schedules let many reads lie over writes
+    // the schedules make many reads overlap writes
     expect_true(&rt, flickers > 1_000);
     Ok(())
 }
 
-// A whole scan, with no other step in between, gives the value.
+// A complete scan, with no other step in between, returns the value.
 fn expect_scanned<S: Store<Event>, O: Oracle>(
     rt: &impl Abort,
     memory: &mut Memory<S>,
@@ -165,11 +165,11 @@ fn expect_scanned<S: Store<Event>, O: Oracle>(
     expect_value(rt, scan.value(), Some(value));
 }
 
-// The value, and the events of its write. The last write stops where its write of 0 to s1 is open.
+// The value, and the events of its write. The last write stops while its write of 0 to s1 is open.
 static BACK: [(u64, u64); 5] = [(2, 4), (0, 2), (1, 4), (0, 2), (3, 5)];
 
-// Scans during that write: its events before the scan, the access that is then due, what a read over a write answers and the
-// value that the scan gives; and all events and overlapped reads so far.
+// Scans during that write: its events before the scan, the access that is then due, what an overlapped read returns and the
+// value that the scan returns; and all events and overlapped reads so far.
 static SCANS: [(u64, Option<Access>, bool, u64, usize, u64); 4] = [
     (0, Some(Access::Write(Bit::S(1), false)), true, 0, 19, 0),
     // the new value, and then the old one
@@ -198,7 +198,7 @@ fn scans_during_one_write_may_go_back(rt: HostRuntime) -> Result<(), Fail> {
     Ok(())
 }
 
-// Writes of 2, 1 and 3, where the last one clears bit 1 before bit 2.
+// Writes of 2, 1 and 3, in which the last one clears bit 1 before bit 2.
 static UPWARDS: [(Bit, bool); 5] = [
     (Bit::S(2), true),
     (Bit::S(0), false),
@@ -215,7 +215,7 @@ fn clears_upwards_are_not_regular(rt: HostRuntime) -> Result<(), Fail> {
         writer.write(*value);
         steps(&rt, &mut memory, Side::P, &mut writer, &mut Always(true), 3);
     }
-    // the write of 1 has ended and that of 3 has begun, and yet the scan gives 2, though nothing overlapped
+    // the write of 1 has ended and that of 3 has begun, and yet the scan returns 2, though nothing overlapped
     expect_scanned(&rt, &mut memory, &mut Always(true), 2);
     expect_lawful(&rt, &memory, (16, 0));
     Ok(())

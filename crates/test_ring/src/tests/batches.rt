@@ -25,7 +25,7 @@ impl Puts {
         }
     }
 
-    // A put of these items under one count write, where no call is under way and they may be put so.
+    // A put of these items under one count write, if no call is under way and they may be put together.
     fn put_all(&mut self, items: &[u64]) {
         if self.producer.next().is_none()
             && !items.is_empty()
@@ -48,7 +48,7 @@ impl Puts {
         }
     }
 
-    // At most so many events: fewer where the call is over before.
+    // At most this many events: fewer if the call is over before.
     fn run<S: Store<Event>, O: Oracle>(
         &mut self,
         rt: &impl Abort,
@@ -77,7 +77,7 @@ impl Puts {
     }
 }
 
-// A whole take.
+// A complete take.
 fn take<S: Store<Event>, O: Oracle>(
     rt: &impl Abort,
     consumer: &mut Consumer,
@@ -98,7 +98,7 @@ fn take<S: Store<Event>, O: Oracle>(
     }
 }
 
-// So many events were made, and the last call was answered so: as a put of one item, and as one of several.
+// This many events were made, and the last call had these replies: as a put of one item, and as one of several.
 fn expect_replies<S: Store<Event>>(
     rt: &impl Abort,
     puts: &Puts,
@@ -119,7 +119,7 @@ fn expect_items(rt: &impl Abort, consumer: &Consumer, items: &[u64]) {
     assert!(rt; consumer.items() == items);
 }
 
-// A whole take has so many events, is answered so and took these items.
+// A complete take has this many events, has these replies and took these items.
 fn expect_take<S: Store<Event>, O: Oracle>(
     rt: &impl Abort,
     consumer: &mut Consumer,
@@ -151,7 +151,7 @@ static TAKES: [Take; 4] = [
     (14, TakeReply::Item(1), TakeBatchReply::Taken(1), &[1]),
     (14, TakeReply::Item(0), TakeBatchReply::Taken(1), &[0]),
     (14, TakeReply::Item(1), TakeBatchReply::Taken(1), &[1]),
-    // the next one reads 1 there: the distance from 3 is 4, over the capacity
+    // the next one reads 1 there: the distance from 3 is 4, more than the capacity
     (4, TakeReply::Empty, TakeBatchReply::Empty, &[]),
 ];
 
@@ -178,11 +178,11 @@ enum Call<'a> {
     PutAll(&'a [u64]),
     Put(u64),
     Close,
-    // the events of the call that is under way
+    // the events of the call under way
     Run,
 }
 
-// A call, the events so far, and what was replied to a put of one item and to one of several.
+// A call, the events so far, and the replies to a put of one item and to one of several.
 type Case<'a> = (Call<'a>, usize, Option<PutReply>, Option<BatchReply>);
 
 fn expect_calls(rt: &(impl Abort + AllocGlobal), cases: &[Case]) -> Result<(), Fail> {
@@ -219,13 +219,13 @@ static TWO_REPLIES: [Case<'static>; 9] = [
     (Call::Run, 18, Some(PutReply::Stored), None),
     (Call::Close, 18, None, None),
     (Call::Run, 20, None, None),
-    // after the close each is answered at once
+    // after the close each returns at once
     (Call::PutAll(&[1, 1]), 20, None, Some(BatchReply::Closed)),
     (Call::Put(1), 20, Some(PutReply::Closed), None),
     (Call::Close, 20, None, None),
 ];
 
-// Each of the two replies is that of the last call, where that was a put of its kind.
+// Each of the two replies is that of the last call, if that was a put of its kind.
 #[test]
 fn a_put_has_one_of_two_replies(rt: HostRuntime) -> Result<(), Fail> {
     expect_calls(&rt, &TWO_REPLIES)

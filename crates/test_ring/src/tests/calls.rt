@@ -26,7 +26,7 @@ fn a_second_put_finds_one_cell_full(rt: HostRuntime) -> Result<(), Fail> {
     Ok(())
 }
 
-// Steps of the sides and then the events so far, the items taken, whether the consumer was told, and what the take has replied.
+// Steps of the sides and then the events so far, the items taken, whether a take returned Closed, and the take's reply.
 static SECOND_SCAN: [(&[(Side, u64)], usize, usize, bool, Option<TakeReply>); 4] = [
     // a take begins its scan; then an item is put and the ring is closed
     (&[(Side::C, 2), (Side::P, 10)], 12, 0, false, None),
@@ -115,7 +115,7 @@ fn expect_count_writes<S: Store<Event>>(
     assert!(rt; place == writes.len());
 }
 
-// One whole call of the side: so many events, and these writes to its count.
+// One complete call of the side: this many events, and these writes to its count.
 fn expect_call<S: Store<Event>>(
     rt: &impl Abort,
     ring: &mut Ring,
@@ -133,7 +133,7 @@ fn expect_call<S: Store<Event>>(
     expect_count_writes(rt, memory, before, writes);
 }
 
-// The whole calls of five puts and takes: the side, its events, and the writes to its count.
+// The complete calls of five puts and takes: the side, its events, and the writes to its count.
 static FIVE_ITEMS: [(Side, usize, &[(u8, bool)]); 10] = [
     (Side::P, 8, &[(1, true), (0, false)]),
     (Side::C, 10, &[(1, true), (0, false)]),
@@ -160,7 +160,7 @@ fn five_items_write_the_count_two_with_one_access(rt: HostRuntime) -> Result<(),
     Ok(())
 }
 
-// A run by the answers 0 and 1.
+// A run with the answers 0 and 1.
 fn expect_taped_run(
     rt: &(impl Abort + AllocGlobal),
     ring: &mut Ring,
@@ -173,7 +173,7 @@ fn expect_taped_run(
 #[test]
 fn an_open_count_write_is_seen_and_then_not(rt: HostRuntime) -> Result<(), Fail> {
     let mut ring = Ring::new(&Shape::new(1, 3, 1)?, &[1], 2, false);
-    // the write of 0 to s0 stays open: the first scan gives 1, and the second one the old count
+    // the write of 0 to s0 stays open: the first scan returns 1, and the second one the old count
     let schedule = [(Side::P, 7), (Side::C, 14)];
     let report = plain(21, 0, 1).empty(1).flickers(2);
     expect_taped_run(&rt, &mut ring, &schedule, report);
@@ -191,7 +191,7 @@ fn a_count_wraps_while_its_write_is_open(rt: HostRuntime) -> Result<(), Fail> {
         (Side::P, 9),
         (Side::C, 14),
     ];
-    // the count goes from 2 to 0: the scans give 2 and then 0
+    // the count goes from 2 to 0: the scans return 2 and then 0
     let report = plain(63, 2, 3).empty(1).flickers(2);
     expect_taped_run(&rt, &mut ring, &schedule, report);
     Ok(())
@@ -255,7 +255,7 @@ fn the_last_bit_of_a_count_expects_one(rt: HostRuntime) -> Result<(), Fail> {
     Ok(())
 }
 
-// A clone goes on by itself, and the two machines are shown as Rust shows a struct.
+// A clone proceeds independently, and the two machines are printed as Rust prints a struct.
 #[test]
 fn machines_are_cloned_and_shown(rt: HostRuntime) -> Result<(), Fail> {
     let shape = Shape::new(1, 3, 1)?;

@@ -1,5 +1,5 @@
-// A machine and a memory of its shape: what `next` ensures of the due access is all that the memory asks for, so it is
-// handed over with no test of it.
+// A machine and a memory of its shape: what `next` ensures about the due access is all that the memory requires, so it
+// is passed on without a check.
 ghost use Rattle.std.specs.Prelude.{◌≡◌, IfSome};
 ghost use Rattle.bits_core.specs.Open.{IsOpenRight};
 
@@ -17,7 +17,7 @@ struct Ring<S: Store<Event>> {
     ghost of_consumer: { consumer.shape ≡ memory.shape },
 }
 
-// Begins the access that is due, which the side may make, where it has none open.
+// Begins the access that is due, which the side may make, if it has none open.
 fn begin<S: Store<Event>>(
     memory: &mut Memory<S>,
     side: Side,
@@ -47,7 +47,7 @@ impl<S: Store<Event>> Ring<S> {
         }
     }
 
-    // Ends the access that the side has open: its answer, and false of a write.
+    // Ends the access that the side has open: its answer, and false for a write.
     fn end(&mut self, side: Side) -> Result<bool, MemoryFault> {
         match self.memory.pending(side) {
             Some(Access::Read(_)) => self.memory.end_read(side, &mut Always(false)),
@@ -71,7 +71,7 @@ impl<S: Store<Event>> Ring<S> {
         }
     }
 
-    // A whole call of the side.
+    // A complete call of the side.
     fn run(&mut self, side: Side) -> Result<(), MemoryFault> {
         for _ in 0..40 {
             let due = self.due(side);

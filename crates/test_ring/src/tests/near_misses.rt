@@ -9,7 +9,7 @@ use std::process::Abort;
 use std::test::Fail;
 use trace_text::write_trace;
 
-// The whole of the access that is due, if there is one: its answer. That the memory runs out fails the test.
+// The due access, completely, if there is one: its answer. If memory runs out the test fails.
 fn whole_access<S: Store<Event>, O: Oracle>(
     rt: &impl Abort,
     memory: &mut Memory<S>,
@@ -38,7 +38,7 @@ fn scan<S: Store<Event>>(rt: &impl Abort, memory: &mut Memory<S>, side: Side) ->
     scan.value()
 }
 
-// So many bit writes of a value to the producer's count, and the access that is then due.
+// This many bit writes of a value to the producer's count, and the access that is then due.
 fn write_count<S: Store<Event>>(
     rt: &impl Abort,
     memory: &mut Memory<S>,
@@ -73,7 +73,7 @@ fn write_digit<S: Store<Event>>(rt: &impl Abort, memory: &mut Memory<S>, cell: u
     }
 }
 
-// A whole take, of at most 20 accesses.
+// A complete take, of at most 20 accesses.
 fn take<S: Store<Event>, O: Oracle>(
     rt: &impl Abort,
     memory: &mut Memory<S>,
@@ -127,7 +127,7 @@ fn expect_due(rt: &impl Abort, due: Option<Access>, wanted: Option<Access>) {
     assert_eq!(rt; due, wanted);
 }
 
-// A scan by a side gives this value.
+// A scan by a side returns this value.
 fn expect_scan<S: Store<Event>>(rt: &impl Abort, memory: &mut Memory<S>, side: Side, value: u64) {
     assert_eq!(rt; scan(rt, memory, side), Some(value));
 }
@@ -174,7 +174,7 @@ fn a_count_before_its_cell_takes_a_stale_item(rt: HostRuntime) -> Result<(), Fai
 fn closed_without_a_second_scan_loses_an_item(rt: HostRuntime) -> Result<(), Fail> {
     let shape = Shape::new(1, 3, 1)?;
     let mut memory = Memory::new(rt.alloc(), shape);
-    // a take that scans, finds nothing, and asks for the close bit once an item was put and the ring closed
+    // a take that scans, finds nothing, and reads the close bit after an item was put and the ring closed
     expect_scan(&rt, &mut memory, Side::C, 0);
     let mut producer = Producer::new(shape);
     producer.put(1);
@@ -182,7 +182,7 @@ fn closed_without_a_second_scan_loses_an_item(rt: HostRuntime) -> Result<(), Fai
     assert!(rt; producer.reply() == Some(PutReply::Stored));
     close(&rt, &mut memory, &mut producer);
     assert!(rt; producer.is_closed());
-    // a consumer that takes the close bit for the end is told that the ring is closed, and has taken nothing
+    // a consumer that takes the close bit for the end returns Closed, and has taken nothing
     let due = Some(Access::Read(Bit::X));
     let told = whole_access(&rt, &mut memory, Side::C, due, &mut Always(false)) == Some(true);
     let taken: [u64; 0] = [];
@@ -214,7 +214,7 @@ fn put_two<S: Store<Event>>(rt: &impl Abort, memory: &mut Memory<S>) {
 }
 
 // A batch of two over counts modulo capacity + batch, which is one too few: the count that the open write replaces is
-// taken for two items more.
+// taken for two more items.
 #[test]
 fn a_batch_needs_a_larger_modulus(rt: HostRuntime) -> Result<(), Fail> {
     let shape = Shape::new(2, 4, 1)?;

@@ -22,7 +22,7 @@ pub(crate) struct Ring<'a> {
     pub taken: usize,
     pub empty: u64,
     pub told: bool,
-    // whether each item taken is the one put at its turn
+    // whether each item taken is the next one put
     pub in_order: bool,
     ghost of_producer: { producer.shape ≡ shape },
     ghost of_consumer: { consumer.shape ≡ shape },
@@ -75,7 +75,7 @@ impl<'a> Ring<'a> {
         }
     }
 
-    // Hands the producer an answer, and counts the reply.
+    // Feeds the producer an answer, and counts the reply.
     pub fn feed_producer(&mut self, answer: bool) {
         if self.producer.next().is_some() && (answer || !self.producer.expects_one()) {
             self.producer.feed(answer);
@@ -87,7 +87,7 @@ impl<'a> Ring<'a> {
         }
     }
 
-    // One event of the producer, which begins its next call where it is idle; nothing once it is done.
+    // One event of the producer, which begins its next call if it is idle; nothing once it is done.
     pub fn step_producer<S: Store<Event>, O: Oracle>(
         &mut self,
         rt: &impl Abort,
@@ -101,7 +101,7 @@ impl<'a> Ring<'a> {
         }
     }
 
-    // Hands the consumer an answer, and counts the reply.
+    // Feeds the consumer an answer, and counts the reply.
     pub fn feed_consumer(&mut self, answer: bool) {
         if self.consumer.next().is_some() && (answer || !self.consumer.expects_one()) {
             self.consumer.feed(answer);
@@ -117,7 +117,7 @@ impl<'a> Ring<'a> {
         }
     }
 
-    // One event of the consumer, which begins its next take where it is idle; nothing once it is done.
+    // One event of the consumer, which begins its next take if it is idle; nothing once it is done.
     pub fn step_consumer<S: Store<Event>, O: Oracle>(
         &mut self,
         rt: &impl Abort,
@@ -146,7 +146,7 @@ impl<'a> Ring<'a> {
         }
     }
 
-    // So many steps of each side in turn.
+    // This many steps of each side in turn.
     pub fn run<S: Store<Event>, O: Oracle>(
         &mut self,
         rt: &impl Abort,
@@ -162,8 +162,8 @@ impl<'a> Ring<'a> {
     }
 }
 
-// What a run ends with: how many events, items stored and taken, calls answered full and empty, whether the
-// consumer was told that the ring is closed, and how many reads were overlapped.
+// The result of a run: how many events, items stored and taken, Full and Empty replies, whether a take
+// returned Closed, and how many reads were overlapped.
 #[derive(Clone, Copy, PartialEq, Eq, Debug)]
 pub(crate) struct Report {
     pub events: usize,
@@ -176,7 +176,7 @@ pub(crate) struct Report {
 }
 
 impl Report {
-    // The same, with so many calls answered full or empty, the consumer told, and so many reads overlapped.
+    // The same, with this many Full or Empty replies, with Closed, and with this many reads overlapped.
     pub fn full(self, full: u64) -> Report {
         Report { full, ..self }
     }
@@ -214,7 +214,7 @@ pub fn expect_report<S: Store<Event>>(
     assert!(rt; audit_bits(&memory.shape(), memory.events()) == Verdict::Lawful);
 }
 
-// So many steps of each side in turn lead to the report.
+// This many steps of each side in turn lead to the report.
 pub fn expect_run<S: Store<Event>, O: Oracle>(
     rt: &impl Abort,
     ring: &mut Ring,

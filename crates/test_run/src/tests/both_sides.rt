@@ -1,5 +1,5 @@
-//! What is recorded of relays whose two sides both work, and what the words of a ring are where a gate is told of a call. It holds
-//! at every schedule.
+//! What is recorded of relays whose two sides both run, and the words of a ring when a gate is called. It holds for every
+//! schedule.
 ghost use Rattle.std.specs.Prelude.{◌<◌};
 
 use crate::tests::expects::{ITEMS, KINDS, Kind, Numbers, SHAPES, expect, expect_relay, shape_of};
@@ -12,7 +12,7 @@ use std::process::Abort;
 use std::sync::atomic::{AtomicBool, AtomicU64, Ordering};
 use std::thread::Threads;
 
-// The event of a line, where the put before it offered so many items.
+// The event of a line, if the put before it offered this many items.
 fn event_of(word: Word, numbers: &[u64], offered: usize) -> Event<'_> {
     match word {
         Word::Put => Event::PutBegins(numbers),
@@ -52,7 +52,7 @@ const NONE: Tally = Tally {
 };
 
 impl Tally {
-    // Counts the event; tells whether an item that it took is the next one.
+    // Counts the event; returns whether an item that it took is the next one.
     fn count(&mut self, event: Event<'_>) -> bool {
         let one = |count: &mut u64| *count = count.saturating_add(1);
         match event {
@@ -73,7 +73,7 @@ impl Tally {
         true
     }
 
-    // What a relay has to have recorded.
+    // What a relay must have recorded.
     fn of(outcome: &Outcome<Global>) -> Tally {
         let taken = outcome.taken.len() as u64;
         let told = u64::from(outcome.closed);
@@ -125,8 +125,8 @@ fn a_recording_has_all_calls_of_both_sides(rt: HostRuntime) {
     }
 }
 
-// Looks at a counter ring where it is told of a call: before a call the word of its side's count tells the calls before it, and
-// behind it that one too; the close word is 1 behind the close and not before.
+// Checks a counter ring when it is called: before a call the word of its side's count shows the calls before it, and after it
+// that one too; the close word is 1 after the close and not before.
 #[derive(Drop)]
 struct Watch<'a> {
     ring: &'a CounterRing<Global>,

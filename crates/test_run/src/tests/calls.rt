@@ -1,4 +1,4 @@
-// Whole calls of both ends in one thread, in a given order, on a ring of either kind.
+// Complete calls of both ends in one thread, in a given order, on a ring of either kind.
 ghost use Rattle.std.specs.Prelude.{◌≡◌};
 
 use crate::tests::expects::shape_of;
@@ -8,19 +8,19 @@ use ring_run::{CounterRing, FlickerRing, PutEnd, RingOf, TakeEnd};
 use std::alloc::AllocGlobal;
 use std::process::Abort;
 
-// A call, and how it is answered.
+// A call, and its reply.
 #[derive(Clone, Copy)]
 pub(crate) enum Call {
     Put(u64, PutReply),
     PutAll(&'static [u64], BatchReply),
     Close,
     Take(TakeReply),
-    // of so many items at most; and what it brings
+    // of at most this many items; and what it brings
     TakeAll(usize, TakeBatchReply, &'static [u64]),
     Meet,
 }
 
-// A shape, by its capacity, modulus, width and batch; calls in their order; and at the end: closed, told.
+// A shape, by its capacity, modulus, width and batch; calls in order; and at the end: whether closed, and whether Closed was returned.
 struct Case {
     shape: [u64; 4],
     closed: bool,
@@ -28,7 +28,7 @@ struct Case {
     calls: &'static [Call],
 }
 
-// A shape, whether the ring is closed at the end and told so, and the calls.
+// A shape, whether the ring is closed at the end, whether Closed was returned, and the calls.
 macro_rules! case {
     ($shape:expr, closed $closed:literal, told $told:literal; $($call:ident $(($($part:expr),*))?),*) => {
         Case {
@@ -40,12 +40,12 @@ macro_rules! case {
     };
 }
 
-// The put of this item, or of it and more, is answered as is wanted.
+// The put of this item, or of it and more, has the expected reply.
 fn expect_reply(rt: &impl Abort, is_wanted: bool, item: u64) {
     assert!(rt; is_wanted, "put {item}");
 }
 
-// The take of so many items at most is answered so and brings these; the other places stay as they were.
+// The take of at most this many items has this reply and brings these; the other places are unchanged.
 fn expect_taken<T: TakeEnd>(
     rt: &impl Abort,
     taker: &mut T,
@@ -68,7 +68,7 @@ fn expect_taken<T: TakeEnd>(
     assert!(rt; others.iter().all(|place| *place == 77));
 }
 
-// The call is answered so. It is no meeting.
+// The call has this reply. It is not a meeting.
 fn expect_answer<P: PutEnd, T: TakeEnd>(rt: &impl Abort, putter: &mut P, taker: &mut T, call: &Call)
     requires idle { P.idle putter.old × T.idle taker.old }
     ensures idle { P.idle putter.new × T.idle taker.new }
@@ -97,7 +97,7 @@ fn expect_answer<P: PutEnd, T: TakeEnd>(rt: &impl Abort, putter: &mut P, taker: 
     }
 }
 
-/// The calls are answered so. None of them is a meeting.
+/// The calls have these replies. None of them is a meeting.
 pub fn expect_each<P: PutEnd, T: TakeEnd>(
     rt: &impl Abort,
     putter: &mut P,
@@ -114,7 +114,7 @@ pub fn expect_each<P: PutEnd, T: TakeEnd>(
     }
 }
 
-// The call is answered so, or the ends of one ring meet.
+// The call has this reply, or the ends of one ring meet.
 fn expect_call<K: RingOf<P, T>, P: PutEnd, T: TakeEnd>(
     rt: &impl Abort,
     _ring: &K,
@@ -134,7 +134,7 @@ fn expect_call<K: RingOf<P, T>, P: PutEnd, T: TakeEnd>(
     (putter, taker)
 }
 
-// The calls are answered so, and so the run ends.
+// The calls have these replies, and then the run ends.
 fn expect_run<K: RingOf<P, T>, P: PutEnd, T: TakeEnd>(
     rt: &impl Abort,
     ring: &K,
@@ -170,14 +170,14 @@ fn expect_counter(rt: &(impl Abort + AllocGlobal), shape: Shape, case: &Case) {
     expect_run(rt, &ring, (putter, taker), case);
 }
 
-// So it is on a ring of either kind.
+// The same on a ring of either kind.
 fn expect_calls(rt: &(impl Abort + AllocGlobal), case: &Case) {
     let shape = shape_of(rt, &case.shape);
     expect_flicker(rt, shape, case);
     expect_counter(rt, shape, case);
 }
 
-// Ends of one ring of this kind meet, a take finds the ring empty, and so the run ends.
+// Ends of one ring of this kind meet, a take finds the ring empty, and then the run ends.
 fn expect_empty<K: RingOf<P, T>, P: PutEnd, T: TakeEnd>(
     rt: &impl Abort,
     _ring: &K,
@@ -229,7 +229,7 @@ static ENDINGS: [Case; 5] = [
     case!([1, 3, 1, 1], closed false, told false;),
     case!([1, 3, 1, 1], closed false, told false;
         Put(1, PutReply::Stored), Take(TakeReply::Item(1)), Take(TakeReply::Empty)),
-    // a close that no take was told of
+    // a close without a take that returns Closed
     case!([1, 3, 1, 1], closed true, told false; Close),
     case!([1, 3, 1, 1], closed true, told false;
         Take(TakeReply::Empty), Put(0, PutReply::Stored), Close, Take(TakeReply::Item(0))),
@@ -261,7 +261,7 @@ fn a_batch_is_stored_as_far_as_there_is_room(rt: HostRuntime) {
     expect_calls(&rt, &PARTIAL);
 }
 
-// Takes of up to two items, of a ring of three cells.
+// Takes of up to two items, from a ring of three cells.
 static TAKES: Case = case!([3, 7, 3, 3], closed true, told true;
     TakeAll(2, TakeBatchReply::Empty, &[]), PutAll(&[1, 2, 3], BatchReply::Stored(3)),
     TakeAll(2, TakeBatchReply::Taken(2), &[1, 2]), PutAll(&[4, 5, 6], BatchReply::Stored(2)),

@@ -1,4 +1,4 @@
-//! What relays come to.
+//! The results of relays.
 ghost use Rattle.std.specs.Prelude.{◌≡◌, None, false, []};
 ghost use Rattle.bits_core.specs.Shape.{AllFit};
 ghost use Rattle.ring_run.specs.Steppers.{IsSameEnd};
@@ -31,12 +31,12 @@ pub const SHAPES: [Numbers; 4] = [[1, 3, 6, 1], [2, 4, 6, 1], [3, 5, 6, 1], [3, 
 // Answers of an oracle.
 const TAPE: &[bool] = &[false, true, true, false, true, false, false];
 
-/// It holds; else what of which case does not. (A message is dear to prove, so this one is for all.)
+/// It holds; otherwise the message says what fails in which case. (A message is expensive to prove, so this one serves all.)
 pub fn expect(rt: &impl Abort, holds: bool, what: &str, case: &str) {
     assert!(rt; holds, "{what} of {case}");
 }
 
-/// The items taken are the first that were put, and where the taker was told that the ring is closed they are all.
+/// The items taken are the first that were put, and if a take returned Closed they are all.
 pub fn expect_in_order<A: Allocator>(rt: &impl Abort, outcome: &Outcome<A>, items: &[u64]) {
     let taken = outcome.taken.as_slice();
     assert!(rt; taken.len() as u64 <= outcome.put && outcome.put <= items.len() as u64);
@@ -46,7 +46,7 @@ pub fn expect_in_order<A: Allocator>(rt: &impl Abort, outcome: &Outcome<A>, item
     assert!(rt; !outcome.closed || taken.len() == items.len());
 }
 
-/// The shape of these numbers. (A `?` is dear to prove, so what fails only where memory or a shape is lacking ends the test.)
+/// The shape of these numbers. (A `?` is expensive to prove, so what fails only if memory or a shape is lacking ends the test.)
 pub fn shape_of(rt: &impl Abort, numbers: &Numbers) -> Shape {
     let [capacity, modulus, width, batch] = *numbers;
     Shape::with_batch(capacity, modulus, width, batch).expect(rt, "a shape")
@@ -119,7 +119,7 @@ pub fn expect_flicker<O: Oracle + Drop + Send, G: Gate + Sync>(
     outcome
 }
 
-/// What both ends of a flickering ring ask where reads and writes overlap.
+/// What both ends of a flickering ring ask if reads and writes overlap.
 #[derive(Clone, Copy)]
 pub(crate) enum Oracles {
     Zeros,

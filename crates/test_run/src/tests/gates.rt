@@ -1,4 +1,4 @@
-//! Gates that make one side of a relay wait for the other, so many looks at most, and what gates are told.
+//! Gates that make one side of a relay wait for the other, for at most this many looks, and what gates receive.
 use crate::tests::expects::{
     ITEMS, Kind, Numbers, ONE, ORACLES, Oracles, SHAPES, expect, expect_relay, expect_under,
     shape_of,
@@ -59,7 +59,7 @@ fn both_sides_run_at_the_same_time(rt: HostRuntime) {
     expect_meeting(&rt, Kind::Counter);
 }
 
-// The taker waits before its fourth take until the putter has made 100 puts. Keeps what each side was last said to have made.
+// The taker waits before its fourth take until the putter has made 100 puts. Keeps the number that each side last passed.
 #[derive(Drop)]
 struct Held {
     puts: AtomicU64,
@@ -176,7 +176,7 @@ fn a_gate_that_rests_changes_nothing(rt: HostRuntime) {
     }
 }
 
-// A rest in a ring of so many cells is so many hints, and there are so many in a row.
+// A pause in a ring of this many cells has this many hints, and there are this many in a row.
 #[test]
 fn a_rest_grows_with_the_ring(rt: HostRuntime) {
     for [capacity, hints, rests] in [
@@ -191,9 +191,9 @@ fn a_rest_grows_with_the_ring(rt: HostRuntime) {
     }
 }
 
-// The side that goes ahead makes so many calls, and then waits until the first call of the other side is over, which begins after
-// these. The other side's next call begins once the first side was told four times. Keeps what it was told when it had to wait,
-// a decimal digit each.
+// The side that goes ahead makes this many calls, and then waits until the first call of the other side is over, which begins
+// after these. The other side's next call begins once the first side's wait was called four times. Keeps the numbers passed when
+// it had to wait, a decimal digit each.
 #[derive(Drop)]
 struct InTurn {
     ahead: Side,
@@ -280,7 +280,7 @@ fn expect_in_turn(
     expect(rt, holds, "what a side is told", kind.name());
 }
 
-// A put is stored and two find the one cell full; behind a take the same again. Two takes find it empty; behind a put one has an
+// A put is stored and two find the one cell full; after a take the same again. Two takes find it empty; after a put one has an
 // item, and two find it empty again.
 #[test]
 fn a_side_is_told_how_often_in_a_row_it_had_to_wait(rt: HostRuntime) {
@@ -292,14 +292,14 @@ fn a_side_is_told_how_often_in_a_row_it_had_to_wait(rt: HostRuntime) {
     }
 }
 
-// What the calls of one side were answered, and what it was told of them.
+// The replies of one side's calls, and how often its wait was called for them.
 #[derive(Drop)]
 struct Row {
     // How many in a row found the ring full, or empty.
     times: AtomicU64,
-    // Whether it is to be told so, before its next call.
+    // Whether a wait is due before its next call.
     is_due: AtomicBool,
-    // How often it was told.
+    // How often wait was called.
     told: AtomicU64,
 }
 
@@ -319,7 +319,7 @@ impl Row {
         self.is_due.store(waits, Ordering::SeqCst);
     }
 
-    // Tells whether this was due.
+    // Returns whether this was due.
     fn wait(&self, times: u64) -> bool {
         let told = self.told.load(Ordering::SeqCst).saturating_add(1);
         self.told.store(told, Ordering::SeqCst);
@@ -329,7 +329,7 @@ impl Row {
     }
 }
 
-// Both sides are told behind each such call, once, and of no other.
+// For both sides wait is called after each such call, once, and after no other.
 #[derive(Drop)]
 struct Telling {
     putter: Row,

@@ -12,7 +12,7 @@ use std::thread::Threads;
 // What a relay comes to: items put, puts made, items taken, closed, and how often full and empty.
 type Wanted = (u64, u64, &'static [u64], bool, [u64; 2]);
 
-// A name, a shape, the items, the most puts and the most takes, and all that it may come to.
+// A name, a shape, the items, the most puts and the most takes, and all its possible results.
 type Case = (
     &'static str,
     Numbers,
@@ -21,7 +21,7 @@ type Case = (
     &'static [Wanted],
 );
 
-// Whether it came to one of these.
+// Whether the result is one of these.
 fn is_one_of<A: Allocator>(outcome: &Outcome<A>, wanted: &[Wanted]) -> bool {
     for (put, calls, taken, closed, counts) in wanted {
         if (outcome.put, outcome.calls, outcome.closed) == (*put, *calls, *closed)
@@ -34,7 +34,7 @@ fn is_one_of<A: Allocator>(outcome: &Outcome<A>, wanted: &[Wanted]) -> bool {
     false
 }
 
-// Each relay on a ring of the kind comes to one of what it may come to.
+// Each relay on a ring of the kind has one of its possible results.
 fn expect_cases(rt: &(impl Abort + AllocGlobal + Threads), kind: Kind, cases: &[Case]) {
     for (name, numbers, items, (puts, takes), wanted) in cases {
         let limits = Limits {
@@ -49,7 +49,7 @@ fn expect_cases(rt: &(impl Abort + AllocGlobal + Threads), kind: Kind, cases: &[
 // One cell of six bits.
 const SIX: Numbers = [1, 3, 6, 1];
 
-// A name, a shape, items, the most puts and takes, and what comes of it.
+// A name, a shape, items, the most puts and takes, and its results.
 macro_rules! case {
     ($name:literal, $numbers:expr, $items:expr, $limits:expr => $wanted:expr) => { ($name, $numbers, $items, $limits, $wanted) };
 }
@@ -85,7 +85,7 @@ fn expect_one_limited(
     outcome
 }
 
-// A side that is over ends the other one, though that may make more calls than a test can.
+// A side that is over ends the other one, even if that may make more calls than a test can.
 #[test]
 fn a_side_that_is_over_ends_the_other(rt: HostRuntime) {
     for kind in KINDS {
@@ -132,13 +132,13 @@ fn all_items_go_through_one_cell(rt: HostRuntime) {
     expect_all(&rt, Kind::Counter);
 }
 
-// What came of two items put by the end of one ring while an end of another, closed and empty, takes.
+// The result of two items put by the end of one ring while an end of another, closed and empty, takes.
 fn expect_apart<A: Allocator>(rt: &impl Abort, outcome: &Outcome<A>) {
     assert!(rt; outcome.put == 2 && outcome.calls == 2 && outcome.full == 0);
     assert!(rt; outcome.taken.is_empty() && outcome.empty == 0 && outcome.closed);
 }
 
-// Puts two items by this end, with the taker of another ring, which was closed before.
+// Puts two items with this end, with the taker of another ring, which was closed before.
 fn relay_apart<E: PutEnd + Send>(rt: &(impl Abort + AllocGlobal + Threads), putter: &mut E)
     requires idle { E.idle putter.old }
     requires fresh { (E.end putter.old).list ≡ [] }

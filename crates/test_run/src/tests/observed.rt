@@ -1,5 +1,5 @@
-// What is found in the words of a ring between the steps of its ends, by who holds neither of them; and what they are once the
-// ring is closed.
+// What an observer without either end finds in the words of a ring between the steps of its ends; and what the words are once
+// the ring is closed.
 use crate::tests::calls::{Call, expect_each};
 use crate::tests::expects::{ONE, shape_of};
 use crate::tests::steps::begin;
@@ -72,7 +72,7 @@ fn a_counter_ring_s_words_are_counts_and_items(rt: HostRuntime) {
     expect_counts(&rt, &ring, &[1, 2, 1, 5, 6]);
 }
 
-// Each word that a closed ring leaves is 0, but for these.
+// Each word of a closed ring is 0, except for these.
 fn expect_left(rt: &impl Abort, words: &LastWords<Global>, count: usize, wanted: &[(usize, u64)]) {
     assert!(rt; words.len() == count);
     for place in 0..count {
@@ -97,7 +97,7 @@ static FIVE: [Call; 10] = [
     Call::Take(TakeReply::Item(1)),
 ];
 
-// The counts go round at 4: 5 is 1 there, and 4 is 0. The items lie by turns in the two cells, the last ones 1 and 2.
+// The counts wrap at 4: 5 is 1 there, and 4 is 0. The items are alternately in the two cells, the last ones 1 and 2.
 #[test]
 fn a_closed_counter_ring_leaves_counts_and_items(rt: HostRuntime) {
     let made = CounterRing::new(rt.alloc(), shape_of(&rt, &[2, 4, 3, 1]));

@@ -1,4 +1,4 @@
-//! What a recorder tells of a relay of which one side makes no call, so that its lines are the same at every schedule.
+//! What a recorder records of a relay in which one side makes no call, so that its lines are the same for every schedule.
 use crate::tests::expects::{Kind, Numbers, expect_relay};
 use queue_calls::{Event, Word};
 use ring_run::{Gate, Limits, RecordedLines, Recorder, Slot};
@@ -38,7 +38,7 @@ static BOTH: [(Word, &[u64]); 8] = [
     (Word::Item, &[8]),
 ];
 
-/// So many slots.
+/// This many slots.
 pub fn slots(rt: &(impl Abort + AllocGlobal), room: usize) -> Vec<Slot> {
     let mut slots = Vec::new(rt.alloc());
     for _ in 0..room {
@@ -64,7 +64,7 @@ fn are_recorded(
     end.is_none()
 }
 
-// With room for so many lines of either side, these lines are recorded.
+// With room for this many lines of either side, these lines are recorded.
 fn expect_recorded(
     rt: &(impl Abort + AllocGlobal + Threads),
     room: usize,
@@ -102,7 +102,7 @@ fn a_recording_ends_where_its_room_does(rt: HostRuntime) {
     expect_recorded(&rt, 1, &[7], takes, &TAKES[..1]);
 }
 
-// Tells the recorder a put and a take of these items, one.
+// Gives the recorder a put and a take of one of these items.
 fn tell_one(recorder: &Recorder<'_>, items: &[u64]) {
     recorder.hears(Event::PutBegins(items));
     recorder.hears(Event::PutStored(1));
@@ -110,13 +110,13 @@ fn tell_one(recorder: &Recorder<'_>, items: &[u64]) {
     recorder.hears(Event::TakeItems(items));
 }
 
-// Tells the recorder the calls of both sides.
+// Gives the recorder the calls of both sides.
 fn tell_both(recorder: &Recorder<'_>) {
     tell_one(recorder, &[7]);
     tell_one(recorder, &[8]);
 }
 
-// With room for so many lines of each side, these lines of both are recorded, and whether later ones are missing is told.
+// With room for this many lines of each side, these lines of both are recorded, and the recorder reports whether later ones are missing.
 fn expect_both(rt: &(impl Abort + AllocGlobal), room: (usize, usize), expected: &[(Word, &[u64])]) {
     let (puts, takes) = (slots(rt, room.0), slots(rt, room.1));
     let recorder = Recorder::new(puts.as_slice(), takes.as_slice());
@@ -126,7 +126,7 @@ fn expect_both(rt: &(impl Abort + AllocGlobal), room: (usize, usize), expected: 
     assert!(rt; is_so, "{} lines", expected.len());
 }
 
-// Where one side has no room for a line, the lines of the other that come later are left out too.
+// If one side has no room for a line, the lines of the other that come later are left out too.
 #[test]
 fn a_side_with_no_room_ends_the_recording_of_both(rt: HostRuntime) {
     expect_both(&rt, (4, 4), &BOTH);

@@ -31,7 +31,7 @@ fn relay_on<A: Allocator + Copy>(
     }
 }
 
-// Such a relay without the growth that comes after so many: whether it was refused, and whether there was one to refuse.
+// Such a relay without the growth after this many: whether it was refused, and whether there was one to refuse.
 fn expect_without(
     rt: &(impl Abort + AllocGlobal + Threads),
     kind: Kind,
@@ -74,7 +74,7 @@ fn a_relay_on_its_own_ring_is_refused_at_each_growth(rt: HostRuntime) {
     expect_refused_relays(&rt, Kind::Counter);
 }
 
-// Whether the relay of one item was refused, which it was where its allocator refused.
+// Whether the relay of one item was refused, which it was if its allocator refused.
 fn expect_one<A: Allocator, B: Allocator>(
     rt: &impl Abort,
     relayed: Result<Outcome<A>, RunFault>,
@@ -92,14 +92,14 @@ fn expect_one<A: Allocator, B: Allocator>(
     }
 }
 
-// The run ended with a close that no take was told of, or, where the relay was refused, with no call: whether it was refused.
+// The run ended with a close and no take that returned Closed, or, if the relay was refused, with no call: returns whether it was refused.
 fn expect_closed(rt: &impl Abort, finished: &Finished, is_refused: bool) -> bool {
     assert!(rt; finished.closed() != is_refused && !finished.told());
     is_refused
 }
 
-// A relay of one item without the growth that comes after so many: whether it was refused. Then the two ends are as they
-// were, and end their run as ever.
+// A relay of one item without the growth after this many: whether it was refused. Then the two ends are unchanged, and
+// end their run as usual.
 fn expect_relay_of_one(rt: &(impl Abort + AllocGlobal + Threads), allocations: u64) -> bool {
     let items = [1];
     let shape = shape_of(rt, &ONE);

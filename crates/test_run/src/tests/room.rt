@@ -1,4 +1,4 @@
-// What the law of a put behind a meeting is good for.
+// An application of the law of a put after a meeting.
 ghost use Rattle.std.specs.Prelude.{◌≡◌, ◌^◌, ◌<◌};
 ghost use Rattle.bits_core.specs.Shape.{width_of};
 ghost use Rattle.test_run.specs.Room.{KnowsRoom};
@@ -9,13 +9,14 @@ use ring_run::laws::full_after_meeting;
 use ring_run::{CounterRing, PutEnd};
 use std::process::Abort;
 
-// A put by an end that knows of room: whether it was stored. It is never answered `Full`.
+// A put by an end that knows of room: returns whether it was stored. It never returns `Full`.
 fn put_into_room<E: PutEnd>(putter: &mut E, item: u64) -> bool
     requires idle { E.idle putter.old }
     requires fits { item < 2 ^ width_of (E.end putter.old).ring.shape }
     requires room { KnowsRoom (E.end putter.old) }
     ensures idle { E.idle putter.new }
 {
+    // a law that the proof needs
     full_after_meeting();
     match putter.put(item) {
         PutReply::Stored => true,

@@ -1,4 +1,4 @@
-// Scripts that both ends follow by single steps, and what comes of them.
+// Scripts that both ends follow by single steps, and their results.
 use crate::tests::expects::{expect, shape_of};
 use crate::tests::steps::{Consuming, Producing, Script, begin};
 use bits_core::Side;
@@ -6,11 +6,11 @@ use ring_run::FlickerRing;
 use std::alloc::AllocGlobal;
 use std::process::Abort;
 
-// What is wanted: the steps made, the items that puts stored, the items taken, whether closed was told, and how often full
-// and empty.
+// The expected result: the steps made, the items that puts stored, the items taken, whether Closed was returned, and how
+// often full and empty.
 type Wanted = (u64, u64, &'static [u64], bool, [u64; 2]);
 
-// A name, a shape by its capacity, modulus, width and batch, a script, the steps in their order, and what is wanted.
+// A name, a shape by its capacity, modulus, width and batch, a script, the steps in order, and the expected result.
 type Case = (
     &'static str,
     [u64; 4],
@@ -19,7 +19,7 @@ type Case = (
     Wanted,
 );
 
-// Makes the steps in their order. Answers how many were made.
+// Makes the steps in order. Returns how many were made.
 fn make_steps(
     rt: &impl Abort,
     producing: &mut Producing<'_>,
@@ -39,7 +39,7 @@ fn make_steps(
     made
 }
 
-// The steps of the script give what is wanted.
+// The steps of the script have the expected result.
 fn expect_script(rt: &(impl Abort + AllocGlobal), case: &Case) {
     let (name, numbers, script, steps, wanted) = *case;
     let (events, stored, taken, told, counts) = wanted;
@@ -65,7 +65,7 @@ const ONE_ZERO: &[bool] = &[true, false];
 
 const ZERO_ONE: &[bool] = &[false, true];
 
-// A name, a shape and a script; the steps, and what is wanted.
+// A name, a shape and a script; the steps, and the expected result.
 macro_rules! case {
     ($name:literal, $shape:expr, $script:expr; $steps:expr => $wanted:expr) => {
         ($name, $shape, $script, $steps, $wanted)

@@ -1,4 +1,4 @@
-//! Two ends of a ring that are worked by single steps.
+//! Two ends of a ring that are driven by single steps.
 ghost use Rattle.std.specs.Prelude.{◌≡◌, ◌^◌, ◌<◌};
 ghost use Rattle.bits_core.specs.Shape.{width_of};
 ghost use Rattle.ring_core.specs.Puts.{IsBatch};
@@ -11,7 +11,7 @@ use std::alloc::Global;
 use std::marker::Model;
 use std::process::Abort;
 
-// What a putter is at.
+// What a putter is doing.
 #[derive(Clone, Copy, PartialEq, Eq)]
 enum Duty {
     // a put of one item
@@ -23,7 +23,7 @@ enum Duty {
     Rest,
 }
 
-/// Puts the items in order, each again while the ring is full, and closes behind the last where it is to.
+/// Puts the items in order, each again while the ring is full, and closes after the last if requested.
 #[derive(Drop)]
 pub(crate) struct Producing<'a> {
     putter: Putter<'a, Tape<'a>>,
@@ -60,7 +60,7 @@ impl<'a> Model for Producing<'a> {
         (p.duty ≡ Rest → p.putter.call ≡ None) };
 }
 
-// What comes next, with its item or its items: a put, or behind the last item the close.
+// What comes next, with its item or its items: a put, or after the last item the close.
 fn next_duty<'a>(shape: &Shape, items: &'a [u64], closes: bool) -> (Duty, u64, &'a [u64])
     ensures item { result.0 ≡ Put → result.1 < 2 ^ width_of shape.now }
     ensures batch { result.0 ≡ PutAll → IsBatch shape.now result.2.now }
@@ -78,7 +78,7 @@ fn next_duty<'a>(shape: &Shape, items: &'a [u64], closes: bool) -> (Duty, u64, &
 }
 
 impl<'a> Producing<'a> {
-    // Where it rests, goes on to what comes next.
+    // If it rests, continues with what comes next.
     fn go_on(&mut self) {
         if let Duty::Rest = self.duty {
             let (duty, item, batch) = next_duty(&self.shape, self.items, self.closes);
@@ -94,7 +94,7 @@ impl<'a> Producing<'a> {
         self.go_on();
     }
 
-    /// One step, where not all is done. Whether one was made.
+    /// One step, if not all is done. Returns whether one was made.
     pub fn step(&mut self) -> bool {
         match self.duty {
             Duty::Put => match self.putter.step_put(self.item) {
@@ -126,23 +126,23 @@ impl<'a> Producing<'a> {
     }
 }
 
-/// Takes until it has so many items, or was told that the ring is closed.
+/// Takes until it has this many items, or a take returned Closed.
 #[derive(Drop)]
 pub(crate) struct Consuming<'a> {
     taker: Taker<'a, Tape<'a>>,
-    // the items that are wanted
+    // the items that are expected
     wanted: &'a [u64],
     takes: usize,
     /// How many items were taken.
     pub taken: usize,
     /// The takes that found the ring empty.
     pub empty: u64,
-    /// Whether it was told that the ring is closed.
+    /// Whether a take returned Closed.
     pub told: bool,
 }
 
 impl<'a> Consuming<'a> {
-    /// One step, where not all is done. Whether one was made.
+    /// One step, if not all is done. Returns whether one was made.
     pub fn step(&mut self, rt: &impl Abort) -> bool {
         if self.taken >= self.takes || self.told {
             return false;
@@ -160,10 +160,10 @@ impl<'a> Consuming<'a> {
     }
 }
 
-/// What two ends are to do: the items to put, whether to close behind them, how many items to take, and the oracle of each.
+/// What two ends should do: the items to put, whether to close after them, how many items to take, and the oracle of each.
 pub(crate) type Script<'a> = (&'a [u64], bool, usize, &'a [bool]);
 
-/// The two ends of the ring, at the beginning of the script. These items are to be taken.
+/// The two ends of the ring, at the start of the script. These items are expected to be taken.
 pub fn begin<'a>(
     ring: &'a FlickerRing<Global>,
     start: Start,

@@ -1,5 +1,5 @@
 // One side stops for ever at each of its steps, or its end is dropped there, in the middle of a call; or it is far slower than the
-// other. The other side's calls return, and what they answer is true.
+// other. The other side's calls return, and what they return is true.
 use crate::tests::expects::shape_of;
 use crate::tests::steps::{Consuming, Producing, Script, begin};
 use bits_core::Side;
@@ -12,14 +12,14 @@ const SHAPES: [[u64; 4]; 3] = [[1, 3, 1, 1], [2, 5, 1, 2], [3, 7, 2, 3]];
 
 const ITEMS: &[u64] = &[1, 0, 1, 1, 0, 0, 1];
 
-// All items are put and the ring closed, and one more than these is wanted; by the answers of three oracles.
+// All items are put and the ring closed, and one more than these is wanted; with the answers of three oracles.
 static SCRIPTS: [Script<'static>; 3] = [
     (ITEMS, true, 8, &[]),
     (ITEMS, true, 8, &[false, true]),
     (ITEMS, true, 8, &[true, true, false]),
 ];
 
-// Steps of one side alone, enough for each of its calls to return that has room or an item.
+// Steps of one side alone, enough for each of its calls that has room or an item to return.
 const ALONE: u64 = 240;
 
 // Rounds of both sides, enough for the slower one to make all its calls.
@@ -28,13 +28,13 @@ const ROUNDS: u64 = 600;
 // Who stops, after how many steps of either side, and whether its end is dropped then.
 type Stop = (Side, u64, bool);
 
-// It holds; else what, after which stop.
+// It holds; otherwise the message says what fails, after which stop.
 fn expect_at(rt: &impl Abort, holds: bool, what: &str, stop: Stop) {
     assert!(rt; holds, "{what}: {stop:?}");
 }
 
-// At least so many items are taken, all that were stored, and at most so many, with those of the put that was stopped; and takes go
-// on to return.
+// At least this many items are taken, all that were stored, and at most this many, with those of the put that was stopped; and
+// takes continue to return.
 fn expect_taken(
     rt: &impl Abort,
     consuming: &mut Consuming<'_>,
@@ -57,8 +57,8 @@ fn expect_taken(
     expect_at(rt, !consuming.told || is_all, "told", stop);
 }
 
-// As many items are stored as there is room for beside those that were not taken, at most one more for the take that was stopped;
-// and puts go on to return.
+// As many items are stored as there is room for besides those that were not taken, at most one more for the take that was
+// stopped; and puts continue to return.
 fn expect_stored(
     rt: &impl Abort,
     producing: &mut Producing<'_>,
@@ -118,7 +118,7 @@ fn expect_stop(
     }
 }
 
-// At each of its steps, by each oracle.
+// At each of its steps, with each oracle.
 fn expect_stops(rt: &(impl Abort + AllocGlobal), side: Side, drops: bool) {
     for numbers in SHAPES.iter() {
         for script in SCRIPTS.iter() {
@@ -141,7 +141,7 @@ fn an_end_that_is_dropped_in_a_call_leaves_the_other_true(rt: HostRuntime) {
     expect_stops(&rt, Side::C, true);
 }
 
-// Rounds of so many steps of the producer, and so many of the consumer.
+// Rounds of a number of steps of the producer, and a number of steps of the consumer.
 fn make_rounds(
     rt: &impl Abort,
     producing: &mut Producing<'_>,
@@ -158,7 +158,7 @@ fn make_rounds(
     }
 }
 
-// One side makes so many steps for each of the other's: all items come through, and the end is told.
+// One side makes this many steps for each of the other's: all items come through, and a take returns Closed.
 fn expect_slow(
     rt: &(impl Abort + AllocGlobal),
     numbers: &[u64; 4],

@@ -131,6 +131,6 @@ fn a_hearing_is_told_line_by_line(rt: HostRuntime) {
             Ok(Some(CallsFinding::NotLinearizable { line: 5, .. }))
         )
     );
-    // of the line at fault nothing is kept
+    // nothing of the line at fault is kept
     assert!(rt; matches!(hearing.hear_line(5, Word::Item, &[12]), Ok(None)));
 }

@@ -30,7 +30,7 @@ fn the_upper_half_answers_one(rt: HostRuntime) {
     assert!(rt; !first && !second && third);
 }
 
-// The take begins as the put has set bit 1 of its count and is about to clear bit 0: what that bit is read as decides.
+// The take begins when the put has set bit 1 of its count and is about to clear bit 0: the value read from that bit decides.
 #[test]
 fn a_flicker_decides_what_a_take_finds(rt: HostRuntime) -> Result<(), Fail> {
     let shape = Shape::new(1, 3, 1)?;

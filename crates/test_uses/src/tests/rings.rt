@@ -25,7 +25,7 @@ fn items_are_passed_on(rt: HostRuntime) -> Result<(), Fail> {
     Ok(())
 }
 
-// What comes through, of items that fit.
+// What comes through, for items that fit.
 fn passed(
     rt: &(impl Abort + AllocGlobal + Threads),
     shape: Shape,
@@ -98,7 +98,7 @@ fn items_are_passed_on_by_an_oracle_of_ones_own(rt: HostRuntime) -> Result<(), F
     Ok(())
 }
 
-// A put of this batch stores so many.
+// A put of this batch stores this many.
 fn expect_stored<E: PutEnd>(rt: &impl Abort, putter: &mut E, items: &[u64], wanted: usize)
     requires { E.idle putter.old }
     ensures { E.idle putter.new }
