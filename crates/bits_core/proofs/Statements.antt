@@ -55,7 +55,7 @@ AccessIsMade =
 abbrev pub BeforeLastChanges : Type 0
 BeforeLastChanges = (s : Side) (h : List Event) (e : Event) → before_last s (h ++ e ∷ []) ≡ (if is_by s e then h else before_last s h)
 
--- while no write of a bit overlaps its reader's last access, no write of it is open, none was where the access began, and it
+-- while no write of a bit overlaps its reader's last access, no write of it is open, none was when the access began, and it
 -- holds what it held then
 abbrev pub QuietIsHeld : Type 0
 QuietIsHeld =

@@ -60,7 +60,7 @@ impl ShapeFault {
 pub enum Kind {
     /// The bit is not in the shape, or the side is not its reader or writer, as this act needs.
     WrongSide = 1,
-    /// A start while the side has an access open, or an end where it has no access of this bit and
+    /// A start while the side has an access open, or an end when it has no access of this bit and
     /// kind open.
     OutOfTurn,
     /// A read's answer that a safe bit may not give.

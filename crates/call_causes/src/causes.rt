@@ -66,7 +66,7 @@ pub enum Cause {
         item: u64,
         next: Option<Offered>,
     },
-    /// A take took fewer items than it wanted, while another was inside.
+    /// A take took fewer items than it asked for, while another was inside.
     NoMoreWhileInside(Offered),
     /// A take took too few: more items are inside than the queue can hold, at least this many, since this line, which ended the last
     /// put that stored some.
@@ -80,12 +80,12 @@ pub enum Cause {
     EmptyWhileInside(Offered),
     /// A take that began after a close had ended, the first one at this line, found the queue empty and open.
     EmptyAfterClose(u64),
-    /// A take found fewer items than it wanted after one had returned Closed, at this line.
+    /// A take found fewer items than it asked for after one had returned Closed, at this line.
     ShortAfterTold(u64),
-    /// A take found fewer items than it wanted, while this one was the last of that many.
+    /// A take found fewer items than it asked for, while this one was the last of that many.
     ShortWhileInside(Offered),
     /// A close had ended, the first one at this line. A put that began after it found no room for all its items; or a take that
-    /// began after it found fewer items than it wanted, in a queue with nothing inside.
+    /// began after it found fewer items than it asked for, in a queue with nothing inside.
     ShortAfterClose(u64),
     /// A take returned Closed, and no close has begun.
     ClosedBeforeClose,

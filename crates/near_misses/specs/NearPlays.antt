@@ -46,7 +46,7 @@ pub record NearStand : Type 0 where
 abbrev pub near_start : NearStand
 near_start = record { in_call = false; stopped = false; count = 0; read = []; item = 0; over = false }
 
--- how many items a take wants when `used` takes are used up: as many as one count write may count, or as takes are left
+-- how many items a take asks for when `used` takes are used up: as many as one count write may count, or as takes are left
 abbrev pub near_wanted : NearAsked → ℕ → ℕ
 near_wanted asked used = min (take_batch_of asked.shape) (asked.takes - used)
 

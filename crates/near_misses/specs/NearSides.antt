@@ -80,7 +80,7 @@ TakerEnds old told new =
     (new.shape ≡ old.shape) × ((asked : NearAsked) → IsAskedToTake old asked → IsAskedToTake new asked) ×
     ((asked : NearAsked) → IsAskedToTake old asked → NearEnds asked C (take_stand old) told (take_stand new))
 
--- how many items the consumer's next take wants, or that under way
+-- how many items the consumer's next take asks for, or that under way
 abbrev pub taker_wants : NearTaker → ℕ
 taker_wants t = min (take_batch_of t.shape) (t.takes - t.used)
 

@@ -20,7 +20,7 @@ abbrev pub is_counting : Stage → Bool
 is_counting Counting = true
 is_counting _ = false
 
--- a take wants some items, has read none before it has seen some, reads no more than it wants, and counts at least one
+-- a take asks for some items, has read none before it has seen some, reads no more than it asks for, and counts at least one
 abbrev pub IsTakeWithin : Stage → (whole most wanted : ℕ) → Type 0
 IsTakeWithin stage whole most wanted =
     (is_looking stage ≡ true → (whole ≡ 0) × (1 ≤ wanted)) × (is_reading stage ≡ true → (whole < most) × (most ≤ wanted)) × (is_counting stage ≡ true → (1 ≤ whole) × (whole ≤ wanted))

@@ -27,7 +27,7 @@ use std::alloc::Allocator;
 pub type NearFault = MemoryFault;
 
 /// What an event of a play by a near miss records of a call: the start of a put has how many items of the script were stored before it,
-/// the start of a take how many it wants, and the end of one that took some how many.
+/// the start of a take how many it asks for, and the end of one that took some how many.
 ///
 /// For example, `CallEvent::TakeItems(1)` is `C item 5` in a recording, and the item 5 is among those of all takes.
 pub type NearCall = CallEvent<usize, usize>;

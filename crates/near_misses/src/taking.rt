@@ -117,7 +117,7 @@ impl NearTaker {
         &self.items[..self.whole]
     }
 
-    // How many items the next take wants, or that under way: as many as one count write may count, or as many as takes are left.
+    // How many items the next take asks for, or that under way: as many as one count write may count, or as many as takes are left.
     fn wanted(&self) -> u64
         ensures value { result ≡ taker_wants self.now }
         ensures few { result ≤ 64 }
@@ -153,7 +153,7 @@ impl NearTaker {
         None
     }
 
-    // How many items a take reads if it sees this count: as many as it shows, and at most as many as the take wants.
+    // How many items a take reads if it sees this count: as many as it shows, and at most as many as the take asks for.
     fn shown(&self, seen: u64) -> u64
         ensures { result ≡ min (items_seen self.now.miss self.now.shape self.now.count seen) (taker_wants self.now) }
     {
@@ -226,7 +226,7 @@ impl NearTaker {
         ensures read { take_stand self.new ≡ with_digit_read (width_of self.old.shape) answer digit
             (take_stand self.old) }
     {
-        // only for the proof: gives the bound of the items wanted
+        // only for the proof: gives the bound of the items requested
         let _wanted = self.wanted();
         self.item = with_digit(answer, digit, self.item);
         if u64::from(digit) + 1 < self.shape.width() {
@@ -257,7 +257,7 @@ impl NearTaker {
         if self.row.next().is_some() {
             return None;
         }
-        // only for the proof: gives the bound of the items wanted
+        // only for the proof: gives the bound of the items requested
         let _wanted = self.wanted();
         let taken = self.whole;
         self.count = self.row.value();

@@ -53,7 +53,7 @@ items_stored line (o ∷ entries) = ap (λ z. o.item ∷ z) (items_stored line e
 items_both : (s o : List Offered) → items_of (s ++ o) ≡ items_of s ++ items_of o
 items_both s o = map-append (λ (e : Offered). e.item) s o
 
--- a row without so many of its last items, in two forms
+-- a row without some of its last items, in two forms
 row_cut :
     (gone inside s o : List ℕ) (count : ℕ) → gone ++ inside ≡ s ++ o → count ≤ length o → length o - count ≤ length inside →
     gone ++ without (length o - count) inside ≡ s ++ take count o

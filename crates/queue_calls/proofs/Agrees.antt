@@ -17,7 +17,7 @@ PutFits (Offers n inside) offered late before count begun ended = (length offere
 PutFits (Late n) offered late before count begun ended = (offered ≡ []) × (late ≡ true) × (ended ≡ true) × (begun ≡ true)
 PutFits (Closes again) offered late before count begun ended = (offered ≡ []) × (begun ≡ true)
 
--- what the consumer has under way, by how many it wants, how many were stored before, how many are taken, whether a close had ended
+-- what the consumer has under way, by how many it asks for, how many were stored before, how many are taken, whether a close had ended
 -- before the take, and whether one returned Closed
 abbrev pub TakeFits : TakeTurn → (wanted before count : ℕ) → (ended told : Bool) → Type 0
 TakeFits Rests wanted before count ended told = wanted ≡ 0

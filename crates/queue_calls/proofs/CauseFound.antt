@@ -46,7 +46,7 @@ pub take_of : (turn : TakeTurn) (n : ℕ) → call_of_take turn ≡ ATake n → 
 take_of Rests n e = absurd cc
 take_of (Waits wants inside closed) n e = (inside, closed, (let same : wants ≡ n = cc in ap (λ z. Waits z inside closed) same))
 
--- the numbers of items that the put under way offers, or that the take wants
+-- the numbers of items that the put under way offers, or that the take asks for
 pub offers_so_many : {n m inside : ℕ} {put : PutTurn} → call_of_put put ≡ APut n → put ≡ Offers m inside → m ≡ n
 offers_so_many {n} {m} turn is = let same : APut m ≡ APut n = ap call_of_put (sym is) ∙ turn in cc
 
@@ -182,7 +182,7 @@ module _ (capacity : Capacity) (past : List Event) (k : Kept) (a : Agrees past k
         λ h. cond-true (can_hold capacity least) None _ ((can_hold_tells capacity least).1 (subst (λ z. MayHold capacity z) (sym (least_left count)) h)),
       )
 
-  -- if the take wanted more, it found no more
+  -- if the take asked for more, it found no more
   none_more :
       (n inside : ℕ) (closed : Bool) (count : ℕ) → k.take ≡ Waits n inside closed →
       ((nat_lt count (wanted past) && nat_lt (k_of past + count) (n_of (before_take past))) ≡ false) ↔ (count < n → inside ≤ count)
@@ -211,7 +211,7 @@ module _ (capacity : Capacity) (past : List Event) (k : Kept) (a : Agrees past k
         λ e. le-ltb (k_of past) (n_of (before_take past)) (omega (arith, f.1, e)),
       )
 
-  -- it found fewer than it wanted
+  -- it found fewer than it asked for
   pub fewer_found :
       (n inside : ℕ) (closed : Bool) → k.take ≡ Waits n inside closed → 0 < n → (nat_lt (k_of past + (wanted past - 1)) (n_of (before_take past)) ≡ false) ↔ (inside < n)
   fewer_found n inside closed is some =

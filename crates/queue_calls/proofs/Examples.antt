@@ -41,7 +41,7 @@ between_legal = (
 )
 
 -- and these do not: two items with capacity 1, an unbounded queue that lacks room, one found empty with an item in it, and one closed
--- and empty that is found to have fewer than wanted
+-- and empty that is found to have fewer than asked for
 too_many : ¬ IsLegal (exactly 1) (queue [] false) (Enqueue 1 ∷ Enqueue 2 ∷ [])
 too_many r = omega (arith, r.2.1.0, ap (λ (q : Queue). length q.items) r.1.2)
 

@@ -41,7 +41,7 @@ stored_tells count offered true some most small =
           (ap (λ (n : ℕ). Some (PutStored n true)) all, (tt, none_small))
     ] refl
 
--- a take: the line has the number it wants only if that is more than one
+-- a take: the line has the number it asks for only if that is more than one
 take_tells : (b : Begun) (wanted : ℕ) → 0 < wanted → AreSmall (wanted ∷ []) → Tells b (line_of b (TakeBegin wanted)) (TakeBegin wanted)
 take_tells b wanted some small =
     elim (nat_lt 1 wanted) as (λ t. nat_lt 1 wanted ≡ t → Tells b (line word.Take (if t then wanted ∷ [] else [])) (TakeBegin wanted)) [

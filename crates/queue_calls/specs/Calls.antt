@@ -5,9 +5,9 @@ use Rattle.queue_calls.specs.Queue.{Capacity, Operation, Enqueue, FindNoRoom, Fi
 
 -- an event of a history: a call begins, or it ends with an answer. A put offers items. The first `count` of these are stored, and if
 -- some are left, it reports that there was no room for one more or no reason; or none is stored, because there is no room for one,
--- because there is no room for all of them, without a reason, or because the queue is closed. A take wants a number of items. It
+-- because there is no room for all of them, without a reason, or because the queue is closed. A take asks for a number of items. It
 -- takes these, and if they are fewer, it reports that there were no more or no reason; or it takes none, because there is none,
--- because there are fewer than it wants, without a reason, or because there is none and the queue is closed.
+-- because there are fewer than it asks for, without a reason, or because there is none and the queue is closed.
 pub data Event : Type 0 where
   PutBegin : (items : List ℕ) → Event
   PutStored : (count : ℕ) (why : Bool) → Event

@@ -1,9 +1,9 @@
--- Well-formed histories: each side has at most one call under way, a put offers an item and a take wants one, and a call ends with an
--- end of its kind, within what it offered or wanted.
+-- Well-formed histories: each side has at most one call under way, a put offers an item and a take asks for one, and a call ends with an
+-- end of its kind, within what it offered or asked for.
 use Rattle.std.specs.Prelude.{◌≡◌, ℕ, ◌<◌, ◌≤◌, List, [], ◌∷◌, length}
 use Rattle.queue_calls.specs.Calls.{Event, PutBegin, PutStored, PutFull, PutShort, PutNothing, PutClosed, CloseBegin, CloseEnd, TakeBegin, TakeItems, TakeEmpty, TakeShort, TakeNothing, TakeClosed}
 
--- what a side has under way: a put that offered this many items, a take that wants this many
+-- what a side has under way: a put that offered this many items, a take that asks for this many
 pub data UnderWay : Type 0 where
   NoCall : UnderWay
   APut : (offered : ℕ) → UnderWay

@@ -1,7 +1,7 @@
 -- The sequential specification of a first-in first-out queue that can be closed, bounded or not.
 use Rattle.std.specs.Prelude.{◌≡◌, ℕ, ◌+◌, ◌<◌, Bool, true, false, List, [], ◌∷◌, ◌++◌, length}
 
--- how many items a queue may hold: any number; or at most `most`, where from `full` on it may report that it has no room for one more
+-- how many items a queue may hold: any number; or at most `most`, and from `full` on it may report that it has no room for one more
 pub data Capacity : Type 0 where
   Unbounded : Capacity
   Between : (full most : ℕ) → Capacity

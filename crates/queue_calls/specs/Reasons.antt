@@ -103,7 +103,7 @@ taken [] = []
 taken (TakeItems items why ∷ past) = taken past ++ map (taken_at (line_behind past)) items
 taken (_ ∷ past) = taken past
 
--- how many items the take under way wants; 0 if none is under way
+-- how many items the take under way asks for; 0 if none is under way
 abbrev pub wanted : List Event → ℕ
 wanted [] = 0
 wanted (TakeBegin count ∷ past) = count

@@ -70,7 +70,7 @@ abbrev pub some_told : List ℕ → ℕ
 some_told [] = 0
 some_told (count ∷ more) = count
 
--- how many items a take wants
+-- how many items a take asks for
 abbrev pub wanted_told : List ℕ → ℕ
 wanted_told [] = 1
 wanted_told (wanted ∷ more) = wanted

@@ -17,7 +17,7 @@ use std::collections::VecDeque;
 /// linearizable; nothing after it can repair that
 /// ([`beginning_is_linearizable`](crate::laws::beginning_is_linearizable)). A put of several items stores them one by
 /// one, and a take of several takes them one by one; a second close changes nothing. A put that stores fewer items
-/// than it offered found no room for one more before it stored the first, and a take that takes fewer than it wanted
+/// than it offered found no room for one more before it stored the first, and a take that takes fewer than it asked for
 /// found no more than these before it took the first; unless they report no reason.
 ///
 /// An event takes constant time, amortized, for each item of the event, and the memory is that of the items

@@ -35,14 +35,14 @@ pub enum CallEvent<P, T> {
     CloseEnds,
     /// A take of up to this many items begins.
     TakeBegins(usize),
-    /// The take ends: it took these items. If these are fewer than it wanted, the queue had no more than these before
+    /// The take ends: it took these items. If these are fewer than it asked for, the queue had no more than these before
     /// the first of them.
     TakeItems(T),
-    /// The take ends: it took these items; if they are fewer than it wanted, no reason is reported.
+    /// The take ends: it took these items; if they are fewer than it asked for, no reason is reported.
     TakeSome(T),
     /// The take ends: the queue had no item, and was not closed.
     TakeEmpty,
-    /// The take of several items ends: the queue had fewer than it wanted, though it was not empty and closed, and none was
+    /// The take of several items ends: the queue had fewer than it asked for, though it was not empty and closed, and none was
     /// taken.
     TakeShort,
     /// The take ends: no item was taken, and no reason is reported.

@@ -146,7 +146,7 @@ fn some_told(numbers: &[u64]) -> usize
     }
 }
 
-// How many items a take wants: 1 if the line has no number.
+// How many items a take asks for: 1 if the line has no number.
 fn wanted_told(numbers: &[u64]) -> usize
     ensures { result ≡ wanted_told numbers.now }
 {

@@ -29,7 +29,7 @@ pub enum CallsFinding {
     /// The history is linearizable.
     Lawful(CallsReport),
     /// The event of this line, counted from 1, is out of turn: a call begins while one of its side is under way; or one ends that
-    /// is not under way, or with more items than it offered or wanted.
+    /// is not under way, or with more items than it offered or asked for.
     OutOfTurn { line: u64 },
     /// With the event of this line the history stops being linearizable.
     NotLinearizable { line: u64, cause: Cause },

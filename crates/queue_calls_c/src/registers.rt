@@ -37,7 +37,7 @@ pub struct JudgeFound {
     pub verdict: u32,
 }
 
-// The register that the numbers of a first line give, if they may stand there.
+// The register that the numbers of a first line give, if they are allowed there.
 pub fn register_of(numbers: &[u64]) -> Option<Register>
     ensures register { result ≡ register_of numbers.now }
     ensures value { IfSome result (λ r. IsValue r r.first) }

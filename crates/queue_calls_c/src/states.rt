@@ -16,7 +16,7 @@ pub struct Calls {
     /// How many items the put under way offers, and how many were inside before it.
     pub offered: usize,
     pub before_put: usize,
-    /// How many items the take under way wants, and how many were inside before it.
+    /// How many items the take under way asks for, and how many were inside before it.
     pub wanted: usize,
     pub before_take: usize,
     /// How many items the put that began last offered.

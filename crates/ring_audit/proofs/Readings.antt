@@ -14,7 +14,7 @@ use Rattle.ring_audit.specs.TakeReading.{TakeReading, TakesStand, HasReadTake}
 use Rattle.ring_audit.specs.Reading.{Reading, ReadingStands, BothFollow, reading}
 pub use Rattle.ring_core.proofs.OneMore.{own_more}
 
--- both readers stand with the event, if each stands with its own side's events
+-- both readers stand after the event, if each stands after its own side's events
 stand_with :
     (shape : Shape) (new : Reading) (s : Side) (h : List Event) (e : Event) (items stored : List ℕ) → e.side ≡ s →
     PutsStand shape new.puts (if same_side P s then subhistory P h ++ e ∷ [] else subhistory P h) items stored →

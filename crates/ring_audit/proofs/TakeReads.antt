@@ -238,7 +238,7 @@ taking_or_told old new reply most begun refused = by_told old.told refl
     by_told false e = inl (begun e).0
     by_told true e = inr (ap (λ (p : ConsumerState). p.told) (refused e) ∙ e)
 
--- and it wants as many items as were requested
+-- and it asks for as many items as were requested
 pub wants_most :
     (old new : ConsumerState) (reply : Option TakeReply) (most : ℕ) → (old.told ≡ false → (is_taking new ≡ true) × (new.wanted ≡ most)) →
     (old.told ≡ true → new ≡ record old { reply = reply }) → is_taking old ≡ false → is_taking new ≡ true → new.wanted ≡ most

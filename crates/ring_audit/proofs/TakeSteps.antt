@@ -20,7 +20,7 @@ use Rattle.ring_audit.proofs.Readers.{ended}
 use Rattle.ring_audit.proofs.TakeItems.{replied, items-after}
 use Rattle.ring_audit.proofs.TakeReads.{due_takes, last_same, count_writes_bits}
 
--- the number of items that a take wants is unchanged
+-- the number of items that a take asks for is unchanged
 still_wants :
     (shape : Shape) (old new : ConsumerState) (a : Access) (v : Bool) (made : List Made) → due_take old ≡ Some a → new.wanted ≡ old.wanted →
     (old.stage ≡ Counting → is_taking new ≡ true → new.stage ≡ Counting) → WantsAll shape (record { consumer = old; open_access = Some a }) made →

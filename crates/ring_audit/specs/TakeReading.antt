@@ -28,7 +28,7 @@ pub record TakeReading : Type 0 where
 pub record IsTakeReading (r : TakeReading) : Type 0 where
   pub is_due : (access : Access) → r.open_access ≡ Some access → due_take r.consumer ≡ Some access
 
--- Until it counts, the take under way wants as many items as a take may take. If it was made to count those that it has read, a write of
+-- Until it counts, the take under way asks for as many items as a take may take. If it was made to count those that it has read, a write of
 -- its count has begun.
 pub record WantsAll (shape : Shape) (r : TakeReading) (made : List Made) : Type 0 where
   pub before_count : is_taking r.consumer ≡ true → r.consumer.stage ≢ Counting → r.consumer.wanted ≡ take_batch_of shape

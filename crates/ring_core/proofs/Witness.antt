@@ -1,5 +1,5 @@
 -- A lawful history whose two sides follow their programs: a take finds the ring empty, an item is put, a put finds the ring
--- full, the ring is closed, the item is taken, and the consumer is told. A write overlaps the first read of the second take.
+-- full, the ring is closed, the item is taken, and a take returns Closed. A write overlaps the first read of the second take.
 -- One cell, modulus 3, items of one digit.
 use Rattle.std.proofs.Common.{◌≡◌, ◌≢◌, Bool, true, false, Some, None, ◌≤◌, List, [], ◌∷◌, ◌++◌, length, ap, inl, inr, refl, sym, subst, append_assoc, append-nil, arith}
 use Rattle.bits_core.specs.declared.events.Side.{Side}
@@ -55,7 +55,7 @@ write side bit value = record { side = side; bit = bit; act = WriteBegin value }
 abbrev wrote : Side → Bit → Event
 wrote side bit = record { side = side; bit = bit; act = WriteEnd }
 
--- a read may begin where its side has no access open
+-- a read may begin when its side has no access open
 reading :
     {shape : Shape} {past : List Event} (side : Side) (bit : Bit) → belongs shape bit ≡ true → side ≡ reader bit → open_access side past ≡ None →
     MayFollow shape past (read side bit)
@@ -69,7 +69,7 @@ answered :
 answered side bit answer in_shape by_reader reads permitted =
     record { right_side = record { in_shape = in_shape; by_doer = by_reader }; in_turn = reads; permitted = permitted }
 
--- a write may begin where its side has no access open
+-- a write may begin when its side has no access open
 writing :
     {shape : Shape} {past : List Event} (side : Side) (bit : Bit) (value : Bool) → belongs shape bit ≡ true → side ≡ writer bit →
     open_access side past ≡ None → MayFollow shape past (write side bit value)
@@ -91,7 +91,7 @@ abbrev takes : Takes
 takes = record { takes = Empty 0 ∷ ItemAfterClose 0 1 (1 ∷ []) ∷ []; end = Closed 1 1 }
 
 -- The consumer finds the ring empty. The first read of its next take has begun when the producer puts, finds the ring full
--- and closes; then the consumer takes the item, and is told.
+-- and closes; then the consumer takes the item, and its next take returns Closed.
 abbrev events : List Event
 events =
     read C (S 0) ∷ got C (S 0) true ∷ read C X ∷ got C X false ∷ read C (S 0) ∷
@@ -102,7 +102,7 @@ events =
     read C (S 0) ∷ got C (S 0) false ∷ read C (S 1) ∷ got C (S 1) true ∷ read C X ∷ got C X true ∷
     read C (S 0) ∷ got C (S 0) false ∷ read C (S 1) ∷ got C (S 1) true ∷ []
 
--- they are lawful, one after another: each line is an access, but where another comes between its two events
+-- they are lawful, one after another: each line is an access, unless another comes between its two events
 each_follows : EachFollows one_cell [] events
 unfolding one_cell
 each_follows =

@@ -68,7 +68,7 @@ and_take calls x = record { takes = calls.takes ++ x ∷ []; end = Open }
 abbrev pub and_end : Takes → ℕ → ℕ → Takes
 and_end calls seen again = record { takes = calls.takes; end = Closed seen again }
 
--- after k taken items, a take of at most `wanted` takes m: all that it wants, or all that the count `seen` shows
+-- after k taken items, a take of at most `wanted` takes m: all that it asks for, or all that the count `seen` shows
 abbrev pub TakesAll : Shape → ℕ → (wanted seen m : ℕ) → Type 0
 TakesAll shape k wanted seen m = (m ≤ wanted) × ((m ≡ wanted) ⊎ (m ≡ distance (modulus_of shape) seen (k % modulus_of shape)))
 

@@ -40,8 +40,8 @@ WritesTakeCount a = (i : ℕ) × (v : Bool) × (a ≡ begins.Write (R i) v)
 abbrev pub EndInCellRead : List Made → Type 0
 EndInCellRead made = (before : List Made) × (j i : ℕ) × (v : Bool) × (made ≡ before ++ Read (Cell j i) v ∷ [])
 
--- After a word was read, one take reads the next word and another counts: this take reads on only if it wants more than one item, the
--- other only if this one wants fewer than may be taken.
+-- After a word was read, one take reads the next word and another counts: this take reads on only if it asks for more than one item, the
+-- other only if this one asks for fewer than may be taken.
 abbrev pub TakesPart : Shape → ℕ → Access → Access → Type 0
 TakesPart shape wanted a b = (ReadsFirstDigit a × WritesTakeCount b × (1 < wanted)) ⊎ (WritesTakeCount a × ReadsFirstDigit b × (wanted < take_batch_of shape))
 

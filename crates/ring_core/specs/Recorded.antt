@@ -44,7 +44,7 @@ put_told shape offers j c (x ∷ puts) closes i =
     told_or_behind (events_in (put_phrase shape c x)) (PutBegin (offers j)) (put_answer x) i
     (put_told shape offers (suc j) (stored_after shape c x) puts closes (i - events_in (put_phrase shape c x)))
 
--- what the consumer's own event number i records, of takes from number j on, each of which wants at most as many items as `wants` has at
+-- what the consumer's own event number i records, of takes from number j on, each of which asks for at most as many items as `wants` has at
 -- its number
 abbrev pub take_told : Shape → (ℕ → ℕ) → ℕ → Count → List Take → End → ℕ → List calls.Event
 take_told shape wants j c [] Open i = []
@@ -74,7 +74,7 @@ abbrev pub AreOffered : Shape → (ℕ → List ℕ) → (j n : ℕ) → List Pu
 AreOffered shape offers j n [] = Unit {0}
 AreOffered shape offers j n (x ∷ puts) = (0 < length (offers j)) × IsPutOf shape n (offers j) x × AreOffered shape offers (suc j) (number_after n x) puts
 
--- the recorded calls of every run, each take of which wants some items, are linearizable, as calls of a queue of the ring's capacity
+-- the recorded calls of every run, each take of which asks for some items, are linearizable, as calls of a queue of the ring's capacity
 abbrev pub RecordedIsLinearizable : Type 0
 RecordedIsLinearizable =
     (shape : Shape) (offers : ℕ → List ℕ) (wants : ℕ → ℕ) (h : List Event) (puts : Puts) (takes : Takes) →

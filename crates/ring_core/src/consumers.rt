@@ -172,7 +172,7 @@ impl Consumer {
     }
 
     /// Records that the due access was made and returned `answer`; for a write it is ignored. When
-    /// [`expects_one`](Self::expects_one), it must be 1. The number of items wanted stays the same, and once the
+    /// [`expects_one`](Self::expects_one), it must be 1. The number of items requested stays the same, and once the
     /// take counts its items it does so until it is over.
     #[inline(always)]
     pub fn feed(&mut self, answer: bool)

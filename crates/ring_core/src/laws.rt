@@ -107,7 +107,7 @@ pub fn calls_go_on_by_one()
 
 /// What a consumer does next is determined by the accesses that it has made and their answers: programs that start with
 /// these continue with the same access. The exception is after a complete word, when one may read the next and another
-/// count those read: a take reads on only if it wants more than one item, and others next to it only if it wants fewer
+/// count those read: a take reads on only if it asks for more than one item, and others next to it only if it asks for fewer
 /// than may be taken.
 pub fn takes_go_on()
     ensures { TakesGoOn }
@@ -214,7 +214,7 @@ pub fn ring_is_linearizable()
 
 /// The calls of every run of the ring, as a recorder would record them, are a linearizable history of a queue of the
 /// ring's capacity: an auditor of recorded calls accepts each event. A put may have been offered more items than it
-/// stored; it then found no room for one more before it stored the first. A take may have wanted more items than it took;
+/// stored; it then found no room for one more before it stored the first. A take may have asked for more items than it took;
 /// the ring then held no more. A call that is cut has begun and has not ended.
 pub fn recorded_is_linearizable()
     ensures { RecordedIsLinearizable }

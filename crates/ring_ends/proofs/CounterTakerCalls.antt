@@ -75,7 +75,7 @@ made_end a b calls wanted seen again opened same stands has = record {
 
 -- ---- the scans
 
--- of a count that shows items, as many are taken as wanted and shown
+-- of a count that shows items, as many are taken as requested and shown
 pub record ShownOf (shape : Shape) (seen count wanted most : ℕ) : Type 0 where
   pub shows : ShowsItem shape seen count
   pub some : 1 ≤ most
@@ -170,7 +170,7 @@ module _ (a : RingEnd) (count cell wanted : ℕ) (calls : Takes) (p : TakerList 
 
 -- ---- the items
 
--- a take counts no more items than it wants
+-- a take counts no more items than it asks for
 pub few_found : (shape : Shape) (k wanted most : ℕ) (look : Finding) → Finds shape k wanted look most → most ≤ wanted
 few_found shape k wanted most (Once seen) finds = finds.1.0
 few_found shape k wanted most (Twice seen again) finds = finds.2.0

@@ -92,7 +92,7 @@ pub few_taken :
 few_taken shape false wanted n list marked few = omega (arith, marked.1)
 few_taken shape true wanted n list marked few = omega (arith, marked.1, few_reads shape wanted (few refl))
 
--- if the machine keeps the number of items wanted, the answer is fed as to a side's machine
+-- if the machine keeps the number of items requested, the answer is fed as to a side's machine
 pub take_fed :
     (m m' : ConsumerState) (v : Bool) → m'.shape ≡ m.shape → m'.wanted ≡ m.wanted →
     ((calls : Takes) (made : List Made) (a : Access) → ConsumerStands m calls made → due_take m ≡ Some a → ConsumerHasMoved m m' calls (made ++ answered a v ∷ [])) →
@@ -128,13 +128,13 @@ taking_seen {O} e = ap (λ (z : TakerState O). z.taking) e
 abbrev pub Begins : ConsumerState → ConsumerState → ℕ → Type 0
 Begins m now wanted = (calls : Takes) (made : List Made) → ConsumerStands m calls made → CallBegins consuming m now calls made wanted
 
--- by the number of items wanted in its model
+-- by the number of items requested in its model
 pub begins_seen :
     {O : Type 0} {a s : TakerState O} → a ≡ s → (m now : ConsumerState) (most wanted : ℕ) → wants_next s.taking s.wanted most ≡ wanted →
     Begins m now (wants_next a.taking a.wanted most) → Begins m now wanted
 begins_seen {O} e m now most wanted is = subst (Begins m now) (ap (λ (z : TakerState O). wants_next z.taking z.wanted most) e ∙ is)
 
--- a take that is under way wants as many as one that starts now
+-- a take that is under way asks for as many as one that starts now
 pub wants_same : (taking : Bool) (wanted most : ℕ) → (taking ≡ true → wanted ≡ most) → wants_next taking wanted most ≡ most
 wants_same false wanted most same = refl
 wants_same true wanted most same = same refl
@@ -170,7 +170,7 @@ module _ (wanted : ℕ) (s : Step consuming wanted) where
   some_of (Some x) is (Over event grows none more is_more list made stands) =
       (none, record { calls = calls; before_is = before_is; adds = over_adds s.e.ring.shape wanted calls more is_more whole s.e.list list x (sym is ∙ subst (λ (z : Bool). IsReplyToTake more z s.m.reply) none stands.reply_is) })
 
-  -- a take that continues wants as many items
+  -- a take that continues asks for as many items
   wanted_of : TakeOf → is_taking s.m ≡ true → s.m.wanted ≡ wanted
   wanted_of (Refused same none refused list) is = absurd (true≢false (sym is ∙ none))
   wanted_of (Goes event grows same part more made stands) is = same.1

@@ -78,7 +78,7 @@ pub record HasClosed (shape : Shape) (before after : List Event) : Type 0 where
 
 -- ---- the consumer's end
 
--- a taker: its end, whether a take is under way, how many items that or the last one wants, its list when a take under way
+-- a taker: its end, whether a take is under way, how many items that or the last one asks for, its list when a take under way
 -- began, and its oracle
 pub record TakerState (O : Type 0) : Type 0 where
   pub end : RingEnd
@@ -87,7 +87,7 @@ pub record TakerState (O : Type 0) : Type 0 where
   pub start : List Event
   pub oracle : O
 
--- the most items that the take under way wants, or one that begins now as a take of at most `most`
+-- the most items that the take under way asks for, or one that begins now as a take of at most `most`
 abbrev pub wants_next : Bool → (wanted most : ℕ) → ℕ
 wants_next false wanted most = most
 wants_next true wanted most = wanted

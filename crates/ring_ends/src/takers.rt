@@ -27,7 +27,7 @@ use std::marker::Model;
 /// here make one atomic step of such a call each.
 ///
 /// To a contract it is its list of events, what it knows, and whether a take is under way with the list when that
-/// began and how many items it wants. It takes no memory and never waits.
+/// began and how many items it asks for. It takes no memory and never waits.
 ///
 /// In use: `uses::steps::step_taker`.
 #[derive(Drop)]

@@ -43,7 +43,7 @@ impl<A: Allocator> Model for HeldPutter<A> {
 }
 
 impl<A: Allocator> HeldPutter<A> {
-    /// Whether it has closed the ring: whether a close stands in its list of complete calls.
+    /// Whether it has closed the ring: whether a close is in its list of complete calls.
     pub fn is_closed(&self) -> bool
         ensures { ClosesAre self.now.ring.shape self.now.list result }
     {

@@ -20,7 +20,7 @@ pub struct Telling {
     /// The number of the word of its line (`queue_calls::Word`).
     pub word: u64,
     /// For the start of a put, how many items of the script are stored; for its end, how many it stored; for the start of a take, how
-    /// many items it wants; for its end, how many it took. Otherwise 0.
+    /// many items it asks for; for its end, how many it took. Otherwise 0.
     pub number: u64,
 }
 

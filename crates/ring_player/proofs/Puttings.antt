@@ -167,7 +167,7 @@ pub next_in :
     IsNextPut script.shape s.calls (call_of p) list due
 next_in script p kept list o due s next = subst (λ (t : Shape). IsNextPut t s.calls (call_of p) list due) s.same_shape (next s.calls list s.there)
 
--- the same calls and counts, of a machine that stands with these accesses
+-- the same calls and counts, of a machine that stands after these accesses
 stands_with :
     {script : Content} {p : ProducerState} {kept : PutTally} {list : List Made} {o : Option Access} (s : PutActorStands script p kept list o) (p' : ProducerState) (o' : Option Access) →
     ProducerStands p' s.calls list → p'.shape ≡ script.shape → ((items : List ℕ) → call_of p' ≡ Some (Put items) → p'.batched ≡ true) → IsAsked script s.calls (call_of p') →

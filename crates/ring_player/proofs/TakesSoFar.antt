@@ -118,7 +118,7 @@ taken_so_far script p taken told empty list o due s next is_due = by_due due is_
             let bounds = so_far_length C list o in
             ap (λ (m : Takes). items_taken shape first_count m.takes t) more_is ∙ taken_all shape first_count calls.takes t (omega (arith, s.long, program-parts calls, bounds))
 
--- it has taken no more than the script wants
+-- it has taken no more than the script asks for
 pub taken_few :
     (script : Content) (p : ConsumerState) (taken : List ℕ) (told : Bool) (empty : ℕ) (list : List Made) (o : Option Access) → TakeActorStands script p taken told empty list o → length taken ≤ script.takes
 taken_few script p taken told empty list o s = omega (arith, s.few, ap length s.taken_is, all_are 0 s.calls.takes)

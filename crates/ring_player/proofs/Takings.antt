@@ -21,7 +21,7 @@ use Rattle.ring_player.proofs.TakeLists.{all_are, taken_rises, take_of_calls}
 use Rattle.ring_core.proofs.Readings.TakenRead.{same_calls}
 use Rattle.ring_core.proofs.LawLemmas.{calls_are_first_takes}
 
--- ---- takes that the script wants
+-- ---- takes that the script asks for
 
 -- and one more
 wanted-more :
@@ -81,7 +81,7 @@ at_rest_is shape wanted calls true made due e next = absurd (true_false e)
     true_false : true ≡ false → ⊥
     true_false e = absurd (cc)
 
--- the take under way wants as many items as the world
+-- the take under way asks for as many items as the world
 of_wanted :
     (shape : Shape) (wanted w : ℕ) (calls : Takes) (taking : Bool) (made : List Made) (due : Option Access) → (taking ≡ true → wanted ≡ w) → IsNextTake shape wanted calls taking made due →
     IsNextTake shape w calls taking made due
@@ -96,7 +96,7 @@ next_in script p taken told empty list o due s next =
     of_wanted script.shape p.wanted (wanted_at script (taken_in 0 s.calls.takes)) s.calls (is_taking p) list due s.wants
     (subst (λ (t : Shape). IsNextTake t p.wanted s.calls (is_taking p) list due) s.same_shape (next s.calls list s.there))
 
--- the same takes, of a machine that stands with these accesses
+-- the same takes, of a machine that stands after these accesses
 stands_with :
     {script : Content} {p : ConsumerState} {taken : List ℕ} {told : Bool} {empty : ℕ} {list : List Made} {o : Option Access} (s : TakeActorStands script p taken told empty list o) (p' : ConsumerState) (o' : Option Access) →
     ConsumerStands p' s.calls list → p'.shape ≡ script.shape → (is_taking p' ≡ true → p'.wanted ≡ wanted_at script (taken_in 0 s.calls.takes)) →

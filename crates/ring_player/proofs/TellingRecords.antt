@@ -42,13 +42,13 @@ offered_all script puts front (x ∷ xs) j n e f g (l, of, m) =
           (omega (arith, f, length-append front (x ∷ []))) (ap (λ k. number_after k x) g ∙ sym (stored-more 0 front x)) m,
     )
 
--- ---- what takes want
+-- ---- what takes ask for
 
--- the same, but 1 if that is 0: each take of a play wants at least one
+-- the same, but 1 if that is 0: each take of a play asks for at least one
 abbrev some_of : Content → Takes → ℕ → ℕ
 some_of script takes j = suc (wants_of script takes j - 1)
 
--- a take after these wants what the world wants there
+-- a take after these asks for what the world asks for there
 wants_behind : (script : Content) (takes : Takes) (front xs : List Take) (j k : ℕ) → takes.takes ≡ front ++ xs → j ≡ length front → k ≡ taken_in 0 front → wants_of script takes j ≡ wanted_at script k
 wants_behind script takes front xs j k e f g =
     ap (λ l. wanted_at script (taken_in 0 l)) (ap₂ (λ (i : ℕ) (l : List Take). take i l) f e ∙ take-append_seam front xs) ∙ ap (wanted_at script) (sym g)

@@ -30,13 +30,13 @@ pub record ArePutsOf (script : Content) (calls : Puts) : Type 0 where
   pub attempts : AreAttempts script 0 calls.puts
   pub closes : calls.closes ≡ true → (script.closes ≡ true) × (stored_in 0 calls.puts ≡ length script.items)
 
--- takes, after k items, each of which wants as many items as one count write may count, or as are left to take, and at least one is left
+-- takes, after k items, each of which asks for as many items as one count write may count, or as are left to take, and at least one is left
 abbrev pub AreWantedBy : Content → ℕ → List Take → Type 0
 AreWantedBy script k [] = Unit {0}
 AreWantedBy script k (x ∷ takes) =
     (k < script.takes) × IsTakeOf script.shape k (min (take_batch_of script.shape) (script.takes - k)) x × AreWantedBy script (taken_after k x) takes
 
--- these events of a side are a prefix of those of calls that the script requests; a take that returns Closed wanted at least one item too
+-- these events of a side are a prefix of those of calls that the script requests; a take that returns Closed asked for at least one item
 abbrev pub IsProgram : Content → Side → List Event → Type 0
 IsProgram script P events = (calls : Puts) × ArePutsOf script calls × IsPrefix events (events_of P (put_program script.shape calls))
 IsProgram script C events =
@@ -44,7 +44,7 @@ IsProgram script C events =
     IsPrefix events (events_of C (take_program script.shape calls))
 
 -- they are those of complete calls: of puts that store all items, with the close if the script closes; or of takes that take
--- as many items as the script wants, or the last of which returns Closed
+-- as many items as the script asks for, or the last of which returns Closed
 abbrev pub IsDoneAfter : Content → Side → List Event → Type 0
 IsDoneAfter script P events = (calls : Puts) × ArePuts script.shape 0 calls.puts × (events ≡ events_of P (put_program script.shape calls)) ×
     (stored_in 0 calls.puts ≡ length script.items) × (calls.closes ≡ script.closes)

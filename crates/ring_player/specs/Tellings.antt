@@ -36,7 +36,7 @@ pub record IsReadingAsked (script : Content) (h : List Event) (puts : Puts) (tak
 abbrev pub offers_of : Content → Puts → ℕ → List ℕ
 offers_of script puts j = offered script (stored_in 0 (take j puts.puts))
 
--- how many items the world wants with each of these takes, by its number: as many as it wants after those that the earlier takes took
+-- how many items the world asks for with each of these takes, by its number: as many as it asks for after those that the earlier takes took
 abbrev pub wants_of : Content → Takes → ℕ → ℕ
 wants_of script takes j = wanted_at script (taken_in 0 (take j takes.takes))
 
@@ -121,7 +121,7 @@ IsTakeTally script takes i kept =
     (kept.taken ≡ length (all_taken (takes_over script.shape first_count takes.takes i))) ×
     (kept.empty ≡ empties (takes_over script.shape first_count takes.takes i)) × ((kept.told ≡ true) ↔ IsTold script.shape takes i)
 
--- what an event of the consumer records, if the takes over with it took the script's first items; if it begins a take, that wants
+-- what an event of the consumer records, if the takes over with it took the script's first items; if it begins a take, that asks for
 -- this many items
 abbrev pub SaysTake : TakeStage → (wanted : ℕ) → (before now : TakeTally) → TakeStage → Option (CallEvent ℕ TakenItems) → Type 0
 SaysTake stage wanted before now next told =

@@ -1,4 +1,4 @@
--- How many items the world wants with a take.
+-- How many items the world asks for with a take.
 use Rattle.std.specs.Prelude.{ℕ, ◌-◌, ◌<◌, min}
 use Rattle.bits_core.specs.Shape.{take_batch_of}
 use Rattle.ring_core.specs.Items.{Tells}
@@ -10,7 +10,7 @@ use Rattle.ring_script.specs.Content.{Content}
 abbrev pub wanted_at : Content → ℕ → ℕ
 wanted_at script k = min (take_batch_of script.shape) (script.takes - k)
 
--- the takes are those that the script wants, and if the last one returns Closed, it wanted at least one item
+-- the takes are those that the script asks for, and if the last one returns Closed, it asked for at least one item
 pub record AreTakesOf (script : Content) (calls : Takes) : Type 0 where
   pub are : AreTakes script.shape 0 calls.takes calls.end
   pub wanted : AreWantedBy script 0 calls.takes

@@ -21,7 +21,7 @@ pub record Played : Type 0 where
   pub event_room : ℕ
   pub item_room : ℕ
 
--- One step of a side: if it is refused everything is unchanged, and there was no room for an event, or for what the next take wants
+-- One step of a side: if it is refused everything is unchanged, and there was no room for an event, or for what the next take asks for
 pub record PlayedOn {E : Type 0} (side : Side) (old new : Played) (result : Result Bool E) : Type 0 where
   pub script : new.script ≡ old.script
   pub ok : IfOk result (λ moved. IsMove old.script side moved old.history new.history)

@@ -28,7 +28,7 @@ fn add_all<T: Store<u64>>(store: &mut T, items: &[u64])
     }
 }
 
-/// Takes as many items as a script wants, or until a take returns Closed.
+/// Takes as many items as a script asks for, or until a take returns Closed.
 #[derive(Drop)]
 pub(crate) struct TakeActor<'a, T: Store<u64>> {
     script: ScriptRef<'a>,
@@ -90,7 +90,7 @@ impl<'a, T: Store<u64>> TakeActor<'a, T> {
         self.consumer.next();
     }
 
-    /// How many items the next take wants: as many as one count write may count, or as many as are left to take.
+    /// How many items the next take asks for: as many as one count write may count, or as many as are left to take.
     pub fn wanted(&self) -> u64
         ensures value { result ≡ wanted_at (content_of self.now.script) (length (T.items self.now.taken)) }
         ensures few { result ≤ take_batch_of (content_of self.now.script).shape }
@@ -105,7 +105,7 @@ impl<'a, T: Store<u64>> TakeActor<'a, T> {
             .min(self.script.takes().saturating_sub(taken))
     }
 
-    /// Begins the next take, if none is under way and the script wants one.
+    /// Begins the next take, if none is under way and the script asks for one.
     fn begin_take(&mut self)
         ensures script { content_of self.new.script ≡ content_of self.old.script }
         ensures taken { (T.items self.new.taken ≡ T.items self.old.taken) ×

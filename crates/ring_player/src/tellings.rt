@@ -29,7 +29,7 @@ pub struct TakenItems {
 
 /// What an event of a play records of a call: its start, with its first own event, or its end, with its last. The start of a put has how
 /// many items of the script were stored before it: it is offered those that follow, as many as a batch may have. The start of a take has
-/// how many items it wants, and its end which it took, if any.
+/// how many items it asks for, and its end which it took, if any.
 ///
 /// In use: `lamport_ring play --calls`.
 pub type PlayedCall = CallEvent<usize, TakenItems>;
@@ -105,7 +105,7 @@ struct TakeCount {
     told: bool,
 }
 
-// The stage after an event of the consumer and what the event records, by the stage before it, how many items the next take wanted, and
+// The stage after an event of the consumer and what the event records, by the stage before it, how many items the next take asked for, and
 // the counts before it and with it.
 fn take_says(
     stage: TakeStage,

@@ -190,7 +190,7 @@ impl<'a, E: Store<Event>, T: Store<u64>> World<'a, E, T> {
         self.consumer.empty
     }
 
-    /// How many items the next take wants: as many as one count write may count, or as many as are left to take.
+    /// How many items the next take asks for: as many as one count write may count, or as many as are left to take.
     pub fn wanted(&self) -> u64
         ensures wanted { (takes : Takes) → FollowsTakes self.now.script.shape self.now.history takes →
             result ≡ wanted_at self.now.script (length (all_taken
@@ -255,7 +255,7 @@ impl<'a, E: Store<Event>, T: Store<u64>> World<'a, E, T> {
     /// One step of a side: true if it made its next event, false if it is done.
     ///
     /// `OutOfMemory` leaves everything unchanged: the history had no room for the event, or the items taken had none for
-    /// as many more as the take wants, which is requested whenever an access of the consumer ends.
+    /// as many more as the take asks for, which is requested whenever an access of the consumer ends.
     pub fn step(&mut self, side: Side) -> Result<bool, PlayFault>
         ensures script { self.new.script ≡ self.old.script }
         ensures ok { IfOk result (λ moved. IsMove self.old.script side moved self.old.history self.new.history) }
@@ -388,7 +388,7 @@ pub fn play<'a, A: Allocator + Copy, B: Allocator>(
 /// these letters, and the report on it. The history and the items taken are added to these stores, which are empty.
 ///
 /// `OutOfMemory`: one of the stores had no room, the history for an event, or the items taken for as many more as a take
-/// wants, which is requested whenever an access of the consumer ends.
+/// asks for, which is requested whenever an access of the consumer ends.
 ///
 /// In use: the page, which shows a play up to a letter.
 pub fn play_first<'a, E: Store<Event>, T: Store<u64>>(

@@ -59,7 +59,7 @@ room_with s event = pick s (side_of event) 1 0
 -- ---- calls as a run makes them
 
 -- After puts that left these items: a put offers as many of them as a batch has, or all if fewer are left, and a close comes if
--- none is left; a take wants one item, up to as many as the take batch
+-- none is left; a take asks for one item, up to as many as the take batch
 abbrev pub IsOfRun : Shape → (left : List ℕ) → Event → Type 0
 IsOfRun shape left (PutBegin items) = items ≡ take (batch_of shape) left
 IsOfRun shape left CloseBegin = left ≡ []

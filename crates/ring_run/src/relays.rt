@@ -22,7 +22,7 @@ use std::thread::{Threads, join_mut};
 pub struct Limits {
     /// The most puts.
     pub puts: u64,
-    /// The most takes, where one that brings several items counts once for each.
+    /// The most takes; one that brings several items counts once for each.
     pub takes: u64,
 }
 

@@ -84,7 +84,7 @@ impl<'a> ScriptRef<'a> {
         self.items
     }
 
-    /// How many items the consumer wants. It may be any number.
+    /// How many items the consumer asks for. It may be any number.
     pub fn takes(&self) -> u64
         ensures { result ≡ (content_of self.now).takes }
     {

@@ -21,7 +21,7 @@ pub enum Field {
     Width,
     /// `items`: the items to put, in order, an array of whole numbers.
     Items,
-    /// `takes`: how many items the consumer wants, a whole number.
+    /// `takes`: how many items the consumer asks for, a whole number.
     Takes,
     /// `close`: whether the producer closes after the last item, true or false.
     Close,

@@ -79,7 +79,7 @@ impl<A: Allocator> Script<A> {
         &self.items
     }
 
-    /// How many items the consumer wants. It may be any number.
+    /// How many items the consumer asks for. It may be any number.
     pub fn takes(&self) -> u64
         ensures { result ≡ self.now.takes }
     {

@@ -23,7 +23,7 @@ abbrev pub or_else : {A : Type 0} → Option A → Option A → Option A
 or_else (Some x) other = Some x
 or_else None other = other
 
--- a value, if its text stands there
+-- a value, if the bytes start with its text
 abbrev pub named : {A : Type 0} → A → List ℕ → List ℕ → Option (A × List ℕ)
 named value text bytes = after text bytes >>= λ rest. Some (value, rest)
 

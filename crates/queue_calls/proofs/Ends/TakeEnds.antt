@@ -20,7 +20,7 @@ behind : (xs ys zs : List ℕ) → xs ++ ys ≡ xs ++ zs → ys ≡ zs
 behind [] ys zs e = e
 behind (x ∷ xs) ys zs e = behind xs ys zs (let f : xs ++ ys ≡ xs ++ zs = cc in f)
 
--- the end of a take that took these items, and found fewer than the number that goes with how many more it wanted
+-- the end of a take that took these items, and found fewer than the number that goes with how many more it asked for
 record Ends (e : Event) (took : List ℕ) (lack : ℕ → ℕ) : Type 0 where
   ends : (c c' : Consumer) → ConsumerStep c (Happens e) c' → (left : ℕ) × (c ≡ Taking (lack left) took left) × (c' ≡ Resting)
   idle : (p p' : Producer) → ProducerStep p (Happens e) p' → p' ≡ p
@@ -69,7 +69,7 @@ module _ (capacity : Capacity) (h : List Event) (put : PutTurn) (shut : Bool) wh
         (record { items = ap (λ z. took ++ z) d'.items; room = d.room; producer = d.producer; consumer = (sum, lacks) }) told)
         (record { queue = refl; producer = ends.rests t.producer; consumer = step }))
 
-  -- a take that took fewer than it wanted found fewer than one more, and one that took all has no reason to report
+  -- a take that took fewer than it asked for found fewer than one more, and one that took all has no reason to report
   reason :
       (before count wanted : ℕ) (ended why : Bool) → count ≤ wanted → (why ≡ true → count < wanted → MayFindFewer before ended (suc count)) →
       MayFindFewer before ended (short_of why count (wanted - count))

@@ -127,7 +127,7 @@ to_cell-there j before (Write b w) after d v f =
 
 -- ---- the items stored to a cell
 
--- those of these items that are stored to the cell, where the first is item number n
+-- those of these items that are stored to the cell; the first of these items is number n
 abbrev pub stored_to : Shape → ℕ → ℕ → List ℕ → List ℕ
 stored_to shape j n [] = []
 stored_to shape j n (item ∷ items) = cond (nat_eq j (n % capacity_of shape)) (item ∷ []) [] ++ stored_to shape j (suc n) items

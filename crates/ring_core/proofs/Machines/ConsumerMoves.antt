@@ -402,7 +402,7 @@ word_over p w row answer item items e goes whole items_are size begins_row calls
     ) in
     subst (λ l. ConsumerHasMoved p (at_stage p Counting p.scan w row l p.most) calls (made ++ x)) (sym items_are) moved
 
--- what shows items to a take shows fewer to one that wants fewer
+-- what shows items to a take shows fewer to one that asks for fewer
 fewer : (shape : Shape) (k wanted : ℕ) (look : Finding) (most m : ℕ) → m ≤ most → Finds shape k wanted look most → Finds shape k m look m
 fewer shape k wanted (Once seen) most m few ((below, shows, room), all) = ((below, omega (arith, few, shows), room), (omega arith, inl refl))
 fewer shape k wanted (Twice seen again) most m few (none, (below, shows, room), all) = (none, (below, omega (arith, few, shows), room), (omega arith, inl refl))

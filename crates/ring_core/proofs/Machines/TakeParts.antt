@@ -132,7 +132,7 @@ counts_first :
     (shape : Shape) (c : Count) (items : List ℕ) (behind : List Made) → IsCount shape c → IsTakeBatch shape items → CountsFirst (batch_phrase shape C c items ++ behind)
 counts_first shape c items behind is batch = row_first (count_bits shape c items) behind (bits_long shape c items is batch.some (omega (arith, batch.few, take_batch_below shape)))
 
--- of two takes, one that reads on when the other counts wants more than one item, and one that counts when the other reads on wants
+-- of two takes, if the first reads on when the other counts, it asks for more than one item; if it counts when the other reads on, for
 -- fewer than may be taken
 abbrev PartsBy : Shape → ℕ → (m n : ℕ) → Type 0
 PartsBy shape wanted m n = (m < n → wanted < take_batch_of shape) × (n < m → 1 < wanted)
@@ -191,7 +191,7 @@ or_items shape wanted c (a ∷ us) (b ∷ vs) left right is batch batch' on by m
 shown : (shape : Shape) (k : ℕ) (c : ℕ) (items : List ℕ) → SeesItems shape k c (length items) → IsTakeBatch shape items → Shows shape k (length items) c (length items)
 shown shape k c items sees batch = (batch.some, sees, (omega arith, inl refl))
 
--- a take that takes fewer than the other takes all that it wants, and one that takes more wants more than one
+-- a take that takes fewer than the other takes all that it asks for, and one that takes more asks for more than one
 parts_by :
     (shape : Shape) (k wanted c d : ℕ) (us vs : List ℕ) → c ≡ d → TakesAll shape k wanted c (length us) → SeesItems shape k d (length vs) → IsTakeBatch shape vs →
     PartsBy shape wanted (length us) (length vs)
@@ -377,7 +377,7 @@ takes-go_on shape wanted calls b made a y rest (part, made_is) goes are e =
 
 -- ---- if only one item may be taken
 
--- a take then takes all that a take of one wants
+-- a take then takes all that a take of one asks for
 one_wanted : (shape : Shape) → take_batch_of shape ≡ 1 → (k seen : ℕ) (items : List ℕ) → IsTakeBatch shape items → TakesAll shape k 1 seen (length items)
 one_wanted shape one k seen items batch =
     let single : length items ≡ 1 = omega (arith, one, batch.some, batch.few) in

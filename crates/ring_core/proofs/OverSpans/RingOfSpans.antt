@@ -47,7 +47,7 @@ abbrev pub IsWordAccess : Side → Shape → List Event → ℕ → Span → ℕ
 IsWordAccess side shape h s x i start stop =
     IsInterval side h (s + x.scan + 2 * (i * width_of shape)) (s + x.scan + 2 * (suc i * width_of shape) - 1) start stop
 
--- a put after n items reads a count from n - capacity - 1 to n
+-- a put after n items reads a count from n - capacity - take batch to n
 abbrev pub PutsAreInRange : Shape → List Event → Puts → Takes → Type 0
 PutsAreInRange shape h puts takes =
     (s n : ℕ) (x : Span) → IsSpanAt (put_spans shape puts) s n x → s + x.scan ≤ length (subhistory P h) →

@@ -18,7 +18,7 @@ two_items-offered : AreOffered one_cell two_items 0 0 put_and_close.puts
 unfolding one_cell
 two_items-offered = (omega arith, refl, tt)
 
--- each take wants one item
+-- each take asks for one item
 abbrev one_each : ℕ → ℕ
 one_each j = 1
 

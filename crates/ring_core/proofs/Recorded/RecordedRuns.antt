@@ -30,7 +30,7 @@ side_of C = inr refl
 abbrev told_by : (f g : ℕ → List calls.Event) → (p q : ℕ) → List Event → Side → List calls.Event
 told_by f g p q rest s = by_side s (f p) (g q) ++ calls_told f g (by_side s (suc p) p) (by_side s q (suc q)) rest
 
--- every take wants an item, including the one that returns Closed
+-- every take asks for an item, including the one that returns Closed
 module _ (shape : Shape) (offers : ℕ → List ℕ) (wants : ℕ → ℕ) (h : List Event) (puts : Puts) (takes : Takes) (run : IsRun shape h puts takes)
     (law : LawOfSpans shape h puts takes) (some_wanted : (j : ℕ) → 0 < wants j) where
   abbrev f : ℕ → List calls.Event

@@ -188,7 +188,7 @@ pub record InCall (shape : Shape) (wants : ℕ → ℕ) (takes : Takes) (left : 
   pub behind : TakesBehind shape wants takes count start taken left
   pub take_is : take ≡ Waits (wants behind.made) before shut
 
--- it is in a take. If that ends with fewer items than it wants, no more were inside when it began; and if it ends with none, the ring
+-- it is in a take. If that ends with fewer items than it asks for, no more were inside when it began; and if it ends with none, the ring
 -- was open.
 pub record TakeRuns (shape : Shape) (wants : ℕ → ℕ) (h : List Event) (takes : Takes) (q : ℕ) (taken : List ℕ) (take : TakeTurn) : Type 0 where
   pub call : Take
@@ -237,7 +237,7 @@ first_taken shape wants takes c start taken rest q l b =
     let on : q ≡ start + (q - start) = omega (arith, l) in
     (ended_items (spans C shape c (take_looks rest takes.end)) (q - start), sym (ap (ended_items (take_spans shape takes)) on ∙ b.spans_are.ended (q - start)))
 
--- a take takes no more than it wants
+-- a take takes no more than it asks for
 pub few_items : (shape : Shape) (k wanted : ℕ) (x : Take) → IsTakeOf shape k wanted x → length (taken_of x) ≤ wanted
 few_items shape k wanted (Item seen items) e = e.0
 few_items shape k wanted (ItemAfterClose seen again items) e = e.0

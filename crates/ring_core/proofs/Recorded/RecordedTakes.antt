@@ -47,12 +47,12 @@ take_two shape c x = omega (arith, phrase_some shape c x)
 end_two : (seen again : ℕ) → 2 ≤ end_long seen again
 end_two seen again = omega (arith, end_some seen again)
 
--- a take of fewer items than it wants takes all that its scan showed
+-- a take of fewer items than it asks for takes all that its scan showed
 takes_shown : (wanted shown m : ℕ) → (m ≡ wanted) ⊎ (m ≡ shown) → m < wanted → shown ≡ m
 takes_shown wanted shown m (inl e) l = absurd (omega (arith, e, l))
 takes_shown wanted shown m (inr e) l = sym e
 
--- every take wants an item, including the one that returns Closed
+-- every take asks for an item, including the one that returns Closed
 module _ (shape : Shape) (offers : ℕ → List ℕ) (wants : ℕ → ℕ) (h : List Event) (puts : Puts) (takes : Takes) (run : IsRun shape h puts takes)
     (law : LawOfSpans shape h puts takes) (some_wanted : (j : ℕ) → 0 < wants j) where
   abbrev Here : ℕ → ℕ → ℕ → List Event → Kept → Type 0
@@ -124,7 +124,7 @@ module _ (shape : Shape) (offers : ℕ → List ℕ) (wants : ℕ → ℕ) (h : 
       ] in
       omega (arith, few, ended_up (batch_of shape) (put_spans shape puts) (proper_puts shape puts run.puts_follow.are) (clock P h t) (clock P h there) (clock_rises P h t there order))
 
-  -- when a take begins that will take fewer items than it wants, no more are inside
+  -- when a take begins that will take fewer items than it asks for, no more are inside
   lacks :
       (c : Count) (taken : List ℕ) (x : Take) (more : List Take) (t p q stored inside : ℕ) → (b : TakesBehind shape wants takes c q taken (x ∷ more)) → IsPlaceOf C h q t →
       clock P h t ≡ p → clock C h t ≡ q → stored ≤ counts_ended (put_spans shape puts) p → inside ≡ stored - length taken →

@@ -90,7 +90,7 @@ pub static CASES: [Case; 45] = [
     case!("short of one", ONE, OUT_OF_TURN; PutBegins[1], PutStored(1), PutBegins[2], PutShort),
     // An item of the put was taken.
     case!("nothing but taken", TWO, NOT_LINEARIZABLE; PutBegins[1, 2], TakeBegins(1), TakeItems[1], PutNothing),
-    // Two were inside before the take, which wanted two and took one.
+    // Two were inside before the take, which asked for two and took one.
     case!("fewer than inside", TWO, NOT_LINEARIZABLE; PutBegins[1, 2], PutStored(2), TakeBegins(2), TakeItems[1]),
     // One was inside before the take, and the second came while it was under way.
     case!("fewer than came", TWO, LAWFUL;

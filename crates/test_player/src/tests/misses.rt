@@ -42,8 +42,8 @@ static CASES: [Near<'static>; 9] = [
     near!(SmallModulus, [2, 5, 3, 1, 2], OVERWRITTEN;
         PutBegins(0), PutStored(1), PutBegins(1), PutStored(1), TakeBegins(2), PutBegins(2), PutStored(1),
         PutBegins(3), PutStored(1), PutBegins(4), TakeItems(2), TakeBegins(2), TakeItems(2); &[1, 2, 0, 5]),
-    // One item is there, of two that the take wants, and then none: a take that finds the ring empty uses up one of three, and the last
-    // one wants what is left.
+    // One item is there, of two that the take asks for, and then none: a take that finds the ring empty uses up one of three, and the last
+    // one asks for what is left.
     near!(ClearsUpwards, [2, 5, 1, 1, 2], ("[1,0]", 3, false, "P8C16P10C12", "");
         PutBegins(0), PutStored(1), TakeBegins(2), TakeItems(1), TakeBegins(2), TakeEmpty, PutBegins(1),
         PutStored(1), TakeBegins(1), TakeItems(1); &[1, 0]),

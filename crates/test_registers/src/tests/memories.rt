@@ -70,7 +70,7 @@ fn a_bit_is_written_where_it_changes(rt: HostRuntime) -> Result<(), Fail> {
 // The values of one count, each different from the one before it; at first it is 0.
 static VALUES: [u64; 16] = [2, 0, 2, 1, 3, 1, 0, 3, 2, 1, 2, 3, 0, 1, 3, 0];
 
-// Whether the value is that of a write with a number from one to the other, where number 0 is the first value.
+// Whether the value is that of a write with a number from one to the other; number 0 is the first value.
 fn is_value_of(value: u64, first: usize, last: usize) -> bool {
     let mut found = false;
     for number in first..=last {

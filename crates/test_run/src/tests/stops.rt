@@ -12,7 +12,7 @@ const SHAPES: [[u64; 4]; 3] = [[1, 3, 1, 1], [2, 5, 1, 2], [3, 7, 2, 3]];
 
 const ITEMS: &[u64] = &[1, 0, 1, 1, 0, 0, 1];
 
-// All items are put and the ring closed, and one more than these is wanted; with the answers of three oracles.
+// All items are put and the ring closed, and one more than these is asked for; with the answers of three oracles.
 static SCRIPTS: [Script<'static>; 3] = [
     (ITEMS, true, 8, &[]),
     (ITEMS, true, 8, &[false, true]),

@@ -37,6 +37,6 @@ returns-in-Counting c =
     (λ calls made stands. next_count_write p calls made c.next-in-Counting.result c.in-Counting.is stands putting.offers keeping c.self.invariant.0.row_side being.0 due
     c.next-in-Counting.ensures.stands))
 
--- stands so that an edit which must be refused is refused here, before any longer search
+-- is here so that an edit that must be refused is refused here, before any longer search
 pub returns-in-Closing-clause-due : goal.returns-in-Closing-clause-due
 returns-in-Closing-clause-due c = search rules

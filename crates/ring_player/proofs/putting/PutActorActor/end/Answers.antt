@@ -10,7 +10,7 @@ use Rattle.ring_script.specs.Borrowed.{content_of}
 use Rattle.ring_player.proofs.putting.PutActorActor.end.Goals as goal
 use Rattle.ring_player.proofs.putting.PutActorActor.end.Goals.{After-batch_reply-reply}
 
--- the actor stands with what the machine's reply implies
+-- the actor stands after the answered access, with what the machine's reply implies
 after :
     (c : After-batch_reply-reply) (list : List Made) (a : Access) → due_put c.args.self.now.producer ≡ Some a →
     PutActorStands (content_of c.args.self.now.script) c.args.self.now.producer (record { stored = c.args.self.now.stored; full = c.args.self.now.full }) list (Some a) →
