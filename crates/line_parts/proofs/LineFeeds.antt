@@ -7,7 +7,7 @@ use Rattle.std.proofs.lemmas.Fmt.{decimal_by_steps}
 use Rattle.std.proofs.lemmas.List.Elements.{All-append, All-cons, All-head, All-nil, All-tail}
 use Rattle.line_parts.specs.LineEnds.{HasNoFeed}
 
--- a byte that is no line feed
+-- a byte that is not a line feed
 abbrev pub IsOther : ℕ → Type 0
 IsOther b = b ≢ 10
 

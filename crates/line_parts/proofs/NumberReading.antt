@@ -10,7 +10,7 @@ use Rattle.std.proofs.lemmas.Fmt.{decimal_by_steps, decimal_digit, decimal_step}
 use Rattle.std.proofs.lemmas.Option.{none-some, same_Some}
 use Rattle.line_parts.specs.Parts.{digits_after, number_at}
 
--- one more digit, if the number fits; if it does not, if a byte is no digit, and at the end
+-- one more digit, if the number fits; if it does not, if a byte is not a digit, and at the end
 digit_more : (n b : ℕ) (rest : List ℕ) → is_ascii_digit b ≡ true → 10 * n + (b - 48) < 2 ^ 64 → digits_after n (b ∷ rest) ≡ digits_after (10 * n + (b - 48)) rest
 unfolding digits_after
 digit_more n b rest digit small =

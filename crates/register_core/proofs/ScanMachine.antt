@@ -1,4 +1,4 @@
--- A scan goes on from the accesses that it made.
+-- A scan continues from the accesses that it made.
 use Rattle.std.proofs.Common.{◌≡◌, ℕ, zero, suc, ◌<◌, Bool, true, false, List, [], ◌∷◌, ◌++◌, length, length-append, append-nil, refl, ap, ◌∙◌, arith}
 use Rattle.bits_core.specs.declared.events.Bit.{Bit}
 use Rattle.bits_core.specs.Made.{Made, Read}

@@ -120,7 +120,7 @@ quiet_word C shape n Stops = tt
 quiet_word P shape n (Asks answer) = quiet_read P X answer
 quiet_word C shape n (Asks answer) = quiet_read C X answer
 
--- a close is no write of the producer's count
+-- a close is not a write of the producer's count
 pub quiet_close : (closes : Bool) → IsQuiet P (close_phrase closes)
 quiet_close true = (refl, tt)
 quiet_close false = tt

@@ -76,7 +76,7 @@ impl TakeScan {
     }
 
     /// Records that the due read returned 0. It must not be of the last bit. A 1 is fed to the consumer, once it has
-    /// gone on with this scan.
+    /// continued with this scan.
     #[inline(always)]
     pub fn zero(&mut self)
         requires not_last { LastBitIsDue self.old.shape C (due_take self.old) → false ≡ true }
@@ -147,7 +147,7 @@ impl TakeWord {
     }
 
     /// Records that the due read returned `answer`. It must not be the word's last read, which is fed to the consumer,
-    /// once it has gone on with this word read.
+    /// once it has continued with this word read.
     #[inline(always)]
     pub fn feed(&mut self, answer: bool)
         requires not_last { suc self.old.word.read ≢ self.old.word.width }

@@ -71,7 +71,7 @@ impl PutScan {
     }
 
     /// Records that the due read returned 0. It must not be of the last bit. A 1 is fed to the producer, once it has
-    /// gone on with this scan.
+    /// continued with this scan.
     #[inline(always)]
     pub fn zero(&mut self)
         requires not_last { LastBitIsDue self.old.shape P (due_put self.old) → false ≡ true }
@@ -140,7 +140,7 @@ impl PutWord {
     }
 
     /// Records that the due write was made. It must not be the word's last, which is fed to the producer, once it has
-    /// gone on with this word write. The answer is ignored.
+    /// continued with this word write. The answer is ignored.
     #[inline(always)]
     pub fn feed(&mut self, answer: bool)
         requires not_last { suc self.old.word.written ≢ self.old.word.width }

@@ -53,8 +53,8 @@ impl<A: Allocator + Copy> CounterRing<A> {
 
 impl<A: Allocator> CounterRing<A> {
     /// Loads a word: number 0 is that of the close bit, 1 the producer's counter, 2 the consumer's, and 3 + j that of cell j. Any thread
-    /// may do so at any time, whatever the two ends are doing, and it is no event of theirs. A convenience for observers: the word is that
-    /// of some state that satisfies the ring's rule ([`CounterRule`](ring_seats::CounterRule)). The place is below the capacity + 3.
+    /// may do so at any time, whatever the two ends are doing, and it is not an event of either. A convenience for observers: the word is
+    /// that of some state that satisfies the ring's rule ([`CounterRule`](ring_seats::CounterRule)). The place is below the capacity + 3.
     pub fn observe(&self, place: usize) -> u64
         requires { place < words_of self.now.shape }
         ensures { IsWordFound (KeptWords self.now.shape) place result }

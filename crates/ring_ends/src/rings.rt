@@ -171,9 +171,9 @@ impl<A: Allocator + Copy> FlickerRing<A> {
 
 impl<A: Allocator> FlickerRing<A> {
     /// Loads the word of a bit: 0 or 1, and 2 while a write of the bit is under way. Any thread may do so at any time, whatever the two
-    /// ends are doing, and it is no event of theirs. A convenience for observers: the word is that of some state that satisfies the ring's
-    /// rule ([`FlickerRule`](ring_seats::FlickerRule)), so that there is a lawful history of which its bit shows this. The type of the
-    /// ring's table guarantees that each step preserves the rule. The bit is one of the ring's shape.
+    /// ends are doing, and it is not an event of either. A convenience for observers: the word is that of some state that satisfies the
+    /// ring's rule ([`FlickerRule`](ring_seats::FlickerRule)), so that there is a lawful history of which its bit shows this. The type of
+    /// the ring's table guarantees that each step preserves the rule. The bit is one of the ring's shape.
     pub fn observe(&self, bit: Bit) -> u64
         requires { belongs self.now.shape bit ≡ true }
         ensures { IsWordFound (KeepsFlickerRule self.now.shape) (word_place self.now.shape bit) result }

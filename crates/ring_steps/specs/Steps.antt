@@ -12,7 +12,7 @@ use Rattle.bits_core.specs.Open.{IsOpenRight}
 use Rattle.ring_steps.specs.declared.Step.{Step}
 use Rattle.ring_steps.specs.declared.Step.TheVariants.{Nothing, Begin, End}
 
--- the answer of the open access: for an overlapped read what an oracle says, for any other read what its bit held when it began,
+-- the answer of the open access: for an overlapped read what an oracle returns, for any other read what its bit held when it began,
 -- and for a write false
 abbrev pub IsAnswerOf : Side → MemoryState → Bool → Access → Bool → Type 0
 IsAnswerOf side m said (Read bit) v = v ≡ (if is_read_overlapped side m.events then said else held_for_read side m.events)

@@ -90,7 +90,7 @@ module _ (capacity : Capacity) (h : List Event) (inside items : List ℕ) (take'
   may_lack_over n zero lacks = inl refl
   may_lack_over n (suc count) lacks = elim lacks [ inl e ↦ absurd (omega (arith, e)) | inr l ↦ inr (over_lacks capacity n count k.proper l) ]
 
-  -- with a take under way: it took what the queue cannot have, the put found no room, and then both went on
+  -- with a take under way: it took what the queue cannot have, the put found no room, and then both continued
   took :
       (xs left : List ℕ) (lacked m found : ℕ) (taken : List ℕ) (wanted : ℕ) → inside ++ items ≡ taken ++ (xs ++ left) → m + length left ≡ length items →
       MayLack capacity (length inside) lacked → MayHold capacity (length xs) → FitsTake take' (Taking found taken wanted) (queue xs false) →

@@ -47,7 +47,7 @@ where_in (u ∷ us) vs (y ∷ before) x after e =
 
 -- ---- the parts of a look
 
--- an access that is no write of a digit of a cell
+-- an access that is not a write of a digit of a cell
 abbrev pub NoCell : Made → Type 0
 NoCell x = (j d : ℕ) (v : Bool) → access_of x ≡ begins.Write (Cell j d) v → ⊥
 

@@ -28,7 +28,7 @@ use Rattle.register_core.proofs.Numbers.{cons_lt as more_by_one}
 
 -- ---- only the producer writes cells
 
--- an event that is not the producer's is no write to a cell
+-- an event that is not the producer's is not a write to a cell
 not_cell : (j : ℕ) (s : Side) (b : Bit) (a : Act) → s ≡ doer b a → same_side P s ≡ false → row_write (number_in_cell j b) a ≡ None
 not_cell j s b ReadBegin e f = no_row-read (number_in_cell j b)
 not_cell j s b (ReadEnd v) e f = no_row-answer (number_in_cell j b) v

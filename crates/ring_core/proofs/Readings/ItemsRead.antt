@@ -146,7 +146,7 @@ goes_on head after made left right t left_is none (more, e) begins both early re
               none j d v (rest ++ more) (sym ends ∙ ap (λ x. x ∷ (rest ++ more)) first)),
         )
 
--- a close is no scan
+-- a close is not a scan
 no_scan_first : (bit_of : ℕ → Bit) (c : ℕ) (xs zs : List Made) → Write X true ∷ zs ≡ scan_phrase bit_of c ++ xs → ⊥
 no_scan_first bit_of c xs zs e =
     let begins : (v : Bool) × (rest : List Made) × (scan_phrase bit_of c ++ xs ≡ Read (bit_of 0) v ∷ rest) = scan_begins bit_of c xs in

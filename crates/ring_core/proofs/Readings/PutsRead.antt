@@ -20,7 +20,7 @@ use Rattle.ring_core.proofs.CountRow.{batch_below, first_is_count, counted_is_co
 abbrev puts_of : List Put → Bool → Puts
 puts_of puts closes = record { puts = puts; closes = closes }
 
--- a scan is no close
+-- a scan is not a close
 pub no_close : (a : Bool) (bit_of : ℕ → Bit) (c : ℕ) (xs : List Made) → close_phrase a ≡ scan_phrase bit_of c ++ xs → ⊥
 no_close false bit_of c xs e = no_scan bit_of c xs e
 no_close true bit_of c xs e =
@@ -49,7 +49,7 @@ pub puts_full :
     put_phrases shape c (Full seen ∷ puts) ++ close_phrase close ≡ scan_phrase (row_read_by P) seen ++ (put_phrases shape c puts ++ close_phrase close)
 puts_full shape c seen puts close = append_assoc (scan_phrase (row_read_by P) seen) (put_phrases shape c puts) (close_phrase close)
 
--- a count that leaves room is no count that leaves none
+-- a count that leaves room is not one that leaves none
 pub no_room :
     (shape : Shape) (n c d : ℕ) (xs ys : List Made) → LeavesRoom shape (n % modulus_of shape) c → ¬ LeavesRoom shape (n % modulus_of shape) d →
     scan_phrase (row_read_by P) c ++ xs ≡ scan_phrase (row_read_by P) d ++ ys → ⊥

@@ -149,7 +149,7 @@ static BAD: [(&[u8], &str); 33] = [
         b"queue 18446744073709551616\n",
         "refused: calls line 1 is not a line of the format\n  line 1 has a number that is not from 0 to 18446744073709551615, or begins with 0: \"queue 18446744073709551616\"\n",
     ),
-    // words that are no line's
+    // words of no line
     (
         b"queue 0\n",
         "refused: calls line 1 is not a line of the format\n  line 1 has a capacity of 0: it is from 1: \"queue 0\"\n",

@@ -104,7 +104,7 @@ static TRACES: [(&[u8], &str); 51] = [
         b"shape 1 3 1\nP read s300\n",
         "refused: trace line 2 is not a line of the format\n  line 2 names a bit that is not in the shape: \"P read s300\"\n",
     ),
-    // words that are no line's
+    // words of no line
     (
         b"shape 1 3\n",
         "refused: trace line 1 is not a line of the format\n  line 1 is not: shape CAPACITY MODULUS WIDTH [BATCH [TAKE_BATCH]], in numbers of at most 4 digits: \"shape 1 3\"\n",
