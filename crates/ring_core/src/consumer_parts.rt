@@ -1,4 +1,4 @@
-//! The parts of a take under way that may proceed separately from the consumer: a scan and a word read; and the makings of its replies.
+//! The parts of a take under way that may proceed separately from the consumer: a scan and a word read; and how its replies are built.
 ghost use Rattle.std.specs.Prelude.{◌≡◌, ◌≢◌, ℕ, ◌+◌, ◌<◌, true, false, Some, List, [], ◌∷◌, ◌++◌, ◌↔◌, IsTrue, length, suc, take};
 ghost use Rattle.bits_core.specs.declared.events.Bit.TheVariants.{Cell};
 ghost use Rattle.bits_core.specs.declared.events.Side.TheVariants.{C};

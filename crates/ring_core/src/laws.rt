@@ -89,7 +89,7 @@ pub fn calls_are_short()
 {}
 
 /// After the complete calls of a program that is not over, another put, a close or another take may follow; its accesses
-/// follow theirs, and what they count and reply is what it does. A take of one item brings the item of its reply.
+/// follow theirs, and the count and the reply are then those after it. A take of one item brings the item of its reply.
 pub fn programs_by_one_call()
     ensures puts { PutsByOneMore }
     ensures closes { ClosesByOneMore }

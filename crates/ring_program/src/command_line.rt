@@ -310,7 +310,7 @@ fn class_asked(name: Option<&str>) -> Option<Class>
     }
 }
 
-// What an audit of a register is asked; `None` if the flags do not go together, or no class has this name.
+// What is requested of an audit of a register; `None` if the flags do not go together, or no class has this name.
 fn register_request(
     bits: bool,
     long: bool,
@@ -335,7 +335,7 @@ fn register_request(
     }
 }
 
-// What `audit` is asked; `None` if its options do not go together, or no class has this name.
+// What is requested of `audit`; `None` if its options do not go together, or no class has this name.
 fn audit_request(matches: &ArgMatches<'_>) -> Option<Request>
     ensures { result ≡ audit_request_of (rows_of (found_of matches.now)) }
 {
@@ -360,7 +360,7 @@ fn audit_request(matches: &ArgMatches<'_>) -> Option<Request>
     }
 }
 
-// What an audit of a trace or of calls is asked; `None` if the flags do not go together.
+// What is requested of an audit of a trace or of calls; `None` if the flags do not go together.
 fn trace_request(bits: bool, long: bool, calls: bool, stop: bool, why: bool) -> Option<Request>
     ensures { result ≡ audit_request bits long calls stop why }
 {
@@ -379,7 +379,7 @@ fn trace_request(bits: bool, long: bool, calls: bool, stop: bool, why: bool) -> 
     }
 }
 
-// What `play` is asked, by a near miss or by none; `None` if the flags do not go together.
+// What is requested of `play`, by a near miss or by none; `None` if the flags do not go together.
 fn play_asked(trace: bool, calls: bool, miss: Option<NearMiss>) -> Option<Request>
     ensures { result ≡ play_asked trace calls miss }
 {
@@ -391,7 +391,7 @@ fn play_asked(trace: bool, calls: bool, miss: Option<NearMiss>) -> Option<Reques
     }
 }
 
-// What `play` is asked; `None` if its options do not go together, or no near miss has this name.
+// What is requested of `play`; `None` if its options do not go together, or no near miss has this name.
 fn play_request(matches: &ArgMatches<'_>) -> Option<Request>
     ensures { result ≡ play_request_of (rows_of (found_of matches.now)) }
 {

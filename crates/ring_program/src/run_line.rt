@@ -79,7 +79,7 @@ pub(crate) enum RunText {
     Recording,
 }
 
-/// What `run` is asked.
+/// What is requested of `run`.
 #[derive(Clone, Copy)]
 pub(crate) struct Run {
     pub ring: RingKind,
