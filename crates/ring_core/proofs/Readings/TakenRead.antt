@@ -254,7 +254,7 @@ same_closed shape k is (x ∷ xs) (y ∷ ys) (Closed c c') b zs p q told e =
     let more_same : xs ≡ ys = rest.0 in
     (cc, rest.1)
 
--- if the takes of one reading have ended and the last returned Closed, so it is in the other
+-- if the takes of one reading have ended and the last returned Closed, the same holds in the other
 still_told :
     (shape : Shape) (a b : Takes) (made : List Made) (t : ℕ) →
     AreTakes shape 0 a.takes a.end → AreTakes shape 0 b.takes b.end →

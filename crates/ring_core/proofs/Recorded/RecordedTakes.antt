@@ -62,7 +62,7 @@ module _ (shape : Shape) (offers : ℕ → List ℕ) (wants : ℕ → ℕ) (h : 
   abbrev told : ℕ → List calls.Event
   told q = take_told shape wants 0 first_count takes.takes takes.end q
 
-  -- if the close has come, or a take has returned Closed, so it is one event later
+  -- if the close has come, or a take has returned Closed, the same holds one event later
   shut_later :
       (p q : ℕ) → (before_close shape puts < p) × ((before_close shape puts + 2 ≤ p) ⊎ (events_in (take_program shape takes) ≤ q)) →
       (before_close shape puts < p) × ((before_close shape puts + 2 ≤ p) ⊎ (events_in (take_program shape takes) ≤ suc q))

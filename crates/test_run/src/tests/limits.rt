@@ -9,7 +9,7 @@ use std::alloc::{AllocGlobal, Allocator, Global};
 use std::process::Abort;
 use std::thread::Threads;
 
-// What a relay comes to: items put, puts made, items taken, closed, and how often full and empty.
+// The result of a relay: items put, puts made, items taken, closed, and how often full and empty.
 type Wanted = (u64, u64, &'static [u64], bool, [u64; 2]);
 
 // A name, a shape, the items, the most puts and the most takes, and all its possible results.
