@@ -19,6 +19,8 @@ use std::sync::Arc;
 /// The producer's end of a counter ring, which owns the ring together with the other end. It may be a field of a struct, and go
 /// to a thread of its own; the ring's memory is freed once both ends are gone. To a contract it is an end, as a
 /// [`CounterPutter`](ring_ends::CounterPutter) is, and its calls are those of [`PutEnd`].
+///
+/// In use: `uses::held_ends::Source`.
 #[derive(Drop)]
 #[repr(C)]
 pub struct HeldPutter<A: Allocator> {

@@ -17,6 +17,8 @@ use std::sync::Arc;
 
 /// A new counter ring of this shape, by its two ends: one puts, the other takes. It takes memory for the ring's words and
 /// once for the ring itself. `OutOfMemory` is returned if the allocator refused either, and then all of it is freed.
+///
+/// In use: `uses::held_ends::deliver`.
 #[tactic(auto, using(ring_ends::proofs::StoredItems::none_stored, ring_ends::proofs::StoredItems::none_took))]
 pub fn hold<A: Allocator + Copy>(
     alloc: A,
@@ -48,6 +50,8 @@ pub fn hold<A: Allocator + Copy>(
 
 /// Both ends learn one lawful history, whose sides are their two lists and which begins with what each knew. Its calls are
 /// linearizable. The ends are those of one ring; they come back with the same lists. It makes no access and takes no memory.
+///
+/// For example, two threads that have stopped for a moment bring their ends together, and go on with what `meet` returns.
 pub fn meet<A: Allocator>(
     putter: HeldPutter<A>,
     taker: HeldTaker<A>,
@@ -90,6 +94,8 @@ pub fn meet<A: Allocator>(
 /// Ends the ring's run, of which one lawful history remains, whose sides are the two lists and which begins with what each end
 /// knew; its calls are linearizable. The items taken are a prefix of the items stored, and all of them if a take has returned
 /// Closed. The ends are those of one ring; they are consumed, and the ring with them. It makes no access and takes no memory.
+///
+/// In use: `uses::held_ends::deliver`.
 pub fn finish<A: Allocator>(putter: HeldPutter<A>, taker: HeldTaker<A>) -> Finished
     requires ring { putter.ring ≡ taker.ring }
     ensures ring { result.id ≡ putter.ring.id }

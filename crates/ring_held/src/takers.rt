@@ -18,6 +18,8 @@ use std::sync::Arc;
 
 /// The consumer's end of a counter ring, which owns the ring together with the other end, as a
 /// [`HeldPutter`](crate::HeldPutter) does. Its calls are those of [`TakeEnd`].
+///
+/// In use: `uses::held_ends::Sink`.
 #[derive(Drop)]
 #[repr(C)]
 pub struct HeldTaker<A: Allocator> {
