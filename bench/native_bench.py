@@ -37,7 +37,8 @@ def build(folder):
     found = {"boost"} if boost else set()
     if shutil.which("rt"):
         os.makedirs(f"{folder}/crates/ring_rtrb/src")
-        shutil.copy(f"{NATIVE}/rtrb.rt", f"{folder}/crates/ring_rtrb/src/main.rt")
+        # (rt ci refuses a file .rt outside the crates)
+        shutil.copy(f"{NATIVE}/rtrb.rattle", f"{folder}/crates/ring_rtrb/src/main.rt")
         with open(f"{folder}/crates.txt", "w", encoding="utf-8") as crates:
             crates.write("ring_rtrb: rtrb\n")
         shutil.copy(f"{TOP}/HANDLES", folder)
