@@ -1,5 +1,5 @@
 /* explore.c: makes the executions of a small test that C11 permits, up to a bound; explore.h says how it is used. C11 with extensions of gcc and clang;
- * Linux, x86-64.
+ * Linux on x86-64 and on ARM64.
  *
  * The test is compiled with -fsanitize=thread and linked with this file in place of the sanitizer's library: hooks.inc has the functions that
  * such code calls at each access of memory, so each plain and each atomic access of the test's own text is seen, with its memory order. The two
@@ -50,16 +50,9 @@
 
 void explore_event(int kind, const uint64_t *numbers, size_t n);        /* for ring_calls.h, where explore.h includes it */
 
-/* (no call of memcpy and memset, which hooks.inc has for the test) */
 __extension__ typedef unsigned __int128 u128;
-static void copy_plainly(void *to, const void *from, size_t size) {
-    __asm__ volatile("rep movsb" : "+D"(to), "+S"(from), "+c"(size) : : "memory");
-}
 
-static void fill_plainly(void *to, int value, size_t size) {
-    __asm__ volatile("rep stosb" : "+D"(to), "+c"(size) : "a"(value) : "memory");
-}
-
+#include "machine.inc"
 #include "threads.inc"
 #include "steps.inc"
 #include "memory.inc"
@@ -175,11 +168,7 @@ static void set_side(int s) {
     side *it = &sides[s];
     char *stack = it->stack;
     *it = (side) { .stack = stack, .body = test.body[s], .state = READY };
-    void **top = (void **)(void *)(stack + STACK);
-    *--top = NULL;
-    *--top = (void *)(uintptr_t)side_begins;
-    for (int i = 0; i < 6; i++) *--top = NULL;
-    it->stack_pointer = top;
+    it->stack_pointer = fresh_stack(stack + STACK, side_begins);
 }
 
 static void make_run(void) {
@@ -247,7 +236,7 @@ static void on_signal(int number, siginfo_t *info, void *context) {
     (void)info;
     if (number == SIGALRM && goes_on()) return;
     const bool was_on = run.on;
-    if (number != SIGALRM && number != SIGABRT) crashed_at = (const char *)((ucontext_t *)context)->uc_mcontext.gregs[REG_RIP] + 1;
+    if (number != SIGALRM && number != SIGABRT) crashed_at = (const char *)code_at(context) + 1;
     run.on = arena.on = false;
     if (number == SIGALRM) snprintf(words, sizeof words, "hangs: the %s does not come to its next step", name_of_side[now]);
     else snprintf(words, sizeof words, "crash: %s, in the %s", strsignal(number), was_on ? name_of_side[now] : "reset");

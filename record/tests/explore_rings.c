@@ -16,6 +16,15 @@ static _Atomic(uint64_t *) place;
 static volatile uint64_t apart;
 static bool has_bug;
 
+/* What a side that spins does between two looks. */
+static void pause_a_little(void) {
+#if defined __x86_64__
+    __builtin_ia32_pause();
+#else
+    __asm__ volatile("yield");
+#endif
+}
+
 static bool my_put(uint64_t item) {
     const uint64_t t = atomic_load_explicit(&tail, memory_order_relaxed);
     if (t - atomic_load_explicit(&head, memory_order_acquire) == CAPACITY) return false;
@@ -86,7 +95,7 @@ static void take_one(void) {
 static void box_put(void) {
     for (uint64_t item = 1; item <= ITEMS; item++) {
         ring_calls_put(&rec, item);
-        while (atomic_load(&box)) __builtin_ia32_pause();
+        while (atomic_load(&box)) pause_a_little();
         atomic_store(&box, item);
         ring_calls_stored(&rec);
     }
@@ -95,7 +104,7 @@ static void box_take(void) {
     for (int i = 0; i < ITEMS; i++) {
         uint64_t item;
         ring_calls_take(&rec);
-        while ((item = atomic_exchange(&box, 0)) == 0) __builtin_ia32_pause();
+        while ((item = atomic_exchange(&box, 0)) == 0) pause_a_little();
         ring_calls_item(&rec, item);
     }
 }
