@@ -1,5 +1,5 @@
 /* counter_ring.h: a ring of one producer and one consumer, of up to 64 numbers, whose code is proved (libcounter_ring.a, .so.1).
- * C11, and C++ from C++11; Linux, x86-64.
+ * C11, and C++ from C++11; Linux on x86-64 and ARM64.
  *
  *     ring_putter p = RING_NO_END;  ring_taker t = RING_NO_END;
  *     if (ring_open(&p, &t, 64, 97, 64, 16, 16) != RING_OPENED) ..      capacity, modulus, width, batch, take batch

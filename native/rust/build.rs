@@ -1,8 +1,9 @@
-//! Links libcounter_ring.a, which lies in the folder that COUNTER_RING_LIB names, or in dist/ of this repository.
+//! Links libcounter_ring.a, which lies in the folder that COUNTER_RING_LIB names, or in dist/ of this repository, for ARM64 in dist/aarch64-linux/.
 fn main() {
     let here = std::env::var("CARGO_MANIFEST_DIR").unwrap();
     println!("cargo:rerun-if-env-changed=COUNTER_RING_LIB");
-    let folder = std::env::var("COUNTER_RING_LIB").unwrap_or(format!("{here}/../../dist"));
+    let place = if std::env::var("CARGO_CFG_TARGET_ARCH").unwrap() == "aarch64" { "/aarch64-linux" } else { "" };
+    let folder = std::env::var("COUNTER_RING_LIB").unwrap_or(format!("{here}/../../dist{place}"));
     println!("cargo:rerun-if-changed={folder}/libcounter_ring.a");
     println!("cargo:rustc-link-search=native={folder}");
     println!("cargo:rustc-link-lib=static=counter_ring");

@@ -1,6 +1,6 @@
 /* explore.h: makes every execution of a small test of a queue with one producer and one consumer that C11 permits, up to a bound on
  * preemptions, older values and the like, and judges the calls of each. Included in place of ring_calls.h, or before it, with the same names.
- * C11, and C++ from C++11; gcc or clang, Linux on x86-64. README.md, "Every execution of a small test", has the rest.
+ * C11, and C++ from C++11; gcc or clang, Linux on x86-64 or ARM64. README.md, "Every execution of a small test", has the rest.
  *
  *     static ring_calls rec;
  *     static void reset(void)    { my_init(); }                             what the two sides change is as at first

@@ -1,6 +1,7 @@
 /* ring_audit.h: judges the calls of a queue with one producer and one consumer in the process that makes them, as in a unit test.
  * The verdict is that of the proved audit, `lamport_ring audit --calls`, in the same words, with no text and no other process.
- * C11, and C++ from C++11; it needs ring_calls.h beside it, and the library: libring_audit.a or .so in dist/ (Linux, x86-64).
+ * C11, and C++ from C++11; it needs ring_calls.h beside it, and the library: libring_audit.a or .so in dist/ (Linux on x86-64)
+ * or dist/aarch64-linux/ (on ARM64).
  *
  *     two threads record their calls in a ring_calls, as ring_calls.h tells; when both were joined:
  *         assert(ring_audit_lawful(&rec, "queue 8"));
@@ -62,7 +63,7 @@ typedef struct {
     bool has_ended, has_told, put_overlaps, take_overlaps;
 } ring_audit_state;
 
-static_assert(sizeof(bool) == 1 && sizeof(size_t) == 8, "as on x86-64");
+static_assert(sizeof(bool) == 1 && sizeof(size_t) == 8, "as on x86-64 and ARM64");
 static_assert(sizeof(ring_audit_offered) == 24 && sizeof(ring_audit_taken) == 16, "as in the library");
 static_assert(sizeof(ring_audit_line) == 8 && sizeof(ring_audit_calls) == 72, "as in the library");
 static_assert(sizeof(ring_audit_counts) == 88 && sizeof(ring_audit_found) == 32, "as in the library");

@@ -1,6 +1,7 @@
 /* ring_register_audit.h: judges a recorded register in the process that reads and writes it, as in a unit test. The judge is the proved
  * one of `lamport_ring audit --register`, with no text and no other process; the reason in words is had from the program alone.
- * C11, and C++ from C++11; it needs ring_register.h beside it, and the library: libring_audit.a or .so in dist/ (Linux, x86-64).
+ * C11, and C++ from C++11; it needs ring_register.h beside it, and the library: libring_audit.a or .so in dist/ (Linux on x86-64)
+ * or dist/aarch64-linux/ (on ARM64).
  *
  *     the threads record in a ring_register, as ring_register.h says; when all were joined:
  *         assert(ring_register_lawful(&rec, "register 0 4", RING_REGULAR));
@@ -32,7 +33,7 @@ typedef struct {
     uint32_t strongest, verdict;
 } ring_register_found;
 
-static_assert(sizeof(size_t) == 8, "as on x86-64");
+static_assert(sizeof(size_t) == 8, "as on x86-64 and ARM64");
 static_assert(sizeof(ring_register_event_line) == 16 && sizeof(ring_register_found) == 48, "as in the library");
 
 #ifdef __cplusplus

@@ -98,6 +98,8 @@ BROKEN = Program("broken", "command -v g++", "apt-get install build-essential", 
 SMALL = Program("shrink and head", "command -v g++", "apt-get install build-essential", f"{CPP} broken/ring.cpp -o $ROOM/ring_of_heads",
                 "python3 tests/unit/small.py $ROOM/ring_of_heads")
 CONVERT = Program("convert", "true", "", "true", "python3 tests/unit/logs.py")
+# The tickets of the recorders, in the model of ARMv8.
+TICKETS = Program("tickets", "true", "", "true", "python3 tests/tickets.py")
 README = Program("README", "command -v gcc", "apt-get install build-essential", "true", "")
 RELACY = Program("relacy", "echo '#include <relacy/relacy.hpp>' | g++ -x c++ -E -", "apt-get install relacy-dev",
                  f"{CPP} tests/relacy_ring.cpp -o $ROOM/relacy_ring && {CPP} -DRELAXED tests/relacy_ring.cpp -o $ROOM/relacy_ring_relaxed", "$ROOM/relacy_ring")

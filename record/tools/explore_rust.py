@@ -14,6 +14,8 @@ import shutil
 import subprocess
 import sys
 
+import library
+
 RECORD = os.path.dirname(os.path.dirname(os.path.abspath(__file__)))
 OLDEST = (1, 63)
 TARGET = "x86_64-unknown-linux-gnu"
@@ -270,9 +272,9 @@ def build(sources, flags, program, room, explorer):
         stop(f"{test}: a test in Rust is named first, then the crates that it needs")
     if not os.path.isfile(test):
         stop(f"{test}: there is no such file")
-    library = os.environ.get("LIBRARY", f"{os.path.dirname(RECORD)}/dist")
-    if not os.path.exists(f"{library}/libring_audit.a"):
-        stop(f"{library}/libring_audit.a: there is no such file; LIBRARY=FOLDER takes that of another folder")
+    archive = f"{library.folder()}/libring_audit.a"
+    if not os.path.exists(archive):
+        stop(f"{archive}: there is no such file; LIBRARY=FOLDER takes that of another folder")
     compiler = Compiler(room)
     crates = in_order(with_needs(map(crate_of, words)))
     scripts = [crate.name for crate in crates if crate.has_script]
@@ -295,5 +297,5 @@ def build(sources, flags, program, room, explorer):
         run([*compiler.command, *compiler.seen, *edition, *own, *features, *known, f"--crate-name={crate.name}", "--crate-type=rlib",
              f"--out-dir={room}", crate.source], crate.env, hint)
         known += ["--extern", f"{crate.name}={room}/lib{crate.name}.rlib"]
-    linked = [f"-Clink-arg={explorer(compiler.c, room)}", f"-Clink-arg={os.path.abspath(library)}/libring_audit.a", f"-Clink-arg=@{compiler.waits(room)}", "-Clink-arg=-lc"]
+    linked = [f"-Clink-arg={explorer(compiler.c, room)}", f"-Clink-arg={os.path.abspath(archive)}", f"-Clink-arg=@{compiler.waits(room)}", "-Clink-arg=-lc"]
     run([*compiler.command, *compiler.seen, *editions, *flags, *known, *linked, "-o", program, test])

@@ -1,7 +1,7 @@
 //! A bounded ring for one producer and one consumer, of up to 64 numbers, whose code is proved down to Lamport's safe bits.
 //! `counter_ring.h` says what is proved. What it asks of its caller the types here see to: an end is moved and never copied, is called
 //! through `&mut`, and is `Send` and not `Sync`; so no two threads call it at a time, and it goes to another thread by what orders their
-//! calls (a spawn, a join, a lock, a channel). The memory is the C library's `malloc`; the library is for Linux on x86-64.
+//! calls (a spawn, a join, a lock, a channel). The memory is the C library's `malloc`; the library is for Linux on x86-64 and ARM64.
 //!
 //! ```no_run
 //! let (mut putter, mut taker) = counter_ring::open(counter_ring::Shape::of(64)).unwrap();

@@ -1,4 +1,4 @@
-// ring_audit.go: judges what a RingCalls has in the process that recorded it, as in a unit test. Linux, x86-64; by cgo.
+// ring_audit.go: judges what a RingCalls has in the process that recorded it, as in a unit test. Linux on x86-64 and ARM64; by cgo.
 // Copy it beside ring_calls.go, into the same package, and name that in the next line.
 package main
 
@@ -11,8 +11,8 @@ package main
 // file in the environment, the recording is written there, for record/shrink and for the page. Judge counts, too, what a lawful
 // one has.
 //
-// It is linked with libring_audit.a, of dist/, which lies beside this file, or where the environment says:
-// CGO_LDFLAGS=-L/path/of/dist go test. As a file of a test cannot have cgo, a package whose own files should not need the library
+// It is linked with libring_audit.a, of dist/ (x86-64) or dist/aarch64-linux/ (ARM64), which lies beside this file, in the folder arm64 there, or
+// where the environment says: CGO_LDFLAGS=-L/path/of/dist go test. As a file of a test cannot have cgo, a package whose own files should not need the library
 // keeps this file and ring_calls.go in a package that its tests alone import.
 //
 // The library is proved. This file is not; record/test tests it. It keeps what is owed to the library, and not checked by that:
@@ -22,6 +22,7 @@ package main
 //   - One call at a time on one state: each has a state of its own.
 
 /*
+#cgo arm64 LDFLAGS: -L${SRCDIR}/arm64
 #cgo LDFLAGS: -L${SRCDIR} -l:libring_audit.a
 #include <stdbool.h>
 #include <stddef.h>
@@ -53,7 +54,7 @@ typedef struct {
     bool has_ended, has_told, put_overlaps, take_overlaps;
 } ring_audit_state;
 
-_Static_assert(sizeof(bool) == 1 && sizeof(size_t) == 8, "as on x86-64");
+_Static_assert(sizeof(bool) == 1 && sizeof(size_t) == 8, "as on x86-64 and ARM64");
 _Static_assert(sizeof(ring_audit_offered) == 24 && sizeof(ring_audit_taken) == 16, "as in the library");
 _Static_assert(sizeof(ring_audit_line) == 8 && sizeof(ring_audit_calls) == 72, "as in the library");
 _Static_assert(sizeof(ring_audit_counts) == 88 && sizeof(ring_audit_found) == 32, "as in the library");

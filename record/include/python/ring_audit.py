@@ -13,12 +13,13 @@ offers:
     audit.report().full                                              how many puts ended full
 
 It needs ring_calls.py beside it, and the library: that of load(PATH), of RING_AUDIT_LIB in the environment, or libring_audit.so.1 beside
-this file, in ../dist, or where the system has its libraries. The library is proved, this file is not; threads that share an Audit need a
-lock."""
+this file, in ../../../dist (on ARM64 in dist/aarch64-linux), or where the system has its libraries. The library is proved, this file is not;
+threads that share an Audit need a lock."""
 import array
 import collections
 import ctypes
 import os
+import platform
 import re
 import sys
 
@@ -56,6 +57,8 @@ _State = _struct("_State", (_at, "offered"), (_size, "offered_room"), (_at, "tak
 # What audit --calls counts of a lawful recording; inside: surely at some moment, and at most.
 Report = collections.namedtuple("Report", "calls stored taken full empty nothing told inside overlapped open")
 _loaded = None
+# Where dist/ has the library for each machine.
+_FOLDERS = {"x86_64": "", "aarch64": "aarch64-linux/"}
 # Of the lawful recordings of all rounds how many calls there were, and how many of them overlapped.
 _counted = [0, 0]
 
@@ -65,9 +68,15 @@ def load(path=None):
     global _loaded
     if path or not _loaded:
         here = os.path.dirname(os.path.abspath(__file__))
-        beside = [f"{here}/libring_audit.so.1", f"{here}/../../../dist/libring_audit.so.1"]
+        machine = platform.machine()
+        beside = [f"{here}/libring_audit.so.1", f"{here}/../../../dist/{_FOLDERS.get(machine, 'none')}libring_audit.so.1"]
         path = path or os.environ.get("RING_AUDIT_LIB") or next(filter(os.path.exists, beside), "libring_audit.so.1")
-        library = ctypes.PyDLL(path)
+        try:
+            library = ctypes.PyDLL(path)
+        except OSError as error:
+            if machine in _FOLDERS:
+                raise
+            raise OSError(f"{error} (dist/ has the library for Linux on {' and '.join(_FOLDERS)}, none for {machine})") from error
         sizes = (_u64 * 6)()
         library.ring_audit_layout.argtypes = [_at, _size]
         library.ring_audit_layout(sizes, 6)
