@@ -33,7 +33,7 @@ takes_machine() {
 }
 
 # verdict_in FOLDER: lines for a file that says how something was built: `verdict`, with rattle's verdict of what was built there, and for
-# a program for ARM64 `linked`, with a sum of the C library that it was linked with.
+# a program for ARM64 `c-library`, with a sum of the C library that it was linked with.
 verdict_in() { sed 's/^logic=/verdict &/' "$1/verdict"; }
 
 # built_of WORD: what the file BUILT says after the word.
