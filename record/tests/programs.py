@@ -23,8 +23,8 @@ def in_cpp(name, header, packages, libraries=""):
     return Program(name, f"echo '#include <{header}>' | g++ -x c++ -E -", f"apt-get install {packages}", f"{CPP} real/{name}.cpp -o $ROOM/{name} {libraries}", f"$ROOM/{name}")
 
 
-def kinds_in_c(name, compiler):
-    return Program(f"kinds in {name}", "command -v gcc && command -v g++", "apt-get install build-essential",
+def kinds_in_c(name, compiler, needs="true", get=""):
+    return Program(f"kinds in {name}", f"command -v gcc && command -v g++ && {needs}", f"apt-get install build-essential{get}",
                    f"{compiler} -O2 -Wall -Wextra -Wpedantic -Werror -Iinclude tests/kinds/kinds.c -o $ROOM/kinds_{name}", f"$ROOM/kinds_{name}")
 
 
@@ -32,7 +32,7 @@ def kinds_in_c(name, compiler):
 KINDS = [
     kinds_in_c("c11", "gcc -std=c11"),
     kinds_in_c("cpp11", "g++ -x c++ -std=c++11"),
-    kinds_in_c("c11_by_stamps", "gcc -std=c11 -DRING_CALLS_TSC"),
+    kinds_in_c("c11_by_stamps", "gcc -std=c11 -DRING_CALLS_TSC", "gcc -dM -E -x c /dev/null | grep __x86_64__", ", on x86-64"),
     Program("kinds in rust", "command -v rustc", "apt-get install rustc", f"{RUST} tests/kinds/kinds.rs -o $ROOM/kinds_rs", "$ROOM/kinds_rs"),
     Program("kinds in python", "true", "", "true", "python3 tests/kinds/kinds.py"),
     # (Go takes the files of a package from one folder)
