@@ -1,9 +1,10 @@
 #!/bin/sh
 # The tests: the program on each example, what it prints and how it ends, and what it says of random histories of queues and registers; calls of the
-# system that fail; the launcher, tools/install, the documents, the steps of docs/USING.md, some of record/; and each #[test], with no proof
-# of its own. The program is the one that ./lamport_ring runs: the shipped one if it is of these sources. With --prove it is first built
-# here by its proof. What cannot be tried here, for lack of the kit, of Python or of a C compiler, is left out, and the end says so. ./gate
-# has the whole: every proof from nothing, the tests' too, and the mutants. The last line is `N passed, M failed`.
+# system that fail; the launcher, tools/install, what is shipped for ARM64, the documents, the steps of docs/USING.md, some of record/; and
+# each #[test], with no proof of its own. The program is the one that ./lamport_ring runs: the shipped one if it is of these sources. With
+# --prove it is first built here by its proof. What cannot be tried here, for lack of the kit, of Python, of a C compiler or of qemu, is left out,
+# and the end says so, or the part itself. ./gate has the whole: every proof from nothing, the tests' too, and the mutants. The last line is
+# `N passed, M failed`.
 set -u
 name=test.sh
 started=$(date +%s)
@@ -107,7 +108,7 @@ compiler() { for each in "${CC-}" cc gcc clang; do [ -z "$each" ] || command -v 
 
 # These need no program.
 # shellcheck disable=SC2086
-lacks python3 "tests of the launcher, the words of faults, the classes of registers, the documents, record/ and docs/TRUST.md" || try launcher trust $using
+lacks python3 "tests of the launcher, what is for ARM64, the words of faults, the classes of registers, the documents, record/ and docs/TRUST.md" || try launcher trust $using
 if wait "$building"; then
     PROGRAM=$(./lamport_ring --which) || exit 1
     export PROGRAM
@@ -119,6 +120,7 @@ if wait "$building"; then
         try docs record
         try_after_examples causes
         try_after_examples registers
+        try_after_examples machines
         if [ "$(compiler)" ]; then
             try_after_examples faults
         else
