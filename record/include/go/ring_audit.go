@@ -11,9 +11,9 @@ package main
 // file in the environment, the recording is written there, for record/shrink and for the page. Judge counts, too, what a lawful
 // one has.
 //
-// It is linked with libring_audit.a, of dist/ (x86-64) or dist/aarch64-linux/ (ARM64), which lies beside this file, in the folder arm64 there, or
-// where the environment says: CGO_LDFLAGS=-L/path/of/dist go test. As a file of a test cannot have cgo, a package whose own files should not need the library
-// keeps this file and ring_calls.go in a package that its tests alone import.
+// It is linked with libring_audit.a, of dist/ (x86-64) or dist/aarch64-linux/ (ARM64), which lies beside this file, that for ARM64 in a folder
+// arm64 there, or where the environment says: CGO_LDFLAGS=-L/path/of/dist go test. As a file of a test cannot have cgo, a package whose own
+// files should not need the library keeps this file and ring_calls.go in a package that its tests alone import.
 //
 // The library is proved. This file is not; record/test tests it. It keeps what is owed to the library, and not checked by that:
 //   - The state is all 0, but for its two lists, before ring_audit_begin; then the library alone changes it, and no copy is made.
