@@ -1,6 +1,6 @@
 #!/bin/sh
 # The tests: the program on each example, what it prints and how it ends, and what it says of random histories of queues and registers; calls of the
-# system that fail; the launcher, tools/install, what is shipped for ARM64, the documents, the steps of docs/USING.md, some of record/; and
+# system that fail; the launcher, tools/install, the packages, what is shipped for ARM64, the documents, the steps of docs/USING.md, some of record/; and
 # each #[test], with no proof of its own. The program is the one that ./lamport_ring runs: the shipped one if it is of these sources. With
 # --prove it is first built here by its proof. What cannot be tried here, for lack of the kit, of Python, of a C compiler or of qemu, is left out,
 # and the end says so, or the part itself. ./gate has the whole: every proof from nothing, the tests' too, and the mutants. The last line is
@@ -121,6 +121,7 @@ if wait "$building"; then
         try_after_examples causes
         try_after_examples registers
         try_after_examples machines
+        try_after_examples packages
         if [ "$(compiler)" ]; then
             try_after_examples faults
         else
