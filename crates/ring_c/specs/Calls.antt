@@ -3,7 +3,9 @@ use Rattle.std.specs.Prelude.{◌≡◌, ◌⊎◌, ℕ, ◌^◌, ◌<◌, ◌�
 use Rattle.bits_core.specs.declared.shapes.Shape.{Shape}
 use Rattle.bits_core.specs.declared.events.Event.{Event}
 use Rattle.bits_core.specs.declared.events.Side.TheVariants.{P, C}
-use Rattle.bits_core.specs.Shape.{HasBatches, take_batch_of, width_of}
+use Rattle.bits_core.specs.declared.faults.ShapeFault.{ShapeFault}
+use Rattle.bits_core.specs.declared.faults.ShapeFault.TheVariants as fault
+use Rattle.bits_core.specs.Shape.{HasBatches, IsRefusedBatches, take_batch_of, width_of}
 use Rattle.ring_core.specs.declared.replies.PutReply.{PutReply}
 use Rattle.ring_core.specs.declared.replies.PutReply.TheVariants as put
 use Rattle.ring_core.specs.declared.replies.BatchReply.{BatchReply}
@@ -162,10 +164,33 @@ pub record Opened (capacity modulus width batch take_batch : ℕ) (putter taker 
   pub taker_is : taker ≡ Some c
   pub fresh : FreshEnds shape p c
 
--- with the number 0 the handles have these two ends, with any other nothing is changed
+-- the number of a fault of a shape
+abbrev pub shape_number : ShapeFault → ℕ
+shape_number fault.Capacity = 1
+shape_number fault.Batch = 2
+shape_number fault.TakeBatch = 3
+shape_number fault.Modulus = 4
+shape_number fault.ModulusOfBatches = 4
+shape_number fault.Width = 5
+
+-- a handle has an end
+abbrev pub HasEnd : Option RingEnd → Type 0
+HasEnd end = ¬ (end ≡ None)
+
+-- why no ring is made, by its number: a handle has an end; or none has, and a number is refused, or they are those of a shape and there is
+-- not enough memory
+abbrev pub RefusesOpen : (capacity modulus width batch take_batch code : ℕ) → (p c : Option RingEnd) → Type 0
+RefusesOpen capacity modulus width batch take_batch code p c =
+    ((code ≡ 7) × (HasEnd p ⊎ HasEnd c)) ⊎
+    ((p ≡ None) × (c ≡ None) ×
+    (((f : ShapeFault) × IsRefusedBatches capacity modulus width batch take_batch f × (code ≡ shape_number f)) ⊎
+    ((shape : Shape) × HasBatches capacity modulus width batch take_batch shape × (code ≡ 6))))
+
+-- with the number 0 the handles have these two ends; else it is refused, and nothing is changed
 abbrev pub OpensBy : (capacity modulus width batch take_batch code : ℕ) → (p p' c c' : Option RingEnd) → Type 0
 OpensBy capacity modulus width batch take_batch code p p' c c' =
-    ((code ≡ 0) × (p ≡ None) × (c ≡ None) × Opened capacity modulus width batch take_batch p' c') ⊎ ((0 < code) × (p' ≡ p) × (c' ≡ c))
+    ((code ≡ 0) × (p ≡ None) × (c ≡ None) × Opened capacity modulus width batch take_batch p' c') ⊎
+    (RefusesOpen capacity modulus width batch take_batch code p c × (p' ≡ p) × (c' ≡ c))
 
 -- if both handles have an end, these are of one ring
 abbrev pub OfOneRing : Option RingEnd → Option RingEnd → Type 0

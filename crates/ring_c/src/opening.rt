@@ -1,6 +1,6 @@
 //! How a ring is made for C, ended and freed.
-ghost use Rattle.std.specs.Prelude.{◌≡◌, ◌<◌};
-ghost use Rattle.ring_c.specs.Calls.{Finishes, FinishesBy, OfOneRing, OpensBy};
+ghost use Rattle.std.specs.Prelude.{◌≡◌};
+ghost use Rattle.ring_c.specs.Calls.{Finishes, FinishesBy, OfOneRing, OpensBy, shape_number};
 
 use crate::handles::{RingPutter, RingTaker};
 use bits_core::{Shape, ShapeFault};
@@ -9,7 +9,7 @@ use std::alloc::Global;
 
 // The number of a fault.
 fn fault_number(fault: ShapeFault) -> u32
-    ensures { 0 < result }
+    ensures { result ≡ shape_number fault }
 {
     match fault {
         ShapeFault::Capacity => 1,

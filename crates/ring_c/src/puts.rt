@@ -1,5 +1,4 @@
 //! The calls of the producer.
-ghost use Rattle.std.specs.Prelude.{◌≡◌};
 ghost use Rattle.ring_c.specs.Calls.{ClosesBy, ReportsClosed, PutsAllBy, PutsAllOr, PutsBy, PutsOr};
 
 use crate::handles::RingPutter;

@@ -1,5 +1,4 @@
 //! The calls of the consumer.
-ghost use Rattle.std.specs.Prelude.{◌≡◌};
 ghost use Rattle.ring_c.specs.Calls.{ReportsTold, TakesAllBy, TakesAllOr, TakesAs, TakesBy};
 
 use crate::handles::RingTaker;
