@@ -7,6 +7,7 @@ use line_parts::{after, number_at};
 use lists::Store;
 use std::alloc::AllocError;
 
+// In the order of the text, so `number` is a table: as a cast, in the order of the numbers, it made `audit --calls` 13 % slower or more.
 /// The words that a line of a recording begins with.
 ///
 /// For example, `Word::Put.text()` is `P put`.

@@ -20,6 +20,7 @@ use std::marker::{Model, PhantomData};
 pub type RunFault = MemoryFault;
 
 // Unused words on either side of a ring, and of an end: they keep other values off the cache lines between them.
+// Without them a relay took up to twice as long. The kit's `CachePadded` would have its borrows in each clause of an end.
 #[derive(Drop)]
 pub(crate) struct Pad([u64; 8]);
 

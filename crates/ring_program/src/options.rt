@@ -28,6 +28,7 @@ fn named_option<'a>(alloc: Global, id: &'a str, help: &'a str) -> Arg<'a>
     Arg::new(alloc, id).long(id).help(help)
 }
 
+// Each option is added in a call of ours: five calls of the kit's builder in a row cost a minute of proof, one or two a few seconds.
 /// The command with one more option of this name, which is given or not.
 pub fn with_flag<'a>(
     alloc: Global,

@@ -184,6 +184,7 @@ fn time_since<C: Clock>(clock: &C, start: io::Result<Instant>) -> Option<Duratio
 }
 
 // Whether a second thread can be started: one is started and does nothing.
+// Without a second thread the kit's `join_mut` runs one closure after the other, and does not say so.
 fn find_second_thread<R: Threads>(rt: &R) -> Result<(), Refusal>
     ensures refused { IfErr result (λ e. e ≡ Refusal.NoSecondThread) }
 {

@@ -54,6 +54,7 @@ pub trait WordKind {
     ghost shows: { Shape → List ℕ → List Event → Type 0 };
 }
 
+// A trait of its own: with an associated type of the kind, the kit's borrow checker would not cover a function that holds the table.
 /// What the ends of a kind of ring keep of an access that is open.
 ///
 /// For example, an end of a flickering ring keeps the first load of the read that it has open; one of a counter
