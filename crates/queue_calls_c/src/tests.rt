@@ -1,3 +1,5 @@
+//! The audit in process, by calls as C makes them: findings, words, slots that are too few.
+
 use crate::states::{Audit, Calls};
 use crate::{
     EventLine, HeardFound, JudgeFound, WordLine, ring_audit_begin, ring_audit_hear,

@@ -1,3 +1,5 @@
+//! `page_calls`: recorded calls, lawful, at fault, refused, and with no room.
+
 use crate::tests::numbers;
 use crate::{CAUSE_WORDS, CallsTold, Counts, page_calls};
 use queue_calls::{Offered, Taken};

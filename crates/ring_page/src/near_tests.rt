@@ -1,3 +1,5 @@
+//! `page_play_near`: what each near miss does in a play.
+
 use crate::tests::{NO_MARK, numbers};
 use crate::{Asked, Mark, NearPlayed, Telling, page_play_near};
 

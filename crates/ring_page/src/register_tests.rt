@@ -1,3 +1,5 @@
+//! `page_register`: recorded registers, each class that is missed, other texts, and no room.
+
 use crate::tests::numbers;
 use crate::{MissTold, ReadTold, RegisterCounts, RegisterTold, page_register};
 

@@ -1,3 +1,5 @@
+//! `page_audit` and `page_play`: traces and scripts, as the page passes them.
+
 use crate::{
     ANSWER_ROOM, Asked, AuditTold, Due, EVENT_ROOM, Judged, Mark, Played, RUN_ROOM, page_audit,
     page_play,

@@ -1,3 +1,5 @@
+//! Tests of `ring_audit`.
+
 mod dues;
 mod expects;
 mod growths;

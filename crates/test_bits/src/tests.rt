@@ -1,3 +1,5 @@
+//! Tests of `bits_core` and `trace_text`.
+
 mod audits;
 mod memories;
 mod shapes;

@@ -1,3 +1,5 @@
+//! Tests of `queue_calls`, `register_calls` and the texts of their recordings.
+
 mod beginnings;
 mod cases;
 mod growths;

@@ -1,3 +1,5 @@
+//! Tests of `ring_player`, `ring_script` and `near_misses`.
+
 mod misses;
 mod play_growths;
 mod play_scripts;

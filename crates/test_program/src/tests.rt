@@ -1,3 +1,5 @@
+//! Tests of `ring_program`, the program as a library.
+
 mod audits;
 mod expects;
 mod failure_expects;

@@ -1,3 +1,5 @@
+//! Tests of `register_core`.
+
 mod driving;
 mod machines;
 mod memories;

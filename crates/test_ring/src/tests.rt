@@ -1,3 +1,5 @@
+//! Tests of `ring_core`.
+
 mod batches;
 mod calls;
 mod counts;

@@ -1,3 +1,5 @@
+//! Tests of the rings of two threads: `ring_seats`, `ring_ends`, `ring_held`, `ring_run`.
+
 mod both_sides;
 mod calls;
 mod expects;

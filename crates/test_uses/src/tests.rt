@@ -1,3 +1,5 @@
+//! Tests that run what `uses` proves.
+
 mod histories;
 mod machines;
 mod rings;

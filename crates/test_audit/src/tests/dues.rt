@@ -1,3 +1,5 @@
+//! Which events were due where a trace leaves the programs.
+
 use bits_core::{Act, Bit, Event, Side};
 use ring_audit::{Dues, due_behind, dues_of_both};
 use std::alloc::AllocGlobal;

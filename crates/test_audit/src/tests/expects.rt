@@ -1,3 +1,5 @@
+//! What the tests of `ring_audit` expect, and how a failure is reported.
+
 use bits_core::{Event, Kind, Shape};
 use ring_audit::{Finding, Found, audit, audit_into};
 use std::alloc::{AllocGlobal, Allocator};

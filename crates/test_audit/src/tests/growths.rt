@@ -1,3 +1,5 @@
+//! The audit of programs with each growth refused in turn.
+
 use crate::tests::expects::{Expected, is_found};
 use bits_core::{Event, Shape};
 use refusing::Refusing;

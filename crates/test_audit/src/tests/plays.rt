@@ -1,3 +1,5 @@
+//! The lists that the audit of programs reads from plays.
+
 use crate::tests::expects::{Expected, expect_found};
 use ring_player::{Script, play};
 use std::alloc::AllocGlobal;

@@ -1,3 +1,5 @@
+//! The audit of programs over slots, and with too few of them.
+
 use crate::tests::expects::{Expected, is_found_in};
 use crate::tests::traces::PLAIN_PATH;
 use ring_audit::{AuditFault, audit_into};

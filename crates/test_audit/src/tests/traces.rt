@@ -1,3 +1,5 @@
+//! The audit of programs on traces: lists, faults, cuts.
+
 use crate::tests::expects::{Expected, expect_found, is_found};
 use bits_core::{Event, Kind, Shape};
 use ring_audit::{Finding, audit};

@@ -1,3 +1,5 @@
+//! The audit of bits on small histories.
+
 use bits_core::{Act, Bit, Event, Kind, Shape, Side, Verdict, audit_bits};
 use std::alloc::AllocGlobal;
 use std::process::Abort;

@@ -1,3 +1,5 @@
+//! Memories of safe bits: oracles, overlapped reads, refused growths.
+
 use bits_core::{
     Access, Always, Bit, Event, Flip, Memory, MemoryFault, Oracle, Shape, Side, Store, Tape,
     Verdict, audit_bits,

@@ -1,3 +1,5 @@
+//! Which numbers are a shape, and with which fault others are refused.
+
 use bits_core::{Bit, Kind, Memory, MemoryFault, Shape, ShapeFault};
 use std::alloc::AllocGlobal;
 use std::fmt::Display;

@@ -1,3 +1,5 @@
+//! Events in slots and in lists.
+
 use crate::tests::memories::{CHOICE_COUNT, CHOICES, expect_made, expect_same, expect_true, make};
 use bits_core::{Act, Bit, Event, Filled, Flip, Memory, Shape, ShapeFault, Side, Store};
 use std::alloc::AllocGlobal;

@@ -1,3 +1,5 @@
+//! The audit of a trace in pieces, cut anywhere.
+
 use bits_core::{Act, Bit, BitAuditor, Event, Kind, Shape, ShapeFault, Side, Verdict};
 use std::process::Abort;
 use trace_text::{TraceAudit, TraceFault};

@@ -1,3 +1,5 @@
+//! The text of traces: each form of a line, and what is refused.
+
 use bits_core::{Act, Bit, Event, Shape, ShapeFault, Side};
 use std::alloc::AllocGlobal;
 use std::process::Abort;

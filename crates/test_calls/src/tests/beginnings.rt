@@ -1,3 +1,5 @@
+//! Which bytes may begin a line of recorded calls.
+
 use queue_calls::{Recording, RecordingFault, UNSEEN_LIMIT, may_begin};
 use std::alloc::{AllocGlobal, Allocator};
 use std::process::Abort;

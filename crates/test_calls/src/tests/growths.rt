@@ -1,3 +1,5 @@
+//! The auditor of calls with each growth refused in turn, and the numbers of its faults.
+
 use queue_calls::{CallAuditor, Event, Fault, RecordingFault, exactly};
 use refusing::Refusing;
 use std::alloc::AllocGlobal;

@@ -1,3 +1,5 @@
+//! The verdicts on a table of histories of calls.
+
 ghost use Rattle.std.specs.Prelude.{◌≡◌, true};
 ghost use Rattle.queue_calls.specs.State.{IsProper};
 ghost use Rattle.queue_calls.specs.Told.{meant};

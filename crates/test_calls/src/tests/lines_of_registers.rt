@@ -1,3 +1,5 @@
+//! The lines of recorded registers.
+
 use register_lines::{LINE_LIMIT, RegisterLine, read_register_line};
 use std::process::Abort;
 use std::test::Fail;

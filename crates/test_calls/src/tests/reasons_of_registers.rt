@@ -1,3 +1,5 @@
+//! What contradicts a read of a register.
+
 use register_calls::{
     Chain, Class, EarlierRead, MissReason, ReaderState, Register, RegisterEvent, RegisterWitness,
 };

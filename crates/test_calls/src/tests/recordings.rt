@@ -1,3 +1,5 @@
+//! Recorded calls as a text: pieces, first lines, bad lines, faults.
+
 use queue_calls::{CallsFinding, CallsReport, Cause, Recording, RecordingFault};
 use refusing::Refusing;
 use std::alloc::{AllocGlobal, Allocator};

@@ -1,3 +1,5 @@
+//! The class of each history of a table, and refused growths.
+
 use queue_calls::{Fifo, Slots};
 use refusing::Refusing;
 use register_calls::{

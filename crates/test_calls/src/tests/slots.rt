@@ -1,3 +1,5 @@
+//! The auditor of calls over slots, and with too few of them.
+
 use crate::tests::recordings::{ITEM_1_NOT_INSIDE, LAWFUL, NOT_PUT, REFUSED, TEXT};
 use queue_calls::{
     CallAuditor, CallsFinding, Event, Fault, Filled, Lent, Lists, Offered, RecordingFault,

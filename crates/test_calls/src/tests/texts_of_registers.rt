@@ -1,3 +1,5 @@
+//! Recorded registers as a text: verdicts, reports, refused growths.
+
 ghost use Rattle.std.specs.Prelude.{◌≤◌};
 
 use refusing::Refusing;

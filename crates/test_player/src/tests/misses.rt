@@ -1,3 +1,5 @@
+//! Plays of near misses: items lost, doubled, or reported too soon.
+
 use crate::tests::play_scripts::{Asked, Numbers, ONE, expect, script_of};
 use crate::tests::refusals::{Played, refusals};
 use bits_core::{Verdict, audit_bits};

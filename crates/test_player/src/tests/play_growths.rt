@@ -1,3 +1,5 @@
+//! Plays with each growth refused in turn.
+
 use crate::tests::play_scripts::{Asked, ONE, Wanted, expect_report, script_of};
 use crate::tests::refusals::{Played, refusals};
 use crate::tests::script_words::expect_words;

@@ -1,3 +1,5 @@
+//! Plays over slots, and with too few of them.
+
 use crate::tests::play_growths::{WRAP, WRAPPED, seen};
 use crate::tests::play_scripts::{Asked, Numbers, ONE, Wanted, expect_report, script_of};
 use bits_core::{Act, Bit, Event, Filled, Side, Store};

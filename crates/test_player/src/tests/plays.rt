@@ -1,3 +1,5 @@
+//! Plays of scripts, and their reports.
+
 use crate::tests::play_scripts::{Asked, Case, Numbers, ONE, expect_reports, script_of};
 use bits_core::{Act, Bit, Event, Side, Store};
 use ring_player::{World, play};

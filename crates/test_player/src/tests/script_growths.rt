@@ -1,3 +1,5 @@
+//! Scripts read with each growth refused in turn.
+
 use refusing::Refusing;
 use ring_script::{Script, ScriptFault};
 use std::alloc::Allocator;

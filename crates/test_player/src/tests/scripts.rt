@@ -1,3 +1,5 @@
+//! The text of scripts: each field, and what is refused.
+
 use bits_core::{ShapeFault, Side};
 use ring_script::{Field, ITEM_LIMIT, LETTER_LIMIT, Script, ScriptFault};
 use std::alloc::{AllocError, AllocGlobal, Global};

@@ -1,3 +1,5 @@
+//! What `audit` prints of a trace.
+
 use crate::tests::expects::{AUDIT, expect_finding_texts, expect_verdicts};
 use bits_core::Kind;
 

@@ -1,3 +1,5 @@
+//! Failed reads, writes and growths.
+
 use crate::tests::expects::{AUDIT, AUDIT_CALLS, BITS, CALLS, PLAY, TRACE};
 use crate::tests::failure_expects::{
     Growing, Told, Unheard, expect_failed_reads, expect_failed_writes, expect_read,

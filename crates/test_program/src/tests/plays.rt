@@ -1,3 +1,5 @@
+//! What `play` prints.
+
 use crate::tests::expects::{
     expect_calls, expect_lawful_plays, expect_plays, expect_refusal_words, expect_report,
 };

@@ -1,3 +1,5 @@
+//! What is printed of a trace or a script that is refused.
+
 use crate::tests::expects::{AUDIT, BITS, CALLS, PLAY, TRACE, expect_refusals};
 
 static TRACES: [(&[u8], &str); 51] = [

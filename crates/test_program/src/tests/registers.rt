@@ -1,3 +1,5 @@
+//! What `audit --register` prints.
+
 use crate::tests::expects::{expect_refusals, expect_run_on, expect_verdicts};
 use crate::tests::failure_expects::expect_read;
 use crate::tests::fakes::HaltingReader;

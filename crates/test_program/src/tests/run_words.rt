@@ -1,3 +1,5 @@
+//! The command line of `run`, and its help.
+
 use crate::tests::expects::{
     expect_refused_runs, expect_statuses, expect_unread, expect_words, expect_wrong, words_of,
 };

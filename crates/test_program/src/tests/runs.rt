@@ -1,3 +1,5 @@
+//! What `run` prints.
+
 use crate::tests::expects::{
     Reported, expect_relay_reports, expect_relay_text, expect_reported_runs, expect_runs,
 };

@@ -1,3 +1,5 @@
+//! What `audit --why` prints.
+
 use crate::tests::expects::expect_whys;
 
 const WHY: &[&str] = &["lamport_ring", "audit", "--why"];

@@ -1,3 +1,5 @@
+//! The command line, help, version, and the words of verdicts and faults.
+
 use crate::tests::expects::{
     BITS, LONG, expect_faults, expect_of, expect_run_on, expect_statuses, expect_texts,
     expect_verdicts, expect_words, run_in,

@@ -1,3 +1,5 @@
+//! What `play --wrong` prints.
+
 use crate::tests::expects::{expect_run_on, expect_wrong, words_of};
 
 const PLAIN: &str =

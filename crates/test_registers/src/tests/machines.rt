@@ -1,3 +1,5 @@
+//! The accesses of each machine, on examples.
+
 use crate::tests::driving::{
     Count, Flag, Machine, expect_access, expect_due, expect_true, expect_value,
 };

@@ -1,3 +1,5 @@
+//! Machines over a memory of safe bits, with overlapped reads.
+
 use crate::tests::driving::{
     Count, Flag, Machine, expect_due, expect_lawful, expect_true, expect_value, step, steps,
 };

@@ -1,3 +1,5 @@
+//! Puts and takes of several items.
+
 ghost use Rattle.std.specs.Prelude.{◌≡◌};
 
 use bits_core::{

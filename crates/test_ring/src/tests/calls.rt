@@ -1,3 +1,5 @@
+//! Whole calls of both sides over a memory of safe bits.
+
 use crate::tests::runs::{
     Report, Ring, expect_due, expect_idle, expect_new_run, expect_put, expect_replies,
     expect_report, expect_run, expect_take, plain,

@@ -1,3 +1,5 @@
+//! What two counts show of items and of room.
+
 use bits_core::Shape;
 use ring_core::{distance, has_item, has_room};
 use std::process::Abort;

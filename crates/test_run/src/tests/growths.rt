@@ -1,3 +1,5 @@
+//! Rings made with each growth refused in turn.
+
 use crate::tests::expects::{Kind, Numbers, expect, shape_of};
 use bits_core::Shape;
 use refusing::Refusing;

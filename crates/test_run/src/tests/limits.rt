@@ -1,3 +1,5 @@
+//! Relays with limits on calls.
+
 ghost use Rattle.std.specs.Prelude.{◌≡◌, ◌∷◌, []};
 ghost use Rattle.bits_core.specs.Shape.{AllFit};
 ghost use Rattle.ring_run.specs.Steppers.{IsSameEnd};

@@ -1,3 +1,5 @@
+//! Relays of items under each oracle.
+
 use crate::tests::expects::{ITEMS, Kind, ORACLES, SHAPES, expect_relay, expect_under};
 use ring_run::{FreeGate, Limits};
 

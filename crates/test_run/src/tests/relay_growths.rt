@@ -1,3 +1,5 @@
+//! Relays with each growth refused in turn.
+
 ghost use Rattle.bits_core.specs.Shape.{AllFit};
 
 use crate::tests::expects::{
