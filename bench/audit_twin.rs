@@ -276,7 +276,7 @@ impl Row {
     }
 }
 
-// How far a put has come. A scan has read so many bits as 0, a word so many digits written.
+// How far a put has come: how many bits a scan has read as 0, or how many digits of a word are written.
 #[derive(Clone, Copy)]
 enum Put {
     Resting,

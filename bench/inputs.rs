@@ -33,7 +33,7 @@ impl Kind {
     }
 }
 
-// Numbers that look as if drawn (splitmix64).
+// Numbers that look random (splitmix64).
 pub struct Pick(pub u64);
 
 impl Pick {
@@ -312,7 +312,7 @@ fn limits_of_script(to: &mut Vec<Vec<u8>>) {
 }
 
 impl Maker {
-    // The examples are files, one a line of this text.
+    // The examples are files, one per line of this text.
     pub fn new(kind: Kind, pick: Pick, examples: &str) -> Self {
         let examples = examples.lines().map(|file| std::fs::read(file).unwrap());
         let examples: Vec<Vec<u8>> = examples.filter(|text| text.len() < 20_000).collect();

@@ -72,7 +72,7 @@ uint32_t ring_take(ring_taker *, uint64_t *item);
 uint32_t ring_take_all(ring_taker *, uint64_t *into, size_t room, size_t *taken);
 /* Whether the handle has an end of which a take was answered RING_OVER. */
 bool ring_is_told(ring_taker *);
-/* Ends the run of a ring, by its two ends: both are gone, and its memory is given back. Returns whether both handles had an end; else
+/* Ends the run of a ring, by its two ends: both are gone, and its memory is freed. Returns whether both handles had an end; if not,
  * nothing is done. */
 bool ring_finish(ring_putter *, ring_taker *);
 /* Lets the end go, if there is one. The ring's memory is given back once both ends are gone. */

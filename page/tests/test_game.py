@@ -163,7 +163,8 @@ def test_goals(page, same, _):
     return same("items were taken", taken > AT_RANDOM // 4, True)
 
 
-# At each moment of each script the counts that a scan may give, by the panel; and of each count, and of none, whether the audit of the bits permits a scan to give it there.
+# At each moment of each script the counts that a scan may give, by the panel; and for each count, and for none,
+# whether the audit of the bits permits a scan to give it there.
 SCANNED = ["plain_path", "batch_of_three", "wrap_under_an_open_count_write", "takes_count_write_open", "five_items", "scan_spans_two_puts"]
 SCANS = """
 const [{openModule}, {traceOf}, {viewsOf}, {rowsInside}] = await Promise.all(["core/module", "core/words", "model/views", "model/items_in_play"].map(name => import(new URL(`${name}.js`, location))));

@@ -315,7 +315,7 @@ static bool judge_calls(void) {
     return false;
 }
 
-/* Judges the run just made, and tells a finding. */
+/* Judges the run just made, and reports a finding. */
 static int judge_run(void) {
     ring_audit_counts r;
     const bool lawful = judge_calls();

@@ -96,7 +96,7 @@ typedef struct { ring_audit_state state; ring_audit_found found; bool cut; char 
 /* "lawful", or the words of the first line that is not. */
 static inline const char *ring_audit_words(const ring_audit *a) { return a->words; }
 
-/* Keeps what is found, and its words; those of a cause come from the library. Answers whether all was heard. */
+/* Keeps what is found, and its words; those of a cause come from the library. Returns whether all of it was heard. */
 static inline int ring_audit_find(ring_audit *a, ring_audit_found found, const uint8_t *cause) {
     const unsigned long long line = (unsigned long long)found.line;
     const size_t room = sizeof a->words;

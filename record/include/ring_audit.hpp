@@ -1,13 +1,13 @@
-// ring_audit.hpp: ring_audit.h for C++ from C++17: judges what a recorder has, in a unit test of any frame.
+// ring_audit.hpp: ring_audit.h for C++17 and later: judges what a recorder has recorded, in a unit test of any framework.
 //
 //     ring_auditor audit;                                                           for any number of rounds
-//     auto found = audit.lawful(rec, "queue 8");                                    when both threads were joined
+//     auto found = audit.lawful(rec, "queue 8");                                    after both threads are joined
 //     EXPECT_TRUE(found) << found;                                                  GoogleTest
 //     REQUIRE(found);                                                               Catch2
 //     found.words()                                                                 `lawful`, or `fault: line 5: empty, but ..`
 //
 // It needs ring_audit.h, ring_calls.hpp and ring_calls.h beside it, and the library. A recording that is not lawful is written to the
-// file that RING_AUDIT_KEEP names in the environment.
+// file that the environment variable RING_AUDIT_KEEP names.
 #pragma once
 #include "ring_audit.h"
 #include "ring_calls.hpp"

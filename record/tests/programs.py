@@ -179,7 +179,7 @@ LIVE = [
     live("c11", "gcc -std=gnu11 -O2"),
     live("cpp11", "g++ -x c++ -std=c++11 -O2"),
     live("sanitized", f"gcc -std=gnu11 -O1 {SANITIZED} -DRING_LIVE_WORDS=4096"),
-    # (not every kernel runs what is built so)
+    # (not every kernel runs what is built this way)
     live("sanitized_threads", THREADS, f"echo 'int main(void) {{ return 0; }}' | {THREADS} -x c - -o $ROOM/none && $ROOM/none",
          "; sysctl vm.mmap_rnd_bits=28"),
 ]

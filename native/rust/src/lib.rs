@@ -193,7 +193,7 @@ impl Putter {
         }
     }
 
-    /// Puts the item, and calls `wait` each time that the ring is full. It is `Stored`, `Closed` or `Refused`.
+    /// Puts the item, and calls `wait` each time that the ring is full. Returns `Stored`, `Closed` or `Refused`.
     pub fn put_waiting(&mut self, item: u64, mut wait: impl FnMut()) -> Put {
         loop {
             match self.put(item) {

@@ -1,5 +1,5 @@
-//! Links libring_audit.a, which lies in the folder that RING_AUDIT_LIB_DIR names, or in dist/ of this repository, for ARM64 in
-//! dist/aarch64-linux/.
+//! Links libring_audit.a, which is in the folder that RING_AUDIT_LIB_DIR names, or in dist/ of this repository (for
+//! ARM64, in dist/aarch64-linux/).
 fn main() {
     let here = std::env::var("CARGO_MANIFEST_DIR").unwrap();
     println!("cargo:rerun-if-env-changed=RING_AUDIT_LIB_DIR");

@@ -1,4 +1,4 @@
-// unit.cpp: a unit test of a small ring by GoogleTest: it is a queue in each of 10,000 rounds, and with its bug it is not.
+// unit.cpp: a unit test of a small ring with GoogleTest: it is a queue in each of 10,000 rounds, and with its bug it is not.
 #include "rounds.hpp"
 #include <gtest/gtest.h>
 
