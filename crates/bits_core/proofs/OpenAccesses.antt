@@ -36,7 +36,7 @@ pub open_right_some : (shape : Shape) (h : List Event) (s : Side) (o : Option Ac
 open_right_some shape h s None lawful e = tt
 open_right_some shape h s (Some access) lawful e = open_right shape h s access lawful (sym e)
 
--- what an overlapped read is answered, or else what the bit held, is permitted
+-- the answer to an overlapped read, or otherwise what the bit held, is permitted
 pub IsAnswer-from : (h : List Event) (s : Side) (b : Bit) (asked v : Bool) → v ≡ (if is_overlapped s b h then asked else held_at_begin s b h) → IsAnswer h s b v
 IsAnswer-from h s b asked v e =
     elim (is_overlapped s b h) as (λ t. is_overlapped s b h ≡ t → v ≡ (if t then asked else held_at_begin s b h) → IsAnswer h s b v) [

@@ -135,7 +135,7 @@ own_at s (x ∷ h) (suc place) e at by =
       tick = clock-no s x h (suc place) q ∙ r.tick ∙ ap suc (sym (clock-no s x h place q));
     })
 
--- an own event comes before a place exactly if its number is below the clock there
+-- an own event comes before a place exactly when its number is below the clock there
 pub clock_counts_places : ClockCountsPlaces
 clock_counts_places s h i place within =
     let q : IsPlaceOf s h i (place_of s h i) = subhistory_has_place s h i within in (

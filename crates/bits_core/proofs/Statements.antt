@@ -33,7 +33,7 @@ SubhistoryHasPlace = (s : Side) (h : List Event) (i : ℕ) → i < length (subhi
 abbrev pub SubhistoryHasOnePlace : Type 0
 SubhistoryHasOnePlace = (s : Side) (h : List Event) (i place : ℕ) → IsPlaceOf s h i place → place ≡ place_of s h i
 
--- an own event comes before a place exactly if its number is below the clock there
+-- an own event comes before a place exactly when its number is below the clock there
 abbrev pub ClockCountsPlaces : Type 0
 ClockCountsPlaces = (s : Side) (h : List Event) (i place : ℕ) → i < length (subhistory s h) → (place_of s h i < place) ↔ (i < clock s h place)
 

@@ -31,7 +31,7 @@ pub record IsLastWritten (b : Bit) (h : List Event) (place : ℕ) : Type 0 where
   pub ends : ends_write b event ≡ true
   pub none_after : list_any (ends_write b) (drop (place + 1) h) ≡ false
 
--- the bit holds the value since the last end of a write of it, or, if there is none, since the start
+-- the bit has held the value since the last end of a write of it, or, if there is none, since the start
 abbrev pub IsHeldSince : Bit → List Event → Bool → Option ℕ → Type 0
 IsHeldSince b h v None = (v ≡ held b h) × (list_any (ends_write b) h ≡ false)
 IsHeldSince b h v (Some place) = (v ≡ held b h) × IsLastWritten b h place

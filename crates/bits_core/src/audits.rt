@@ -143,7 +143,7 @@ impl BitAuditor {
     /// Feeds it the next event. `None` says that it may follow the events accepted so far, so that together they are a lawful
     /// history. Otherwise the first kind of fault that applies to it is returned, and the auditor is unchanged.
     pub fn feed(&mut self, event: Event) -> Option<Kind>
-        // It is accepted exactly if it may follow.
+        // It is accepted exactly when it may follow.
         ensures accepts { (shape : Shape) (past : List Event) → HeardEvents self.old shape past → (result ≡ None) ↔
             MayFollow shape past event }
         ensures kind { (shape : Shape) (past : List Event) → HeardEvents self.old shape past →

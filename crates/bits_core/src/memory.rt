@@ -207,7 +207,7 @@ impl<S: Store<Event>> Memory<S> {
         ensures asked { OnOk result (is_read_overlapped side self.old.events ≡ true → (i : ℕ) →
             O.answers oracle.new i ≡ O.answers oracle.old (i + 1)) }
         ensures not_asked { is_read_overlapped side self.old.events ≡ false → oracle.new ≡ oracle.old }
-        // It was overlapped exactly if the read that ends here was, by the intervals of the history.
+        // It was overlapped exactly when the read that ends here was, by the intervals of the history.
         ensures overlap { OnOk result ((is_read_overlapped side self.old.events ≡ true) ↔
             EndsOverlappedRead self.new.events (length self.old.events)) }
         ensures err { OnErr result ((self.new ≡ self.old) × (oracle.new ≡ oracle.old)) }

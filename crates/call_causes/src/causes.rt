@@ -5,7 +5,7 @@ ghost use Rattle.call_causes.specs.Causes.{cause_line, cause_words, next_words, 
 use crate::entries::{Offered, Taken};
 use std::fmt;
 
-/// What contradicts a line of a recording with which the history is not linearizable.
+/// What contradicts a line of a recording at which the history is not linearizable.
 ///
 /// Lines are counted from 1. An item comes with the line that began its put (`offered_at`), ended it (`stored_at`) or
 /// ended its take (`taken_at`).

@@ -5,7 +5,7 @@ ghost use Rattle.call_lines.specs.Beginnings.{BeginsAWord, BeginsAfterWord, Begi
 
 use crate::lines::{Word, spaced_number, word_at};
 
-// How many words there are, by their numbers.
+// How many words there are; they are numbered from 0.
 const WORDS: u32 = 17;
 
 // Whether a line of this word states the queue's capacity.

@@ -45,7 +45,7 @@ IsLowestSet bits below i = (i < below) × (slice_index_or bits i false ≡ true)
 abbrev pub IsHighestSet : List Bool → ℕ → ℕ → Type 0
 IsHighestSet bits below i = (i < below) × (slice_index_or bits i false ≡ true) × AreClear bits (i + 1) below
 
--- the order of a near miss: only the two that break this rule have another order than a ring
+-- the order of a near miss: only the two that break this rule have an order other than a ring's
 abbrev pub order_of : NearMiss → order.Order
 order_of ClearsUpwards = order.TheVariants.Upwards
 order_of ClearsFirst = order.TheVariants.ClearsFirst

@@ -1,4 +1,4 @@
--- Nothing contradicts an event after a past exactly if the event can be counted.
+-- Nothing contradicts an event after a past exactly when the event can be counted.
 use Rattle.std.proofs.Common.{◌≡◌, ◌↔◌, ◌⊎◌, inl, inr, ℕ, suc, ◌+◌, ◌-◌, ◌<◌, ◌≤◌, nat_lt, Bool, true, false, ◌==◌, not, ◌&&◌, Some, None, List, [], ◌∷◌, ◌++◌, map, length, take, drop, reverse, refl, sym, ap, subst, ◌∙◌, arith, length-append, append_assoc, append-nil}
 use Rattle.std.proofs.lemmas.Bool.{false_from_ne_true, or_left, or_right, or_from, or_parts, not-false, not_from_true, ltb-true, ltb-false, lt-ltb, le-ltb, eqb-true, eqb-false, eq-eqb, ne_eqb, cond-true, cases_Bool}
 use Rattle.std.proofs.lemmas.Option.{none-some}
@@ -69,7 +69,7 @@ rest_of : (turn : TakeTurn) → call_of_take turn ≡ NoCall → turn ≡ Rests
 rest_of Rests e = refl
 rest_of (Waits wants inside closed) e = absurd cc
 
--- nothing contradicts items exactly if they are the next ones and nothing contradicts so few
+-- nothing contradicts items exactly when they are the next ones and nothing contradicts so few
 pub items_next :
     (limit : ℕ) (capacity : Capacity) (why : Bool) (past : List Event) (first items : List ℕ) (rest : List Offered) → items_cause limit capacity why past first items rest ≡ None →
     AreNext items (items_of rest) × (fewer_cause capacity (length first + length items) why past ≡ None)
@@ -262,7 +262,7 @@ module _ (capacity : Capacity) (past : List Event) (k : Kept) (a : Agrees past k
   late_inside : (n : ℕ) → k.put ≡ Late n → nat_lt (n_of past) (k_of past) ≡ false
   late_inside n is = let f = as_put past k a (Late n) is in le-ltb (n_of past) (k_of past) (omega (arith, long past k a, ap length f.0))
 
-  -- after a take returned Closed the queue has no item, and none is found in it
+  -- after a take has returned Closed the queue has no item, and none is found in it
   some_untold : 0 < length k.inside → has_told past ≡ false
   some_untold some = false_from_ne_true (has_told past) (λ e. omega (arith, some, ap length (a.told e).0))
 

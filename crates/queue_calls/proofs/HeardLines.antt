@@ -101,7 +101,7 @@ is_line before bytes l on =
 same_word : (before : List Line) (bytes numbers : List ℕ) (w : Word) (l : Line) → IsLine bytes w numbers → ContinuesLines before bytes l → w ≡ l.word
 same_word before bytes numbers w l is on = (line_same bytes w l.word numbers l.numbers is (is_line before bytes l on)).0
 
--- no line that comes first has another word than a first line's
+-- a line whose word is not that of a first line does not come first
 pub not_the_first : (before : List Line) (bytes numbers : List ℕ) (w : Word) (l : Line) → before ≡ [] → ¬ IsFirst w → IsLine bytes w numbers → ¬ (ContinuesLines before bytes l)
 not_the_first [] bytes numbers w l none other is on = other (on.0.0.0, same_word [] bytes numbers w l is on ∙ on.0.0.1)
 not_the_first (x ∷ before) bytes numbers w l none other is on = absurd (omega (arith, ap length none))

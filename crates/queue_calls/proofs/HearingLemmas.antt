@@ -47,7 +47,7 @@ stops_before capacity events event number Says at = record {
   says = at.says;
 }
 
--- an event with which the history is not linearizable is the first fault
+-- an event at which the history is not linearizable is the first fault
 pub stops_here : (capacity : Capacity) (events : List Event) (event : Event) (number : ℕ) (Says : List Event → Event → Type 0) → IsLinearizable capacity events
     → ¬ (IsLinearizable capacity (events ++ event ∷ [])) → Says events event → length events + 2 ≡ number → StopsAt capacity (events ++ event ∷ []) number Says
 stops_here capacity events event number Says so_far stops says is = record {

@@ -6,7 +6,7 @@ use Rattle.queue_calls.specs.Order.{Side, P, C, pick, side_of, doer_of, Numbered
 
 -- ---- what is picked
 
--- what holds of both holds of the one that is picked
+-- what holds for both holds for the one that is picked
 pub picked : {A : Type 0} (Q : A → Type 0) (y x : Side) (same other : A) → (x ≡ y → Q same) → ((x ≡ y → ⊥) → Q other) → Q (pick y x same other)
 picked Q P P same other a b = a refl
 picked Q P C same other a b = b (λ e. cc)

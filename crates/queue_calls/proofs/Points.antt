@@ -18,7 +18,7 @@ pub happens :
     CanLeadTo capacity (h ++ e ∷ []) t
 happens capacity h s t e r l = record { marks = Happens e ∷ r.marks; events = ap (λ z. z ++ e ∷ []) r.events; lead = (s, r.lead, l) }
 
--- what holds of points is preserved when operations take effect
+-- what holds for points is preserved when operations take effect
 abbrev pub Stays : Capacity → (Point → Type 0) → Type 0
 Stays capacity P = (s t : Point) (d : Operation) → P s → Leads capacity s (Effect d) t → P t
 

@@ -18,7 +18,7 @@ abbrev pub left_at : Producer → List ℕ
 left_at (Putting lacked done left) = left
 left_at _ = []
 
--- the items of a point: those that the take under way took, those in the queue, and those that the put under way still offers
+-- the items of a point: those that the take under way has taken, those in the queue, and those that the put under way still offers
 abbrev pub items_at : Point → List ℕ
 items_at s = taken_by s.consumer ++ (s.queue.items ++ left_at s.producer)
 

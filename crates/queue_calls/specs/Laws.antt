@@ -12,6 +12,6 @@ OperationsLeadOneWay = (capacity : Capacity) (q : Queue) (d : Operation) (after 
 abbrev pub BeginningIsLinearizable : Type 0
 BeginningIsLinearizable = (capacity : Capacity) (h rest : List Event) → IsLinearizable capacity (h ++ rest) → IsLinearizable capacity h
 
--- operations can take effect at moments exactly if they have an order
+-- operations can take effect at moments exactly when they have an order
 abbrev pub MomentsAreOrders : Type 0
 MomentsAreOrders = (capacity : Capacity) (h : List Event) → IsLinearizable capacity h ↔ Linearization capacity h

@@ -1,4 +1,4 @@
--- What contradicts the event with which a history stops being linearizable: the first that applies. A past is the list of the events
+-- What contradicts the event at which a history stops being linearizable: the first that applies. A past is the list of the events
 -- before an event, the last one first.
 use Rattle.std.specs.Prelude.{◌≡◌, ℕ, suc, ◌+◌, ◌-◌, Bool, true, false, ◌&&◌, not, ◌==◌, nat_lt, nat_le, if◌then◌else◌, Option, Some, None, List, [], ◌∷◌, ◌++◌, map, length, take, drop, reverse, get_or, is_some, find}
 use Rattle.queue_calls.specs.Queue.{Capacity, Unbounded, Between}

@@ -50,7 +50,7 @@ pub record HasLines {S O T N B : Type 0} (offered : O → List Offered) (last : 
 abbrev pub ContinuesLines : List Line → List ℕ → Line → Type 0
 ContinuesLines before bytes l = AreLines (before ++ l ∷ []) × (bytes ≡ line_text l.word l.numbers)
 
--- why a line is refused after lines
+-- why a line is refused after these lines
 abbrev pub RefusesLine : RecordingFault → List Line → List ℕ → Type 0
 RefusesLine (BadLine number) before bytes = (length before + 1 ≡ number) × ((l : Line) → ¬ (ContinuesLines before bytes l))
 RefusesLine TooLong before bytes = length before ≡ 2 ^ 64 - 1

@@ -148,7 +148,7 @@ RefusesText (BadLine number) bytes = IsBadLine bytes number
 RefusesText TooLong bytes = 2 ^ 64 - 1 ≤ length bytes
 RefusesText OutOfMemory bytes = Unit {0}
 
--- the event of the line of this number is the first one with which the history is not linearizable
+-- the event of the line of this number is the first one at which the history is not linearizable
 pub record StopsAt (capacity : Capacity) (events : List Event) (number : ℕ) (Says : List Event → Event → Type 0) : Type 0 where
   pub before : List Event
   pub event : Event

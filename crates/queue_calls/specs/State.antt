@@ -18,7 +18,7 @@ abbrev pub MayHold : Capacity → ℕ → Type 0
 MayHold Unbounded inside = Unit {0}
 MayHold (Between full most) inside = inside ≤ most
 
--- the items that the take under way took
+-- the items that the take under way has taken
 abbrev pub taken_by : Consumer → List ℕ
 taken_by Resting = []
 taken_by (Taking lacked took left) = took

@@ -79,7 +79,7 @@ impl<Q: Inside> CallAuditor<Q> {
     ghost use Rattle.queue_calls.specs.declared.turns.PutTurn.TheVariants.{Free, Offers};
     ghost use Rattle.queue_calls.specs.declared.turns.TakeTurn.TheVariants.{Rests};
 
-    /// As [`new`](CallAuditor::new), with a list supplied by the caller to keep the items in, which may be in slots. Its
+    /// Like [`new`](CallAuditor::new), with a list supplied by the caller to keep the items in, which may be in slots. Its
     /// contents are removed.
     pub fn with(list: Q, capacity: Capacity) -> CallAuditor<Q>
         requires { IsProper (meant capacity) }

@@ -1,11 +1,11 @@
-//! The items inside of a queue that is audited, each with what has to be known about it.
+//! The items inside a queue that is audited, each with what has to be known about it.
 ghost use Rattle.std.specs.Prelude.{map};
 
 use call_causes::Offered;
 use lists::Fifo;
 use std::alloc::AllocError;
 
-/// The items inside of a queue, in order, each kept as an entry: a list of items, as each [`Fifo`] of them is, or one that keeps more
+/// The items inside a queue, in order, each kept as an entry: a list of items, as each [`Fifo`] of them is, or one that keeps more
 /// of an item, such as the line that offered it.
 ///
 /// In use: `uses::calls::first_at_fault`.

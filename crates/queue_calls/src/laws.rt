@@ -18,7 +18,7 @@ pub fn operations_lead_one_way()
     ensures { OperationsLeadOneWay }
 {}
 
-/// A history is linearizable if it is with one more event: an event with which it is not is the
+/// A history is linearizable if it is with one more event: an event at which it is not is the
 /// first such, and nothing after it can repair that.
 pub fn beginning_is_linearizable()
     ensures { BeginningIsLinearizable }
@@ -37,7 +37,7 @@ pub fn counted_is_linearizable()
     ensures { CountedIsLinearizable }
 {}
 
-/// The events of a history can be counted one after the other exactly if it is linearizable: the rules refuse no history that
+/// The events of a history can be counted one after the other exactly when it is linearizable: the rules refuse no history that
 /// has moments at which its operations can take effect.
 pub fn counts_are_exact()
     ensures { CountsAreExact }

@@ -194,7 +194,7 @@ impl<S: Storage> Witness<S> {
         }
     }
 
-    // What contradicts an event of this line that comes in turn, and with which the history is not linearizable.
+    // What contradicts an event of this line that comes in turn, and at which the history is not linearizable.
     pub fn cause(&self, line: u64, event: Event<'_>) -> Cause
         ensures { (capacity : queues.Capacity) (events : List calls.Event) →
             Remembers S.Offered.items S.Taken.items self.now capacity events → length events + 2 ≡ line →

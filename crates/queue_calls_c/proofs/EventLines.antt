@@ -1,4 +1,4 @@
--- Lines that represent events, and the lines with which a history lacks classes, after one more event.
+-- Lines that represent events, and the lines at which a history lacks classes, after one more event.
 use Rattle.std.proofs.Common.{◌≡◌, ◌≢◌, ◌∙◌, ℕ, suc, ◌+◌, ◌<◌, ◌≤◌, Option, Some, None, Result, Ok, Err, inr, List, [], ◌∷◌, ◌++◌, length, map, take, reverse, get_or, refl, sym, ap, ap₂, subst, length-append, arith}
 use Rattle.std.specs.Prelude.{IfErr, IfOk}
 use Rattle.std.proofs.lemmas.List.{map_more, map_push, length-map, reverse-append, take-append-le, take_all, take_at}
@@ -35,7 +35,7 @@ stand_more lines place d before e within stand is =
 pub as_many : (lines : List EventLine) (events : List RegisterEvent) → StandFor lines events → length events ≡ length lines
 as_many lines events stand = sym (length-map events (λ (x : RegisterEvent). Some x)) ∙ ap length (sym stand) ∙ length-map lines line_event
 
--- ---- the line with which a class is lost
+-- ---- the line at which a class is lost
 
 module _ (c : Class) (r : Register) (events : List RegisterEvent) (e : RegisterEvent) where
   -- the first miss of events is that of more

@@ -47,7 +47,7 @@ told_more [] numbers (h ∷ heard) rest next l are told = absurd are
 told_more (first ∷ lines) numbers [] rest next l are told = absurd are
 told_more (first ∷ lines) numbers (h ∷ heard) rest next l are told = (are.0, told_more lines (drop first.count numbers) heard rest next l are.1 told)
 
--- the verdict is not that there is no state, since a finding is not lawful
+-- the verdict is not 6, that there is no state: the finding is not lawful
 pub not_six : (room : ℕ) (said : Result (Option CallsFinding) RecordingFault) → IfOk said (λ found. IfSome found IsNotLawful) → (found_of room said).verdict ≢ 6
 not_six room (Ok None) not e = absurd (omega (arith, e))
 not_six room (Ok (Some (Lawful report))) not e = not

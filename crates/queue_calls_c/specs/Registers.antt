@@ -55,7 +55,7 @@ abbrev pub line_of_place : Option ℕ → ℕ
 line_of_place None = 0
 line_of_place (Some place) = place + 2
 
--- the event of this line is the first with which a history lacks the class; the line is 0 if it has the class
+-- the event of this line is the first at which a history lacks the class; the line is 0 if it has the class
 abbrev pub IsLostAt : Class → Register → List RegisterEvent → (line : ℕ) → Type 0
 IsLostAt class r events line = (place : Option ℕ) × IsMiss class r events place × (line ≡ line_of_place place)
 
@@ -66,7 +66,7 @@ pub record AreLost (r : Register) (events : List RegisterEvent) (lost : LostClas
   pub by_reader : IsLostAt AtomicByReader r events lost.by_reader
   pub atomic : IsLostAt Atomic r events lost.atomic
 
--- each event came in turn; this is the strongest class of their history, and these are the lines with which it lacks classes
+-- each event came in turn; this is the strongest class of their history, and these are the lines at which it lacks classes
 abbrev pub IsJudgedHistory : Register → List RegisterEvent → JudgedHistory → Type 0
 IsJudgedHistory r events judged = IsWellFormed r (reverse events) × IsStrongest judged.class r (reverse events) × AreLost r events judged.lost
 

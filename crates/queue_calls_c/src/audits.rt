@@ -97,8 +97,8 @@ pub extern "C" fn ring_audit_begin(audit: &mut Audit<'_>, numbers: &[u64]) -> bo
     true
 }
 
-/// Hears lines after those already heard, as many of them as are lawful, and returns how many these are; and in `found` the finding on
-/// the next one, with the text of its cause. A line at fault is not kept: others may be heard instead.
+/// Hears lines after those already heard, for as long as they are lawful. It returns how many these are, and in `found` the finding on the
+/// next one, with the text of its cause. A line at fault is not kept: other lines may be heard instead.
 #[unsafe(no_mangle)]
 pub extern "C" fn ring_audit_hear(
     audit: &mut Audit<'_>,

@@ -11,7 +11,7 @@ use crate::registers::{EventLine, READERS, line_event, register_of};
 use lists::{Fifo, Slots};
 use register_calls::{Class, ReaderState, RegisterAuditor, RegisterFault};
 
-// For each class the first line with which a history lacks it; 0 if it has the class.
+// For each class the first line at which a history lacks it; 0 if it has the class.
 #[derive(Clone, Copy, PartialEq, Eq, Debug)]
 pub struct LostClasses {
     pub safe: u64,
@@ -39,7 +39,7 @@ pub enum JudgeFault {
     TooFewSlots(u64),
 }
 
-// The line with which a class is lost, with one more event, of this line: after it the history has the class or not.
+// The line at which a class is lost, with one more event, of this line: after it the history has the class or not.
 fn lost_at(known: u64, has: bool, line: u64) -> u64
     ensures { (class : Class) (r : Register) (before : List RegisterEvent) (e : RegisterEvent) →
         length before + 2 ≡ line → (IsTrue has ↔ HasClass class r (e ∷ reverse before)) →
@@ -106,7 +106,7 @@ fn refusal_of(fault: RegisterFault, line: u64) -> JudgeFault
     }
 }
 
-// Hears the event of one more line, and returns the lines with which the history lacks classes then.
+// Hears the event of one more line, and returns the lines at which the history lacks classes then.
 fn hear_line<W: Fifo<u64>, R: Fifo<ReaderState>>(
     auditor: &mut RegisterAuditor<W, R>,
     lost: LostClasses,

@@ -25,7 +25,7 @@ pub struct EventLine {
 pub struct JudgeFound {
     /// The line that is refused.
     pub line: u64,
-    /// The first line with which the history is not safe, not regular, not atomic by reader, and not atomic.
+    /// The first line at which the history is not safe, not regular, not atomic by reader, and not atomic.
     pub not_safe: u64,
     pub not_regular: u64,
     pub not_by_reader: u64,
@@ -148,7 +148,7 @@ fn register_found(judgement: Result<JudgedHistory, JudgeFault>) -> JudgeFound
 /// Judges the history of a register: of a first line with these numbers, the first value and perhaps the bound that the values are below,
 /// and of further lines, each of which represents an event. The slots are for writes: as many as a history has, and one more, are enough.
 ///
-/// It finds the strongest class of the history, and for each class the first line with which the history lacks it. Or it refuses the
+/// It finds the strongest class of the history, and for each class the first line at which the history lacks it. Or it refuses the
 /// first line that may not be there, whose event is out of turn, or for whose write there is no slot. The contents of the slots after
 /// that are unspecified.
 #[unsafe(no_mangle)]

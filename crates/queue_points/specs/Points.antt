@@ -36,7 +36,7 @@ puts_in (Effect (Dequeue item)) = 0
 puts_in (Effect (FindFewer count)) = 0
 puts_in (Effect FindClosed) = 0
 
--- a mark was accepted, which leads to what is kept now; or it leads nowhere, or may put in another item than the next of the row, and
+-- a mark was accepted, which leads to what is kept now; or it leads nowhere, or may put in an item other than the next of the row, and
 -- everything is unchanged
 abbrev pub Accepts : LinearizationPoints → Mark → Bool → LinearizationPoints → Type 0
 Accepts old mark true new = Leads (meant old.capacity) (point_of old) mark (point_of new) × (new.capacity ≡ old.capacity) × (new.row.now ≡ old.row.now)

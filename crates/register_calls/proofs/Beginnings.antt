@@ -198,7 +198,7 @@ last_read b j u i start stop v under_way place event is =
       value = what;
     }
 
--- so what holds of that one holds of it
+-- so what holds for that one holds for it
 pub of_last : (b : List RegisterEvent) (j u i start stop v : ℕ) (P : ℕ → ℕ → ℕ → Type 0) → IsLastRead b j u i start stop v → P (length (before_read j b)) (length b) u → P start stop v
 of_last b j u i start stop v P last p =
     subst (λ (k : ℕ). P k stop v) (sym last.from) (subst (λ (k : ℕ). P (length (before_read j b)) k v) (sym last.to) (subst (λ (k : ℕ). P (length (before_read j b)) (length b) k) (sym last.value) p))

@@ -84,7 +84,7 @@ module _ (first : ℕ) (r : Register) (s b : List RegisterEvent) (part : IsBegin
   pub of_numbers : (v k : ℕ) → MayBeOf first b (length s) (length b) v k → (n : ℕ) × IsOf first s b v n
   of_numbers v k may = let found = of_coded v k may in (found.0, found.2)
 
-  -- no write overlaps the read exactly if the writes that had ended are those that have begun
+  -- no write overlaps the read exactly when the writes that had ended are those that have begun
   pub quiet_places : finished s ≡ started b → IsQuiet b (length s) (length b)
   quiet_places quiet w u write over =
       let (m, num) = numbered first b u w write in

@@ -1,4 +1,4 @@
--- A well-formed history is safe, or regular, exactly if it is so by intervals.
+-- A well-formed history is safe, or regular, exactly when it is so by intervals.
 use Rattle.std.proofs.Common.{◌≢◌, inl, inr, ℕ, ◌≤◌, ◌<◌, List, [], ◌∷◌, length, arith}
 use Rattle.std.proofs.lemmas.Option.{none-some}
 use Rattle.register_calls.specs.declared.events.Register.{Register}

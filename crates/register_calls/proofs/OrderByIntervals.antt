@@ -1,4 +1,4 @@
--- The reads of a well-formed history have an order, of all readers together or of each alone, exactly if they have one by intervals.
+-- The reads of a well-formed history have an order, of all readers together or of each alone, exactly when they have one by intervals.
 use Rattle.std.proofs.Common.{◌≡◌, ◌≢◌, inl, inr, ℕ, zero, suc, ◌≤◌, ◌<◌, true, Some, List, [], ◌∷◌, length, refl, ap, sym, subst, ◌∙◌, arith}
 use Rattle.std.specs.Prelude.{◌==◌, if◌then◌else◌}
 use Rattle.std.proofs.lemmas.Bool.{eq-eqb, ne_eqb, cases_lt}

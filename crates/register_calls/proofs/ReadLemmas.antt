@@ -35,7 +35,7 @@ no_longer : (b : Bool) (h rest : List RegisterEvent) (n : ℕ) → length h ≤ 
 no_longer true h rest n p q = p
 no_longer false h rest n p q = q
 
--- the events before a read are among all
+-- the events before a read are no more than all the events
 pub length-before_read : (i : ℕ) (h : List RegisterEvent) → length (before_read i h) ≤ length h
 length-before_read i [] = omega arith
 length-before_read i (WriteBegins v ∷ h) = let k = length-before_read i h in omega arith

@@ -1,4 +1,4 @@
--- Which event is the first with which a history lacks a class, for the events in their order.
+-- Which event is the first at which a history lacks a class, for the events in their order.
 use Rattle.std.specs.Prelude.{◌≡◌, ℕ, ◌+◌, ◌<◌, Bool, true, false, Option, Some, None, List, ◌∷◌, length, take, reverse}
 use Rattle.register_calls.specs.declared.events.Register.{Register}
 use Rattle.register_calls.specs.declared.events.RegisterEvent.{RegisterEvent}
@@ -19,13 +19,13 @@ is_at_least c AtomicByReader = true
 is_at_least AtomicByReader Atomic = false
 is_at_least Atomic Atomic = true
 
--- the event at this place is the first with which the history lacks the class
+-- the event at this place is the first at which the history lacks the class
 pub record IsFirstMiss (class : Class) (r : Register) (events : List RegisterEvent) (place : ℕ) : Type 0 where
   pub within : place < length events
   pub before : HasClass class r (reverse (take place events))
   pub with_it : ¬ HasClass class r (reverse (take (place + 1) events))
 
--- the history has the class, or this is the first event with which it lacks it
+-- the history has the class, or this is the first event at which it lacks it
 abbrev pub IsMiss : Class → Register → List RegisterEvent → Option ℕ → Type 0
 IsMiss class r events None = HasClass class r (reverse events)
 IsMiss class r events (Some place) = IsFirstMiss class r events place
@@ -39,7 +39,7 @@ abbrev pub StrongerHasWeaker : Type 0
 StrongerHasWeaker =
     (c d : Class) (r : Register) (h : List RegisterEvent) → IsWellFormed r h → is_at_least c d ≡ true → HasClass c r h → HasClass d r h
 
--- there is at most one first event with which a history lacks a class, and none if it has it
+-- there is at most one first event at which a history lacks a class, and none if it has it
 abbrev pub OneFirstMiss : Type 0
 OneFirstMiss = (class : Class) (r : Register) (events : List RegisterEvent) (a b : Option ℕ) → IsMiss class r events a → IsMiss class r events b → a ≡ b
 

@@ -58,7 +58,7 @@ pub record RegisterLinearization (first : ℕ) (h : List RegisterEvent) : Type 0
   pub legal : AreLegal first order
   pub keeps_time : KeepsRealTime h order
 
--- a well-formed history is atomic exactly if it has a linearization
+-- a well-formed history is atomic exactly when it has a linearization
 pub record AtomicIsLinearizable : Type 0 where
   pub there : (r : Register) (h : List RegisterEvent) → IsWellFormed r h → IsAtomic r.first h → RegisterLinearization r.first h
   pub back : (r : Register) (h : List RegisterEvent) → IsWellFormed r h → RegisterLinearization r.first h → IsAtomic r.first h

@@ -187,7 +187,7 @@ impl<A: Allocator + Copy> RegisterAuditor<VecDeque<u64, A>, VecDeque<ReaderState
 }
 
 impl<W: Fifo<u64>, R: Fifo<ReaderState>> RegisterAuditor<W, R> {
-    /// As [`new`](RegisterAuditor::new), with lists supplied by the caller, which may be in slots. Their contents are removed.
+    /// Like [`new`](RegisterAuditor::new), with lists supplied by the caller, which may be in slots. Their contents are removed.
     ///
     /// It is an error if the list of writes has no room for one number.
     pub fn with(

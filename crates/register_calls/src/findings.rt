@@ -1,4 +1,4 @@
-//! The first event with which a whole history lacks a class.
+//! The first event at which a whole history lacks a class.
 ghost use Rattle.std.specs.Prelude.{◌≡◌, IfOk, IfErr, reverse};
 ghost use Rattle.register_calls.specs.Histories.{IsValue, IsWellFormed};
 ghost use Rattle.register_calls.specs.Findings.{IsMiss, FaultSays};
@@ -8,7 +8,7 @@ use crate::events::{Class, Register, RegisterEvent};
 use crate::faults::RegisterFault;
 use std::alloc::Allocator;
 
-/// The place, from 0, of the first event with which a history lacks the class; `None` if the history has it. The first value of the
+/// The place, from 0, of the first event at which a history lacks the class; `None` if the history has it. The first value of the
 /// register is one of its values.
 ///
 /// `NoValue` and `OutOfTurn` are returned only for a history that is not well formed: at the first event that begins a write of a

@@ -16,30 +16,30 @@ pub fn beginning_has_class()
     ensures { BeginningHasClass }
 {}
 
-/// There is one first event with which a history lacks a class, and none if it has the class.
+/// There is one first event at which a history lacks a class, and none if it has the class.
 pub fn one_first_miss()
     ensures { OneFirstMiss }
 {}
 
-/// A well-formed history is safe exactly if it is safe by intervals: each read returns a value, and one that no write overlaps returns that
-/// of the last write before it.
+/// A well-formed history is safe exactly when it is safe by intervals: each read returns a value, and one that no write overlaps returns
+/// that of the last write before it.
 pub fn safe_is_by_intervals()
     ensures { SafeIsByIntervals }
 {}
 
-/// A well-formed history is regular exactly if it is regular by intervals: each read is of a write that overlaps it, or of the last one
+/// A well-formed history is regular exactly when it is regular by intervals: each read is of a write that overlaps it, or of the last one
 /// before it.
 pub fn regular_is_by_intervals()
     ensures { RegularIsByIntervals }
 {}
 
-/// A well-formed history is atomic exactly if it is atomic by intervals: each read can be given a write that overlaps it, or the last one
+/// A well-formed history is atomic exactly when it is atomic by intervals: each read can be given a write that overlaps it, or the last one
 /// before it, so that of two reads, one after the other, the later one has no earlier write. The same holds for each reader alone.
 pub fn order_is_by_intervals()
     ensures { OrderIsByIntervals }
 {}
 
-/// A well-formed history is atomic exactly if it is linearizable as Herlihy and Wing define it (1990): its operations have an order that
+/// A well-formed history is atomic exactly when it is linearizable as Herlihy and Wing define it (1990): its operations have an order that
 /// is legal for a register and respects real time.
 pub fn atomic_is_linearizable()
     ensures { AtomicIsLinearizable }

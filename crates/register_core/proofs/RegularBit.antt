@@ -19,7 +19,7 @@ use Rattle.register_core.proofs.Writes.{write_of-from, write_of-to, by_writer, b
 use Rattle.register_core.proofs.Turns.{each_ended}
 use Rattle.bits_core.proofs.LawLemmas.{held_is_by_interval}
 
--- a logical write writes another value than the one before it
+-- a logical write writes a value other than the one before it
 logical_changes : (values : List Bool) (v : Bool) (n : ℕ) (x : Bool) → slice_get (logical_writes v values) n ≡ Some x → x ≢ last_value v (take n (logical_writes v values))
 logical_changes [] v n x e = absurd (cc)
 logical_changes (true ∷ values) true n x e = logical_changes values true n x e
@@ -103,7 +103,7 @@ module _ (shape : Shape) (h : List Event) (lawful : IsLawful shape h) (b : Bit) 
         (sym (take-ended (write_of b) (writer b) h r.place)
         ∙ ap (λ n. take n (writes_begun b h)) all_before)
 
-    -- it writes another value than the bit then holds
+    -- it writes a value other than the one that the bit then holds
     changes : r.what ≢ last_value (first_value b) (take had_ended (writes_begun b h))
     changes =
         let at : slice_get (writes_begun b h) had_ended ≡ Some r.what = ap (slice_get (writes_begun b h)) (sym r.number) ∙ (begun_at (write_of b) h r.place r.event r.what r.at_place r.begins_it).0 in

@@ -181,7 +181,7 @@ pub next-stands :
     (values : List ℕ) (made : List Made) → UnaryStands w values made → IsNext (count_writes w.side values) made access
 next-stands w access same values made s = rw (same, s.made_is, s.goes_on) (next-list (row_bit w.side) s.writes (due_writes w))
 
--- What is left once the due write was made.
+-- What is left once the due write has been made.
 pub feed-left :
     (w after : UnaryState) → w.value < length w.bits → after ≡ row_fed w →
     (x : RowWrite) (rest : List RowWrite) → due_writes w ≡ x ∷ rest → due_writes after ≡ rest
@@ -190,7 +190,7 @@ feed-left w after within same x rest e =
     let here : x.bit < length w.bits = omega (arith, p.fits, within) in
     ap due_writes same ∙ ap (λ ws. due_writes (row_with w ws)) e ∙ ap (λ f. unary_phrase f w.value) (bit_in-set w.bits x here) ∙ p.left
 
--- The state once the due write was made stands after the list with that write.
+-- The state once the due write has been made stands after the list with that write.
 pub feed-stands :
     (w after : UnaryState) → after ≡ row_fed w → (answer : Bool) →
     (values : List ℕ) (made : List Made) (access : Access) →

@@ -41,7 +41,7 @@ abbrev pub row_with : UnaryState → List RowWrite → UnaryState
 row_with w [] = w
 row_with w (x ∷ writes) = record w { bits = slice_set w.bits x.bit x.value }
 
--- the row once the due bit write was made
+-- the row once the due bit write has been made
 abbrev pub row_fed : UnaryState → UnaryState
 row_fed w = row_with w (due_writes w)
 
@@ -53,7 +53,7 @@ pub record IsClearDownTo (modulus : ℕ) (bits : List Bool) (value place : ℕ) 
   pub clear : (k : ℕ) → place ≤ k → k < value → bit_in bits k ≡ false
   pub set : (k : ℕ) → place ≡ suc k → bit_in bits k ≡ true
 
--- The writer stands after the accesses, if these values were requested, each once the one before it was written: it
+-- The writer stands after the accesses, if these values were requested, each once the one before it has been written: it
 -- remembers the bits that its writes left, and the writes, with those still due, are the unary writes of the values.
 pub record UnaryStands (w : UnaryState) (values : List ℕ) (made : List Made) : Type 0 where
   pub writes : List RowWrite

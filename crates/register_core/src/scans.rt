@@ -104,7 +104,7 @@ impl UnaryScan {
         }
     }
 
-    /// The value once a bit was read as 1, `None` before.
+    /// The value once a bit has been read as 1, `None` before.
     #[inline(always)]
     pub fn value(&self) -> Option<u64>
         ensures state { result ≡ (if self.now.found then Some self.now.zeros else None) }

@@ -51,7 +51,7 @@ impl WordWriter {
         }
     }
 
-    /// The digit write that is due, or `None` once all were made.
+    /// The digit write that is due, or `None` once all have been made.
     #[inline(always)]
     pub fn next(&self) -> Option<Access>
         ensures due { result ≡ due_write self.now }
@@ -129,7 +129,7 @@ impl WordReader {
         }
     }
 
-    /// The digit read that is due, or `None` once all were made.
+    /// The digit read that is due, or `None` once all have been made.
     #[inline(always)]
     pub fn next(&self) -> Option<Access>
         ensures due { result ≡ due_read self.now }
@@ -165,7 +165,7 @@ impl WordReader {
         self.read += 1;
     }
 
-    /// The item once every digit was read, `None` before.
+    /// The item once every digit has been read, `None` before.
     #[inline(always)]
     pub fn value(&self) -> Option<u64>
         ensures state { result ≡ (if nat_lt self.now.read self.now.width then None else Some self.now.value) }

@@ -1,4 +1,4 @@
--- The first reads with which a history lacks its classes, after one more event.
+-- The first reads at which a history lacks its classes, after one more event.
 use Rattle.std.proofs.Common.{◌≡◌, ℕ, ◌+◌, ◌<◌, Option, Some, None, List, [], ◌∷◌, ◌++◌, length, reverse, refl, sym, subst, ap, ◌∙◌, append_assoc, length-append, arith}
 use Rattle.std.proofs.lemmas.List.{reverse-append, take-append-le, take_all, take_at}
 use Rattle.register_calls.specs.declared.chains.Chain.{Chain}
@@ -54,7 +54,7 @@ miss_stays c r events e miss is = record {
 pub class_stays : (c : Class) (r : Register) (events : List RegisterEvent) (e : RegisterEvent) → HasClass c r (e ∷ reverse events) → IsMissOf c r (events ++ e ∷ []) None
 class_stays c r events e has = subst (λ (h : List RegisterEvent). HasClass c r h) (sym (one_more events e)) has
 
--- a read with which the history lacks a class, for this reason
+-- a read at which the history lacks a class, for this reason
 pub miss_comes :
     (c : Class) (r : Register) (events : List RegisterEvent) (miss : RegisterMiss) → length events + 2 ≡ miss.line → HasClass c r (reverse events) →
     ¬ HasClass c r (ReadEnds miss.reader miss.value ∷ reverse events) → IsShownReason c r (reverse events) miss.reader miss.value miss.reason → IsMissFound c r (events ++ ReadEnds miss.reader miss.value ∷ []) miss

@@ -119,7 +119,7 @@ feed_later [] ys more others none fewer e = absurd (omega (arith, fewer))
 feed_later (x ∷ xs) [] more others none fewer e = All-head IsOther x xs none (ap (λ (t : List ℕ). get_or t 0 0) e)
 feed_later (x ∷ xs) (y ∷ ys) more others none fewer e = feed_later xs ys more others (All-tail IsOther x xs none) (omega (arith, fewer)) (ap (λ (t : List ℕ). drop 1 t) e)
 
--- bytes of a line that has not ended, more than a line has, are a bad line, whatever comes after them
+-- bytes of a line that has not ended are a bad line if they are more than a line can have, whatever comes after them
 pub long_bad :
     (before : List RegisterLine) (text cut bytes more : List ℕ) (number : ℕ) → text ≡ register_text before ++ cut → AreRegisterLines before → HasNoFeed cut → HasNoFeed bytes → length before + 1 ≡ number → 54 < length cut + length bytes →
     IsBadRegisterLine (text ++ (bytes ++ more)) number

@@ -15,7 +15,7 @@ use Rattle.register_calls.specs.Witnesses.{IsShownReason}
 use Rattle.register_recordings.specs.declared.findings.RegisterMiss.{RegisterMiss}
 use Rattle.register_recordings.specs.declared.findings.Misses.{Misses}
 
--- the end of the read on this line is the first event with which the history lacks a class, and this contradicts it
+-- the end of the read on this line is the first event at which the history lacks a class, and this contradicts it
 pub record IsMissFound (c : Class) (r : Register) (events : List RegisterEvent) (miss : RegisterMiss) : Type 0 where
   pub before : List RegisterEvent
   pub rest : List RegisterEvent
@@ -24,12 +24,12 @@ pub record IsMissFound (c : Class) (r : Register) (events : List RegisterEvent) 
   pub first : IsFirstMiss c r events (length before)
   pub reason : IsShownReason c r (reverse before) miss.reader miss.value miss.reason
 
--- the history has the class, or this is the first read with which it lacks it
+-- the history has the class, or this is the first read at which it lacks it
 abbrev pub IsMissOf : Class → Register → List RegisterEvent → Option RegisterMiss → Type 0
 IsMissOf c r events None = HasClass c r (reverse events)
 IsMissOf c r events (Some miss) = IsMissFound c r events miss
 
--- for each class, the first read with which the history lacks it
+-- for each class, the first read at which the history lacks it
 pub record AreMisses (r : Register) (events : List RegisterEvent) (misses : Misses) : Type 0 where
   pub safe : IsMissOf Safe r events misses.safe
   pub regular : IsMissOf Regular r events misses.regular

@@ -5,7 +5,7 @@ ghost use Rattle.register_recordings.specs.Recordings.{falls_short};
 
 use register_calls::{Chain, Class, MissReason, RegisterReport};
 
-/// The first read with which a history lacks a class, and what contradicts it.
+/// The first read at which a history lacks a class, and what contradicts it.
 ///
 /// For example, it is printed as `line 7: R1 got 0, but a read of R1 that ended at line 5 gave the later value 1, of line 2`.
 #[derive(Clone, Copy, PartialEq, Eq, Debug)]
@@ -20,23 +20,23 @@ pub struct RegisterMiss {
     pub reason: MissReason<Chain>,
 }
 
-/// For each class that a history lacks, the first read with which it lacks the class.
+/// For each class that a history lacks, the first read at which it lacks the class.
 #[derive(Clone, Copy, PartialEq, Eq, Debug)]
 pub struct Misses {
-    /// The read with which it stops being safe.
+    /// The read at which it stops being safe.
     pub safe: Option<RegisterMiss>,
-    /// The read with which it stops being regular.
+    /// The read at which it stops being regular.
     pub regular: Option<RegisterMiss>,
-    /// The read with which the reads of some reader alone stop being atomic.
+    /// The read at which the reads of some reader alone stop being atomic.
     pub by_reader: Option<RegisterMiss>,
-    /// The read with which it stops being atomic.
+    /// The read at which it stops being atomic.
     pub atomic: Option<RegisterMiss>,
 }
 
 /// The finding on a recording of a register.
 #[derive(Clone, Copy, PartialEq, Eq, Debug)]
 pub enum RegisterFinding {
-    /// The strongest class of the history, or `None` if it is not safe; the reads with which it stops having the others; and how much
+    /// The strongest class of the history, or `None` if it is not safe; the reads at which it stops having the others; and how much
     /// it could have shown.
     Judged {
         class: Option<Class>,

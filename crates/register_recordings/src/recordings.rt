@@ -314,7 +314,7 @@ impl<
     C: Fifo<Chain>,
     B: Store<u8>,
 > RegisterRecording<W, R, P, C, B> {
-    /// A recording of which nothing has been read, with these lists to read it in. Their contents are removed.
+    /// A recording of which nothing has been read, with these lists to read it into. Their contents are removed.
     ///
     /// It is an error if the list of writes or that of places has no room for one number.
     pub fn within(

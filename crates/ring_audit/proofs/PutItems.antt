@@ -75,7 +75,7 @@ writes-push bit_of front scan words ws w =
     append_assoc front (scan ++ (words ++ behind)) here ∙ ap (λ l. front ++ l) (append_assoc scan (words ++ behind) here) ∙ ap (λ l. front ++ (scan ++ l)) (append_assoc words behind here)
     ∙ ap (λ l. front ++ (scan ++ (words ++ l))) (sym (map-append (λ (z : RowWrite). Write (bit_of z.bit) z.value) ws (w ∷ [])))
 
--- the accesses once a digit was written
+-- the accesses once a digit has been written
 written :
     (shape : Shape) (r : PutReading) (es : List Event) (items stored : List ℕ) (st : PutsStand shape r es items stored) (word : ReaderState) (a : Access) (v w : Bool) →
     a ≡ begins.Write (Cell r.word.cell r.word.read) w → r.word.cell ≡ r.cell → r.stage ≡ Storing → word ≡ read_digit r.word w →
@@ -172,7 +172,7 @@ bits_after-push : (bits : ℕ → Bool) (ws : List RowWrite) (w : RowWrite) → 
 bits_after-push bits [] w = refl
 bits_after-push bits (u ∷ ws) w = bits_after-push (bits_with bits u) ws w
 
--- the row once the due bit write was made
+-- the row once the due bit write has been made
 row_on :
     (row new : UnaryState) (bits : ℕ → Bool) (w : RowWrite) (a : Access) (v : Bool) → RowHolds row bits → a ≡ begins.Write (S w.bit) w.value → due_unary row ≡ Some a →
     ((values : List ℕ) (made : List Made) (access : Access) → UnaryStands row values made → due_unary row ≡ Some access → UnaryStands new values (made ++ answered access v ∷ [])) →

@@ -23,7 +23,7 @@ take_replied (Item seen items) = some_replied items
 take_replied (ItemAfterClose seen again items) = some_replied items
 take_replied (Empty seen) = refl
 
--- once an access was made, the items are those before it and those of the reply
+-- once an access has been made, the items are those before it and those of the reply
 pub items-after :
     (shape : Shape) (wanted : ℕ) (taking : Bool) (calls more : Takes) (reply : Option TakeReply) (kept : List ℕ) → IsAfterTake shape wanted true taking calls more →
     IsReplyToTake more taking reply → AreItemsOfTake more taking kept → all_taken more.takes ≡ all_taken calls.takes ++ replied reply kept

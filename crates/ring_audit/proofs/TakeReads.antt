@@ -227,7 +227,7 @@ counts_else shape r es items p due a i v st none same stands due_is goes wrong (
       | inr (ends, inr (counts, (j, reads), less)) ↦ (let clash : begins.Write (R k) w ≡ begins.Read (Cell j 0) = sym writes ∙ reads in absurd (cc))
     ]
 
--- once a take was started when none was under way, one is, or the last one returned Closed
+-- once a take has been started when none was under way, one is, or the last one returned Closed
 pub taking_or_told :
     (old new : ConsumerState) (reply : Option TakeReply) (most : ℕ) → (old.told ≡ false → (is_taking new ≡ true) × (new.wanted ≡ most)) →
     (old.told ≡ true → new ≡ record old { reply = reply }) →
@@ -248,7 +248,7 @@ wants_most old new reply most begun refused idle taking = by_told old.told refl
     by_told false e = (begun e).1
     by_told true e = let clash : true ≡ false = sym taking ∙ ap is_taking (refused e) ∙ idle in absurd (cc)
 
--- the reader stands after the same events once a take was started
+-- the reader stands after the same events once a take has been started
 pub begun_stands :
     (p q : ConsumerState) (o : Option Access) (reply : Option TakeReply) (most : ℕ) → (p.told ≡ false → (is_taking q ≡ true) × (q.wanted ≡ most)) →
     (p.told ≡ true → q ≡ record p { reply = reply }) → most ≡ take_batch_of p.shape → q.shape ≡ p.shape →

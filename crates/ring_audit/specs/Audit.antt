@@ -65,8 +65,8 @@ abbrev pub FitsIn : ℕ → ℕ → Found → Type 0
 FitsIn put_slots taken_slots (slots.Lawful put taken told) = (put ≤ put_slots) × (taken ≤ taken_slots)
 FitsIn put_slots taken_slots (slots.Fault place kind) = Unit {0}
 
--- By some prefix of the events, which is lawful and of the programs, more items were taken than there are slots for them, or the
--- items put plus a batch are more than there are slots for them.
+-- In some prefix of the events, which is lawful and of the programs, more items have been taken than there are slots
+-- for them, or the items put plus a batch are more than their slots.
 pub record HasTooFewSlots (shape : Shape) (h : List Event) (put_slots taken_slots : ℕ) : Type 0 where
   pub until : ℕ
   pub put : List ℕ
@@ -90,8 +90,8 @@ tells_lawful (Lawful put taken told) = true
 tells_lawful (Fault place kind) = false
 
 -- The main theorem, if these items were put and taken and a take returned Closed or not: those taken are a prefix of those put;
--- after Closed, all that were put were taken, and in no longer history of the programs are there more; and however the events
--- are read as calls, the law of the ring holds of these.
+-- after Closed, all items put have been taken, and no history of the programs that continues this one has more; and however the events
+-- are read as calls, the law of the ring holds for these.
 pub record MeetsSentence (shape : Shape) (h : List Event) (put taken : List ℕ) (told : Bool) : Type 0 where
   pub prefix : IsPrefix taken put
   pub all : IsTrue told → taken ≡ put

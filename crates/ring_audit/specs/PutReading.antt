@@ -59,7 +59,7 @@ IsReaderAt Counting r = (due_unary r.row ≢ None) × ((access : Access) → r.o
 IsReaderAt Closing r = r.open_access ≡ Some (begins.Write X true)
 IsReaderAt Closed r = r.open_access ≡ None
 
--- what holds of every reader of puts: its counts are in range, its row is the producer's, and its stage's invariant holds
+-- what holds for every reader of puts: its counts are in range, its row is the producer's, and its stage's invariant holds
 pub record IsPutReading (r : PutReading) : Type 0 where
   pub count_below : r.count < modulus_of r.shape
   pub next_below : r.next < modulus_of r.shape

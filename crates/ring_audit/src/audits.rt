@@ -22,7 +22,7 @@ pub enum Finding<A: Allocator> {
         taken: Vec<u64, A>,
         told: bool,
     },
-    /// The event at `place`, counted from 0, is the first with which that fails.
+    /// The event at `place`, counted from 0, is the first at which that fails.
     Fault {
         place: usize,
         kind: Kind,
@@ -41,7 +41,7 @@ pub enum Found {
         taken: usize,
         told: bool,
     },
-    /// The event at `place`, counted from 0, is the first with which that fails.
+    /// The event at `place`, counted from 0, is the first at which that fails.
     Fault {
         place: usize,
         kind: Kind,

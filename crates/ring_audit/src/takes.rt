@@ -126,7 +126,7 @@ impl TakeReader {
         }
     }
 
-    // The access that is due, once a take was started if none was under way, of as many items as may be taken. Another
+    // The access that is due, once a take has been started if none was under way, of as many items as may be taken. Another
     // access may begin only after a complete word: the first write of the count.
     fn due(&mut self) -> Option<Access>
         requires { self.old.open_access ≡ None }

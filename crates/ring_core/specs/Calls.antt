@@ -1,4 +1,4 @@
--- What the machines of both sides have due and are fed, and what holds of the machines that they are made of.
+-- What the machines of both sides have due and are fed, and what holds for the machines that they are made of.
 use Rattle.std.specs.Prelude.{◌≡◌, ◌≢◌, ℕ, suc, ◌+◌, ◌%◌, ◌<◌, false, Option, Some, None, List, ◌++◌}
 use Rattle.bits_core.specs.declared.events.Side.{Side}
 use Rattle.bits_core.specs.declared.events.Access.{Access}

@@ -231,7 +231,7 @@ IsAfterTake shape wanted false now calls more = ⊥
 IsAfterTake shape wanted true true calls more = more ≡ calls
 IsAfterTake shape wanted true false calls more = HasTakeMore shape wanted calls more
 
--- once the due access was made, the consumer stands after the accesses made, with the same calls or one more
+-- once the due access has been made, the consumer stands after the accesses made, with the same calls or one more
 abbrev pub ConsumerHasMoved : ConsumerState → ConsumerState → Takes → List Made → Type 0
 ConsumerHasMoved old new calls made = (more : Takes) × ConsumerStands new more made × IsAfterTake old.shape old.wanted (is_taking old) (is_taking new) calls more
 

@@ -94,7 +94,7 @@ ConsumerIsAt Loading p =
 ConsumerIsAt Counting p =
     IsBeingCountedOn p.row (modulus_of p.shape) p.count p.most × IsTaking p × (1 ≤ p.most) × (length p.items ≡ p.most) × (p.most ≤ p.wanted)
 
--- what holds of every consumer: its counts are in range, its row is its own, and its stage's invariant holds
+-- what holds for every consumer: its counts are in range, its row is its own, and its stage's invariant holds
 pub record IsConsumer (p : ConsumerState) : Type 0 where
   pub count_below : p.count < modulus_of p.shape
   pub cell_below : p.cell < capacity_of p.shape

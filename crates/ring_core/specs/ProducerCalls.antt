@@ -175,7 +175,7 @@ IsAfterCall shape None now calls more answer = ⊥
 IsAfterCall shape (Some c) (Some d) calls more answer = (d ≡ c) × (more ≡ calls)
 IsAfterCall shape (Some c) None calls more answer = HasCallMore shape c calls more × (c ≡ Close → answer ≡ None)
 
--- once the due access was made, the producer stands after the accesses made, with the same calls or one more
+-- once the due access has been made, the producer stands after the accesses made, with the same calls or one more
 abbrev pub ProducerHasMoved : ProducerState → ProducerState → Puts → List Made → Type 0
 ProducerHasMoved old new calls made = (more : Puts) × ProducerStands new more made × IsAfterCall old.shape (call_of old) (call_of new) calls more new.reply
 

@@ -113,7 +113,7 @@ ProducerIsAt Storing p = IsCounted p.row p.count × IsPutting p × IsKeeping p �
 ProducerIsAt Counting p = IsBeingCountedOn p.row (modulus_of p.shape) p.count p.most × IsPutting p × IsKeeping p
 ProducerIsAt Closing p = IsCounted p.row p.count × (p.closed ≡ true) × (p.reply ≡ None)
 
--- what holds of every producer: its counts are in range, its row is its own, and its stage's invariant holds
+-- what holds for every producer: its counts are in range, its row is its own, and its stage's invariant holds
 pub record IsProducer (p : ProducerState) : Type 0 where
   pub count_below : p.count < modulus_of p.shape
   pub cell_below : p.cell < capacity_of p.shape

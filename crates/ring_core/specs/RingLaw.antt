@@ -77,7 +77,7 @@ FullIsFresh shape h puts takes =
     (seen n start stop : ℕ) → IsPutAt shape puts (Full seen) n start stop → stop ≤ length (subhistory P h) →
     (first : ℕ) × IsPlaceOf P h start first × (takes_ended shape takes (clock C h first) + capacity_of shape ≤ n)
 
--- and when a put begins whose items fill all the room that its scan left, the same holds of the items stored up to and including it
+-- and when a put begins whose items fill all the room that its scan left, the same holds for the items stored up to and including it
 abbrev pub FillIsFresh : Shape → List Event → Puts → Takes → Type 0
 FillIsFresh shape h puts takes =
     (seen : ℕ) (items : List ℕ) (n start stop : ℕ) → IsPutAt shape puts (Stored seen items) n start stop → start + scan_events P seen ≤ length (subhistory P h) →
@@ -115,6 +115,6 @@ pub record RingLaw (shape : Shape) (h : List Event) (puts : Puts) (takes : Takes
   pub drain : DrainIsFresh shape h puts takes
   pub closed : ClosedIsTrue shape h puts takes
 
--- the statement holds of every lawful history whose two sides follow their programs
+-- the statement holds for every lawful history whose two sides follow their programs
 abbrev pub InEveryRun : (Shape → List Event → Puts → Takes → Type 0) → Type 0
 InEveryRun Holds = (shape : Shape) (h : List Event) (puts : Puts) (takes : Takes) → IsRun shape h puts takes → Holds shape h puts takes

@@ -70,7 +70,7 @@ impl PutScan {
         self.scan.expects_one()
     }
 
-    /// Records that the due read returned 0. It must not be of the last bit. A 1 is fed to the producer, once it has
+    /// Records that the due read returned 0. It must not be the read of the last bit. A 1 is fed to the producer, once it has
     /// continued with this scan.
     #[inline(always)]
     pub fn zero(&mut self)

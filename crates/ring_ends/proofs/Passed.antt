@@ -44,7 +44,7 @@ module _ (p c : RingEnd) (same : p.ring ≡ c.ring) (h : List Event) (meets : Me
     pub passed : InEveryRun TakenArePrefix → IsPrefix taken put
     passed prefix = subst (λ (z : List ℕ × List ℕ). IsPrefix z.0 z.1) (λ i. (taken_is i, put_is i)) (prefix shape h ps.calls ts.calls run (length h))
 
-    -- and once a take returned Closed, all came through
+    -- and once a take has returned Closed, all came through
     pub passed_all : InEveryRun ClosedIsTrue → TakesAreRead → TellsAre c.ring.shape c.list true → taken ≡ put
     passed_all closed read tells =
         let one : ts.calls ≡ tells.calls = read c.ring.shape ts.calls tells.calls ts.list_is.are tells.list_is.are (sym ts.list_is.list_is ∙ tells.list_is.list_is) in

@@ -154,7 +154,7 @@ some_item (Some reply.Closed) N F h = (h.0, (reply.Closed, refl, h.1))
 
 -- ---- the model of the end
 
--- what holds of the end and the oracle holds of their models
+-- what holds for the end and the oracle holds for their models
 pub put_seen : {O : Type 0} {a s : PutterState O} → a ≡ s → (F : RingEnd → O → Type 0) → F a.end a.oracle → F s.end s.oracle
 put_seen {O} e F h = subst (λ (z : PutterState O). F z.end z.oracle) e h
 

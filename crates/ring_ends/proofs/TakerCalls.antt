@@ -117,7 +117,7 @@ over_adds shape wanted calls more is_more whole list list_is x replied =
 
 -- ---- the model of the end
 
--- what holds of the end and the oracle holds of their models
+-- what holds for the end and the oracle holds for their models
 pub take_seen : {O : Type 0} {a s : TakerState O} → a ≡ s → (F : RingEnd → O → Type 0) → F a.end a.oracle → F s.end s.oracle
 take_seen {O} e F h = subst (λ (z : TakerState O). F z.end z.oracle) e h
 

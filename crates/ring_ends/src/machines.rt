@@ -36,7 +36,7 @@ pub(crate) trait SideMachine {
 
     ghost writes_left: { Self → ℕ };
 
-    // What holds of the machine.
+    // What holds for the machine.
     fn laws()
         ensures { MachineLaws kind };
 

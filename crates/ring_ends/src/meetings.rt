@@ -99,7 +99,7 @@ impl<A: Allocator> FlickerRing<A> {
     }
 }
 
-// With an allocator's name, so that `FlickerRing::meet` and `FlickerRing::finish` can be called without one: ends have none.
+// For one named allocator, so that `FlickerRing::meet` and `FlickerRing::finish` can be called without naming one: ends have none.
 impl FlickerRing<Global> {
     /// Both ends learn one lawful history, whose sides are their two lists and which begins with what each knew. Its calls are
     /// linearizable. All later calls of both come after it. The ends are those of one ring, with no call under way; they come back with the

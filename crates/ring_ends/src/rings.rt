@@ -74,7 +74,7 @@ impl<K: WordKind, A: Allocator> RingIn<K, A> {
         self.shape
     }
 
-    /// The words of the ring, with the rule that holds of them between any two atomic steps of any thread. Its type
+    /// The words of the ring, with the rule that holds for them between any two atomic steps of any thread. Its type
     /// guarantees this: a step of a [`Shared`] has to preserve the rule of its type, for its key, which is the ring's
     /// shape.
     pub fn table(&self) -> &Shared<(), View, Shape, RuleOf<K>>

@@ -83,13 +83,13 @@ pub record HaveCome (numbers items : List ℕ) (came : List Came) (capacity : Ca
   pub row_is : m.row.now ≡ items
   pub place_is : m.tail ≡ count_put order
 
--- the mark of these numbers leads nowhere from a point, or may put in another item than the one at this place
+-- the mark of these numbers leads nowhere from a point, or may put in an item other than the one at this place
 abbrev pub LeadsNowhere : Begun → List ℕ → List ℕ → Came → Capacity → Point → ℕ → Type 0
 LeadsNowhere b numbers items came capacity s place =
     (mark : Mark) → TellsMark b numbers came mark → PutsIn items place mark → (t : Point) → ¬ Leads capacity s mark t
 
 -- This many of the first marks lead from the empty open queue to a point: with them the events among these are a linearizable history.
--- From there the next leads nowhere, if there is one, or it puts in another item than the next of the items
+-- From there the next leads nowhere, if there is one, or it puts in an item other than the next of the items
 pub record TellsOrder (numbers items : List ℕ) (came : List Came) (capacity : Capacity) (count : ℕ) : Type 0 where
   pub few : count ≤ length came
   pub order : List Mark

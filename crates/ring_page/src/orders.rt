@@ -149,7 +149,7 @@ fn follow<'a>(
 /// Returns how many of the first marks of a history of calls can come one after the other, for a queue of this capacity, and no more. If
 /// these are all, the history of the events among them is linearizable, and the operations take effect at the points at which they are.
 ///
-/// The items are those that the operations put in, in order: an operation that puts in another item than the next one is not counted
+/// The items are those that the operations put in, in order: an operation that puts in an item other than the next one is not counted
 /// either. The numbers are those of the lines. It takes no memory.
 #[unsafe(no_mangle)]
 pub extern "C" fn page_order(

@@ -30,7 +30,7 @@ pub struct ReadTold {
     pub written: u64,
 }
 
-/// The first read with which a class is missed, and why; all is 0 if the class is not missed.
+/// The first read at which a class is missed, and why; all is 0 if the class is not missed.
 #[repr(C)]
 #[derive(Clone, Copy, Default, PartialEq, Eq, Debug)]
 pub struct MissTold {
@@ -88,7 +88,7 @@ pub struct RegisterTold {
     pub cut: u64,
     /// How much the history could have shown.
     pub counts: RegisterCounts,
-    /// For each class the first read with which the history lacks it.
+    /// For each class the first read at which the history lacks it.
     pub safe: MissTold,
     pub regular: MissTold,
     pub by_reader: MissTold,
@@ -262,12 +262,12 @@ fn found_in(
     Ok((finding, recording.is_cut()))
 }
 
-/// Returns what `audit --register` finds in the text of a recorded register: its strongest class, for each class that it lacks the first
-/// read with which it lacks the class and why, and the report; or the event that is out of turn, or why the text is not a recording. It
-/// takes no memory.
+/// Returns what `audit --register` finds in the text of a recorded register: its strongest class; for each class that it lacks, the first
+/// read at which it lacks the class, and why; and the report. Or it returns the event that is out of turn, or why the text is not a
+/// recording. It takes no memory.
 ///
-/// The slots are for writes: as many in both as a recording has, and one more, are enough. No room is reported for a recording with more
-/// writes in use at a time than that, or with more than [`READER_ROOM`] readers. The contents of the slots before the call do not
+/// The slots are for writes: one more in each than a recording has writes is enough. It reports that there is no room for a recording with
+/// more writes in use at a time than that, or with more than [`READER_ROOM`] readers. The contents of the slots before the call do not
 /// matter, and after it they may hold anything.
 #[unsafe(no_mangle)]
 pub extern "C" fn page_register(

@@ -1,4 +1,4 @@
--- The position of the first fault of recorded calls, and of the first line with which a recorded register lacks a class.
+-- The position of the first fault of recorded calls, and of the first line at which a recorded register lacks a class.
 use Rattle.std.proofs.Common.{◌≡◌, ◌≢◌, ◌∙◌, ◌⊎◌, ℕ, ◌+◌, take, length-append, List, [], ◌∷◌, ◌++◌, None, inl, inr, append_assoc, ap, ap₂, length, refl, sym, subst, arith}
 use Rattle.std.proofs.Math.ListN.{get_or}
 use Rattle.std.proofs.Math.Seq.{take-append_seam}
@@ -95,7 +95,7 @@ nothing_behind front d t none e = by (overlap t (10 ∷ []) front d e)
         short (y ∷ ys) e = absurd (no_cons y (ys ++ d) e)
     by (inr (more, longer, rest)) = absurd (feed_nowhere d more [] none rest)
 
--- ---- the first line with which something stops holding
+-- ---- the first line at which something stops holding
 
 module _ (Holds : List ℕ → Type 0) (feeds : (x : ℕ) (xs : List ℕ) → Holds (x ∷ xs) → (t : List ℕ) × (x ∷ xs ≡ t ++ 10 ∷ [])) where
   -- lines for which it holds, and then some of a line
@@ -109,7 +109,7 @@ module _ (Holds : List ℕ → Type 0) (feeds : (x : ℕ) (xs : List ℕ) → Ho
       let same : front ≡ x ∷ ended = sym (is ∙ ap (λ (t : List ℕ). front ++ t) nothing ∙ append-nil front) in
       (x ∷ ended, [], same ∙ sym (append-nil (x ∷ ended)), holds, one_line [] (All-nil (λ c. c ≢ 10)))
 
-  -- a line was read after bytes for whose lines it holds; all lines of these go no further than the first with which it stops
+  -- a line was read after bytes for whose lines it holds; all lines of these go no further than the first at which it stops
   pub ends_at : (bytes line front rest : List ℕ) → HoldsOfLines Holds bytes → IsOneLine line → bytes ++ line ≡ front ++ rest → HasNoFeed rest → EndsAtFirst Holds front
   ends_at bytes line front rest (ended, left, parts, none, holds) one is free =
       by (overlap ended (left ++ line) front rest (sym (append_assoc ended left line) ∙ ap (λ (t : List ℕ). t ++ line) (sym parts) ∙ is))
@@ -128,7 +128,7 @@ module _ (Holds : List ℕ → Type 0) (feeds : (x : ℕ) (xs : List ℕ) → Ho
           front_free [] ys none = All-nil (λ c. c ≢ 10)
           front_free (x ∷ xs) ys none = All-cons (λ c. c ≢ 10) x xs (All-head (λ c. c ≢ 10) x (xs ++ ys) none) (front_free xs ys (All-tail (λ c. c ≢ 10) x (xs ++ ys) none))
 
--- bytes for whose lines it holds go no further than the first with which it stops
+-- bytes for whose lines it holds go no further than the first at which it stops
 pub holding_ends : (Holds : List ℕ → Type 0) (bytes : List ℕ) → HoldsOfLines Holds bytes → EndsAtFirst Holds bytes
 holding_ends Holds bytes (ended, rest, parts, none, holds) = (ended, rest, parts, holds, one_line rest none)
 

@@ -20,7 +20,7 @@ calls_ending_of (NotLinearizable line cause) = FaultFound
 abbrev pub IsOneLine : List ℕ → Type 0
 IsOneLine bytes = (a b : List ℕ) → bytes ≡ a ++ 10 ∷ b → b ≡ []
 
--- bytes go no further than the first line with which something stops holding: it holds for the lines before the last one
+-- bytes go no further than the first line at which something stops holding: it holds for the lines before the last one
 abbrev pub EndsAtFirst : (List ℕ → Type 0) → List ℕ → Type 0
 EndsAtFirst Holds bytes = (before : List ℕ) × (last : List ℕ) × (bytes ≡ before ++ last) × Holds before × IsOneLine last
 

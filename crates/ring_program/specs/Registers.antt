@@ -90,7 +90,7 @@ IsRegisterFoundAhead class input is_cut found =
     (front : List ℕ) × (rest : List ℕ) × (input ≡ front ++ rest) × IsRegisterFoundIn front is_cut found × (register_ending_of class found ≡ Done → rest ≡ [])
     × (register_ending_of class found ≡ FaultFound → EndsAtFirst (KeepsClass class) front)
 
--- the same, by whether the reading stops at the first line with which the class is missed
+-- the same, by whether the reading stops at the first line at which the class is missed
 abbrev pub IsRegisterFoundBy : (stop : Bool) → Class → List ℕ → (is_cut : Bool) → RegisterFinding → Type 0
 IsRegisterFoundBy false class input is_cut found = IsRegisterFoundIn input is_cut found
 IsRegisterFoundBy true class input is_cut found = IsRegisterFoundAhead class input is_cut found

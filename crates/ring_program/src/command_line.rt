@@ -171,7 +171,7 @@ pub(crate) struct RegisterQuestion {
     pub at_least: Class,
     /// `--report`: whether to report how much the recording could have shown.
     pub report: bool,
-    /// `--stop`: whether to read only up to the first line with which it lacks the class.
+    /// `--stop`: whether to read only up to the first line at which it lacks the class.
     pub stop: bool,
 }
 

@@ -73,7 +73,7 @@ fn shortfall<A: Allocator + Copy>(recording: &Recorded<A>, class: Class) -> Opti
     }
 }
 
-// Reads a piece line by line, to the first line with which the class is missed.
+// Reads a piece line by line, to the first line at which the class is missed.
 fn read_register_lines<A: Allocator + Copy>(
     recording: &mut Recorded<A>,
     class: Class,
@@ -106,7 +106,7 @@ fn read_register_lines<A: Allocator + Copy>(
     Ok(None)
 }
 
-// Reads a piece; if it should stop there, only to the first line with which the class is missed.
+// Reads a piece; if it should stop there, only to the first line at which the class is missed.
 fn read_register_piece<A: Allocator + Copy>(
     recording: &mut Recorded<A>,
     class: Class,
@@ -153,8 +153,8 @@ fn found_at_end<A: Allocator + Copy>(
     })
 }
 
-// Reads the input in pieces, to its end, or if it should stop there, to the first line with which the class is missed; and returns the
-// finding. It records whether it reaches the end.
+// Reads the input in pieces and returns the finding: it reads to the end or, with `stop`, to the first line at which
+// the class is missed. It records whether it reaches the end.
 #[tactic(auto, unfolding(crate::specs::Answers::IsRegisterCause))]
 fn read_register<A: Allocator + Copy, I: Read>(
     recording: &mut Recorded<A>,
@@ -261,7 +261,7 @@ fn push_misses<A: Allocator + Copy>(
     push_miss(alloc, text, Class::Atomic, atomic, &misses.atomic)
 }
 
-// That no read could invert, if none could.
+// The line which says that no read could invert, if none could.
 fn none_inverts_words(count: usize) -> &'static str
     ensures { result.now ≡ none_inverts_line count }
 {

@@ -41,8 +41,8 @@ pub record EndsFull (shape : Shape) (list : List Event) : Type 0 where
   pub seen : ℕ
   pub list_is : HasPuts shape list (and_put before (Full seen))
 
--- all items were stored, or as many puts as the limit were made, or the last one found the ring full; there is a close exactly if all were
--- stored
+-- all items were stored, or as many puts as the limit were made, or the last one found the ring full; there is a
+-- close if and only if all were stored
 pub record HasRelayedPuts (shape : Shape) (list : List Event) (items : List ℕ) (limit put made full : ℕ) : Type 0 where
   pub puts : PutsAre shape list items put made full (put == length items)
   pub most : made ≤ limit

@@ -17,7 +17,7 @@ Event = CallEvent (Bor (List ℕ)) (Bor (List ℕ))
 pub one_more : (events : List Event) (number : ℕ) (d : Event) → number < length events → map told (take (number + 1) events) ≡ map told (take number events) ++ told (get_or events number d) ∷ []
 one_more events number d within = ap (map told) (take_more events number d within) ∙ map-append told (take number events) (get_or events number d ∷ [])
 
--- the event with which a history stops being linearizable
+-- the event at which a history stops being linearizable
 pub stops_there :
     (of capacity : Capacity) (events : List Event) (number : ℕ) (d : Event) → of ≡ capacity → number < length events → IsLinearizable (meant capacity) (map told (take number events)) →
     (IsLinearizable (meant of) (map told (take number events) ++ told (get_or events number d) ∷ []) → ⊥) → JudgesCalls (meant capacity) (map told events) (Some number)
@@ -29,7 +29,7 @@ stops_there of capacity events number d same within so_far stops =
       λ lin. stops (subst (λ (k : Capacity). IsLinearizable (meant k) (map told (take number events) ++ told (get_or events number d) ∷ [])) (sym same) (subst (IsLinearizable (meant capacity)) now lin)),
     )
 
--- the event with which there are more items than slots
+-- the event at which there are more items than slots
 pub outgrown :
     (of capacity : Capacity) (events : List Event) (number : ℕ) (d : Event) (now slots : ℕ) → of ≡ capacity → now ≡ slots → number < length events →
     HasMoreItems now (meant of) (map told (take number events) ++ told (get_or events number d) ∷ []) → HasMoreItems slots (meant capacity) (take (number + 1) (map told events))

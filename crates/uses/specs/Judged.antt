@@ -7,7 +7,7 @@ use Rattle.queue_calls.specs.Recordings.{IsRecording, StopsAt}
 use Rattle.queue_calls.specs.declared.faults.Fault.{Fault}
 use Rattle.queue_calls.specs.declared.faults.Fault.TheVariants.{OutOfMemory}
 
--- the history is linearizable, or the event of this number, from 0, is the first one with which it is not
+-- the history is linearizable, or the event of this number, from 0, is the first one at which it is not
 abbrev pub JudgesCalls : Capacity → List Event → Option ℕ → Type 0
 JudgesCalls capacity events None = IsLinearizable capacity events
 JudgesCalls capacity events (Some number) =
@@ -21,7 +21,7 @@ IsFaultFound capacity events told = IfOk told (JudgesCalls capacity events) × I
 abbrev pub OutgrowsSlots : ℕ → Capacity → List Event → Type 0
 OutgrowsSlots slots capacity events = (count : ℕ) × HasMoreItems slots capacity (take count events)
 
--- the history of the text is linearizable, or the event of this line is the first one with which it is not
+-- the history of the text is linearizable, or the event of this line is the first one at which it is not
 abbrev pub JudgesLine : List ℕ → Option ℕ → Type 0
 JudgesLine bytes None = (capacity : Capacity) × (events : List Event) × IsRecording bytes capacity events × IsLinearizable capacity events
 JudgesLine bytes (Some line) = (capacity : Capacity) × (events : List Event) × IsRecording bytes capacity events × StopsAt capacity events line (λ before event. Unit {0})

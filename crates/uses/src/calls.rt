@@ -9,7 +9,7 @@ ghost use Rattle.uses.specs.Judged.{IsFaultFound, JudgesCalls, OutgrowsSlots};
 use queue_calls::{CallAuditor, Event, Fault, Fifo, Slots, exactly};
 use std::alloc::Allocator;
 
-// The number of the first event, from 0, with which the history is not linearizable, from an auditor that has read nothing.
+// The number of the first event, from 0, at which the history is not linearizable, from an auditor that has read nothing.
 fn first_of<Q: Fifo<u64>>(
     auditor: &mut CallAuditor<Q>,
     events: &[Event<'_>],
@@ -32,7 +32,7 @@ fn first_of<Q: Fifo<u64>>(
     Ok(None)
 }
 
-/// The number of the first event, from 0, with which the history is not linearizable as one of a queue of this capacity; `None` if
+/// The number of the first event, from 0, at which the history is not linearizable as one of a queue of this capacity; `None` if
 /// it is.
 pub fn first_at_fault<A: Allocator + Copy>(
     alloc: A,

@@ -5,7 +5,8 @@ import { firstLetters } from "../text/script.js";
 
 const FARTHEST = 1000; // letters by which a call is ended at most
 
-// The fields of a script with one letter more after the first `shown`, and with an answer if that is asked; null if the side does nothing.
+// The fields of a script with one letter more after the first `shown`, and with an answer if one is asked for; null
+// if the side does nothing.
 export function moved(script, shown, nexts, side, answer) {
   const next = nexts[side];
   if (!next || isAsked(next) !== (answer !== undefined)) return null;

@@ -69,7 +69,7 @@ export function editorPane(acts) {
     else if (at + 3 * tall > box.scrollTop + box.clientHeight) box.scrollTop = at + 3 * tall - box.clientHeight;
   };
 
-  // Selects a stretch of the text, and goes there if that is asked; if the text `hasLines` it is scrolled to its line.
+  // Selects a stretch of the text, and goes there if that is asked for; if the text `hasLines` it is scrolled to its line.
   const select = ({from, to}, hasLines, goes = true) => {
     const at = long?.at ?? 0;
     if (goes) field.focus({preventScroll: true});
@@ -96,7 +96,7 @@ export function editorPane(acts) {
 
   return {
     scrollToLine, select,
-    // Selects a line, and goes there if that is asked.
+    // Selects a line, and goes there if that is asked for.
     selectLine(line, goes) {
       showLines(line);
       let from = long?.at ?? 0;

@@ -89,7 +89,7 @@ module _ (capacity : Capacity) (k : Kept) where
       inl (offered, before, is, subst E (omega (arith, none)) fits)
   put_counts _ offered before x after ends is says lacks fits = absurd ends
 
-  -- what holds of a put that can be counted
+  -- what holds for a put that can be counted
   abbrev PutWas : Event → Type 0
   PutWas e =
       ((offered before : ℕ) × (x : ℕ × ℕ) × (k.put ≡ Offers offered before) × (outcome_of e offered ≡ Some x) × MayLack capacity before x.1 ×

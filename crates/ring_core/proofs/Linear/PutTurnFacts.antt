@@ -153,7 +153,7 @@ put_turns-closed shape c start (Full seen ∷ puts) t l =
     (λ f. subst (λ l. IsClosedBy false (l ++ rest)) (sym (if_yes (nat_le stop t) (put_turn c.number Misses start stop ∷ []) f)) r)
     (λ f. subst (λ l. IsClosedBy false (l ++ rest)) (sym (if_no (nat_le stop t) (put_turn c.number Misses start stop ∷ []) f)) r)
 
--- ---- what holds of each
+-- ---- what holds for each
 
 module _ (shape : Shape) (h : List Event) (puts : Puts) (takes : Takes) (law : LawOfSpans shape h puts takes)
     (proper_puts : AllProper (batch_of shape) (put_spans shape puts)) (proper_takes : AllProper (take_batch_of shape) (take_spans shape takes)) where

@@ -71,7 +71,7 @@ put_op x = operation P x.start x.stop (put_does x.kind)
 abbrev pub take_op : TakeOp → TimedOperation
 take_op y = operation C y.start y.stop (take_does y.kind)
 
--- what holds of the counts of both sides, given how many have begun and ended within their own events
+-- what holds for the counts of both sides, given how many have begun and ended within their own events
 pub record Tallies (h : List Event) (capacity : ℕ) (puts_begun puts_ended takes_begun takes_ended : ℕ → ℕ) : Type 0 where
   pub has_cell : 1 ≤ capacity
   pub few : (t : ℕ) → takes_begun (clock C h t) ≤ puts_begun (clock P h t)
@@ -81,7 +81,7 @@ pub record Tallies (h : List Event) (capacity : ℕ) (puts_begun puts_ended take
   pub up_p : (t u : ℕ) → t ≤ u → clock P h t ≤ clock P h u
   pub up_c : (t u : ℕ) → t ≤ u → clock C h t ≤ clock C h u
 
--- what holds of an operation of the producer, whose puts have `events` events
+-- what holds for an operation of the producer, whose puts have `events` events
 pub record PutFact (h : List Event) (capacity events : ℕ) (puts_begun puts_ended takes_ended : ℕ → ℕ) (x : Op) : Type 0 where
   pub some : x.start < x.stop
   pub begins : x.start ≤ events
@@ -90,7 +90,7 @@ pub record PutFact (h : List Event) (capacity events : ℕ) (puts_begun puts_end
   pub full : IsMiss x.kind → (t : ℕ) → clock P h t ≤ x.start → takes_ended (clock C h t) + capacity ≤ x.number
   pub close : IsEnd x.kind → events + 2 ≤ x.stop
 
--- what holds of one of the consumer, if this many items were stored
+-- what holds for one of the consumer, if this many items were stored
 pub record TakeFact (h : List Event) (events stored : ℕ) (puts_ended takes_begun takes_ended : ℕ → ℕ) (y : TakeOp) : Type 0 where
   pub some : y.start < y.stop
   pub at_place : clock C h y.place ≡ y.start

@@ -308,7 +308,7 @@ rescan_none p s answer again fresh e goes gives none calls made access stands du
 
 -- ---- the word
 
--- what the word machine stands after, once the due access was made
+-- what the word machine stands after, once the due access has been made
 abbrev pub WordGoesOn : ReaderState → ReaderState → Bool → Type 0
 WordGoesOn = GoesOn ReaderStands due_read
 

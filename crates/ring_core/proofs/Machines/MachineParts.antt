@@ -1,4 +1,4 @@
--- The machines that both sides are made of: what holds of them while they are running, and once they are done.
+-- The machines that both sides are made of: what holds for them while they are running, and once they are done.
 use Rattle.std.proofs.Common.{◌≡◌, inl, inr, ℕ, zero, suc, ◌+◌, ◌%◌, ◌<◌, ◌≤◌, Bool, true, false, cond, not, is_some, Option, Some, None, List, [], ◌∷◌, ◌++◌, length, if◌then◌else◌, refl, sym, ap, subst, ◌∙◌, arith, append_assoc}
 use Rattle.std.proofs.Math.Nat.{mod-eq_of_lt}
 use Rattle.bits_core.specs.declared.events.Side.{Side}
@@ -159,7 +159,7 @@ row_whole side row new due is same none next values made stands =
 
 -- ---- an access more
 
--- what a machine stands after, once the due access was made
+-- what a machine stands after, once the due access has been made
 abbrev pub GoesOn : {S : Type 0} → (S → List Made → Type 0) → (S → Option Access) → S → S → Bool → Type 0
 GoesOn Stands due old new answer = (made : List Made) (access : Access) → Stands old made → due old ≡ Some access → Stands new (made ++ answered access answer ∷ [])
 

@@ -35,7 +35,7 @@ pub record IsPutSpan (modulus capacity n : ℕ) (x : Span) : Type 0 where
   pub room : 1 ≤ counts x.outcome → distance modulus (n % modulus) x.seen + counts x.outcome ≤ capacity
   pub full : counts x.outcome ≡ 0 → capacity ≤ distance modulus (n % modulus) x.seen
 
--- A take after k items takes no more than the count that it read shows, and none exactly if that shows none.
+-- A take after k items takes no more than the count that it read shows, and none exactly when that shows none.
 pub record IsTakeSpan (modulus capacity k : ℕ) (x : Span) : Type 0 where
   pub item : 1 ≤ counts x.outcome → (counts x.outcome ≤ distance modulus x.seen (k % modulus)) × (distance modulus x.seen (k % modulus) ≤ capacity)
   pub none : counts x.outcome ≡ 0 → (distance modulus x.seen (k % modulus) ≡ 0) ⊎ (capacity < distance modulus x.seen (k % modulus))

@@ -145,7 +145,7 @@ proper_at most [] h s n x st = elim st [ ]
 proper_at most (y ∷ ys) h s n x (inl st) = rw st.2 h.0
 proper_at most (y ∷ ys) h s n x (inr st) = proper_at most ys h.1 st.0 st.1 x st.4
 
--- a scan that has ended has read a number between bounds that hold of the counts when it began and when it ended
+-- a scan that has ended has read a number between bounds that hold for the counts when it began and when it ended
 reads_between :
     (modulus : ℕ) (own other : ℕ → ℕ) → Clock own → Clock other → (most most' : ℕ) (scans writes : List Span) → AllProper most scans → AllProper most' writes →
     AreRegular modulus own other scans writes → (Low High : ℕ → Type 0) (t s n : ℕ) (x : Span) → IsSpanAt scans s n x → s + x.scan ≤ own t →

@@ -320,7 +320,7 @@ abbrev EachLook : (ℕ → ℕ → Outcome → Type 0) → ℕ → List Look →
 EachLook rule n [] = Unit {0}
 EachLook rule n (l ∷ looks) = rule n l.seen l.outcome × EachLook rule (look_number n l.outcome) looks
 
--- it holds of the look that is there
+-- it holds for the look that is there
 each_at :
     (rule : ℕ → ℕ → Outcome → Type 0) (s : Side) (shape : Shape) (c : Count) (looks : List Look) → EachLook rule c.number looks →
     (start m : ℕ) (x : Span) → IsSpanAt (spans s shape c looks) start m x → rule (c.number + m) x.seen x.outcome

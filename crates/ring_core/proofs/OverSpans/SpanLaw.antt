@@ -55,7 +55,7 @@ pub record IsToldAt (c : ℕ → ℕ) (takes : List Span) (t : ℕ) : Type 0 whe
   pub two : LastTwo takes
   pub ended : total takes ≤ c t
 
--- What holds of a ring at every moment.
+-- What holds for a ring at every moment.
 pub record SpanLaw (modulus capacity batch more word : ℕ) (p c : ℕ → ℕ) (puts takes : List Span) : Type 0 where
   -- at most as many items are put and not taken as the ring holds
   pub within : (t : ℕ) → (counts_begun takes (c t) ≤ counts_begun puts (p t)) × (counts_begun puts (p t) ≤ counts_begun takes (c t) + capacity)

@@ -41,7 +41,7 @@ calls-push {S} {phrase} {phrases} {after} {state} go s xs x =
     calls-append go s xs (x ∷ []) ∙
     ap (λ l. phrases s xs ++ l) (go.more last x [] ∙ ap (λ l. phrase last x ++ l) (go.none (after last x)) ∙ append-nil (phrase last x))
 
--- this holds of puts and of takes
+-- this holds for puts and for takes
 pub puts_go_by_calls : (shape : Shape) → GoByCalls (put_phrase shape) (put_phrases shape) (stored_after shape) (stored_count shape)
 puts_go_by_calls shape = record { none = λ c. refl; more = λ c y xs. refl; same = λ c. refl; next = λ c y xs. refl }
 

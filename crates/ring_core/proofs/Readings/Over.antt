@@ -55,7 +55,7 @@ module _ {S X : Type 0} (events : S → X → ℕ) (after : S → X → S) where
   none_left xs ys l [] e = e ∙ append-nil ys
   none_left xs ys l (x ∷ more) e = absurd (omega (arith, l, ap length e, length-append ys (x ∷ more)))
 
-  -- if those over of one are a prefix of the other, and vice versa, they are the same
+  -- if the calls of one list that are over are a prefix of those of the other, and vice versa, they are the same
   same_over :
       (s : S) (xs ys : List X) (t : ℕ) → ((rest : List X) × (ys ≡ over events after s xs t ++ rest)) → ((rest : List X) × (xs ≡ over events after s ys t ++ rest)) →
       over events after s xs t ≡ over events after s ys t

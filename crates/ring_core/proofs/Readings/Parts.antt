@@ -11,7 +11,7 @@ pub none-append : (Is : Made → Type 0) (xs ys : List Made) → NoneAre Is xs �
 none-append Is [] ys h k = k
 none-append Is (x ∷ xs) ys h k = (h.0, none-append Is xs ys h.1 k)
 
--- one that is comes after all of those
+-- an access of the kind comes after all of those that are not of it
 pub behind :
     (Is : Made → Type 0) (xs ys before rest : List Made) (z : Made) → Is z → NoneAre Is xs → xs ++ ys ≡ before ++ z ∷ rest →
     (front : List Made) × (before ≡ xs ++ front) × (ys ≡ front ++ z ∷ rest)

@@ -226,7 +226,7 @@ fn changed<A: Allocator>(
     Ok(made)
 }
 
-// The items that are taken if the plain path, changed at a place, is lawful; elsewhere it is at fault.
+// A place at which the changed plain path is lawful, and the items taken then; at all other places it is at fault.
 type Lawful<'a> = (usize, &'a [u64]);
 
 // Whether the place is one of these, and its items were taken.

@@ -9,7 +9,7 @@ use std::alloc::AllocGlobal;
 use std::process::Abort;
 use std::test::Fail;
 
-// A history of a register, its strongest class, and the places of the events with which it stops being safe, regular, atomic by
+// A history of a register, its strongest class, and the places of the events at which it stops being safe, regular, atomic by
 // reader and atomic.
 struct Case {
     name: &'static str,

@@ -116,7 +116,7 @@ pub fn expect_failed_writes(
 pub(crate) type Unheard = (&'static [&'static str], &'static str, u8, &'static str);
 
 /// A standard error that fails after this many writes changes no status, has a prefix of its text, and is reported as
-/// written exactly if that was all.
+/// written exactly when that was all.
 pub fn expect_unheard(
     rt: &(impl Abort + AllocGlobal + Threads + Clock),
     writes_before: u64,

@@ -58,7 +58,7 @@ static PLAYS: [(&str, &str, Option<&str>); 9] = [
         "events 34\nput 1\ntaken 1\ntold yes\nfull 0\nempty 0\nflicker 0\n",
         None,
     ),
-    // a third put finds two cells full, and stores once an item was taken
+    // a third put finds two cells full, and stores once an item has been taken
     (
         "{\"capacity\":2,\"modulus\":4,\"width\":2,\"items\":[2,1,3],\"takes\":1,\"close\":false,\"schedule\":\"P22C14P12\",\"oracle\":\"\"}",
         "events 48\nput 2 1 3\ntaken 2\ntold no\nfull 1\nempty 0\nflicker 0\n",

@@ -21,7 +21,7 @@ static TRACES: [(&[u8], &str); 51] = [
         b"\xfe\xff\x00s\x00\n",
         "refused: trace line 1 is not a line of the format\n  line 1 is UTF-16 text: \"\\xfe\\xff\\x00s\\x00\"\n",
     ),
-    // a mark is one only at the front
+    // a byte order mark is one only at the front
     (
         b"shape 1 3 1\n\xef\xbb\xbfP read r0\n",
         "refused: trace line 2 is not a line of the format\n  line 2 is none of: S read BIT, S got BIT V, S write BIT V, S wrote BIT: \"\\xef\\xbb\\xbfP read r0\"\n",

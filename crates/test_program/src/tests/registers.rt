@@ -39,7 +39,7 @@ const TWO: &str = "register 0\nW write 1\nR1 read\nR1 got 1\nR2 read\nR2 got 0\n
 const TWO_FOUND: &str =
     "atomic by reader\nnot atomic: line 6: R2 got 0, but a read of R1 that ended at line 4 gave the later value 1, of line 2\n";
 
-// By whether the reading stops at the first line with which the history is not atomic or not, the finding is the same.
+// By whether the reading stops at the first line at which the history is not atomic or not, the finding is the same.
 static FOUND: [(&str, u8, &str); 12] = [
     ("register 0\n", 0, "atomic\n"),
     ("cut register 0 1\n", 0, "atomic\ncut yes\n"),
@@ -141,7 +141,7 @@ fn reports_what_a_recording_could_have_shown(rt: HostRuntime) {
     );
 }
 
-// After the first line with which the history is not atomic nothing is read.
+// After the first line at which the history is not atomic nothing is read.
 static STOPPED: [(&str, u8, &str); 3] = [
     (
         "register 0 4\nW write 1\nR1 read\nR1 got 1\nR1 read\nR1 got 0\nnonsense\n",

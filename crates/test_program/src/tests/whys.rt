@@ -57,7 +57,7 @@ static REASONS: [(&str, &str); 6] = [
         "shape 1 3 1\nP read r0\nC read s0\nP read r0\n",
         "fault: line 4: out of turn\nopen since line 2: P read r0\n",
     ),
-    // the end of another access than the open one
+    // the end of an access other than the open one
     (
         "shape 1 3 1\nP write x 1\nP got r0 1\n",
         "fault: line 3: out of turn\nopen since line 2: P write x 1\n",

@@ -28,7 +28,7 @@ fn expect_word_written(rt: &impl Abort, shape: &Shape, cell: u8, item: u64, digi
     }
 }
 
-// Reads of these digits make the item, which is returned once all were read.
+// Reads of these digits make the item, which is returned once all have been read.
 fn expect_word_read(rt: &impl Abort, shape: &Shape, cell: u8, digits: &[bool], item: u64) {
     if u64::from(cell) < shape.capacity() {
         let mut reader = WordReader::new(shape, u64::from(cell));

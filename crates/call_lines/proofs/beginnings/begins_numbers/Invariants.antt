@@ -3,7 +3,7 @@ use Rattle.std.specs.Prelude.{◌↔◌}
 use Rattle.call_lines.specs.Beginnings.{BeginsNumbers}
 use Rattle.call_lines.proofs.beginnings.begins_numbers.Given as goal
 
--- all of them begin numbers exactly if the rest does
+-- all of them begin numbers exactly when the rest does
 abbrev pub invariant-loop-left : goal.invariant-loop-left
 invariant-loop-left l = BeginsNumbers l.fn.most l.bytes ↔ BeginsNumbers l.room l.left
 

@@ -29,7 +29,7 @@ of_object bytes (number n) field place byte json e = absurd (none-some byte e)
 of_object bytes (string s) field place byte json e = absurd (none-some byte e)
 of_object bytes (array ds) field place byte json e = absurd (none-some byte e)
 
--- what holds of the byte follows from what else holds of it
+-- what holds for the byte follows from what else holds for it
 then_some : {P Q : ℕ → Type 0} (r : Option ℕ) → ((byte : ℕ) → P byte → Q byte) → IfSome r P → IfSome r Q
 then_some (Some byte) f p = f byte p
 then_some None f p = tt
