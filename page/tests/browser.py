@@ -1,4 +1,4 @@
-"""What page/test and page/hostile stand on: a real Chromium, driven over WebDriver, the page in it, and a count of what is as it has to be."""
+"""What page/test and page/hostile use: a real Chromium, driven over WebDriver, the page in it, and a count of the checks that passed."""
 import contextlib
 import functools
 import http.server
@@ -11,7 +11,7 @@ import threading
 import time
 import urllib.parse
 
-sys.path.append("/usr/lib/python3/dist-packages")  # for a python3 that is not Debian's, which has no packages of Debian's
+sys.path.append("/usr/lib/python3/dist-packages")  # for a python3 other than Debian's, which lacks Debian's packages
 try:
     from selenium import webdriver
     from selenium.common.exceptions import WebDriverException
@@ -38,7 +38,7 @@ def same(what, got, want):
 
 
 def slack():
-    """How many times longer something may take: on a machine with other work, three times."""
+    """The factor by which a time limit is stretched: 3 on a busy machine, else 1."""
     return 3 if os.getloadavg()[0] > os.cpu_count() * 0.75 else 1
 
 
@@ -75,7 +75,7 @@ class Browser:
         return self.driver.execute_script(script, *args)
 
     def wait(self, script, *args):
-        """The answer of a script that ends with a promise."""
+        """The result of a script that returns a promise."""
         call = "const done = arguments[arguments.length - 1]; (async (...args) => {" + script + "})(...arguments).then(done, it => done(String(it)))"
         return self.driver.execute_async_script(call, *args)
 
@@ -87,7 +87,7 @@ class Browser:
         same(what, "not within 4 seconds", True)
 
     def press(self, *keys):
-        """Presses keys, one after the other; `shift+p` is P with Shift."""
+        """Presses keys in order; `shift+p` is P with Shift."""
         actions = ActionBuilder(self.driver)
         for key in keys:
             held = [KEYS.get(it, it) for it in (key.split("+") if len(key) > 1 else [key])]
@@ -116,7 +116,7 @@ class Browser:
         self.driver.find_element("id", id_).send_keys(path)
 
     def drag(self, points):
-        """Presses the mouse at the first of these points, and lets it go at the last."""
+        """Presses the mouse button at the first of these points and releases it at the last."""
         actions = ActionBuilder(self.driver, duration=20)
         for at, (x, y) in enumerate(points):
             actions.pointer_action.move_to_location(x, y)
@@ -126,7 +126,7 @@ class Browser:
         actions.perform()
 
     def name_of_focus(self):
-        """The name that a reader of the screen says of the element that has the focus."""
+        """The accessible name of the focused element, as a screen reader reads it."""
         return self.driver.switch_to.active_element.accessible_name
 
     def shot(self, path):
@@ -145,11 +145,11 @@ class Browser:
         self.driver.switch_to.window(window)
 
     def shut(self):
-        """Closes the window that is used."""
+        """Closes the current window."""
         self.driver.close()
 
     def pid(self):
-        """The process of its driver, whose children the browser's are."""
+        """The driver's process id; the browser's processes are its children."""
         return self.driver.service.process.pid
 
     def log(self, kind):
@@ -168,7 +168,7 @@ class Browser:
 
 
 def chromium(folder):
-    """A Chromium, which saves files into this folder."""
+    """A Chromium that saves files into this folder."""
     found = {name: next(filter(None, map(shutil.which, names)), None) for name, names in
              {"chromium": ("chromium", "chromium-browser", "google-chrome"), "chromium-driver": ("chromedriver",)}.items()}
     if not all(found.values()):
@@ -183,7 +183,7 @@ def chromium(folder):
 
 
 class Page:
-    """The page at an address, as its reader sees and uses it."""
+    """The page at an address, as a reader sees and uses it."""
 
     def __init__(self, browser, address):
         self.browser, self.address = browser, address
@@ -203,7 +203,7 @@ class Page:
         same("the text is read", "not within a minute", True)
 
     def title(self):
-        """The first of the two verdicts, or what is told of a script."""
+        """The first of the two verdicts, or what is reported of a script."""
         return self.browser.run("return document.title").removeprefix("bits: ").split(", ring:")[0]
 
     def words(self):
@@ -217,7 +217,7 @@ class Page:
         return self.browser.run("return location.hash")
 
     def linked(self, name):
-        """The text in the link."""
+        """The text that the link contains."""
         return urllib.parse.parse_qs(self.hash()[1:], keep_blank_values=True).get(name, [None])[0]
 
     def write(self, text):
@@ -235,14 +235,14 @@ class Page:
         return self.browser.run("return document.querySelectorAll(arguments[0]).length", selector)
 
     def report(self):
-        """The report beside the picture, in the form and order of a .report file."""
+        """The report beside the picture, in the format and order of a .report file."""
         got = self.browser.run("return Object.fromEntries([...document.querySelectorAll('#summary dt')].map(it => [it.textContent, it.nextSibling.textContent]))")
         return "".join(f"{name} {got[name]}".rstrip() + "\n" for name in ("events", "put", "taken", "told", "full", "empty", "flicker"))
 
 
 @contextlib.contextmanager
 def opened():
-    """The page, served from its folder to a Chromium, and a folder for what it saves; or a word on what is missing."""
+    """The page, served from its folder to a Chromium, and a folder for the files that it saves; stops with a message if something is missing."""
     server = http.server.ThreadingHTTPServer(("127.0.0.1", 0), functools.partial(Files, directory=os.path.join(PAGE, "src")))
     threading.Thread(target=server.serve_forever, daemon=True).start()
     with tempfile.TemporaryDirectory() as downloads:
@@ -255,7 +255,7 @@ def opened():
 
 
 def outside(page):
-    """The addresses that were asked for, but for those of the page itself."""
+    """The addresses that were requested, except those of the page itself."""
     allowed = (page.address.removesuffix("index.html"), "file://" + TOP, "data:", "blob:", "about:")
     events = (json.loads(it["message"])["message"] for it in page.browser.log("performance"))
     asked = {it["params"]["request"]["url"] for it in events if it["method"] == "Network.requestWillBeSent"}
@@ -263,6 +263,6 @@ def outside(page):
 
 
 def ended():
-    """The last line, and the status."""
+    """Prints the last line; returns the exit status."""
     print(f"{counts['passed']} passed, {counts['failed']} failed")
     return counts["failed"] != 0

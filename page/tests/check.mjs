@@ -1,5 +1,5 @@
-// Tests page/check, by node: each exercise that ships, with its solution and wrong ones of tests/exercises; a class of 60, with three that mean harm; each text
-// of hostile_hand_ins.mjs; a report; files that are no hand-ins; misuse. The last line is `N passed, M failed`.
+// Tests page/check under node: each shipped exercise, with its solution and the wrong ones of tests/exercises; a class of 60, three of them malicious; each text
+// of hostile_hand_ins.mjs; a report; files that are not hand-ins; misuse. The last line is `N passed, M failed`.
 import { execFileSync, spawnSync } from "node:child_process";
 import { cpSync, existsSync, mkdirSync, mkdtempSync, readFileSync, readdirSync, rmSync, symlinkSync, writeFileSync } from "node:fs";
 import { availableParallelism, loadavg, tmpdir } from "node:os";
@@ -21,7 +21,7 @@ function same(what, got, want) {
   }
 }
 
-// A folder with these files, and what page/check says of it: its status, its lines.
+// A folder with these files, and what page/check reports of it: its status, its lines.
 function folderOf(name, files) {
   const path = join(folder, name);
   mkdirSync(path);
@@ -38,7 +38,7 @@ const fileOf = (name, text) => {
 };
 const textOf = name => readFileSync(join(page, `constructions/${name}.js`), "utf8");
 
-// ---- the exercises that ship: each text says in its first line what is to come of it ---------------------------------------------------------------
+// ---- the shipped exercises: the first line of each text is the expected result ---------------------------------------------------------------------
 
 const FIRST_LINE = /^\/\/ ((?:not )?met.*)\n/, shipped = readdirSync(join(page, "exercises")).map(it => it.replace(/\.json$/, ""));
 same("exercises", [shipped.length >= 5, readdirSync(join(page, "tests/exercises"))], [true, shipped]);
@@ -82,7 +82,7 @@ const seconds = (performance.now() - began) / 1000, isBusy = loadavg()[0] > avai
 console.log(`60 hand-ins, of which one is stopped after 15 s: ${seconds.toFixed(1)} s${isBusy ? ", on a machine with other work" : ""}`);
 same("in a minute", seconds < (isBusy ? 180 : 60), true);
 
-// ---- those that mean harm ------------------------------------------------------------------------------------------------------------------------------
+// ---- malicious hand-ins --------------------------------------------------------------------------------------------------------------------------------
 
 const marks = ["a", "b"].map(it => join(folder, `mark_${it}`));
 const writesFile = path => `import("node:fs").then(it => it.writeFileSync("${path}", "x"));\n`;
@@ -99,20 +99,20 @@ same("no file is written", marks.map(existsSync), [false, false]);
 const endless = folderOf("endless", Object.fromEntries(ENDLESS.map(([name, text]) => [`${name}.js`, text])));
 same("those that do not end", checked(three, endless, "--seconds", "1", "--jobs", "1"),
      [1, ...["loop", "loop_in_a_builtin", "loop_in_a_write"].map(it => `${it}.js: ${stopped(6)}`), "0 met, 3 not met"]);
-// Those that look for a way out find it in a context to which objects are passed, as page/lab does it; or none is there.
+// The attempts at a way out succeed in a context to which objects are passed, as in page/lab: so they would notice one.
 const NAIVE = `import { runInNewContext } from "node:vm"; import { readFileSync } from "node:fs";
   import { explored } from "${page}src/lab/explorer.js"; import { read, write } from "${page}src/lab/procedures.js";
   explored(runInNewContext(readFileSync(0, "utf8"), {read, write}), {writes: 1, reads: 1});`;
 const naive = text => spawnSync(process.execPath, ["--input-type=module", "-e", NAIVE], {input: text, encoding: "utf8"}).stderr;
 const escaped = LOOKING.filter(([, text]) => naive(text).includes("Error: ESCAPED by"));
 same("ways out, if objects are passed", escaped.map(([name]) => name), ["constructors", "arguments", "stacks", "imports"]);
-// They find none in the process that judges, even without node's permissions.
+// They find none in the judging process, even without node's permission model.
 const apart = LOOKING.map(([name, text]) => {
   const input = JSON.stringify({exercise: EXERCISE, text, bounds: {states: 1000000, milliseconds: 60000}});
   return [name, JSON.parse(spawnSync(process.execPath, [join(page, "check_one.js")], {input, encoding: "utf8"}).stdout)];
 });
 same("no way out", apart.filter(([, it]) => !it.isMet).map(([name, it]) => `${name}: ${it.wrong ?? it.lines.find(line => !line.is).words}`), []);
-// What has left its context is kept from files and programs: another judge, which tries to write, to read, to begin a program and a thread.
+// Code that escaped its context still has no files or programs: another judge tries to write, to read, and to start a program and a thread.
 const another = folderOf("another", {"package.json": '{"type": "module"}', "check_one.js": `import { spawnSync } from "node:child_process";
 import { readFileSync, writeFileSync } from "node:fs"; import { Worker } from "node:worker_threads";
 const tried = [() => writeFileSync("${marks[0]}", ""), () => readFileSync("${three}"), () => spawnSync("/bin/true"), () => new Worker("", {eval: true})];

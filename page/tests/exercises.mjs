@@ -1,5 +1,5 @@
-// Tests the exercises for a class, by node: what a teacher's file may not have, what a construction is said to meet or to miss, the code by which one is
-// handed in. The last line is `N passed, M failed`.
+// Tests the exercises for a class, under node: what a teacher's file must not contain, which needs a construction is reported to meet or miss, and the code with
+// which it is handed in. The last line is `N passed, M failed`.
 import { readFileSync } from "node:fs";
 import { runInNewContext } from "node:vm";
 import { explored } from "../src/lab/explorer.js";
@@ -18,7 +18,7 @@ function same(what, got, want) {
   }
 }
 
-// What is said of a call that is refused, or "nothing".
+// The message of a refused call, or "nothing".
 function refusal(call) {
   try {
     call();
@@ -76,7 +76,7 @@ for (const [text, words] of [
 ]) same(`refused: ${text.slice(0, 160)}`, refusal(() => exerciseOf(text)).slice(0, words.length), words);
 same("no JSON", refusal(() => exerciseOf("{")).startsWith("an exercise is JSON: "), true);
 
-// ---- what is said of a construction --------------------------------------------------------------------------------------------------------------
+// ---- what is reported of a construction-----------------------------------------------------------------------------------------------------------
 
 const WHOLLY = {states: 100000, milliseconds: 60000};
 function said(name, needs, bounds = WHOLLY, text = textOf(name)) {
@@ -104,10 +104,10 @@ same("accesses of a write", said("unary_down", {...NEEDS, kinds: ["regular"], re
      "one operation makes at most 2 accesses: a write makes 3, when it writes 1 to b2, writes 0 to b1, writes 0 to b0");
 same("one access", said("bit_always_written", {...NEEDS, class: "safe", values: 2, accesses: 1})[1].slice(-2),
      [`safe, ${BOUND}: no history misses it`, "one operation makes at most 1 access: a write 1, a read 1"]);
-// The class is missed before all is explored, and the longest operation is found all the same.
+// The class is missed before everything is explored, but the longest operation is still found.
 same("all is explored", said("tromp_without_second_look", {...TROMP, accesses: 5, writes: 3, reads: 3})[2].map(it => it.slice(0, 66)),
      ["atomic: missed, in 21 steps", "one operation makes at most 5 accesses: a read makes 6, when it re"]);
-// An exploring that its limit cuts short: what was not found is not known; what was found is.
+// An exploration cut short by its limit: what was not found is unknown; what was found is known.
 const CUT = {states: 100, milliseconds: 60000}, UNKNOWN = "not known, since the exploring stopped at its limit";
 same("cut short", said("unary_of_the_ring", OF_THE_RING, CUT), [false, said("unary_of_the_ring", OF_THE_RING)[1].slice(0, 4), [
   `each register takes at most 2 values: ${UNKNOWN}`, `regular, ${BOUND}: ${UNKNOWN}, after 101 states`,
@@ -121,7 +121,7 @@ same("one of each", boundWords({writes: 1, reads: 1, readers: 1}), "up to 1 writ
 same("two readers", boundWords({writes: 2, reads: 1, readers: 2}), "up to 2 writes and 1 read of each of 2 readers");
 same("what is no construction", refusal(() => judged(EXERCISE, constructionOf("({values: 3})"))), "registers: those that it is built of, by their names");
 
-// The most accesses of an operation, by hand.
+// The maximum number of accesses of an operation, counted by hand.
 const accessesOf = (name, writes, reads) => explored(constructionOf(textOf(name)), {writes, reads, all: true}).accesses;
 for (const [name, writes, reads, write, read] of [
   ["bit_written_on_change", 2, 2, 1, 1], ["bit_written_on_change", 0, 2, 0, 1], ["bit_written_on_change", 2, 0, 1, 0], ["copies_for_three", 1, 1, 3, 1],
@@ -132,7 +132,7 @@ for (const [name, writes, reads, write, read] of [
 // ---- codes ---------------------------------------------------------------------------------------------------------------------------------------
 
 const CODE = handIn(EXERCISE, "({values: 2})\n", "Ada");
-// (its checksum is that of zlib.crc32)
+// (its checksum is zlib.crc32)
 same("a code", CODE, "kegbygone-1.eyJleGVyY2lzZSI6IlRocmVlIHZhbHVlcyIsIm5hbWUiOiJBZGEiLCJ0ZXh0IjoiKHt2YWx1ZXM6IDJ9KVxuIn0.babf51ed");
 for (const [name, text] of [
   ["Ada", "({values: 2})\n"], ["Zoë Müller-Öztürk", "// ü, 漢字, 😀\n"], ["名前", "\ud800 alone, and \u2028, and \0"], ["x".repeat(100), "y".repeat(100000)],
@@ -144,7 +144,7 @@ for (const [name, text] of [
 same("a code over several lines", readHandIn(` ${CODE.match(/.{1,20}/g).join("\r\n")}\n`).name, "Ada");
 const COPY = "copy it again, from kegbygone-1 to its last character";
 const cut = Array.from({length: CODE.length}, (_, i) => refusal(() => readHandIn(CODE.slice(0, i))));
-same("cut short anywhere", [...new Set(cut)], [`this code is cut short: ${COPY}`]);
+same("cut short at any point", [...new Set(cut)], [`this code is cut short: ${COPY}`]);
 const begun = Array.from({length: CODE.length}, (_, i) => refusal(() => readHandIn(CODE.slice(i + 1))));
 same("without its beginning", begun.filter(it => it !== `this code is mistyped: ${COPY}` && it !== `this code is cut short: ${COPY}`), []);
 const LETTERS = Array.from({length: 95}, (_, i) => String.fromCharCode(32 + i));
@@ -155,7 +155,7 @@ const unseen = [...CODE].flatMap((old, i) => [...LETTERS.filter(it => it !== old
 }));
 same("one character changed anywhere", [unseen, changed], [[], 97 * CODE.length]);
 const swapped = [...CODE].filter((it, i) => i && it !== CODE[i - 1] && refusal(() => readHandIn(CODE.slice(0, i - 1) + it + CODE[i - 1] + CODE.slice(i + 1))) === "nothing");
-same("two characters changed about", swapped, []);
+same("two characters swapped", swapped, []);
 for (const [code, words] of [
   [CODE.replace("-1.", "-2."), "this code is of version kegbygone-2, and only kegbygone-1 is read"],
   ["", `this code is cut short: ${COPY}`], ["hello", `this code is mistyped: ${COPY}`], [`${CODE}.0`, `this code is mistyped: ${COPY}`],

@@ -1,5 +1,5 @@
-// Hand-ins that mean harm, for check.mjs: of each its name, its text, and what page/check says of it. Those that look for a way out of their context call
-// `look` with each value that they get, and throw ESCAPED if one of them leads to node's `process`.
+// Malicious hand-ins for check.mjs: the name and text of each, and what page/check reports of it. Those that look for a way out of their context call
+// `look` with each value that they get, and throw ESCAPED if one leads to node's `process`.
 import { readFileSync } from "node:fs";
 
 const textOf = name => readFileSync(new URL(`../constructions/${name}.js`, import.meta.url), "utf8").replace(/^\/\/.*\n/gm, "").trim();
@@ -68,9 +68,9 @@ const NOT_MET = [
 
 export const HOSTILE = [...LOOKING, ...MET, ...NOT_MET];
 
-// Those that do not end.
+// Hand-ins that do not terminate.
 export const ENDLESS = [
   ["loop", "for (;;);"],
   ["loop_in_a_write", writes("for (;;);")],
-  ["loop_in_a_builtin", "Array.prototype.includes.call({length: 2 ** 53 - 1}, 1)"], // a thread cannot be stopped within it, a process can
+  ["loop_in_a_builtin", "Array.prototype.includes.call({length: 2 ** 53 - 1}, 1)"], // which cannot be stopped in a thread, but can be in a process
 ];

@@ -1,6 +1,6 @@
-// Tests the lab's explorer, by node: each construction of page/constructions has the class and the shortest histories that its head states, which the proved
-// audit finds to be so; with small bounds it agrees with an enumeration that merges nothing; and what is no construction is refused.
-// The audit is $PROGRAM audit --register. The last line is `N passed, M failed`.
+// Tests the lab's explorer, under node: each construction of page/constructions has the class and the shortest histories that its header states, and the proved
+// audit confirms both; with small bounds it agrees with an enumeration that merges nothing; a text that is not a construction is refused.
+// The audit used is $PROGRAM audit --register. The last line is `N passed, M failed`.
 import { execFileSync, spawnSync } from "node:child_process";
 import { readFileSync, readdirSync } from "node:fs";
 import { fileURLToPath } from "node:url";
@@ -13,7 +13,7 @@ import { Wrong, read, write } from "../src/lab/procedures.js";
 const here = new URL(".", import.meta.url), folder = new URL("../constructions/", here);
 const program = process.env.PROGRAM ?? execFileSync(fileURLToPath(new URL("../../lamport_ring", here)), ["--which"], {encoding: "utf8"}).trim();
 const ORDER = ["not safe", ...CLASSES];
-const SMALL = [[2, 2], [3, 1], [2, 1], [1, 2], [1, 1]], MOST_HISTORIES = 8000; // bounds of an enumeration: the first with few enough histories, if there is one
+const SMALL = [[2, 2], [3, 1], [2, 1], [1, 2], [1, 1]], MOST_HISTORIES = 8000; // bounds of an enumeration: the first one with few enough histories is used, if any
 let passed = 0, failed = 0, enumerations = 0;
 
 function same(what, got, want) {
@@ -28,18 +28,18 @@ function same(what, got, want) {
 const textOf = name => readFileSync(new URL(name, folder), "utf8");
 const constructionOf = text => runInNewContext(text, {read, write});
 
-// What the head of a construction states: its bound, its class, and of each class that is missed in how many steps.
+// What the header of a construction states: its bound, its class, and for each class that is missed the number of steps.
 function headOf(text) {
   const [, writes, reads, best, rest] = /^\/\/ (\d+) writes, (\d+) reads: ([a-z ]+)(.*)$/m.exec(text);
   const missed = Object.fromEntries([...rest.matchAll(/not ([a-z ]+) in (\d+) steps/g)].map(([, name, steps]) => [name, Number(steps)]));
   return {writes: Number(writes), reads: Number(reads), best: best === "no class" ? null : best, missed};
 }
 
-// The strongest class of a recording, by the proved audit.
+// The strongest class of a recording, according to the proved audit.
 const audited = recording => spawnSync(program, ["audit", "--register"], {input: recording, encoding: "utf8"}).stdout.split("\n")[0];
 
-// Of each class its steps; a class that is not listed is missed together with the one before it.
-function stepsTold({missed}, {found}) {
+// The steps of each class; a class that is not listed is missed together with the one before it.
+function stepsOf({missed}, {found}) {
   const steps = {};
   let last = null;
   for (const name of CLASSES) {
@@ -52,8 +52,8 @@ function stepsTold({missed}, {found}) {
 for (const name of readdirSync(folder).sort()) {
   const text = textOf(name), head = headOf(text), it = explored(constructionOf(text), {...head, states: 1000000, milliseconds: 120000});
   same(`${name}: its class`, it.best, head.best);
-  same(`${name}: its shortest histories`, Object.fromEntries(CLASSES.map(each => [each, it.found[each]?.steps ?? null])), stepsTold(head, it));
-  same(`${name}: each that its head states`, Object.keys(head.missed).map(each => it.found[each]?.steps), Object.values(head.missed));
+  same(`${name}: its shortest histories`, Object.fromEntries(CLASSES.map(each => [each, it.found[each]?.steps ?? null])), stepsOf(head, it));
+  same(`${name}: each that its header states`, Object.keys(head.missed).map(each => it.found[each]?.steps), Object.values(head.missed));
   for (const [missed, found] of Object.entries(it.found).filter(([, one]) => one !== null)) {
     const recording = recordingOf(it.form, found.events), before = recording.replace(/[^\n]*\n$/, "");
     same(`${name}: not ${missed}, by the audit`, [recording, before].map(one => ORDER.indexOf(audited(one)) >= ORDER.indexOf(missed)), [false, true]);
@@ -70,7 +70,7 @@ for (const name of readdirSync(folder).sort()) {
   console.log(`${name}: ${it.best ?? "not safe"}, ${it.histories ?? "-"} histories in ${it.states} states, ${(it.milliseconds / 1000).toFixed(1)} s; one by one ${each}`);
 }
 
-// What a student reads whose text is no construction.
+// The message for a student whose text is not a construction.
 const bit = "values: 2, registers: {b: {}}", put = "*write(value) { yield write('b', value); }", get = "*read() { return yield read('b'); }";
 for (const [text, words] of [
   ["1", "a construction is an object"],
@@ -88,7 +88,7 @@ for (const [text, words] of [
 ]) {
   let said = "nothing";
   try {
-    // (a draw by chance may be the same twice)
+    // (a random draw may repeat)
     for (let tried = 0; tried < 20; tried++) explored(constructionOf(text), {writes: 1, reads: 1});
   } catch (error) {
     said = error instanceof Wrong ? error.message : String(error);

@@ -1,12 +1,12 @@
-// All histories of a construction with nothing merged, apart from src/lab: each is a list of events, what an overlapped read may answer is looked up in it
-// by the definitions, and the register's history is judged from its intervals. For small bounds.
+// All histories of a construction with nothing merged, independent of src/lab: each is a list of events, the answers of an overlapped read are looked up in it
+// according to the definitions, and the register's history is judged from its intervals. For small bounds.
 
 const CLASSES = ["safe", "regular", "atomic by reader", "atomic"];
 const isSame = (a, b) => JSON.stringify(a) === JSON.stringify(b);
 const distinct = list => list.filter((it, i) => list.findIndex(other => isSame(other, it)) === i);
 
-// The state of a side after its own events, by running its procedures from the first one: {isAtWork, due, open, left, result}.
-function standing(construction, side, own, operations) {
+// The state of a side after its own events, found by replaying its procedures: {isAtWork, due, open, left, result}.
+function stateAfter(construction, side, own, operations) {
   const my = structuredClone(construction.memory?.[side ? "R" : "W"] ?? {});
   let run = null, due = null, open = null, left = operations, result;
   const goOn = step => {
@@ -27,7 +27,7 @@ function standing(construction, side, own, operations) {
   return {isAtWork: run !== null, due, open, left, result};
 }
 
-// What a read that begins with this event may answer at the end of the list: the writes of its register that it overlaps, and what was held before it.
+// What a read that starts with this event may return at the end of the list: the values of the writes of its register that it overlaps, and the value before it.
 function answersTo(construction, list, event) {
   const {kind = "safe", first = 0, domain = [0, 1]} = construction.registers[event.name], at = list.indexOf(event), overlapping = [];
   let held = first, open = null;
@@ -47,7 +47,7 @@ function answersTo(construction, list, event) {
   return distinct(kind === "safe" ? domain : [held, ...overlapping]);
 }
 
-// Which classes a history of the register has, from intervals: of an operation its begin and end, and a choice of a write for each read.
+// The classes of a history of the register, from intervals: the start and end of each operation, and a choice of a write for each read.
 function classesOf(history, {values, first = 0, readers = 1}) {
   const writes = [{begin: -1, end: -1, value: first}], reads = [], open = new Map();
   history.forEach(({side, isBegin, value}, place) => {
@@ -75,7 +75,7 @@ function classesOf(history, {values, first = 0, readers = 1}) {
   return [isSafe, isSafe && reads.every(read => mayBeOf(read).length > 0), isSafe && isEach, isSafe && hasChoice(reads)];
 }
 
-// How many histories there are, and of each class the steps of a shortest one that has it not, or Infinity.
+// The number of histories, and for each class the steps of a shortest history that lacks it, or Infinity.
 export function enumerated(construction, {writes, reads}) {
   const readers = construction.readers ?? 1, shortest = CLASSES.map(() => Infinity);
   let histories = 0;
@@ -84,10 +84,10 @@ export function enumerated(construction, {writes, reads}) {
     classesOf(history, construction).forEach((has, i) => shortest[i] = has ? shortest[i] : Math.min(shortest[i], steps));
     let isEnd = true;
     for (let side = 0; side <= readers; side++) {
-      const operations = side ? reads : writes, it = standing(construction, side, owns[side], operations);
+      const operations = side ? reads : writes, it = stateAfter(construction, side, owns[side], operations);
       const make = (events, began = []) => {
         isEnd = false;
-        const own = [...owns[side], ...events], after = standing(construction, side, own, operations);
+        const own = [...owns[side], ...events], after = stateAfter(construction, side, own, operations);
         const ended = after.isAtWork ? [] : [{side, isBegin: false, value: side ? after.result : undefined}];
         go([...list, ...events], owns.map((old, i) => i === side ? own : old), [...history, ...began, ...ended], steps + 1);
       };
@@ -104,7 +104,7 @@ export function enumerated(construction, {writes, reads}) {
       } else if (it.left) {
         for (let value = 0; value < (side ? 1 : construction.values); value++) {
           const operation = {operation: side ? -1 : value}, began = [{side, isBegin: true, value: side ? undefined : value}];
-          const after = standing(construction, side, [...owns[side], operation], operations);
+          const after = stateAfter(construction, side, [...owns[side], operation], operations);
           if (after.isAtWork) begin(after.due, [operation], began);
           else make([operation], began);
         }

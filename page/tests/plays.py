@@ -1,23 +1,23 @@
-"""A model of a ring that breaks one rule, apart from the page and its module, and a search of all its plays: which goals each of these rings can be
-brought to, and by how few keys. (What it finds the tests play in the page, where the proved audit judges it.)
+"""A model of a ring that breaks one rule, independent of the page and its module, and a search of all its plays: which goals each of these rings can
+reach, and with how few keys. (The tests play what it finds in the page, where the proved audit judges it.)
 
-    page/tests/plays.py                       what each ring of the first challenge reaches: the goal, how many keys, and which"""
+    page/tests/plays.py                       prints what each ring of the first challenge reaches: the goal, the number of keys, and the keys"""
 import collections
 import sys
 
 RINGS = ("", "count-before-cell", "no-second-scan", "small-modulus", "clears-first", "clears-upwards")
 TWICE, NEVER, EMPTY, CLOSED, OTHER = ("take an item twice", "take what was never put", "get Empty with an item inside", "get Closed with an item inside", "another fault")
-# The key that makes the next event of a side, and the one that makes all events up to the end of its call.
+# The key for a side's next event, and the key for all events up to the end of its call.
 KEYS = {("P", False): "p", ("C", False): "c", ("P", True): "P", ("C", True): "C"}
 
 Putter = collections.namedtuple("Putter", "stored count stage storing row")
 Taker = collections.namedtuple("Taker", "used taken count stage most read digits row seen")
-# `open` has of each side the access that is under way, with whether the other side's access of the same bit overlapped it.
-State = collections.namedtuple("State", "p c bits p_open c_open told")
+# `p_open` and `c_open` are the accesses under way, each with whether the other side's access of the same bit overlapped it.
+State = collections.namedtuple("State", "p c bits p_open c_open fault")
 
 
 class Ring:
-    """A script without its schedule, and the ring that plays it."""
+    """A script without a schedule, and the ring that plays it."""
 
     def __init__(self, wrong, capacity, modulus, width, items, takes, close, batch=1, take_batch=1):  # pylint: disable=too-many-arguments
         self.wrong, self.capacity, self.width, self.items, self.takes, self.close = wrong, capacity, width, tuple(items), takes, close
@@ -31,7 +31,7 @@ class Ring:
     # ---- what a side does next --------------------------------------------------------------------------------------------
 
     def row_write(self, row, value):
-        """The write of a count that is due: the place of the bit and its value, or None once it shows the value."""
+        """The next write of a count: the index of the bit and its value, or None once the count shows the value."""
         below = [at for at in range(value) if row[at]]
         clear = (below[0] if self.wrong == "clears-upwards" else below[-1]) if below else None
         if clear is not None and (row[value] or self.wrong == "clears-first"):
@@ -39,7 +39,7 @@ class Ring:
         return None if row[value] else (value, 1)
 
     def next_put(self, it):
-        """The access of the producer that comes next, as (bit, value written or None), or None."""
+        """The producer's next access, as (bit, value written or None), or None."""
         kind, *at = it.stage
         if kind == "between":
             return (("r", 0), None) if it.stored < len(self.items) else (("x", 0), 1) if self.close else None
@@ -71,10 +71,10 @@ class Ring:
     def wanted(self, it):
         return min(self.take_batch, self.takes - it.used)
 
-    # ---- what comes of an access that has ended -----------------------------------------------------------------------------
+    # ---- the state after an access has ended -------------------------------------------------------------------------------
 
     def end_put(self, it, bit, answer):
-        """The producer after its access has ended, and whether its call has."""
+        """The producer after its access has ended, and whether its call has ended too."""
         kind, *at = it.stage
         if kind in ("between", "scan") and bit[0] == "r":
             zeros = at[0] if at else 0
@@ -106,7 +106,7 @@ class Ring:
         return it._replace(row=row, count=value, stored=it.stored + it.storing, stage=("between",)), True
 
     def end_take(self, it, bit, answer):
-        """The consumer after its access has ended, and what its call was told: items, "empty", "closed" or None."""
+        """The consumer after its access has ended, and what its call returned: items, "empty", "closed" or None."""
         kind, *at = it.stage
         if kind in ("between", "scan", "again"):
             zeros, again = at[0] if at else 0, kind == "again"
@@ -142,7 +142,7 @@ class Ring:
         return own is not None and own[1] is None and own[2]
 
     def event(self, state, side, answer=None):
-        """The state after the next event of a side, or None if it is done; and whether a call has ended with it."""
+        """The state after the next event of a side, or None if the side is done; and whether the event ended a call."""
         own, other = (state.p_open, state.c_open) if side == "P" else (state.c_open, state.p_open)
         it, nexts = (state.p, self.next_put) if side == "P" else (state.c, self.next_take)
         if own is None:
@@ -168,25 +168,25 @@ class Ring:
             put, has_ended = self.end_put(it, bit, got)
             under_way = self.wanted(state.c) if state.c.stage != ("between",) or state.c_open else 0
             is_over_full = put.stored > it.stored and put.stored - len(state.c.taken) - under_way > self.capacity
-            return state._replace(p=put, told=OTHER if is_over_full else None), has_ended
-        take, told = self.end_take(it, bit, got)
-        return state._replace(c=take, told=self.fault(state, told)), told is not None
+            return state._replace(p=put, fault=OTHER if is_over_full else None), has_ended
+        take, reply = self.end_take(it, bit, got)
+        return state._replace(c=take, fault=self.fault(state, reply)), reply is not None
 
     @staticmethod
     def opened(state, side, own, other):
         return state._replace(p_open=own, c_open=other) if side == "P" else state._replace(p_open=other, c_open=own)
 
-    def fault(self, state, told):
-        """What is wrong with what a take was told, or None; items are told apart by their numbers."""
+    def fault(self, state, reply):
+        """What is wrong with the reply of a take, or None; items are distinguished by their numbers."""
         taken, put = state.c.taken, state.p
-        if told is None:
+        if reply is None:
             return None
-        if told == "empty":
+        if reply == "empty":
             return EMPTY if state.c.seen > len(taken) else None
-        if told == "closed":
+        if reply == "closed":
             return CLOSED if put.stored > len(taken) else None
         offered = put.stored + (self.batch if put.stage != ("between",) else 0)
-        for item in told:
+        for item in reply:
             if item in taken:
                 return TWICE
             if item not in self.items[len(taken):offered]:
@@ -198,7 +198,7 @@ class Ring:
 
 
 def moves(ring, state):
-    """Each key at a state: the key, the state after it."""
+    """Each key that can be pressed at a state, with the state after it."""
     for side in "PC":
         if ring.asks(state, side):
             for answer in (0, 1):
@@ -208,7 +208,7 @@ def moves(ring, state):
         if after is None:
             continue
         yield KEYS[side, False], after
-        while not has_ended and not ring.asks(after, side) and after.told is None:
+        while not has_ended and not ring.asks(after, side) and after.fault is None:
             further, has_ended = ring.event(after, side)
             if further is None:
                 break
@@ -217,7 +217,7 @@ def moves(ring, state):
 
 
 def reached(ring):
-    """Of each goal that a play of the ring reaches the fewest keys. (A key that answers has its side before it.)"""
+    """For each goal that a play of the ring reaches, the fewest keys. (A key that answers has its side before it.)"""
     start = ring.start()
     before, found, level = {start: None}, {}, [start]
     while level:
@@ -227,10 +227,10 @@ def reached(ring):
                 if after in before:
                     continue
                 before[after] = (state, key)
-                if after.told is None:
+                if after.fault is None:
                     following.append(after)
-                elif after.told not in found:
-                    found[after.told] = keys_to(before, after)
+                elif after.fault not in found:
+                    found[after.fault] = keys_to(before, after)
         level = following
     return found, len(before)
 

@@ -1,5 +1,5 @@
-// Tests what the page's module finds of recordings of registers, by node: of each of examples/registers the verdict beside it, and the
-// report if there is one; the numbers behind the words; texts that are none; and 2,000 random recordings, whose verdicts $PROGRAM audit --register prints.
+// Tests what the page's module finds in recordings of registers, under node: for each of examples/registers the verdict beside it, and the
+// report if there is one; the numbers behind the words; texts that are not recordings; and 2,000 random recordings, against $PROGRAM audit --register.
 // The last line is `N passed, M failed`.
 import { execFileSync, spawnSync } from "node:child_process";
 import { existsSync, readFileSync, readdirSync } from "node:fs";
@@ -17,7 +17,7 @@ function same(what, got, want) {
   console.log(`${what}: got ${JSON.stringify(got)}, want ${JSON.stringify(want)}`);
 }
 
-// What `audit --register` prints of what the module finds.
+// What `audit --register` would print for what the module finds.
 function printed({refused, words, class: name, misses, isCut}) {
   if (refused) return `refused: ${refused}\n`;
   if (words.startsWith("fault")) return `${words}\n${isCut ? "cut yes\n" : ""}`;
@@ -27,7 +27,7 @@ function printed({refused, words, class: name, misses, isCut}) {
 const reported = ({report: {writes, reads, overlapped, by_several, could_invert}}) =>
   [`writes ${writes}`, `reads ${reads}`, `overlapped ${overlapped}`, `by several ${by_several}`, `could invert ${could_invert}`];
 
-// A random recording of two readers, most of whose events come in turn.
+// A random recording of two readers; most of its events are in turn.
 function randomRecording(random) {
   const among = list => list[Math.floor(random() * list.length)], open = new Set();
   const lines = [random() < 0.5 ? "register 0 3" : "register 1"];
@@ -40,7 +40,7 @@ function randomRecording(random) {
   return `${lines.join("\n")}\n`;
 }
 
-// Numbers from 0 to 1, the same in each run.
+// Pseudo-random numbers from 0 to 1, the same in each run.
 function drawnBy(seed) {
   return () => {
     seed = seed * 1103515245 + 12345 & 0x7fffffff;
@@ -48,7 +48,7 @@ function drawnBy(seed) {
   };
 }
 
-// Node before 24 has 64-bit memory only if it is asked for.
+// Before version 24, node has 64-bit memory only behind a flag.
 if (Number(process.versions.node.split(".")[0]) < 24) setFlagsFromString("--experimental-wasm-memory64");
 const module = await openModule(readFileSync(new URL("../src/made/ring_page.wasm", here)));
 
