@@ -1,5 +1,5 @@
-"""Tests of what an author of a queue has beside recorded calls, for page/test: ways from line to line, reports, hints, small recordings, what is
-inside, and how long it takes. Each takes the page, a `same` that compares and a folder."""
+"""Tests of what the page offers an author of a queue beside recorded calls, for page/test: moving between lines, reports, hints, small recordings,
+the items inside, and how long it takes. Each takes the page, a `same` that compares and a folder."""
 import glob
 import os
 import subprocess
@@ -7,13 +7,13 @@ import time
 import urllib.parse
 
 from browser import PAGE, TOP, Page, slack
-from test_calls import flags, give, order, recordings, told
+from test_calls import flags, give, order, recordings, reported
 from test_use import seen, words
 
 PROGRAM = os.path.join(TOP, "dist", "lamport_ring")
-STEPPED, OPENED = 60, 1  # milliseconds that a step of a million lines may take, the best of some, and a leap twice that; seconds to open them (slack)
+STEPPED, OPENED = 60, 1  # limits for a million lines: milliseconds for a step, the best of several tries (a leap may take twice that); seconds to open them (times slack)
 STEP_KEYS = ("ArrowLeft", "ArrowRight", "n", "b")
-MOST_MB = 300  # of memory of the tab's own
+MOST_MB = 300  # of memory private to the tab
 
 
 def shown(text):
@@ -42,17 +42,17 @@ def audited(text):
     return subprocess.run([PROGRAM, "audit", "--calls"], input=text, capture_output=True, text=True, check=False).stdout
 
 
-# A queue in which item 2 is lost: calls that overlap, and some behind the fault.
+# A queue that loses item 2: calls that overlap, and some after the fault.
 LOST = "queue 4\nP put 1\nC take\nP stored\nC item 1\nP put 2\nP stored\nP put 3\nC take\nP stored\nC item 3\nC take\nC empty\nP put 4\nP stored\n"
 
 
 def test_ways(page, same, _):
-    """A recording opens at its fault; keys and fields lead from there to other lines."""
+    """A recording opens at its fault; keys and fields move from there to other lines."""
     page.open(shown(LOST))
     same("it opens at the fault", [place(page), page.hash()], [11, "#" + urllib.parse.urlencode({"recording": LOST})])
     for keys, line in [(["a"], 6), (["x"], 11), (["b"], 10), (["b"], 7), (["n", "n"], 11), (["end"], 15), (["x"], 11), (["home"], 2), (["b"], 2), (["n"], 4), (["left"], 3)]:
         press(page, *keys)
-        same(f"behind {keys}", place(page), line)
+        same(f"after {keys}", place(page), line)
     again = "queue 4\nP put 1\nP stored\nC take\nC item 1\nP put 2\nC take\nC item 1\n"
     page.write(again)
     for line in (5, 6, 5):
@@ -60,10 +60,10 @@ def test_ways(page, same, _):
         same("each line that the words name", place(page), line)
     page.write(LOST)
     press(page, "end", "n")
-    same("behind the last call", place(page), 15)
+    same("after the last call", place(page), 15)
     press(page, "g")
     page.browser.press("8", "left", "9", "enter")
-    same("to a line, for which the arrows move the caret", place(page), 15)
+    same("to a line, while the arrows move the caret", place(page), 15)
     press(page, "g")
     page.browser.press("9", "enter", "left", "right")
     same("to a line, and the keys are the page's again", place(page), 9)
@@ -71,7 +71,7 @@ def test_ways(page, same, _):
     page.browser.press("3", "enter")
     same("to the next line of an item", [place(page), words(page, "sought")], [11, ""])
     page.browser.press("enter")
-    same("there is none behind", [place(page), words(page, "sought")], [11, "no later line names it"])
+    same("there is none after it", [place(page), words(page, "sought")], [11, "no later line names it"])
     page.click("itemback")
     same("to the one before", place(page), 8)
     page.browser.run("document.getElementById('item').value = '5'")
@@ -82,16 +82,16 @@ def test_ways(page, same, _):
     page.browser.run("document.querySelector('#picture [data-line=\"6\"]').dispatchEvent(new MouseEvent('click', {bubbles: true}))")
     same("a bar that is clicked", [place(page), words(page, "bits")], [6, "calls: lawful"])
     keys = page.browser.run("return Object.fromEntries([...document.querySelectorAll('#help dt')].map(it => [it.textContent, it.nextSibling.textContent]))")
-    same("the keys stand in the help", [keys.get("X, A"), keys.get("N, B") is not None, keys.get("G, /") is not None],
+    same("the keys are in the help", [keys.get("X, A"), keys.get("N, B") is not None, keys.get("G, /") is not None],
          ["of recorded calls: the line at fault, and the one that contradicts it", True, True])
     page.open("calls=plain")
     same("no fault to go to", [seen(page, "tofault"), seen(page, "shrink"), seen(page, "callon"), place(page)], [False, False, True, 9])
     page.open("example=plain_path")
-    same("of a trace there is none of it", seen(page, "author"), False)
+    same("a trace has none of it", seen(page, "author"), False)
 
 
 def test_reports(page, same, _):
-    """Beside a fault stands the report of what came before it, as the command tells it of these lines."""
+    """Beside a fault is the report of the lines before it, as the command prints it for these lines."""
     page.open("calls=plain")
     for name, text, verdict in recordings():
         if not verdict.startswith("fault"):
@@ -103,14 +103,14 @@ def test_reports(page, same, _):
     page.open(shown(LOST) + "&shown=6")
     same("at a line before it", [rows(page), words(page, "reported")], [audited("".join(LOST.splitlines(True)[:7])).splitlines()[1:], ""])
     press(page, "end")
-    same("at a line behind it", words(page, "reported"), "before line 11")
+    same("at a line after it", words(page, "reported"), "before line 11")
 
 
 def filled(count, first=0):
     return "".join(f"P put {first + i}\nP stored\n" for i in range(count))
 
 
-HINTED = [  # a recording with a fault, how a hint begins, and what its button makes of the recording
+HINTED = [  # a recording with a fault, how a hint begins, and the edit that its button makes
     ("queue 8\n" + filled(7) + "P put 7\nP full\nC take\nC item 0\n" + filled(1, 7) + "P put 8\nP full\n", "It held 7, not the 8 of its first line: try queue 7. Then it is lawful.", ("queue 8", "queue 7")),
     ("queue 8\n" + filled(10), "It held 10, not the 8 of its first line: try queue 10. Then it is lawful.", ("queue 8", "queue 10")),
     ("queue 4\n" + filled(4) + "C take\nC item 0\nP put 4\nP full\n", "It may report full with 3 inside, and holds 4: queue 3 4 allows that. Then it is lawful.", ("queue 4", "queue 3 4")),
@@ -124,7 +124,7 @@ HINTED = [  # a recording with a fault, how a hint begins, and what its button m
 
 
 def test_hints(page, same, _):
-    """A hint stands beside a fault where the module finds less of the recording as the hint has it, and its button writes it so."""
+    """A hint is beside a fault if the module finds less wrong with the recording as the hint edits it; its button makes the edit."""
     for text, said, (old, new) in HINTED:
         page.open(shown(text))
         until_words(page, "hints", said)
@@ -134,13 +134,13 @@ def test_hints(page, same, _):
     for name in ("order", "again", "not_put", "empty_while_inside", "closed_while_inside", "full_but_taken"):
         page.open("calls=plain")
         page.write(next(text for it, text, _ in recordings() if it == name))
-        page.browser.wait("await new Promise(done => setTimeout(done, 300))")  # the hints are asked for
-        page.click("shrink")  # and it is answered behind them
+        page.browser.wait("await new Promise(done => setTimeout(done, 300))")  # the hints are requested
+        page.click("shrink")  # and is answered after them
         until_words(page, "shrunk", "lines")
         same(f"{name}: no habit explains it", words(page, "hints"), "")
 
 
-# The smallest recordings of the faulty ones: {name: [the milliseconds, the text]}, by what the worker runs.
+# The smallest recordings of the faulty ones, from the code that the worker runs: {name: [milliseconds, text]}.
 SHRUNK = """
 const [{openModule}, {linesOf}, {shrunk}] = await Promise.all(["core/module", "text/recorded_lines", "model/shrinking"].map(name => import(new URL(`${name}.js`, location))));
 const module = await openModule(await (await fetch("made/ring_page.wasm")).arrayBuffer()), found = {};
@@ -157,7 +157,7 @@ def without_numbers(verdict):
 
 
 def lossy(lines):
-    """A recording of so many lines, of calls that overlap, puts of several items among them, in whose middle an item is lost."""
+    """A recording of about this many lines, of overlapping calls, including puts of several items, in the middle of which an item is lost."""
     made, item, taken = ["queue 9"], 0, 0
     while len(made) < lines - 8:
         made += [f"P put {item} {item + 1}", "C take", "P stored", f"C item {taken}", "C take 4", f"P put {item + 2}", f"C some {taken + 1}", "P stored"]
@@ -169,7 +169,7 @@ def lossy(lines):
 
 
 def test_shrink(page, same, folder):
-    """A small recording has a fault of the same words, in its last line, by the command's own audit; it is that of record/shrink."""
+    """A small recording has a fault with the same words, in its last line, according to the command's own audit; it equals that of record/shrink."""
     page.open("calls=plain")
     texts = {name: text for name, text, verdict in recordings() if verdict.startswith("fault")}
     texts["of 100,000 lines"] = lossy(100000)
@@ -182,11 +182,11 @@ def test_shrink(page, same, folder):
         same(f"that of record/shrink, of {name}", small, subprocess.run([os.path.join(TOP, "record", "shrink"), file.name], capture_output=True, text=True, check=False).stdout)
         same(f"it is quick, of {name}", took < 5000, True)
     print(f"shrink: {len(found)} recordings, {max(it for it, _ in found.values()):.0f} ms at most, of 100,000 lines {found['of 100,000 lines'][0]:.0f} ms")
-    # as its user has it, in the worker
+    # as a user does it, in the worker
     page.write(texts["again"])
-    meanwhile = page.browser.run("""const it = document.getElementById("shrink"), told = () => [it.textContent, document.getElementById("shrunk").textContent];
+    meanwhile = page.browser.run("""const it = document.getElementById("shrink"), shown = () => [it.textContent, document.getElementById("shrunk").textContent];
         it.click();
-        const before = told();
+        const before = shown();
         it.click();
         return before""")
     same("it can be stopped", meanwhile, ["Stop", "looking .."])
@@ -217,7 +217,7 @@ def test_shrink(page, same, folder):
 
 
 def test_from_disk(page, same, _):
-    """The page in one file runs its worker where it is opened from the disk, under its own policy."""
+    """The page in one file, opened from the disk, runs its worker under its own policy."""
     disk = Page(page.browser, "file://" + os.path.join(PAGE, "lamport_ring.html"))
     disk.open(shown(HINTED[0][0]))
     until_words(disk, "hints", "try queue 7")
@@ -231,7 +231,7 @@ def test_from_disk(page, same, _):
     same("a browser without workers", words(page, "shrunk"), "This browser lets no worker run here: record/shrink looks for it.")
 
 
-# Of each line of lawful beginnings what is counted inside, against the module's report, which has the most of both so far.
+# For each line of lawful prefixes the count of items inside, against the module's report, which has the maximum of both so far.
 COUNTED = """
 const [{openModule}, {linesOf, capacityIn}, {countsAt, rowsAtLine}] = await Promise.all(["core/module", "text/recorded_lines", "model/items_in_recording"].map(name => import(new URL(`${name}.js`, location))));
 const module = await openModule(await (await fetch("made/ring_page.wasm")).arrayBuffer()), wrong = [];
@@ -254,12 +254,12 @@ return {wrong, count};
 
 
 def inside(page):
-    """The items in the panel, those in brackets that are perhaps inside."""
+    """The items in the panel; those perhaps inside are in brackets."""
     return page.browser.run("return [...document.querySelectorAll('#inside .row')].map(row => [...row.querySelectorAll('.part')].map(it => it.classList.contains('open') ? `(${it.textContent})` : it.textContent).join(' '))")
 
 
 def test_inside(page, same, _):
-    """What is counted inside at each line is what the module's report has; the panel has the items; the strip has the run."""
+    """The count inside at each line agrees with the module's report; the panel shows the items; the strip shows the run."""
     page.open("calls=plain")
     found = page.browser.wait(COUNTED, {name: text for name, text, _ in recordings()})
     same("what is counted inside", [found["wrong"], found["count"] > 250], [[], True])
@@ -283,15 +283,15 @@ def test_inside(page, same, _):
     page.write(long_)
     drag(0.5, 0.75)
     first, last = map(int, words(page, "strip").split(" of ")[0].removeprefix("lines ").split(" to "))
-    same("what is dragged over is larger", [abs(first - 198) < 5, abs(last - 296) < 5], [True, True])
+    same("a dragged range is enlarged", [abs(first - 198) < 5, abs(last - 296) < 5], [True, True])
     press(page, "home")
     same("the strip follows the cursor", words(page, "strip").startswith("lines 1 to "), True)
     page.browser.run("document.querySelector('#strip svg').dispatchEvent(new MouseEvent('dblclick', {bubbles: true}))")
     same("a double click", words(page, "strip"), f"lines 1 to {long_.count(chr(10))} of {long_.count(chr(10))} · up to 5 inside")
 
 
-# Of stretches of a long recording: that there is an order of its calls round each line that has a quiet one before it, each operation within its call,
-# and that it goes on from what is inside there: behind an order of all calls before it is one of the recording, as the module says.
+# For parts of a long recording: around each line that has a quiet line before it there is an order of its calls, each operation within its call,
+# which continues from the items inside there: appended to an order of all earlier calls it is an order of the recording, according to the module.
 ROUND = """
 const [{openModule}, {WORDS}, {linesOf, callsFor, capacityIn, startBefore}, {effectsOf, orderOf}] = await Promise.all(["core/module", "core/words", "text/recorded_lines", "model/orders"].map(name => import(new URL(`${name}.js`, location))));
 const {order} = await openModule(await (await fetch("made/ring_page.wasm")).arrayBuffer()), [text, until] = args, lines = linesOf(text), holds = capacityIn(text), most = Number(holds.most), wrong = [];
@@ -314,7 +314,7 @@ return {wrong, stretches};
 
 
 def test_long_orders(page, same, folder):
-    """Of a long recording the order of operations is drawn round the cursor, behind a line where no call was under way."""
+    """In a long recording the order of operations is drawn around the cursor, from a line at which no call was under way."""
     text = lossy(4000)
     line = int(audited(text).split()[2][:-1])
     page.open("calls=plain")
@@ -325,15 +325,15 @@ def test_long_orders(page, same, folder):
         file.write(text)
     give(page, file.name)
     some = order(page)
-    same("the order round its fault", [place(page), len(some) > 20, any(it.endswith(" in") for it in some), any(it.endswith(" out") for it in some)], [line, True, True, True])
+    same("the order around its fault", [place(page), len(some) > 20, any(it.endswith(" in") for it in some), any(it.endswith(" out") for it in some)], [line, True, True, True])
     page.write("queue\nC take\n" + "P put 1\nP stored\n" * 2000)
-    same("no order where a call is always under way", [order(page), words(page, "bits")], [[], "calls: lawful"])
-    same("the calls behind the cursor are pale", page.count("#picture .later"), 0)
+    same("no order if a call is always under way", [order(page), words(page, "bits")], [[], "calls: lawful"])
+    same("the calls after the cursor are pale", page.count("#picture .later"), 0)
     press(page, "home")
     same("and there are some", page.count("#picture .later") > 20, True)
 
 
-# A step back and one on by the keys, and to the next call, the last line, the fault: the milliseconds of each up to the next frame.
+# A step back and forward by the keys, and to the next call, the last line, the fault: the milliseconds that each takes up to the next frame.
 STEPS = """
 const took = {};
 for (const key of ["ArrowLeft", "ArrowRight", "n", "b", "End", "x", "Home", "x", "a"]) {
@@ -347,7 +347,7 @@ return took;
 
 
 def megabytes(page):
-    """The memory that the page's tab alone has, the largest of the browser's tabs."""
+    """The private memory of the page's tab, the largest of the browser's tabs."""
     parents, own = {}, {}
     for path in glob.glob("/proc/[0-9]*"):
         try:
@@ -374,7 +374,7 @@ def lawful(lines):
 
 
 def test_sizes_of_recordings(page, same, folder):
-    """Recordings of 100 to a million lines, lawful and at fault: how long a step takes, and how much memory the tab has."""
+    """Recordings of 100 to a million lines, lawful and faulty: how long a step takes, and how much memory the tab uses."""
     for lines in (100, 100000, 1000000):
         for kind, text in (("lawful", lawful(lines)), ("at fault", lossy(lines))):
             path = os.path.join(folder, f"of_{lines}_{kind.replace(' ', '_')}.calls")

@@ -1,4 +1,4 @@
-"""Tests of two recordings, one under the other, for page/test. Each takes the page, a `same` that compares and a folder."""
+"""Tests of two recordings shown one under the other, for page/test. Each takes the page, a `same` that compares and a folder."""
 import os
 import time
 import urllib.parse
@@ -9,12 +9,12 @@ from test_calls import flags, give
 from test_sizes import KEPT_NAMES, PHONE, printed
 from test_use import media, resize, seen, words
 
-OTHER = LOST.replace("C item 3", "C item 2").replace("C empty", "C item 3")  # in which none is lost
+OTHER = LOST.replace("C item 3", "C item 2").replace("C empty", "C item 3")  # which loses none
 PARTS = ("upper", "underhead", "under")
 
 
 def head(page, id_):
-    """A heading: the name, the verdict, the count of lines and what else it has."""
+    """A heading: the name, the verdict, the number of lines and whatever else it has."""
     return page.browser.run("return [...document.getElementById(arguments[0]).querySelectorAll('strong, span')].map(it => it.textContent)", id_)
 
 
@@ -31,14 +31,14 @@ def flags_under(page):
 
 
 def test_compare(page, same, _):
-    """The kept recording stands at its fault under each that is shown next, and a step moves the upper one alone."""
+    """The kept recording stays at its fault under each one shown next, and a step moves only the upper one."""
     page.open(shown(LOST))
     same("none is kept", [seen(page, it) for it in PARTS], [False] * 3)
     flagged = flags(page)
     page.click("compare")
     same("both are seen", [seen(page, it) for it in PARTS], [True] * 3)
     same("the kept one", [head(page, "underhead"), flags_under(page)], [["recording", verdict(LOST), "15 lines", "kept"], flagged])
-    same("the same one is said to be", [head(page, "upper")[:3], "open, paste" in head(page, "upper")[3]], [["recording", verdict(LOST), "15 lines"], True])
+    same("the same one is marked as such", [head(page, "upper")[:3], "open, paste" in head(page, "upper")[3]], [["recording", verdict(LOST), "15 lines"], True])
     page.write(OTHER)
     same("another under it", [head(page, "upper"), head(page, "underhead")[1], words(page, "bits")], [["recording", verdict(OTHER), "15 lines"], verdict(LOST), f"calls: {verdict(OTHER)}"])
     same("each has its own flags", [flags(page), flags_under(page)], [[], flagged])
@@ -47,8 +47,8 @@ def test_compare(page, same, _):
     press(page, "left", "left")
     same("a step", [place(page), under(page) == before, head(page, "upper")[1]], [13, True, verdict(OTHER)])
     page.click("swap")
-    same("they change places", [page.text(), head(page, "upper")[1], head(page, "underhead")[1], flags(page), place(page)], [LOST, verdict(LOST), verdict(OTHER), flagged, 11])
-    same("a lawful one stands at its end", page.browser.run("return document.querySelectorAll('#under [data-line]').length"), OTHER.count("P put") + OTHER.count("take"))
+    same("they swap places", [page.text(), head(page, "upper")[1], head(page, "underhead")[1], flags(page), place(page)], [LOST, verdict(LOST), verdict(OTHER), flagged, 11])
+    same("a lawful one is at its end", page.browser.run("return document.querySelectorAll('#under [data-line]').length"), OTHER.count("P put") + OTHER.count("take"))
     page.write("queue\nP put 1\n\n")
     same("of a text that is refused", [head(page, "upper")[1].startswith("refused: "), seen(page, "under"), page.browser.run("return document.getElementById('swap').disabled")], [True, True, True])
     page.write(LOST)
@@ -57,11 +57,11 @@ def test_compare(page, same, _):
     page.browser.run("[...document.querySelectorAll('#shrunk button')].find(it => it.textContent === 'Show').click()")
     same("a small one", [head(page, "upper")[1], head(page, "underhead")[1]], [verdict(page.text()), verdict(OTHER)])
     page.click("leave")
-    same("it is left", [[seen(page, it) for it in PARTS], under(page), page.count("#picture svg")], [[False] * 3, "", 1])
+    same("comparing is ended", [[seen(page, it) for it in PARTS], under(page), page.count("#picture svg")], [[False] * 3, "", 1])
 
 
 def test_views(page, same, folder):
-    """The kept one has no place in other modes, a lecture and a saved picture; on paper and on a phone it has."""
+    """The kept one is not shown in other modes, in a lecture or in a saved picture; on paper and on a phone it is."""
     page.open("calls=empty_while_inside")
     page.click("compare")
     page.browser.run("document.querySelector('input[name=mode][value=trace]').click()")
@@ -127,7 +127,7 @@ def test_million_beside(page, same, folder):
         if what == "kept":
             page.click("swap")
             page.settle()
-            same("they have changed places", [head(page, "upper")[0], head(page, "underhead")[0]], ["million.calls", "empty_while_inside"])
+            same("they have swapped places", [head(page, "upper")[0], head(page, "underhead")[0]], ["million.calls", "empty_while_inside"])
     page.open("calls=plain")
 
 

@@ -7,17 +7,17 @@ import urllib.parse
 from browser import EXAMPLES, text_of
 from test_use import COLLISIONS, SIZES, resize, seen, words
 
-SLOW = 20  # seconds that a million lines may take, on a busy machine
+SLOW = 20  # seconds allowed for a million lines, on a busy machine
 
 
 def recordings():
-    """Each shipped recording, by its name, with what the command prints of it."""
+    """Each shipped recording: its name, its text, and what the command prints for it."""
     for path in sorted(glob.glob(os.path.join(EXAMPLES, "calls", "*.calls"))):
         yield os.path.basename(path)[:-6], text_of(path), text_of(path[:-6] + ".verdict")
 
 
-def told(page):
-    """What is told of a recording, as the command prints it: without the report of what came before a fault."""
+def reported(page):
+    """What the page reports of a recording, as the command prints it: without the report of the lines before a fault."""
     first = words(page, "bits").removeprefix("calls: ")
     rows = [] if words(page, "reported") else page.browser.run("return [...document.querySelectorAll('#summary div')].map(it => [it.dataset.name, it.lastChild.textContent].join(' '))")
     return "\n".join([first, *rows]) + "\n"
@@ -28,7 +28,7 @@ def flags(page):
 
 
 def order(page):
-    """The operations in the picture, in their order."""
+    """The operations in the picture, in order."""
     titles_ = page.browser.run("return [...document.querySelectorAll('#picture .operation title')].map(it => it.textContent)")
     return [it.removesuffix(" takes effect") for it in titles_]
 
@@ -38,11 +38,11 @@ def titles(page):
 
 
 def test_findings(page, same, _):
-    """Each recording has the finding of the command; the lines at fault and against it are marked, and each line behind the first is in a bar."""
+    """Each recording has the finding that the command prints; the line at fault and the line that contradicts it are marked, and each line after the first is in a bar."""
     page.open("calls=plain")
     for name, text, verdict in recordings():
         page.write(text)
-        same(f"calls {name}", told(page), verdict)
+        same(f"calls {name}", reported(page), verdict)
         if verdict.startswith("refused"):
             same(f"calls {name} are not drawn", [page.count("#picture *"), seen(page, "refusal")], [0, True])
             continue
@@ -67,18 +67,18 @@ def test_findings(page, same, _):
     same("an end of no call", titles(page), ["P put 1, from line 2, under way", "C empty, line 3: ends no call"])
     most = 2 ** 64 - 1
     page.write(f"queue {most}\nP put {most} {most - 1}\nC take {most}\nC item {most} {most - 2}\n")
-    same("the largest numbers", told(page), f"fault: line 4: item {most - 2} was not inside; item {most - 1} of line 2 is next\n")
+    same("the largest numbers", reported(page), f"fault: line 4: item {most - 2} was not inside; item {most - 1} of line 2 is next\n")
     page.write(f"queue {most + 1}\n")
-    same("a larger one", told(page), "refused: calls line 1 is not a line of the format\n")
+    same("a larger one", reported(page), "refused: calls line 1 is not a line of the format\n")
 
 
 def test_long_cause(page, same, _):
-    """The words of a cause with numbers of 64 bits come whole, in the verdict and in the flag, which lies in the picture."""
+    """The words of a cause with 64-bit numbers are shown whole, in the verdict and in the flag, which is inside the picture."""
     most = 2 ** 64 - 1
     page.open("calls=plain")
     page.write(f"queue {most}\nP put {most}\nP stored\nC take\nC item {most}\nP put {most - 1}\nC take\nC item {most}\n")
     cause = f"item {most} comes again, it was taken at line 5; item {most - 1} of line 6 is next"
-    same("a long cause", told(page), f"fault: line 8: {cause}\n")
+    same("a long cause", reported(page), f"fault: line 8: {cause}\n")
     same("its flags", flags(page), [f"line 5: C item {most}", f"line 8: {cause}"])
     same("its line", words(page, "why"), f"contradicted by line 5: C item {most}, the end of the call of line 4")
     same("its flag lies in the picture", page.browser.run("""const all = document.querySelector("#picture svg").getBoundingClientRect();
@@ -86,8 +86,8 @@ def test_long_cause(page, same, _):
     same("words on words", page.browser.run(COLLISIONS), [])
 
 
-# An order of the operations of each recording: that each has one, each within its call, and that the module says so; and that it does not of
-# one with two operations changed about.
+# An order of the operations of each recording: each recording has one, each operation is within its call, and the module accepts it; and it rejects
+# one with two operations swapped.
 ORDERS = """
 const [{openModule}, {linesOf, callsFor, capacityIn}, {DOES, effectsOf, orderOf}] = await Promise.all(["core/module", "text/recorded_lines", "model/orders"].map(name => import(new URL(`${name}.js`, location))));
 const {calls: audit, order} = await openModule(await (await fetch("made/ring_page.wasm")).arrayBuffer());
@@ -125,50 +125,50 @@ def test_orders(page, same, _):
         same(f"the order of {name}", order(page), words_)
 
 
-# Calls that do not say why they have not more, and what is told of them.
+# Calls that do not say why they stopped short, and what is reported of them.
 SOME = "queue 0 4\nP put 5 6 7\nC take 3\nP some 2\nC some 5 6\nP put 8\nP some 1\nC take 2\nC some 8\n"
-SOME_TOLD = "lawful\ncalls 4\nstored 3\ntaken 3\nfull 0\nempty 0\nnothing 0\ntold no\ninside 1 3\noverlapped 2\nopen 0\n"
+SOME_REPORTED = "lawful\ncalls 4\nstored 3\ntaken 3\nfull 0\nempty 0\nnothing 0\ntold no\ninside 1 3\noverlapped 2\nopen 0\n"
 
 
 def test_some(page, same, _):
-    """A call that does not say why it has not more: its bar, its order of operations, and what speaks against it."""
+    """A call that does not say why it stopped short: its bar, its order of operations, and what contradicts it."""
     page.open("calls=plain")
     page.write(SOME)
-    same("some: its verdict", told(page), SOME_TOLD)
+    same("some: its verdict", reported(page), SOME_REPORTED)
     same("some: its queue", page.browser.run("return document.querySelector('#picture .title').textContent"), "a queue that may be full at any time, and holds 4 at most")
     same("some: its bars", titles(page), ["P put 5 6 7: some 2, lines 2 to 4", "C take 3: some 5 6, lines 3 to 5", "P put 8: some 1, lines 6 to 7", "C take 2: some 8, lines 8 to 9"])
     same("some: words in them", page.browser.run("return [...document.querySelectorAll('#picture .says')].map(it => it.textContent)"), ["some 2", "some 5 6", "some 1", "some 8"])
     same("some: the order", order(page), ["5 in", "6 in", "5 out", "6 out", "8 in", "8 out"])
     page.write(SOME.replace("P some 2", "P stored 2").replace("C some 5 6", "C item 5 6"))
-    same("the order where they say why", order(page), ["no room", "found fewer", "5 in", "6 in", "5 out", "6 out", "8 in", "8 out"])
-    same("its verdict", [words(page, "bits"), told(page).splitlines()[4]], ["calls: lawful", "full 1"])
+    same("the order if they say why", order(page), ["no room", "found fewer", "5 in", "6 in", "5 out", "6 out", "8 in", "8 out"])
+    same("its verdict", [words(page, "bits"), reported(page).splitlines()[4]], ["calls: lawful", "full 1"])
     page.write("queue 4\nP put 5 6 7\nP some 2\nC take 3\nC some 6\n")
-    same("some, but not the next", told(page), "fault: line 5: item 6, but item 5 of line 2 is next\n")
+    same("some, but not the next", reported(page), "fault: line 5: item 6, but item 5 of line 2 is next\n")
     same("its order", order(page), ["5 in", "6 in"])
     same("its flags", flags(page), ["line 2: P put 5 6 7", "line 5: item 6, but item 5 of line 2 is next"])
     page.write("queue 4\nP put 5 6\nP some 3\n")
-    same("more than were offered", [told(page), titles(page)], ["fault: line 3: out of turn\n", ["P put 5 6: some 3, lines 2 to 3"]])
+    same("more than were offered", [reported(page), titles(page)], ["fault: line 3: out of turn\n", ["P put 5 6: some 3, lines 2 to 3"]])
     page.write("queue 4\nP put 5 6\nP some 0\n")
-    same("some of none", told(page), "refused: calls line 3 is not a line of the format\n")
+    same("some of none", reported(page), "refused: calls line 3 is not a line of the format\n")
 
 
 def test_cut(page, same, folder):
-    """A recording whose first line says that later calls are missing: the page says so beside its verdict and in its report."""
+    """A recording whose first line says that later calls are missing: the page shows this beside its verdict and in its report."""
     text, said = "cut queue 2\nP put 1\nC take\nP stored\n", "cut: later calls are missing"
     page.open("calls=plain")
-    same("not cut", [page.verdicts()[1], told(page).splitlines()[-1]], ["", "open 0"])
+    same("not cut", [page.verdicts()[1], reported(page).splitlines()[-1]], ["", "open 0"])
     page.write(text)
     same("cut: its verdicts", [page.verdicts(), page.browser.run("return [document.getElementById('ring').className, document.title]")],
          [["calls: lawful", said], ["dim", f"calls: lawful, {said}"]])
-    same("cut: its report", told(page).splitlines()[-2:], ["open 1", "cut yes"])
+    same("cut: its report", reported(page).splitlines()[-2:], ["open 1", "cut yes"])
     same("cut: its queue", [page.browser.run("return document.querySelector('#picture .title').textContent"), order(page)], ["a queue of 2", ["1 in"]])
     page.browser.run("document.getElementById('shown').focus()")
     page.browser.press("home")
     same("cut: its first line", [words(page, "place"), page.verdicts()], ["line 1 / 4", ["calls: lawful", said]])
     page.write(text.removeprefix("cut "))
-    same("the same, not cut", [page.verdicts(), told(page).splitlines()[-1]], [["calls: lawful", ""], "open 1"])
+    same("the same, not cut", [page.verdicts(), reported(page).splitlines()[-1]], [["calls: lawful", ""], "open 1"])
     page.write("cut queue\nC take\nC closed\n")
-    same("cut, with a fault", [page.verdicts(), told(page)], [["calls: fault: line 3: closed, but no close has begun", said], "fault: line 3: closed, but no close has begun\n"])
+    same("cut, with a fault", [page.verdicts(), reported(page)], [["calls: fault: line 3: closed, but no close has begun", said], "fault: line 3: closed, but no close has begun\n"])
     page.write("cut queue 2\nC take")
     same("cut, and refused", page.verdicts(), ["refused: calls line 2 is not a line of the format", ""])
     page.open("recording=" + urllib.parse.quote(text))
@@ -181,7 +181,7 @@ def test_cut(page, same, folder):
 
 
 def test_steps(page, same, _):
-    """A beginning of a recording is lawful before the line at fault."""
+    """A prefix of a recording that ends before the line at fault is lawful."""
     page.open("calls=pending_take_gave_none")
     same("all of it", [words(page, "place"), words(page, "step")], ["line 7 / 7", "line 7: C empty, the end of the call of line 2"])
     for line in range(6, 0, -1):
@@ -189,7 +189,7 @@ def test_steps(page, same, _):
         same(f"up to line {line}", [words(page, "place"), words(page, "bits"), page.hash()], [f"line {line} / 7", "calls: lawful", f"#calls=pending_take_gave_none&shown={line - 1}"])
     page.browser.press("right", "right")
     same("a call under way", titles(page), ["C take, from line 2, under way", "P put 1, from line 3, under way"])
-    same("its report", told(page).splitlines()[1::9], ["calls 2", "open 2"])
+    same("its report", reported(page).splitlines()[1::9], ["calls 2", "open 2"])
     page.browser.press("end")
     page.browser.run("document.querySelector('#picture [tabindex=\"0\"]').focus()")
     page.browser.press("up", "enter")
@@ -243,7 +243,7 @@ def test_wrong_texts(page, same, _):
 
 
 def test_views(page, same, _):
-    """At each size the verdict is seen first, and no word lies on another."""
+    """At each size the verdict comes first, and no words overlap."""
     for wide, high, scale in SIZES:
         resize(page, wide, high, scale)
         for theme in ("light", "dark"):
@@ -266,7 +266,7 @@ def give(page, path):
 
 
 def test_million(page, same, folder):
-    """A million lines: the window round the fault, with the line that contradicts it wherever that is; the editor shows some lines."""
+    """A million lines: the window around the fault, with the contradicting line wherever it is; the editor shows some lines."""
     near = ["queue 8"] + [line for i in range(250000) for line in (f"P put {i}", "C take", "P stored", f"C item {i}")]
     near[500000] = "C item 124000"
     far = ["queue", "P put 5", "P stored"] + ["C take", "C nothing"] * 499998 + ["C take", "C empty"]
@@ -280,7 +280,7 @@ def test_million(page, same, folder):
         took = time.time() - began
         same(f"{name}: its finding", words(page, "bits"), f"calls: {finding}")
         same(f"{name}: the lines in the picture", flags(page), [f"line {against}: {lines[against - 1]}", finding.removeprefix("fault: ")])
-        same(f"{name}: rows that are not drawn are told", page.count("#picture .break"), 1)
+        same(f"{name}: a break marks rows that are not drawn", page.count("#picture .break"), 1)
         same(f"{name}: rows", page.count("#picture .lane"), 24)
         same(f"{name}: lines in the editor", page.text().count("\n"), 400)
         same(f"{name}: the line at fault there", page.browser.run("return document.querySelector('#numbers b').textContent"), finding.split()[2][:-1])

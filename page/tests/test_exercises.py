@@ -1,4 +1,4 @@
-"""Tests of the exercises for a class, for page/test: those of tests/exercises.mjs and of tests/check.mjs, by node. Each takes the page, a `same` that
+"""Tests of the exercises for a class, for page/test: those of tests/exercises.mjs and tests/check.mjs, run by node. Each takes the page, a `same` that
 compares and a folder."""
 import os
 import re
@@ -10,7 +10,7 @@ from browser import PAGE, counts
 
 def try_by_node(same, name):
     if not shutil.which("node"):
-        return print(f"left out, as there is no node on the PATH: {name}")
+        return print(f"skipped, since node is not on the PATH: {name}")
     said = subprocess.run(["node", os.path.join(PAGE, "tests", name)], capture_output=True, text=True, check=False).stdout
     passed, failed = map(int, re.search(r"(\d+) passed, (\d+) failed\n$", said).groups())
     counts["passed"] += passed
@@ -18,12 +18,12 @@ def try_by_node(same, name):
 
 
 def test_exercises(_, same, __):
-    """A teacher's file, what is said of a construction, and the codes of hand-ins."""
+    """A teacher's file, the judgement of a construction, and the codes of hand-ins."""
     try_by_node(same, "exercises.mjs")
 
 
 def test_check(_, same, __):
-    """page/check: the exercises that ship, a class of 60, hand-ins that mean harm."""
+    """page/check: the shipped exercises, a class of 60, malicious hand-ins."""
     try_by_node(same, "check.mjs")
 
 

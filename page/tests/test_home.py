@@ -3,7 +3,7 @@ import pack
 from test_use import NAMED, resize, seen, words
 
 PHONE = (390, 844)
-# What is wider than the screen: the page, or what may not be scrolled within it.
+# What is wider than the screen: the page, or an element of it that does not scroll.
 TOO_WIDE = """const wide = document.documentElement.clientWidth, all = [...document.querySelectorAll("body *")];
 const isScrolled = it => it.closest("main, #editor, dialog, textarea") !== null;
 const over = all.filter(it => it.checkVisibility() && !isScrolled(it) && it.getBoundingClientRect().right > wide + 1);
@@ -11,7 +11,7 @@ return [document.documentElement.scrollWidth > wide, over.slice(0, 3).map(it => 
 
 
 def test_welcome(page, same, _):
-    """The first screen is there again after a reload, and the title leads back to it."""
+    """The first screen reappears after a reload, and the title leads back to it."""
     browser = page.browser
     page.open("")
     same("the first screen", seen(page, "welcome"), True)
@@ -26,17 +26,17 @@ def test_welcome(page, same, _):
 
 
 def test_unknown_parts(page, same, _):
-    """What of a link there is not is said, and the rest is shown."""
+    """Unknown parts of a link are reported, and the rest is shown."""
     for link, note in (("script=plain_path&colour=red", "A link has no part colour: it was left out."), ("script=plain_path&course=99", "The course has no step 99."),
                        ("script=plain_path&goal=win", "There is no goal “win”."), ("script=plain_paths", "There is no example plain_paths of this kind.")):
         page.open(link)
-        same(f"{link}: what is said", words(page, "note"), note)
+        same(f"{link}: the note", words(page, "note"), note)
     page.open("script=plain_path")
-    same("and of a good link nothing", words(page, "note"), "")
+    same("no note for a good link", words(page, "note"), "")
 
 
 def test_letters(page, same, _):
-    """The keys of one letter can be switched off, which stays so over a reload; the others go on."""
+    """Single-letter keys can be switched off, also across a reload; the other keys still work."""
     browser = page.browser
     page.open("script=break_the_ring")
     browser.press("p")
@@ -47,10 +47,10 @@ def test_letters(page, same, _):
     browser.press("p")
     same("and no longer", words(page, "place"), "letter 1 / 1")
     browser.press("left")
-    same("an arrow does", words(page, "place"), "letter 0 / 1")
+    same("an arrow works", words(page, "place"), "letter 0 / 1")
     page.open("script=break_the_ring")
     browser.press("p")
-    same("over a reload", words(page, "place"), "letter 0 / 0")
+    same("after a reload", words(page, "place"), "letter 0 / 0")
     browser.run("localStorage.clear()")
     page.open("script=break_the_ring")
     browser.press("p")
@@ -58,7 +58,7 @@ def test_letters(page, same, _):
 
 
 def test_narrow(page, same, _):
-    """On a phone nothing is wider than the screen, and the legend is seen whole under a picture that is."""
+    """On a phone nothing is wider than the screen, and the whole legend is visible under a picture that is wider."""
     resize(page, *PHONE)
     links = [f"{NAMED[it['mode']]}={it['name']}" for it in pack.lessons()[::4]] + ["", "course=20", "course=25", "script=break_the_ring"]
     for link in links:

@@ -1,4 +1,4 @@
-"""Tests of the explorer of register constructions, for page/test: those of tests/lab.mjs, by node, and page/lab as it is typed. Each takes the page, a
+"""Tests of the explorer of register constructions, for page/test: those of tests/lab.mjs, run by node, and page/lab as a user types it. Each takes the page, a
 `same` that compares and a folder."""
 import os
 import re
@@ -11,9 +11,9 @@ UP = ["page/lab", "page/constructions/unary_up.js", "--writes", "3", "--reads", 
 
 
 def test_explorer(_, same, __):
-    """Each construction, with nothing merged too, and by the proved audit."""
+    """Each construction, also with nothing merged, and checked by the proved audit."""
     if not shutil.which("node"):
-        return print("left out, as there is no node on the PATH: the explorer")
+        return print("skipped, since node is not on the PATH: the explorer")
     said = subprocess.run(["node", os.path.join(PAGE, "tests", "lab.mjs")], capture_output=True, text=True, check=False).stdout
     passed, failed = map(int, re.search(r"(\d+) passed, (\d+) failed\n$", said).groups())
     counts["passed"] += passed
@@ -21,7 +21,7 @@ def test_explorer(_, same, __):
 
 
 def test_command(_, same, folder):
-    """page/lab prints the class, the bound and the shortest recordings, and says what a file that is no construction lacks."""
+    """page/lab prints the class, the bound and the shortest recordings; for a file that is not a construction it says what is missing."""
     if not shutil.which("node"):
         return
     top = os.path.dirname(PAGE)

@@ -1,4 +1,4 @@
-"""Tests of the lab in the page, and of recorded registers, for page/test: the page's explorer in its worker, texts that are wrong or mean harm, links, pictures.
+"""Tests of the lab in the page, and of recorded registers, for page/test: the page's explorer in its worker, wrong or malicious texts, links, pictures.
 Each takes the page, a `same` that compares and a folder."""
 import glob
 import json
@@ -36,19 +36,19 @@ def rank(name):
 
 
 def test_constructions(page, same, _):
-    """Each shipped construction shows the class of its head, with its bound; each history is found by the module to miss its class, in the words beside it."""
+    """Each shipped construction shows the class of its header, with its bound; the module finds that each history misses its class, in the words beside it."""
     for path in sorted(glob.glob(os.path.join(PAGE, "constructions", "*.js"))):
         name = os.path.basename(path).removesuffix(".js")
-        writes, reads, told = HEAD.search(text_of(path)).groups()
-        best, *missed = told.split("; ")
+        writes, reads, result = HEAD.search(text_of(path)).groups()
+        best, *missed = result.split("; ")
         page.open(f"lab={name}")
-        same(f"{name}: its text says nothing of what is found", [f": {told}" in page.text(), f"// {writes} writes, {reads} reads\n" in page.text()], [False, True])
+        same(f"{name}: its text does not give the result away", [f": {result}" in page.text(), f"// {writes} writes, {reads} reads\n" in page.text()], [False, True])
         if page.browser.run("return document.body.classList.contains('folded')"):
             page.browser.press("v")
         got, bound = found(page)
         same(f"{name}: its class", got, "not safe" if best == "no class" else best)
         same(f"{name}: its bound", bound.startswith(f"up to {writes} writes and {reads} reads"), True)
-        same(f"{name}: no bound is taken for all", "; no larger bound is promised" in bound or got == "not safe", True)
+        same(f"{name}: no bound is taken for all larger ones", "; no larger bound is promised" in bound or got == "not safe", True)
         shown = page.browser.run(MISSES)
         same(f"{name}: what is missed", [it.replace(": ", " in ") for it in sorted(shown)], sorted(missed))
         recordings = []
@@ -62,7 +62,7 @@ def test_constructions(page, same, _):
             same(f"{name}: its read at fault, and its steps", [faults, place], [1, f"step {steps.split()[0]} / {steps.split()[0]}"])
 
 
-WRONG = [  # a text, what is said of it, the line that is marked
+WRONG = [  # a text, its message, the line that is marked
     ('// a\n({\n  values: 2,\n  registers: {b: {}},\n  *write(value) {\n    yield write("b" value);\n  },\n  *read() { return yield read("b"); },\n})\n', "line 6: SyntaxError: missing ) after argument list", "6"),
     ("({\n  values: 2,\n", "line 2: SyntaxError: Unexpected token ')'", "2"),
     ('({\n  values: 2,\n  registers: {b: {}},\n  *write(value) {\n    nothing();\n  },\n  *read() { return yield read("b"); },\n})\n', "line 5: ReferenceError: nothing is not defined", "5"),
@@ -88,7 +88,7 @@ def marked(page):
 
 
 def test_wrong_texts(page, same, _):
-    """What is wrong with a text is told, with its line where it has one, and the page goes on."""
+    """What is wrong with a text is reported, with its line if there is one, and the page still works."""
     page.open("lab=bit_written_on_change")
     for text, said, line in WRONG:
         page.write(text)
@@ -97,7 +97,7 @@ def test_wrong_texts(page, same, _):
     same("and then one that runs", [*found(page), marked(page)], [*SAFE, None])
 
 
-HOSTILE = [  # a text that is explored as what it says, and no more
+HOSTILE = [  # a text that is explored as what it says, and can do no more
     BIT % ("/* </script><script>document.title = 'taken'</script> */", ""),
     "({})));\npostMessage({found: {values: 2, first: 0, readers: 1, registers: [], states: 1, isWhole: true, histories: 5, found: {}}});\n((() => ({})",
     "({})));\nself.onmessage = null;\nsetTimeout(() => 1, 0);\n((() => ({})",
@@ -105,7 +105,7 @@ HOSTILE = [  # a text that is explored as what it says, and no more
 MARKUP = GOOD.replace("b:", "'<b onclick=x>':").replace('"b"', "'<b onclick=x>'")
 
 
-# Edits the text, and looks, or clicks Stop, while it runs: by the page's own clock, since a worker that never ends holds up the driver.
+# Edits the text, and looks, or clicks Stop, while it runs: timed by the page, since a worker that never ends blocks the driver.
 LOOPING = """const [text, isStopped] = arguments, it = document.getElementById("text"), of = id => document.getElementById(id);
 window.began = performance.now();
 it.value = text;
@@ -117,7 +117,7 @@ setTimeout(() => {
 
 
 def test_hostile(page, same, _):
-    """No text is taken for markup or has a way to the page; one that never ends is stopped, and the page says so."""
+    """No text is taken for markup or can reach the page; one that never ends is stopped, and the page says so."""
     page.open("lab=bit_written_on_change")
     page.write(HOSTILE[0])
     same("an end of a script", [*found(page), page.browser.run("return document.title")], [*SAFE, "safe"])
@@ -138,14 +138,14 @@ def test_hostile(page, same, _):
     took = page.browser.run("return performance.now() - window.began")
     same("Stop", [words(page, "bits"), took < 10000], ["stopped before it was explored", True])
     page.write(GOOD)
-    same("the page goes on", found(page), SAFE)
+    same("the page still works", found(page), SAFE)
 
 
 COUNTED = "window.begun = 0; const Own = Worker; window.Worker = class extends Own { constructor(...all) { super(...all); window.begun++; } };"
 
 
 def test_links(page, same, _):
-    """Code of a link runs when the reader asks for it, and not before; a link has the bound, the class and the step."""
+    """Code from a link runs only when the reader asks for it; a link contains the bound, the class and the step."""
     browser = page.browser
     page.open("lab=bit_written_on_change")
     browser.run(COUNTED)
@@ -193,7 +193,7 @@ OLD = ["W write 1", "W write b 1", "R1 read", "R1 read b", "R1 got b 0", "R1 got
 INVERTED = ["W write 1", "W write b 1", "R1 read", "R1 read b", "R1 got b 1", "R1 got 1", "R1 read", "R1 read b", "R1 got b 0", "R1 got 0"]
 DIFFERS = "The explorer and the proved audit differ on the history that is “not %s”: %s."
 POSTED = "what the worker of the text posted is nothing that an exploration finds"
-JUDGEMENTS = [  # what is posted, and what the page makes of it
+JUDGEMENTS = [  # what is posted, and what the page shows for it
     (({}, "atomic", INVERTED), ["regular", [["atomic", "regular"]]]),
     (({}, "atomic", OLD), DIFFERS % ("atomic", "the proved audit finds it atomic")),
     (({}, "regular", INVERTED), DIFFERS % ("regular", "the proved audit finds it regular")),
@@ -207,7 +207,7 @@ JUDGEMENTS = [  # what is posted, and what the page makes of it
 
 
 def test_judged(page, same, _):
-    """What the worker posts is taken for data, and shown only if the proved audit finds the same of it."""
+    """What the worker posts is treated as data, and shown only if the proved audit agrees."""
     page.open("lab=bit_written_on_change")
     got = page.browser.wait(FORGED, [it for it, _ in JUDGEMENTS])
     for (posted, want), it in zip(JUDGEMENTS, got):
@@ -215,7 +215,7 @@ def test_judged(page, same, _):
 
 
 def test_lab(page, same, folder):
-    """A text is explored as one types; its history is stepped through, saved and opened as a recording; the bound is chosen."""
+    """A text is explored while it is typed; its history can be stepped through, saved and opened as a recording; the bound can be chosen."""
     browser = page.browser
     page.open("lab=bit_written_on_change")
     same("its class", words(page, "bits"), "regular")
@@ -247,7 +247,7 @@ def test_lab(page, same, folder):
 
 
 def test_predict(page, same, _):
-    """In a lesson of the lab with a question the class, what is missed and the picture are folded until V."""
+    """In a lab lesson with a question, the class, what is missed and the picture are folded until V is pressed."""
     lesson = next((it["name"] for it in pack.lessons() if it["mode"] == "lab" and it["question"]), None)
     page.open(f"lab={lesson}")
     parts = ["verdict", "bound", "misses", "sheet", "recorded"]
@@ -263,13 +263,13 @@ def test_registers(page, same, folder):
     browser = page.browser
     page.open("register=unary")
     for path in sorted(glob.glob(os.path.join(EXAMPLES, "registers", "*.reg"))):
-        name, text, told = os.path.basename(path).removesuffix(".reg"), text_of(path), text_of(path.replace(".reg", ".verdict")).splitlines()
+        name, text, verdict = os.path.basename(path).removesuffix(".reg"), text_of(path), text_of(path.replace(".reg", ".verdict")).splitlines()
         page.write(text)
-        misses = [it for it in told[1:] if it.startswith("not ")]
-        if told[0].startswith("refused: "):
-            same(f"{name}: refused, at its line", [words(page, "bits"), marked(page) or "none", words(page, "why") != ""], [told[0], re.search(r"line (\d+)", told[0])[1], True])
+        misses = [it for it in verdict[1:] if it.startswith("not ")]
+        if verdict[0].startswith("refused: "):
+            same(f"{name}: refused, at its line", [words(page, "bits"), marked(page) or "none", words(page, "why") != ""], [verdict[0], re.search(r"line (\d+)", verdict[0])[1], True])
             continue
-        same(f"{name}: its class", words(page, "bits"), f"register: {told[0]}")
+        same(f"{name}: its class", words(page, "bits"), f"register: {verdict[0]}")
         same(f"{name}: what it misses", browser.run(MISSES), [": ".join(it.split(": ")[:2]) for it in misses])
         for it in misses:
             browser.run(PRESS, it.split(":")[0] + ":")
@@ -288,7 +288,7 @@ def test_registers(page, same, folder):
 
 
 def test_kinds_of_files(page, same, folder):
-    """A file, and a text in the wrong place, are known by their kind."""
+    """The kind of a file, and of a text in the wrong mode, is recognized."""
     for name, text, mode, said in [("a.txt", "register 0 2\nR1 read\nR1 got 0\n", "register", "register: atomic"), ("b.txt", "// mine\n" + GOOD, "lab", "safe"), ("c.txt", "W write 1\nW wrote\n", "register", "refused: register line 1 is not a line of the format")]:
         with open(os.path.join(folder, name), "w", encoding="ascii") as file:
             file.write(text)
@@ -321,7 +321,7 @@ NEEDS = "return [...document.querySelectorAll('#needs li')].map(it => [it.classN
 
 
 def test_exercise(page, same, folder):
-    """A teacher's file shows its task and what is met of it; once all is, the code to hand in, which page/check's reader reads."""
+    """A teacher's file shows its task and which needs are met; once all are, it shows the code to hand in, which page/check reads."""
     path, browser = os.path.join(folder, "bit.json"), page.browser
     with open(path, "w", encoding="ascii") as file:
         json.dump(EXERCISE, file)
@@ -355,7 +355,7 @@ def test_exercise(page, same, folder):
     page.settle()
     same("but then", len(browser.run(NEEDS)), 6)
     page.open(urllib.parse.urlencode({"exercise": '{"exercise": "none"}'}))
-    same("one that is none", words(page, "bits"), "this is no exercise: field \"task\" is missing: a text of 1 to 20000 characters")
+    same("a text that is not an exercise", words(page, "bits"), "this is no exercise: field \"task\" is missing: a text of 1 to 20000 characters")
 
 
 TESTS = [test_constructions, test_wrong_texts, test_hostile, test_links, test_judged, test_lab, test_predict, test_registers, test_kinds_of_files, test_exercise, test_phone]

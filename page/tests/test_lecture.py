@@ -1,4 +1,4 @@
-"""Tests of the lecture as a teacher gives it, for page/test: the wrong rings, a clicker, notes in a window, what is there with the picture alone. Each
+"""Tests of the lecture as a teacher gives it, for page/test: the wrong rings, a clicker, notes in a window, what remains with the picture alone. Each
 takes the page, a `same` that compares and a folder."""
 import re
 import time
@@ -6,14 +6,14 @@ import time
 import pack
 from test_use import resize, seen, words
 
-# The steps whose ring is wrong: what is found of the calls, and how many items were taken that are not to be, or were lost.
+# The steps whose ring is wrong, each with the fault that is found in its calls.
 WRONG = {"count_before_cell": "item 0 was not inside", "no_second_scan": "closed, but item 1 was inside", "small_modulus": "item 1 comes again",
          "batch_twice": "item 1 comes again", "small_modulus__takes": "item 0 was not inside"}
 WHICH = "return document.getElementById('which').textContent"
 
 
 def test_wrong_steps(page, same, _):
-    """In each step of a wrong ring an item is lost, doubled or was never put, on the screen: the take is red, with a flag that says so."""
+    """Each step of a wrong ring shows an item that is lost, doubled or was never put: the take is red, with a flag that says so."""
     steps = pack.course()
     at = [number for number, it in enumerate(steps) if it["name"] in WRONG]
     same("the steps", [steps[number]["name"] for number in at], list(WRONG))
@@ -29,7 +29,7 @@ def test_wrong_steps(page, same, _):
 
 
 def test_aside(page, same, _):
-    """A play beside a step stays in the course, and a button leads back."""
+    """A play opened from a step stays in the course, and a button leads back."""
     browser = page.browser
     page.open("script=count_before_cell&course=3")
     same("in the course", [browser.run(WHICH).startswith("step 3 of"), seen(page, "lecture"), words(page, "reset")], [True, True, "Back to step 3"])
@@ -38,15 +38,15 @@ def test_aside(page, same, _):
     same("at its end", [words(page, "place"), page.hash().split("&")[1]], ["line 9 / 9", "course=3"])
     for name in [it for it in pack.lessons() if it["play"]][:1]:
         page.open(f"example={name['name']}")
-        same("and without a course it does not", "course" in browser.run("return document.getElementById('replay').href"), False)
+        same("and outside the course it does not", "course" in browser.run("return document.getElementById('replay').href"), False)
 
 
 def test_clicker(page, same, _):
-    """A clicker goes event by event, and after the last one to the next step; and back."""
+    """A clicker moves event by event, and after the last one to the next step; and back."""
     browser = page.browser
     place = lambda: words(page, "place")
     page.open("course=1")
-    same("it begins with something in it", [place(), page.count("#picture [data-line]")], ["line 2 / 9", 1])
+    same("it begins with something in the picture", [place(), page.count("#picture [data-line]")], ["line 2 / 9", 1])
     for line in range(3, 10):
         browser.press("pagedown")
         same(f"to line {line}", place(), f"line {line} / 9")
@@ -57,13 +57,13 @@ def test_clicker(page, same, _):
     same("at its end", place(), "line 9 / 9")
     board = next(number for number, it in enumerate(pack.course()) if "board" in it)
     page.open(f"course={board + 1}")
-    same("the law, in place of a picture", [seen(page, "board"), seen(page, "picture"), page.count("#board tr") >= 8], [True, False, True])
+    same("the law, instead of a picture", [seen(page, "board"), seen(page, "picture"), page.count("#board tr") >= 8], [True, False, True])
     browser.press("pagedown")
     browser.until("and on", f"{WHICH}.startsWith(arguments[0])", f"step {board + 2} ")
 
 
 def test_boards(page, same, _):
-    """All minutes of the lecture are in the page: the steps follow each other, from 0 to 65, and what is no history is a board."""
+    """All minutes of the lecture are in the page: the steps cover 0 to 65 without a gap, and a step without a history is a board."""
     minutes = [tuple(map(int, it["minutes"].split("–"))) for it in pack.course()]
     same("minutes", [minutes[0][0], minutes[-1][1], all(one[1] == two[0] for one, two in zip(minutes, minutes[1:]))], [0, 65, True])
     page.open(f"course={len(minutes)}")
@@ -71,7 +71,7 @@ def test_boards(page, same, _):
 
 
 def test_large(page, same, _):
-    """With the picture alone rules, goal, hint and Start over are a click away, and winning stands over the picture."""
+    """With the picture alone, rules, goal, hint and Start over are one click away, and a win is shown over the picture."""
     browser = page.browser
     resize(page, 1366, 768)
     page.open("course=22")
@@ -90,7 +90,7 @@ def test_large(page, same, _):
 
 
 def test_notes(page, same, _):
-    """The teacher's notes stand in a window of their own, follow the steps, and have the clock, which a reload keeps."""
+    """The teacher's notes are in a window of their own, follow the steps, and show the clock, which survives a reload."""
     browser = page.browser
     page.open("course=1")
     page.browser.run("sessionStorage.setItem('lecture began', Date.now() - 754000)")
@@ -112,7 +112,7 @@ def test_notes(page, same, _):
     browser.shut()
     browser.use(windows[0])
     browser.press("end", "pagedown")
-    browser.until("without them it goes on", f"{WHICH}.startsWith('step 3 ')")
+    browser.until("without the notes it still works", f"{WHICH}.startsWith('step 3 ')")
 
 
 TESTS = [test_wrong_steps, test_aside, test_clicker, test_boards, test_large, test_notes]

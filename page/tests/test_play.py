@@ -1,4 +1,4 @@
-"""Tests of playing against a wrong ring, for page/test: the first challenge can be won, by few keys; the challenges; the end of a call by a key; what
+"""Tests of playing against a wrong ring, for page/test: the first challenge can be won, with few keys; the challenges; ending a call by a key; what
 is missing. Each takes the page, a `same` that compares and a folder."""
 import json
 
@@ -13,7 +13,7 @@ MOST_KEYS = 40
 
 
 def challenges():
-    """The challenges: each lesson, with its script."""
+    """The challenges: each lesson with its script."""
     list_, scripts = pack.lessons_and_plays()
     return [(it, json.loads(scripts[it["name"]])) for it in list_ if it.get("goal")]
 
@@ -24,13 +24,13 @@ def ring_of(script, wrong):
 
 
 def keys(found):
-    """The keys of a play that plays.py found. (One that answers has its side before it.)"""
+    """The keys of a play that plays.py found. (A key that answers has its side before it.)"""
     return [PRESS.get(key, key[1] if len(key) == 2 else key) for key in found]
 
 
 def test_preset(page, same, _):
-    """Of the first challenge each rule but one can be broken toward a goal, and so toward the one that is set by three of them: a search of all plays
-    says so, and the page, which plays what it found. Without the last rule no play reaches a goal, and the page says so."""
+    """In the first challenge breaking any rule but one reaches some goal, and breaking any of three reaches the goal that is set: a search of all plays
+    shows this, and so does the page, which plays what the search found. Breaking the last rule reaches no goal, and the page says so."""
     it, script = challenges()[0]
     page.open("")
     page.browser.run("document.querySelector('#welcome a').click()")
@@ -57,7 +57,7 @@ def test_preset(page, same, _):
 
 
 def test_challenges(page, same, _):
-    """Each challenge opens empty, with its goal and rule, and a hint on request; it is won by keys, and then the item stands on the screen, in red."""
+    """Each challenge opens empty, with its goal and rule, and a hint on request; it is won by keys, and then the item is shown in red."""
     for it, script in challenges():
         page.open(f"script={it['name']}")
         shown = page.browser.run("return ['rule', 'goal'].map(id => document.getElementById(id).value)")
@@ -80,7 +80,7 @@ def test_challenges(page, same, _):
 
 
 def test_ends_of_calls(page, same, _):
-    """Shift and the letter of a side goes on to the end of its call, E to that of the call under way; up to a read that has to be answered."""
+    """Shift and a side's letter plays to the end of its call, E to the end of the call under way; both stop at a read that has to be answered."""
     page.open("script=break_small_modulus")
     schedule = lambda: page.browser.run(SCRIPT)["schedule"]
     page.browser.press("shift+p")
@@ -90,7 +90,7 @@ def test_ends_of_calls(page, same, _):
     page.browser.press("p", "c")
     same("two under way", [words(page, "finishP"), words(page, "finishC")], ["end its call", "end its call"])
     page.browser.press("e")
-    same("that of the side that moved last", schedule().startswith("P10C12PC"), True)
+    same("the call of the side that moved last", schedule().startswith("P10C12PC"), True)
     page.open("script=break_small_modulus")
     page.browser.press(*"ppppppppp", "shift+c")
     same("up to a read that has to be answered", [schedule(), seen(page, "askedC")], ["P9C", True])

@@ -1,4 +1,4 @@
-"""Tests of recordings of any length, and of what is refused, for page/test: the cursor is in view, nothing is cut, nothing stands still, nothing of an
+"""Tests of recordings of any length, and of refused texts, for page/test: the cursor is in view, nothing is cut, the page stays responsive, nothing of an
 earlier text is left. Each takes the page, a `same` that compares and a folder."""
 import os
 import time
@@ -7,10 +7,10 @@ from browser import slack
 from test_authors import lossy
 from test_use import resize, seen, words
 
-# Whether the cursor's line is seen, within the room of the picture.
+# Whether the cursor's line is visible within the picture's area.
 IN_VIEW = """const it = document.querySelector("#picture .now")?.getBoundingClientRect(), room = document.querySelector("main").getBoundingClientRect();
 return it !== undefined && it.top >= room.top && it.bottom <= Math.min(room.bottom, innerHeight) && it.left >= room.left && it.right <= room.right;"""
-# Watches for the longest stretch without a turn of the event loop; and says it.
+# Measures the longest time without a turn of the event loop.
 WATCH = """globalThis.longest = 0;
 let last = performance.now();
 const turn = () => {
@@ -20,15 +20,15 @@ const turn = () => {
   globalThis.watching = setTimeout(turn, 0);
 };
 turn();"""
-# Whether a file of this name is shown, with this verdict.
+# Whether a file of this name is shown with this verdict.
 OPENED = """const [bits, note] = ["bits", "note"].map(id => document.getElementById(id).textContent);
 return note.startsWith(arguments[0]) && bits === arguments[1] && document.getElementById("stop").hidden;"""
 LONGEST = "clearTimeout(globalThis.watching); return globalThis.longest"
-FROZEN = 200  # milliseconds without a turn, at most (slack)
+FROZEN = 200  # the maximum of milliseconds without a turn (times slack)
 
 
 def lawful(puts):
-    """A recording of so many puts and takes, each after the other."""
+    """A recording of `puts` puts and takes, one after the other."""
     return "queue 4\n" + "".join(f"P put {at}\nP stored\nC take\nC item {at}\n" for at in range(puts))
 
 
@@ -37,7 +37,7 @@ def give(page, path):
 
 
 def opened(page, folder, name, text, verdict, seconds=60):
-    """Opens a file with this text, and waits for its verdict; how long that took."""
+    """Opens a file with this text and waits for its verdict; returns how long that took."""
     path = os.path.join(folder, name)
     with open(path, "w", encoding="ascii") as file:
         file.write(text)
@@ -49,7 +49,7 @@ def opened(page, folder, name, text, verdict, seconds=60):
 
 
 def test_cursor(page, same, folder):
-    """At each key the cursor is in view, in recordings of 600 lines, of one more, of 10^5 and of 10^6."""
+    """After each key the cursor is in view, in recordings of 600, 601, 10^5 and 10^6 lines."""
     page.open("calls=plain")
     for wide, high in ((1366, 768), (390, 844)):
         resize(page, wide, high)
@@ -64,26 +64,26 @@ def test_cursor(page, same, folder):
             same(f"{lines} lines at {wide}: in the middle", page.browser.run(IN_VIEW), True)
             if lines > 600:
                 later = page.browser.run("return [document.querySelectorAll('#picture .cursor').length, document.querySelectorAll('#picture .later').length > 0]")
-                same(f"{lines} lines at {wide}: what comes after the cursor is told from what was", later, [1, True])
+                same(f"{lines} lines at {wide}: what comes after the cursor looks different", later, [1, True])
     resize(page)
 
 
 def test_numbers(page, same, _):
-    """No number of an item is cut: with no room for all the words it stands alone, and of many the last ones are counted."""
+    """No item's number is cut: without room for all the words it is shown alone, and of many items the last ones are counted."""
     items = [18446744073709551615 - at for at in range(3)]
     page.open("calls=plain")
     page.write("queue 8\n" + "".join(f"P put {it}\nP stored\nC take\nC item {it}\n" for it in items))
     bars = page.browser.run("return [...document.querySelectorAll('#picture .asks, #picture .says')].map(it => it.textContent)")
-    same("each item stands whole", sorted({it.split(" ")[-1] for it in bars if "18446744" in it}), sorted(map(str, items)))
+    same("each item is shown whole", sorted({it.split(" ")[-1] for it in bars if "18446744" in it}), sorted(map(str, items)))
     batch = " ".join(str(it) for it in range(100000, 100020))
     page.write(f"queue 32\nP put {batch}\nP stored\nC take 20\nC item {batch}\n")
     bars = page.browser.run("return [...document.querySelectorAll('#picture .asks, #picture .says')].map(it => it.textContent)")
     numbers = [word for it in bars for word in it.split(" ") if word.strip("+").isdigit() and not word.startswith("+") and len(word) > 2]
-    same("of a batch whole numbers, and how many more", [all(100000 <= int(it) < 100020 for it in numbers), any("+" in it for it in bars)], [True, True])
+    same("of a batch whole numbers, and the number of the rest", [all(100000 <= int(it) < 100020 for it in numbers), any("+" in it for it in bars)], [True, True])
 
 
 def test_strip(page, same, _):
-    """The strip stays where it is while one steps, has keys, and its label stands below it."""
+    """The strip does not move while one steps, has keys, and its label is below it."""
     page.open("calls=plain")
     page.write(lossy(3000))
     place = "const {top, left, height} = document.querySelector('#strip svg').getBoundingClientRect(); return [top, left, height]"
@@ -96,7 +96,7 @@ def test_strip(page, same, _):
     lines = int(words(page, "place").split(" / ")[1])
     page.browser.press("right")
     at = int(words(page, "place").split()[1])
-    same("a key goes over the run", 1 < at <= 2 + lines // 50, True)
+    same("a key moves along the run", 1 < at <= 2 + lines // 50, True)
     page.browser.press("end")
     same("to its end", words(page, "place"), f"line {lines} / {lines}")
     page.browser.press("+")
@@ -111,17 +111,17 @@ return words.top >= svg.bottom - 1;"""
 
 
 def test_first_screen_at_200(page, same, _):
-    """At 200 % a picture of a recording is on the first screen."""
+    """At 200 % zoom the picture of a recording is on the first screen."""
     resize(page, 683, 384, 2)
     page.open("calls=empty_while_inside")
     shown = """const it = document.querySelector("#picture svg").getBoundingClientRect(), bottom = document.getElementById("steps").getBoundingClientRect().top;
 return Math.min(it.bottom, bottom) - it.top;"""
-    same("seen of the picture", page.browser.run(shown) > 100, True)
+    same("visible part of the picture", page.browser.run(shown) > 100, True)
     resize(page)
 
 
 def test_refused(page, same, folder):
-    """What is refused clears the verdict, and says what and why."""
+    """A refused text clears the verdict, and the page says what is refused and why."""
     page.open("calls=plain")
     cases = {}
     for name, data in {"large.trace": b"shape 1 3 1\n" + b"P read r0\n" * 450000, "utf16.calls": "queue 8\r\nP put 1\r\n".encode("utf-16"),
@@ -131,15 +131,15 @@ def test_refused(page, same, folder):
         cases[name] = os.path.join(folder, name)
         with open(cases[name], "wb") as file:
             file.write(data)
-    told = "return ['bits', 'offers', 'picture'].map(id => document.getElementById(id).textContent)"
+    shown = "return ['bits', 'offers', 'picture'].map(id => document.getElementById(id).textContent)"
 
     def open_file(name):
         page.open("calls=plain")
         give(page, cases[name])
-        page.browser.until(f"{name} is told", "return !document.getElementById('bits').textContent.includes('calls: lawful') || document.getElementById('note').textContent !== ''")
+        page.browser.until(f"{name} is answered", "return !document.getElementById('bits').textContent.includes('calls: lawful') || document.getElementById('note').textContent !== ''")
         time.sleep(0.2)
         page.settle()
-        return page.browser.run(told)
+        return page.browser.run(shown)
 
     bits, _, picture = open_file("large.trace")
     same("too large", [bits.startswith("refused: large.trace has 4.5 MB: of a file with a trace this page opens at most 4.0 MB"), picture], [True, ""])
@@ -156,12 +156,12 @@ def test_refused(page, same, folder):
     same("a log as a list", [bits, page.text()], ["calls: lawful", "queue\nP put 1\nP stored\n"])
     page.open("script=nothing")
     page.write('[\n{"process":0,"type":"invoke","f":"enqueue","value":1}\n]\n')
-    same("a log in place of a script", "Open its calls" in words(page, "offers"), True)
+    same("a log instead of a script", "Open its calls" in words(page, "offers"), True)
 
 
 def test_long_texts(page, same, folder):
-    """Nothing stands still for more than a moment: a recording of 50 MB, one of 4.2 million lines, and a script of 900,000 items are read by a worker, with
-    words on it, and can be stopped."""
+    """The page stays responsive: a recording of 50 MB, one of 4.2 million lines, and a script of 900,000 items are read by a worker, with a
+    message, and can be stopped."""
     page.open("calls=plain")
     bound = FROZEN * slack()
     big = "queue 64\n" + "".join(f"P put {10**18 + at}\nP stored\nC take\nC item {10**18 + at}\n" for at in range(740000))
@@ -172,18 +172,18 @@ def test_long_texts(page, same, folder):
         longest = page.browser.run(LONGEST)
         print(f"{name}, {len(text) / 1e6:.0f} MB: {took:.1f} s, at most {longest:.0f} ms without a turn")
         same(f"{name}: its verdict", words(page, "bits"), verdict)
-        same(f"{name}: nothing stood still", longest < bound, True)
+        same(f"{name}: it stayed responsive", longest < bound, True)
         page.browser.run(WATCH)
         page.browser.press("left", "left", "right")
-        same(f"{name}: nor did steps", page.browser.run(LONGEST) < bound, True)
+        same(f"{name}: also while stepping", page.browser.run(LONGEST) < bound, True)
     page.open("calls=plain")
     give(page, os.path.join(folder, "lines.calls"))
     read = "return document.getElementById('bits').textContent.startsWith('auditing ') && document.getElementById('stop').checkVisibility()"
-    page.browser.until("it is said that it is read", read)
+    page.browser.until("the page says that it is being read", read)
     page.browser.click("#stop")
     same("stopped", [words(page, "bits"), seen(page, "stop")], ["refused: stopped before it was read to its end", False])
     page.open("calls=plain")
-    same("and the page goes on", words(page, "bits"), "calls: lawful")
+    same("and the page still works", words(page, "bits"), "calls: lawful")
 
 
 TESTS = [test_cursor, test_numbers, test_strip, test_first_screen_at_200, test_refused, test_long_texts]

@@ -1,4 +1,4 @@
-"""Tests of what the page's module finds of recordings of registers, for page/test: those of tests/registers.mjs, by node. Each takes the page, a `same`
+"""Tests of what the page's module finds in recordings of registers, for page/test: those of tests/registers.mjs, run by node. Each takes the page, a `same`
 that compares and a folder."""
 import os
 import re
@@ -11,7 +11,7 @@ from browser import PAGE, counts
 def test_module(_, same, __):
     """The verdicts of examples/registers, and those of the program on random recordings."""
     if not shutil.which("node"):
-        return print("left out, as there is no node on the PATH: recordings of registers, by the module")
+        return print("skipped, since node is not on the PATH: recordings of registers, by the module")
     said = subprocess.run(["node", os.path.join(PAGE, "tests", "registers.mjs")], capture_output=True, text=True, check=False)
     passed, failed = map(int, re.search(r"(\d+) passed, (\d+) failed\n$", said.stdout).groups())
     counts["passed"] += passed

@@ -1,4 +1,4 @@
-"""Tests of scripts in the page, for page/test: reports, replies, what is refused, and the tie between drawing and proof. Each
+"""Tests of scripts in the page, for page/test: reports, replies, refused texts, and that the drawing agrees with the proof. Each
 takes the page, a `same` that compares and a folder."""
 import json
 import os
@@ -10,7 +10,7 @@ from test_traces import begun
 
 
 def own_scripts():
-    """The scripts that are played by the ring itself."""
+    """The scripts that the correct ring plays."""
     of_the_page = {*test_game.WRONG, *pack.lessons_and_plays()[1]}
     return [name for name in pack.names("script") if name not in of_the_page]
 
@@ -93,14 +93,14 @@ def test_refused_scripts(page, same, _):
     same("mended", page.title(), "played 18 of 18 letters")
 
 
-# ---- the tie between drawing and proof -----------------------------------------------------------------------------------
+# ---- the drawing agrees with the proof -----------------------------------------------------------------------------------
 
 
 TIE = r"""
 const [{openModule}, {traceOf}, {accessesOf, picture, waveOf}, {readScript}, {lettersOf}, {callsOf, callsUntil, MOST_CALLED}, {effectsOfRun}] =
   await Promise.all(["core/module", "core/words", "draw/picture", "text/script", "model/letters", "text/calls", "model/orders"].map(name => import(new URL(`${name}.js`, location))));
 const {audit, moments: momentsOf, order, play} = await openModule(await (await fetch("made/ring_page.wasm")).arrayBuffer());
-// The calls of a history of the programs: each own event is of one call; they begin as calls do; and they come to what was put and taken.
+// The calls of a history of the programs: each own event belongs to one call; calls begin with the right access; together they put and take what the report says.
 const lookAtCalls = (name, text, {events, programs}, report) => {
   if (!programs.isRun || events.length > MOST_CALLED) return;
   const it = momentsOf(text, events.length), calls = callsOf(events, it), of = side => calls.filter(it => it.side === side);
@@ -116,13 +116,13 @@ const lookAtCalls = (name, text, {events, programs}, report) => {
   const open = it.put.slice(items("stored") ? items("stored").split(",").length : 0);
   check(`${name}: items put`, [items("stored"), ...open].filter(it => it !== "").join() === it.put.join());
   check(`${name}: items taken`, items("item") === it.taken.join());
-  check(`${name}: told`, calls.some(it => it.side === "C" && it.reply === "closed") === programs.told);
-  // each call that has ended takes effect within its time, and the module says that the queue allows the order
+  check(`${name}: closed`, calls.some(it => it.side === "C" && it.reply === "closed") === programs.told);
+  // each call that has ended takes effect within its interval, and the module accepts the order
   const effects = effectsOfRun(calls, it.shape ?? audit(text).shape, order), ended = calls.filter(it => it.reply);
   check(`${name}: an order of the operations`, ended.every(call => effects.some(it => it.call.begin === call.begin && it.side === call.side)));
   check(`${name}: effects lie within their calls`, effects.every(it => it.call.begin < it.at && it.at < it.call.end));
-  check(`${name}: none where an item was taken that was not put`, effectsOfRun(calls.map(it => ({...it, items: it.side === "C" ? it.items.map(item => String(BigInt(item) + 1n)) : it.items})), audit(text).shape, order).length === 0 || !calls.some(it => it.side === "C" && it.items.length));
-  // a brace is drawn to the event at which the audit says that the call is over: behind it a close or a scan may begin, an item is taken, or the end is told
+  check(`${name}: none if an item was taken that was not put`, effectsOfRun(calls.map(it => ({...it, items: it.side === "C" ? it.items.map(item => String(BigInt(item) + 1n)) : it.items})), audit(text).shape, order).length === 0 || !calls.some(it => it.side === "C" && it.items.length));
+  // a brace is drawn to the event that ends the call according to the audit: after it a close or a scan may begin, an item is taken, or the take returned closed
   const drawing = new DOMParser().parseFromString(picture({...audit(text), fault: null, waves: "none", calls}), "image/svg+xml");
   const numbers = new Map([...drawing.querySelectorAll(".line")].map(it => [it.textContent, it.getAttribute("x")]));
   for (const {side, kind, begin, end} of calls.filter(({end}) => end < Infinity && numbers.has(String(end + 2)))) {
@@ -137,7 +137,7 @@ const lookAtCalls = (name, text, {events, programs}, report) => {
   if (!report) return;
   check(`${name}: the report's items`, report.put.join() === it.put.join() && report.taken.join() === it.taken.join());
   for (const reply of ["full", "empty"]) check(`${name}: ${reply}`, calls.filter(it => it.reply === reply).length === report[reply]);
-  // a beginning has the calls that have begun, and ended, in it
+  // a prefix has the calls that have begun, and those that have ended, in it
   for (let count = 0; count <= events.length; count += 7) {
     const own = traceOf(it.shape ?? audit(text).shape, events.slice(0, count)), some = callsOf(events.slice(0, count), momentsOf(own, count));
     check(`${name}: the calls of ${count} events`, JSON.stringify(some.map(({side, kind, begin, reply, items}) => [side, kind, begin, reply, items]))
@@ -162,12 +162,12 @@ const look = (name, text) => {
     check(`${name} line ${read.end + 2} clashes`, clashes === isShaded(read));
     found.reads++;
     found.shaded += isShaded(read);
-    // the wave at a read that no write overlaps has the answer
+    // at a read that no write overlaps the wave has the answer
     const stretch = waveOf(first(read.bit), events, accesses, count, count).find(({from, to, write}) => !write && from <= read.begin && read.end <= to);
     check(`${name} line ${read.end + 2} wave`, isShaded(read) ? !stretch : stretch?.held === read.value);
   }
   check(`${name} columns`, drawing.querySelectorAll(".clash").length === events.filter(it => it.clashes).length);
-  // the wave of a bit passes through what it holds just after each of its events
+  // the wave of a bit passes through the bit's value just after each of its events
   for (const [place, event] of events.slice(0, count).entries()) {
     const wave = waveOf(first(event.bit), events, accesses, count, count);
     const here = wave.find(({from, to}) => from <= place && place < to);
@@ -181,7 +181,7 @@ for (const [name, text] of Object.entries(traces)) {
   look(name, text);
   lookAtCalls(name, text, audit(text), null);
 }
-const told = it => [it.report.put.length, it.report.taken.join(), it.report.full, it.report.empty, it.report.told].join(" ");
+const replies = it => [it.report.put.length, it.report.taken.join(), it.report.full, it.report.empty, it.report.told].join(" ");
 for (const [name, text] of Object.entries(scripts)) {
   const {script} = readScript(text), {letters} = play(script, 0);
   let before = play(script, 0), moments = [];
@@ -191,7 +191,7 @@ for (const [name, text] of Object.entries(scripts)) {
     check(`${name} ${k} is a play`, it.letters === letters && it.report.events === it.events.length && audit(own).words === "lawful");
     check(`${name} ${k} goes on`, it.events.length - before.events.length <= 1 && own.startsWith(traceOf(before.shape, before.events)));
     check(`${name} ${k} is the letter of its event`, numbers.filter(it => it <= k).length === it.events.length);
-    if (told(it) !== told(before)) moments.push(k);
+    if (replies(it) !== replies(before)) moments.push(k);
     before = it;
     found.plays++;
   }
@@ -210,13 +210,13 @@ def test_tie(page, same, _):
     plays = {name: example(name + ".json") for name in scripts}
     found = page.browser.wait(TIE, texts, plays)
     if not isinstance(found, dict):
-        return same("the tie", found, "to be tried")
+        return same("drawing and proof", found, "to be tried")
     for wrong in found["wrong"]:
-        same("the tie", wrong, "right")
+        same("drawing and proof", wrong, "right")
     counts["passed"] += found["right"]
     same("shaded reads and others", 0 < found["shaded"] < found["reads"], True)
     same("braces", found["braces"] > 40, True)
-    print(f"the tie: {found['reads']} reads, {found['shaded']} of them shaded, {found['held']} held values, {found['plays']} plays, {found['calls']} calls, {found['braces']} braces")
+    print(f"drawing and proof: {found['reads']} reads, {found['shaded']} of them shaded, {found['held']} held values, {found['plays']} plays, {found['calls']} calls, {found['braces']} braces")
     for name in scripts:
         page.open(f"script={name}")
         letters = page.browser.run("return [...document.querySelectorAll('#moments button span:first-child')].map(it => Number(it.textContent.split(' ')[1]))")

@@ -7,7 +7,7 @@ from browser import PAGE, TOP, Page, example, text_of
 
 
 def test_shipped(_, same, folder):
-    """The page stands in the repository, README's first screen leads to it, and where it is not what the sources give is told."""
+    """The page is in the repository, README's first screen links to it, and a difference from its sources is reported with its line."""
     first = text_of(os.path.join(TOP, "README.md")).splitlines()[:24]
     same("README's first screen leads to the page", any("](page/lamport_ring.html)" in line for line in first), True)
     same("and has its pictures", sum("](docs/pictures/" in line for line in text_of(os.path.join(TOP, "README.md")).splitlines()) >= 3, True)
@@ -15,9 +15,9 @@ def test_shipped(_, same, folder):
     at, name, pack.SHIPPED = page.index("Histories of safe bits"), pack.SHIPPED, os.path.join(folder, "other.html")
     with open(pack.SHIPPED, "w", encoding="utf-8") as file:
         file.write(page.replace("Histories of safe bits", "histories of safe bits", 1))
-    told, pack.SHIPPED = pack.wrongs(), name
+    wrongs, pack.SHIPPED = pack.wrongs(), name
     line = page[:at].count("\n") + 1
-    same("where it differs", [it.split("sources, ")[1] for it in told], [f"from its line {line} on, byte {len(page[:at].encode())}: run page/pack.py"])
+    same("the place where it differs", [it.split("sources, ")[1] for it in wrongs], [f"from its line {line} on, byte {len(page[:at].encode())}: run page/pack.py"])
 
 
 def test_one_file(served, same, _):
@@ -53,7 +53,7 @@ def layer(path):
 
 
 def test_layout(_, same, __):
-    """No script or style sheet is long, none imports from a folder that stands above its own, and the page is small."""
+    """No script or style sheet is long, none imports from a folder above its own layer, and the page is small."""
     for folder, _, files in os.walk(pack.SOURCES):
         for name in sorted(files) if not folder.startswith(pack.MADE) else []:
             path = os.path.relpath(os.path.join(folder, name), pack.SOURCES)

@@ -1,4 +1,4 @@
-"""Tests of what is seen at each size, by mouse, keys and touch, on paper and in both themes, for page/test. Each takes the page, a `same` that compares and a folder."""
+"""Tests of what is visible at each size, with mouse, keys and touch, on paper and in both themes, for page/test. Each takes the page, a `same` that compares and a folder."""
 import base64
 import json
 import re
@@ -48,14 +48,14 @@ def test_sizes(page, same, _):
     media(page)
 
 
-# Where the fault or the last line that is shown stands in what is seen of the picture, between what is above it and the buttons, right of the names that are kept.
+# Whether the fault, or the last line shown, is in the visible part of the picture, between what is above it and the buttons, to the right of the fixed names.
 IN_VIEW = """const at = it => it.getBoundingClientRect(), room = at(document.querySelector("main")), part = [...document.querySelectorAll("#picture .flag, #picture .line")].at(-1);
 if (!part) return true;
 const {left, right, top, bottom} = at(part), low = Math.min(room.bottom, innerHeight, ...["steps", "moves"].map(id => at(document.getElementById(id))).filter(it => it.top > room.top).map(it => it.top));
 const names = document.querySelector("#names svg");
 return left >= (names ? at(names).right : room.left) - 1 && right <= room.right + 1 && top >= room.top - 1 && bottom <= low + 1;"""
 
-# The names that stand at the left of the picture: those that are kept there, or else its own.
+# The names at the left of the picture: the fixed ones, or else its own.
 KEPT_NAMES = """const at = it => it.getBoundingClientRect(), main = document.querySelector("main"), found = [];
 main.scrollLeft = arguments[0];
 const own = [...document.querySelectorAll("#picture .lane, #picture .wavename")], kept = [...document.querySelectorAll("#names .lane, #names .wavename")];
@@ -65,7 +65,7 @@ return [shown.map(it => it.textContent).join() === own.map(it => it.textContent)
 
 
 def test_phone(page, same, _):
-    """On a phone the fault or the cursor is in view, rows keep their names as they are scrolled, and the steps stay beside the story."""
+    """On a phone the fault or the cursor is in view, rows keep their names while they are scrolled, and the steps stay beside the story."""
     resize(page, *PHONE)
     for it in pack.lessons():
         what = f"{it['mode']} {it['name']}"
@@ -73,7 +73,7 @@ def test_phone(page, same, _):
         same(f"{what}: in view", page.browser.run(IN_VIEW), True)
         names = page.browser.run(KEPT_NAMES, 10000)
         same(f"{what}: names", names[:2], [True, True])
-        same(f"{what}: names at the begin", page.browser.run(KEPT_NAMES, 0), [True, True, False])
+        same(f"{what}: names at the start", page.browser.run(KEPT_NAMES, 0), [True, True, False])
     page.open("script=five_items&shown=20")
     for press, what in [("right", "on"), ("home", "to none"), ("end", "to all"), ("left", "back")]:
         page.browser.press(press)
@@ -92,7 +92,7 @@ def test_phone(page, same, _):
     resize(page)
 
 
-# What is touched, and is smaller than a finger wants it. (A word in a line of text, and a bar of the picture, have what they do elsewhere too.)
+# Touch targets that are too small for a finger. (What a word in a line of text, or a bar of the picture, does can also be done elsewhere.)
 SMALL = """return [...document.querySelectorAll("button, select, summary, input, #modes label, #welcome a, #replay")].filter(it => it.checkVisibility({visibilityProperty: true, opacityProperty: true}))
   .map(it => [it.id || it.textContent, it.getBoundingClientRect()]).filter(([, it]) => it.width > 0 && (it.width < 44 || it.height < 44)).map(([name, it]) => `${name} ${Math.round(it.width)} ${Math.round(it.height)}`)"""
 
@@ -108,13 +108,13 @@ def test_targets(page, same, _):
     resize(page)
 
 
-# ---- a game, won by each -------------------------------------------------------------------------------------------------
+# ---- a game, won by touch, mouse and keys -------------------------------------------------------------------------------------------------
 
 GAME, GOAL = "small_modulus", "take an item twice"
 
 
 def tap(page, selector):
-    """Touches the middle of an element, which has to be in view; says what is there."""
+    """Touches the middle of an element, which has to be in view; returns what is there."""
     x, y, hit = page.browser.run("""const it = document.querySelector(arguments[0]), {left, top, width, height} = it.getBoundingClientRect(), [x, y] = [left + width / 2, top + height / 2];
         return [x, y, it.contains(document.elementFromPoint(x, y))]""", selector)
     for kind, points in [("touchStart", [{"x": x, "y": y}]), ("touchEnd", [])]:
@@ -135,7 +135,7 @@ def click(page, selector):
 
 
 def win(page, same, how, by):
-    """Plays the game from its start, by the letters and answers of its script, each by this hand."""
+    """Plays the game from its start, by the letters and answers of its script, each with `by`."""
     script, answers = json.loads(example(f"wrong/{GAME}.json")), 0
     page.open(f"script={GAME}&goal={GOAL.replace(' ', '+')}")
     page.browser.run("document.getElementById('anew').click()")
@@ -152,7 +152,7 @@ def win(page, same, how, by):
         page.browser.until(f"by {how}: letter {at + 1}", "return document.getElementById('place').textContent === arguments[0]", f"letter {at + 1} / {at + 1}")
     same(f"by {how}: each was in view", missed, [])
     same(f"by {how}: won", page.browser.run(won), ["reached", f"letter {len(letters)} / {len(letters)}"])
-    same(f"by {how}: what is at fault is in view", page.browser.run(IN_VIEW), True)
+    same(f"by {how}: the fault is in view", page.browser.run(IN_VIEW), True)
 
 
 def test_game(page, same, _):
@@ -178,7 +178,7 @@ def printed(page, wide, high):
 
 
 def test_paper(page, same, _):
-    """Each lesson is one sheet of paper, with all of its story, its question and its picture."""
+    """Each lesson is one sheet of paper, with its whole story, its question and its picture."""
     for at, it in enumerate(pack.lessons()):
         show(page, it)
         for name, size in SHEETS.items() if at % 6 == 0 or it["name"] in ("five_items", "clears_first") else [("A4", SHEETS["A4"])]:
@@ -190,12 +190,12 @@ def test_paper(page, same, _):
         cut = page.browser.run("""return ["lesson", "side", "told"].filter(id => document.getElementById(id).scrollHeight > document.getElementById(id).clientHeight + 1)
             .concat(["story", ...arguments[0] ? ["question"] : [], "verdict"].filter(id => !document.getElementById(id).checkVisibility()),
               document.querySelector("#picture svg")?.getBoundingClientRect().bottom > innerHeight ? ["picture"] : [])""", it["question"] != "")
-        same(f"{it['mode']} {it['name']}: what is cut or lacks on paper", cut, [])
+        same(f"{it['mode']} {it['name']}: what is cut or missing on paper", cut, [])
     media(page)
     resize(page)
 
 
-# Of each thing that is clicked the contrast of its words to what is behind them, the lowest of all, with its words. (The luminance is that of WCAG 2.)
+# The lowest contrast of any clickable element's words to their background, with its words. (The luminance is that of WCAG 2.)
 CONTRAST = """const parts = text => { const [r, g, b, a = 1] = text.match(/[\\d.]+/g).map(Number); return text.startsWith("color(") ? [r * 255, g * 255, b * 255, a] : [r, g, b, a]; };
 const over = (top, under) => [0, 1, 2].map(i => top[i] * top[3] + under[i] * (1 - top[3])).concat(1);
 const groundOf = it => { if (!it) return [255, 255, 255, 1]; const own = parts(getComputedStyle(it).backgroundColor); return own[3] === 1 ? own : over(own, groundOf(it.parentElement)); };
@@ -209,20 +209,20 @@ return all.flatMap(it => [it, ...it.querySelectorAll("span, b, code")]).filter(i
 
 
 def test_numbers_of_one(page, same, _):
-    """Of one thing the page speaks in the singular."""
+    """The page uses the singular for one of anything."""
     said = """const titles = [...document.querySelectorAll("svg title")].map(it => it.textContent), names = [...document.querySelectorAll("[aria-label], [title]")].map(it => `${it.ariaLabel} ${it.title}`);
         return [document.title, document.body.innerText, ...titles, ...names].join("\\n").match(/(?<![\\w.])1 (items|letters|lines|events|cells|bits|bytes|reads|writes|calls|takes|puts|scans|digits|steps|lessons|rows)\\b/g)"""
     for it in pack.lessons():
-        for behind in ("", "&shown=1"):
-            show(page, it, behind)
-            same(f"of one, {it['mode']} {it['name']}{behind}", page.browser.run(said), None)
+        for more in ("", "&shown=1"):
+            show(page, it, more)
+            same(f"of one, {it['mode']} {it['name']}{more}", page.browser.run(said), None)
     page.open("script=nothing")
     page.browser.press("p")
     same("of one letter", [page.browser.run(said), page.title()], [None, "played 1 of 1 letter"])
 
 
 def test_contrast(page, same, _):
-    """What is clicked has a contrast of at least 4.5 to 1, light and dark."""
+    """Clickable elements have a contrast of at least 4.5 to 1, light and dark."""
     for theme in ("light", "dark"):
         for asked in ("", "example=stale_item", "script=five_items&shown=40", "script=small_modulus&shown=22&goal=take+an+item+twice", "calls=batch", "course=3", "trace=x"):
             page.open(f"{asked}&theme={theme}" if asked else f"theme={theme}")

@@ -1,4 +1,4 @@
-"""Tests of texts that come from elsewhere, for page/test: of another kind, hurt, pasted, too long for a link, logs of other tests. Each takes the page, a
+"""Tests of texts from elsewhere, for page/test: of another kind, damaged, pasted, too long for a link, logs of other tests. Each takes the page, a
 `same` that compares and a folder."""
 import contextlib
 import glob
@@ -11,11 +11,11 @@ from test_authors import audited, lossy, place, press
 from test_calls import give
 from test_use import words
 
-PASTED = 1000  # milliseconds that a paste of 5 MB may take, the best of some
+PASTED = 1000  # milliseconds that a paste of 5 MB may take, the best of several tries
 CTRL = "\ue009"
 
 
-# Texts that are in the wrong place or hurt: the mode, the text, what is offered, the mode and the verdict behind the button, what the text is then.
+# Texts in the wrong mode, or damaged: the mode, the text, what is offered, then the mode, the verdict and the text after the button is pressed.
 CALLS = "queue 2\nP put 1\nP stored\nC take\nC item 1\n"
 OFFERED = [
     ("trace", CALLS, "This looks like recorded calls.", "calls", "calls: lawful", CALLS),
@@ -35,20 +35,20 @@ OFFERED = [
 
 
 def test_kinds(page, same, folder):
-    """What a text is shows any of its lines; one of another kind is offered to that, and what can be mended is."""
+    """The kind of a text is recognized by any of its lines; one of another kind is offered to its mode, and a repair is offered if there is one."""
     starts = {"trace": "example=plain_path", "script": "script=plain_path", "calls": "calls=plain"}
     for mode, text, said, to, verdict, then in OFFERED:
         page.open(starts[mode])
         page.write(text)
         same(f"{mode} {text!r}: what is offered", said in words(page, "offers"), True)
         page.browser.run("document.querySelector('#offers button').click()")
-        same(f"{mode} {text!r}: behind the button", [page.browser.run("return document.querySelector('input[name=mode]:checked').value"), page.browser.run("return document.getElementById('bits').textContent"), page.text()],
+        same(f"{mode} {text!r}: after the button", [page.browser.run("return document.querySelector('input[name=mode]:checked').value"), page.browser.run("return document.getElementById('bits').textContent"), page.text()],
              [to, verdict, then or text.removeprefix("\ufeff")])
     page.open("calls=plain")
     for text in ("queue 2\nP putt 1\n", ""):
         page.write(text)
         same(f"{text!r}: nothing is offered", words(page, "offers"), "")
-    # files: their kind is told by any line, and nothing of these is read as a trace
+    # files: their kind is recognized by any line, and none of these is read as a trace
     for name, text, verdict in [("headless.txt", CALLS.removeprefix("queue 2\n"), "refused: calls line 1 is not a line of the format"), ("crlf.txt", "# x\r\n" + CALLS.replace("\n", "\r\n"), "refused: calls line 1 is not a line of the format"),
                                 ("bom.txt", "\ufeff" + CALLS, "refused: calls line 1 is not a line of the format")]:
         with open(os.path.join(folder, name), "w", encoding="utf-8", newline="") as file:
@@ -61,7 +61,7 @@ def test_kinds(page, same, folder):
 
 
 def pasted(page, text):
-    """Pastes a text by its keys in place of all that is in the editor; how many milliseconds that took, with the next frame."""
+    """Pastes a text with keys over everything in the editor; returns how many milliseconds that took, including the next frame."""
     def with_control(key):
         page.browser.press(f"ctrl+{key}")
 
@@ -86,7 +86,7 @@ def pasted(page, text):
 
 
 BIG = "".join(f"P put {i}\nC take\nP stored\nC item {i}\n" for i in range(125000))
-PASTES = [  # where, what, the verdict, what is offered
+PASTES = [  # the link, the text, the verdict, what is offered
     ("calls=plain", "queue 8\n" + BIG, "calls: lawful", ""),
     ("example=plain_path", "shape 1 3 1\n" + "C read s0\nC got s0 1\n" * 240000, "refused: trace has more than the 10000 events that this page has room for", ""),
     ("script=plain_path", '{"capacity":1,"modulus":3,"width":1,"items":[1],"takes":1,"close":false,"oracle":"","schedule":"' + "PC" * 2500000 + '"}',
@@ -97,7 +97,7 @@ PASTES = [  # where, what, the verdict, what is offered
 
 
 def test_paste(page, same, _):
-    """5 MB are pasted in under a second, into each kind; the editor has some lines of them."""
+    """5 MB are pasted in under a second, in each mode; the editor shows some of the lines."""
     for asked, text, verdict, offered in PASTES:
         took = []
         for _ in range(3):
@@ -122,7 +122,7 @@ def test_paste(page, same, _):
 
 @contextlib.contextmanager
 def new_tab(page):
-    """A tab with no history: of one that is full Chromium prunes what no hand has led to."""
+    """A tab with no history: from a full one Chromium prunes entries that no user action led to."""
     before = page.browser.window()
     page.browser.open_tab()
     yield
@@ -131,7 +131,7 @@ def new_tab(page):
 
 
 def test_kept(page, same, folder):
-    """A text that no link holds comes again by Back and Forward, while the page stands; behind a reload it is said that it is gone."""
+    """A text that is too long for a link comes back by Back and Forward while the page is open; after a reload the page says that it is gone."""
     with new_tab(page):
         try_kept(page, same, folder)
 
@@ -151,14 +151,14 @@ def try_kept(page, same, folder):
         getattr(page.browser, way)()
         page.browser.until(f"{way} to {ends} lines", "return document.getElementById('place').textContent.endsWith(` / ${arguments[0]}`)", ends)
     same("at its line", place(page), step)
-    page.click("tofault")  # a page that was touched asks before it is left
+    page.click("tofault")  # a page that was used asks before it is left
     asks = "const it = new Event('beforeunload', {cancelable: true}); dispatchEvent(it); return it.defaultPrevented"
     same("it asks before it is left", page.browser.run(asks), True)
     page.browser.refresh()
-    page.browser.until("it is said that it is gone", "return document.getElementById('note')?.textContent.startsWith('That text was too long for a link')")
+    page.browser.until("the page says that it is gone", "return document.getElementById('note')?.textContent.startsWith('That text was too long for a link')")
     page.write("queue 1\n")
     page.click("ask")
-    same("a text that a link holds is left at once", page.browser.run(asks), False)
+    same("a text that a link contains is left at once", page.browser.run(asks), False)
 
 
 def converter():
@@ -173,7 +173,7 @@ LOGS = """const {logRecording} = await import(new URL("text/logs.js", location))
 
 
 def test_logs(page, same, folder):
-    """A log of another test is read as record/convert reads it, from a file and from the editor."""
+    """A log of another tool is read as record/convert reads it, from a file and from the editor."""
     convert, samples = converter(), []
     for path in sorted(glob.glob(os.path.join(TOP, "record", "tests", "logs", "*"))):
         with open(path, encoding="utf-8") as file:

@@ -1,4 +1,4 @@
-"""Tests of traces in the page, for page/test: verdicts, editing, stepping, links, what is saved, the tabulator.
+"""Tests of traces in the page, for page/test: verdicts, editing, stepping, links, saved files, the Tab key.
 Each takes the page, a `same` that compares and a folder."""
 import os
 import re
@@ -9,12 +9,12 @@ from browser import TOP, example, text_of
 
 
 def begun(trace):
-    """How many accesses the lines of a trace begin."""
+    """The number of accesses that begin in the lines of a trace."""
     return len(re.findall(r" (read|write) ", trace))
 
 
 def ring_words(verdict, finding):
-    """What the page says of the programs, by the finding of the audit; and the line that it marks, or ""."""
+    """What the page says of the programs, given the finding of the audit; and the line that it marks, or ""."""
     first, bits = finding.splitlines()[0], verdict.strip()
     line = int(first.split()[2].rstrip(":")) if first.startswith("fault") else 0
     if line == 0:
@@ -40,7 +40,7 @@ def test_traces(page, same, _):
         same(f"{name}: link", page.hash(), f"#example={name}")
     page.open("example=new_old_inversion")
     same("overlaps", page.count("#picture .clash"), 2)
-    same("reads that may answer anything", page.count("#picture [data-line].free"), 2)
+    same("reads that may return anything", page.count("#picture [data-line].free"), 2)
     page.open("example=plain_path")
     same("no overlap", page.count("#picture .clash, #picture [data-line].free"), 0)
 
@@ -108,7 +108,7 @@ def test_stepping(page, same, _):
         same(f"left to {shown}", [place(), page.title(), page.hash()], want)
         same(f"accesses of {shown}", page.count("#picture [data-line]"), begun("\n".join(text.splitlines()[:shown + 1])))
     page.browser.press("left")
-    same("no further left", place(), f"line 1 / {last + 1}")
+    same("left stops at the first line", place(), f"line 1 / {last + 1}")
     page.browser.press("right", "right")
     same("two right", place(), f"line 3 / {last + 1}")
     page.browser.press("end")
@@ -138,9 +138,9 @@ def test_stepping(page, same, _):
         page.browser.press("left", "right", "right")
     same("in a list, too", [place(), page.browser.run("return document.getElementById('example').value")], [f"line 6 / {last + 1}", "trace stale_read_after_inversion"])
     page.browser.run("const it = document.getElementById('waves'); it.focus(); it.dispatchEvent(new Event('change'))")
-    same("which what is chosen leaves", page.browser.run("return document.activeElement === document.body"), True)
+    same("choosing from the list gives up the focus", page.browser.run("return document.activeElement === document.body"), True)
     page.open("example=no_such_example")
-    same("a name that there is not", page.browser.run("return document.getElementById('note').textContent"), "There is no example no_such_example of this kind.")
+    same("an unknown name", page.browser.run("return document.getElementById('note').textContent"), "There is no example no_such_example of this kind.")
 
 
 def test_links(page, same, _):
@@ -184,11 +184,11 @@ def test_saving(page, same, downloads):
         shipped = os.path.join(TOP, "docs", "pictures", name + ".svg")
         same(f"docs/pictures/{name}.svg", os.path.exists(path) and text_of(path) == text_of(shipped), True)
     page.browser.go("file://" + os.path.join(TOP, "docs", "pictures", "new_old_inversion.svg"))
-    same("a picture stands alone", page.browser.run("return getComputedStyle(document.querySelector('.bg')).fill"), "rgb(255, 255, 255)")
+    same("a picture opened on its own", page.browser.run("return getComputedStyle(document.querySelector('.bg')).fill"), "rgb(255, 255, 255)")
 
 
 def test_keyboard(page, same, _):
-    """Each control is reached by the tabulator and has a name."""
+    """Each control can be reached by the Tab key and has a name."""
     page.open("script=plain_path")
     page.browser.run("document.activeElement.blur()")
     seen = []
@@ -202,7 +202,7 @@ def test_keyboard(page, same, _):
         outline = page.browser.run("const it = document.activeElement, of = it.name === 'mode' ? it.parentNode : it; return getComputedStyle(of).outlineStyle")
         same(f"{id_} shows its focus", outline != "none", True)
     missing = {"example", "back", "shown", "on", "waves", "open", "save", "theme", "ask", "previous", "next", "question", "mode", "text", "astrace", "g"} - set(seen)
-    same("controls that the tabulator does not reach", sorted(missing), [])
+    same("controls that the Tab key does not reach", sorted(missing), [])
 
 
 TESTS = [test_traces, test_editing, test_stepping, test_links, test_keyboard, test_saving]

@@ -1,4 +1,4 @@
-"""Tests of how the page is used, for page/test: own texts, lessons, sizes, numbers. Each takes the page, a `same` that compares and a folder."""
+"""Tests of using the page, for page/test: own texts, lessons, sizes, numbers. Each takes the page, a `same` that compares and a folder."""
 import json
 import os
 import time
@@ -6,13 +6,13 @@ import urllib.parse
 
 import pack
 
-SIZES = [(390, 844, 1), (683, 384, 2), (1366, 768, 1), (1920, 1080, 1)]  # the second is 1366 at 200 %
-NAMED = {"trace": "example", "script": "script", "calls": "calls", "register": "register", "lab": "lab"}  # what a link has for the name of an example
+SIZES = [(390, 844, 1), (683, 384, 2), (1366, 768, 1), (1920, 1080, 1)]  # the second is 1366 at 200 % zoom
+NAMED = {"trace": "example", "script": "script", "calls": "calls", "register": "register", "lab": "lab"}  # the parameter that names an example in a link
 BLOCK = "P write s0 0\nC read s0\nC got s0 1\nP wrote s0\n"
 
 
 def resize(page, wide=None, high=None, scale=1):
-    """Gives the page a size, as on another screen, and without one its own again."""
+    """Gives the page a size, as on another screen, or without arguments its own size again."""
     page.browser.resize(wide, high, scale)
 
 
@@ -30,9 +30,9 @@ def seen(page, id_):
     return page.browser.run("return document.getElementById(arguments[0]).checkVisibility()", id_)
 
 
-def show(page, it, behind=""):
-    """A lesson, with what is found of it."""
-    page.open(f"{NAMED[it['mode']]}={it['name']}{behind}")
+def show(page, it, more=""):
+    """Shows a lesson with its findings."""
+    page.open(f"{NAMED[it['mode']]}={it['name']}{more}")
     if it["mode"] == "lab" and it["question"]:
         page.browser.press("v")
 
@@ -67,7 +67,7 @@ def test_own(page, same, folder):
         page.browser.upload("file", os.path.join(folder, name))
         page.browser.until(f"{name} is opened", "return document.getElementById('note').textContent.startsWith(arguments[0])", name)
         same(f"{name}", [page.text(), page.browser.run("return document.querySelector('input[name=mode]:checked').value")], [text.replace("\r", ""), mode])
-    same("carriage returns are told", words(page, "note"), "crlf.txt, without its carriage returns")
+    same("dropped carriage returns are reported", words(page, "note"), "crlf.txt, without its carriage returns")
     page.browser.run("""const data = new DataTransfer();
         data.items.add(new File([arguments[0]], "dropped.trace"));
         document.body.dispatchEvent(new DragEvent("drop", {dataTransfer: data, bubbles: true, cancelable: true}))""", trace + "C read s0\n")
@@ -104,7 +104,7 @@ def test_refusals(page, same, _):
     same("help", [seen(page, "help"), all(it in words(page, "help") for it in ("Home, End", "P write s0 0", "schedule"))], [True, True])
     page.browser.press("escape")
     same("help is closed", seen(page, "help"), False)
-    # the samples are of the format
+    # the samples are valid
     lines = page.browser.run("return [...document.querySelectorAll('#traceformat dt')].map(it => it.textContent)")
     page.write("\n".join(lines[:1] + lines[2:4] + lines[1:2] + lines[4:]) + "\n")
     same("the sample of a trace", page.title(), "lawful")
@@ -120,16 +120,16 @@ def test_refusals(page, same, _):
 
 
 def test_reach(page, same, _):
-    """Each bar is reached by keys, and what it is, the step and the reason of a fault are told."""
+    """Each bar can be reached by keys, and its name, the step and the reason of a fault are announced."""
     page.open("example=stale_read_after_inversion")
-    told = page.browser.run("return ['verdict', 'why', 'due', 'step'].map(id => document.getElementById(id).getAttribute('role'))")
-    same("what is announced", told, ["status"] * 4)
+    roles = page.browser.run("return ['verdict', 'why', 'due', 'step'].map(id => document.getElementById(id).getAttribute('role'))")
+    same("what is announced", roles, ["status"] * 4)
     same("the reason", words(page, "why"), "s0 holds 0 since line 7, and no write overlaps the read of line 8: it has to answer 0")
     same("the step", words(page, "step"), "line 9: C got s0 1")
     page.browser.press("left")
     same("no reason", [words(page, "why"), words(page, "step")], ["", "line 8: C read s0"])
     page.browser.press("left", "left")
-    same("a step that may answer anything", words(page, "step"), "line 6: C got s0 1, and a write overlaps the read: any answer is permitted")
+    same("a step that may return anything", words(page, "step"), "line 6: C got s0 1, and a write overlaps the read: any answer is permitted")
     page.browser.press("end")
     page.browser.run("document.querySelector('#picture [tabindex=\"0\"]').focus()")
     names = []
@@ -163,7 +163,7 @@ REASONS = [  # a text, and the reasons beside its two verdicts
 
 
 def test_reasons(page, same, _):
-    """Beside a fault stands what was due: what the bit holds and since when, and the accesses with which the program goes on."""
+    """Beside a fault is what was due: the bit's value and since when, or the accesses with which the program may continue."""
     page.open("example=count_before_cell")
     same("what was due", words(page, "due"), "in line 4 was due: P write c0.0 0 or 1")
     page.browser.press("home", "right", "right")
@@ -177,7 +177,7 @@ def calls_of(page):
     return page.browser.run("return [...document.querySelectorAll('#picture [data-call] title')].map(it => it.textContent)")
 
 
-# The words over braces, parts, bars and flags that lie on one another, or out of the picture.
+# The words over braces, parts, bars and flags that overlap, or lie outside the picture.
 COLLISIONS = """if (!document.querySelector("#picture svg")) return []; // of a construction that misses no class
 const texts = [...document.querySelectorAll("#picture .callwords, #picture .part, #picture .bit, #picture .flagwords, #picture .legend, #picture .asks, #picture .says, #picture .effect")].map(it => [it.textContent, it.getBoundingClientRect()]);
 const room = document.querySelector("#picture svg").getBoundingClientRect(), found = texts.filter(([, it]) => it.left < room.left - 1 || it.right > room.right + 1).map(([text]) => text);
@@ -190,7 +190,7 @@ return found;"""
 
 
 def test_collisions(page, same, _):
-    """No word of the picture lies on another, at three sizes, light and dark."""
+    """No words of the picture overlap, at each size, light and dark."""
     lessons = pack.lessons()
     for wide, high, scale in SIZES:
         resize(page, wide, high, scale)
@@ -246,7 +246,7 @@ def test_calls(page, same, _):
 
 
 def test_waves(page, same, _):
-    """More than five waveforms are drawn, or left out, only where that is said."""
+    """More than five waveforms are drawn, or some are left out, only if the title says so."""
     title = "return document.querySelector('#picture .title').textContent"
     for name, bits, drawn, said in [("plain_path", "some", 5, ""), ("batch_count_comes_back", "all", 9, "waveforms of all 9 bits")]:
         page.open(f"example={name}&bits={bits}")
@@ -267,7 +267,7 @@ def test_numbers(page, same, _):
         same(f"{name} counts letters", page.browser.run(lines), list(range(1, last + 1)))
     same("a letter of no event", [words(page, "place"), words(page, "step")], ["letter 42 / 42", "letter 42: no event, its side is done"])
     page.write(json.dumps({**json.loads(page.text()), "schedule": "C2P14C22"}))
-    same("letters that a side let pass", page.browser.run(lines), [*range(1, 13), *range(17, 39)])
+    same("letters without an event", page.browser.run(lines), [*range(1, 13), *range(17, 39)])
     same("its replies", page.browser.run("return [...document.querySelectorAll('#moments span:first-child')].map(it => it.textContent)"),
          ["letter 7", "letter 28", "letter 38"])
 
@@ -286,7 +286,7 @@ return wrong;"""
 
 
 def test_kept(page, same, _):
-    """What is kept of the picture before makes the same picture as one that is drawn anew; and what has the focus keeps it."""
+    """A picture updated from the previous one equals one drawn anew; and the focused element keeps the focus."""
     for asked in ("example=stale_item&bits=all", "script=five_items", "script=batch_of_three", "example=modulus_one_too_small", "calls=full_with_room", "calls=batch"):
         page.open(asked)
         same(f"steps of {asked}", page.browser.run(KEPT, [-1, 0, 1, 2, 5, 4, 3, 6, 7, 8, 0, -2, -1]), [])
@@ -314,7 +314,7 @@ return times.sort((a, b) => a - b);"""
 
 
 def test_speed(page, same, _):
-    """A step of 10,000 events, with its layout; other work on the machine is no matter of the page, so the best third counts."""
+    """A step of 10,000 events, with its layout; other work on the machine is not the page's fault, so the best third counts."""
     page.open("example=plain_path")
     page.write("shape 1 3 1\n" + BLOCK * 2500)
     trace = page.browser.run(STEP)
