@@ -1,5 +1,5 @@
-// What ring_bench.py has loaded before a program, by LD_PRELOAD: each thread that the program starts runs on the core that CORE names;
-// its first thread stays where the process was started.
+// Loaded before a program by ring_bench.py, with LD_PRELOAD: each thread that the program starts runs on the core named by CORE;
+// its first thread stays on the core on which the process was started.
 use std::ffi::{c_char, c_int, c_ulong, c_void};
 use std::mem::{size_of, transmute};
 

@@ -1,10 +1,10 @@
-// The audit in plain Rust, which bench.py measures the program against and hostile compares it with: of programs, or, with --bits, of
-// bits alone. It reads a trace on standard input, goes through its lines once and prints what it finds. It trusts the form of the lines.
+// The audit in plain Rust: bench.py measures the program against it, and hostile compares the two. It audits programs, or, with --bits,
+// bits alone. It reads a trace on standard input, goes through its lines once and prints what it finds. It assumes that the lines are well-formed.
 use std::fmt::Write;
 use std::io::Read;
 use std::process::exit;
 
-// A read of a bit, whose value is 0 here, or a write of the value to it.
+// A read of a bit (its value is 0 here), or a write of the value to it.
 #[derive(Clone, Copy, PartialEq)]
 struct Access {
     bit: usize,
@@ -29,13 +29,13 @@ impl Access {
         }
     }
 
-    // Whether it writes the bit, whatever value.
+    // Whether it writes the bit, with any value.
     fn writes(&self, bit: usize) -> bool {
         self.is_write && self.bit == bit
     }
 }
 
-// The shape, with the places of the bits in one table: those of s, those of r, x, and the digits of the cells.
+// The shape, with the indexes of the bits in one table: those of s, those of r, x, and the digits of the cells.
 #[derive(Clone, Copy)]
 struct Shape {
     capacity: usize,
@@ -77,7 +77,7 @@ impl Shape {
         self.cell(self.capacity, 0)
     }
 
-    // The place of a bit, and its writer: 0 for the producer, 1 for the consumer.
+    // The index of a bit, and its writer: 0 is the producer, 1 the consumer.
     fn place(&self, bit: &[u8]) -> (usize, usize) {
         match bit[0] {
             b's' => (self.s(number(&bit[1..])), 0),
@@ -106,8 +106,8 @@ fn position(bytes: &[u8], byte: u8) -> Option<usize> {
     bytes.iter().position(|b| *b == byte)
 }
 
-// An event: its side, 0 for the producer and 1 for the consumer, begins the access or ends it. The end of a read has its
-// answer for a value.
+// An event: its side, 0 for the producer and 1 for the consumer, begins or ends the access. The value of the end of a read is its
+// answer.
 struct Event {
     side: usize,
     writer: usize,
@@ -168,7 +168,7 @@ impl Bits {
         }
     }
 
-    // Goes on by an event, or tells its fault.
+    // Takes the next event, or returns its fault.
     fn read(&mut self, event: &Event) -> Result<(), &'static str> {
         let Event {
             side,
@@ -227,7 +227,7 @@ impl Bits {
     }
 }
 
-// A side's own count: its bits, where in the table they stand, and the bit write that is due of a unary write.
+// A side's own count: its bits, their indexes in the table, and the next bit write of a unary write under way.
 struct Row {
     first: usize,
     bits: Vec<bool>,
@@ -266,7 +266,7 @@ impl Row {
             .map(|(bit, value)| Access::write(self.first + bit, u8::from(value)))
     }
 
-    // The due write was made. Tells whether the unary write is whole.
+    // The due write was made. Returns whether the unary write is complete.
     fn go_on(&mut self) -> bool {
         if let Some((bit, value)) = self.due {
             self.bits[bit] = value;
@@ -276,7 +276,7 @@ impl Row {
     }
 }
 
-// How far a put has come: how many bits a scan has read as 0, or how many digits of a word are written.
+// The progress of a put: of a scan the number of bits read as 0, of a word the number of digits written.
 #[derive(Clone, Copy)]
 enum Put {
     Resting,
@@ -318,7 +318,7 @@ impl Producer {
         }
     }
 
-    // An access begins, while none is open. Tells whether the program goes on with it.
+    // An access begins, while none is open. Returns whether the program may make it.
     fn begin(&mut self, access: Access) -> bool {
         let shape = self.shape;
         match self.stage {
@@ -344,7 +344,7 @@ impl Producer {
         true
     }
 
-    // The open access ends with this answer. Tells whether the program goes on with it.
+    // The open access ends with this answer. Returns whether the program may continue with it.
     fn end(&mut self, answer: u8) -> bool {
         let shape = self.shape;
         match self.stage {
@@ -383,13 +383,13 @@ impl Producer {
     }
 }
 
-// How far a take has come. A scan, the first or the one behind a close, has read so many bits as 0, a word so many digits.
+// The progress of a take: of a scan (the first, or the one after a close) the number of bits read as 0, of a word the number of digits read.
 #[derive(Clone, Copy)]
 enum Take {
     Resting,
     Scanning { zeros: usize, again: bool },
     Checking,
-    // behind a word, so many items are shown that may be read yet
+    // after a word, `left` more items are shown that may still be read
     Choosing(usize),
     Loading { digit: usize, left: usize },
     Counting,
@@ -424,7 +424,7 @@ impl Consumer {
         }
     }
 
-    // The access that is due, where a take begins if none is under way, and where one that may read a word more counts.
+    // The access that is due: a take begins if none is under way, and one that may read another word writes its count.
     fn next(&self) -> Option<Access> {
         match self.stage {
             Take::Resting => Some(Access::read(self.shape.s(0))),
@@ -436,7 +436,7 @@ impl Consumer {
         }
     }
 
-    // An access begins, while none is open. Tells whether the program goes on with it.
+    // An access begins, while none is open. Returns whether the program may make it.
     fn begin(&mut self, access: Access) -> bool {
         if let Take::Choosing(left) = self.stage {
             if left > 0 && access == Access::read(self.shape.cell(self.cell, 0)) {
@@ -457,7 +457,7 @@ impl Consumer {
         goes_on
     }
 
-    // The open access ends with this answer. Tells whether the program goes on with it.
+    // The open access ends with this answer. Returns whether the program may continue with it.
     fn end(&mut self, answer: u8) -> bool {
         let shape = self.shape;
         match self.stage {
@@ -523,7 +523,7 @@ struct Programs {
 }
 
 impl Programs {
-    // Goes on by an event that the bits permit, or tells its fault.
+    // Takes the next event, which the bits permit, or returns its fault.
     fn read(&mut self, event: &Event) -> Result<(), &'static str> {
         let goes_on = match (event.side, event.begins) {
             (0, true) => self.producer.begin(event.access),
@@ -538,7 +538,7 @@ impl Programs {
         }
     }
 
-    // What was put, what was taken, and whether the consumer was told that the ring is closed.
+    // What was put, what was taken, and whether a take returned that the ring is closed.
     fn text(&self) -> String {
         let mut text = String::new();
         let put = &self.producer.items[..self.producer.counted];
@@ -558,7 +558,7 @@ impl Programs {
     }
 }
 
-// What is found of a trace: the status of the process, and what it prints.
+// The result for a trace: the exit status of the process, and its output.
 pub fn finding(text: &[u8], bits_alone: bool) -> (i32, String) {
     let mut lines = text.split(|byte| *byte == b'\n');
     let shape = Shape::read(lines.next().unwrap());

@@ -1,12 +1,12 @@
 #!/usr/bin/env python3
 """Time and peak memory: python3 bench/bench.py, from any folder, on a machine that does nothing else.
 
-It prints a table: for each input the shortest and the median time of some runs, the shortest time of a twin in plain
+It prints a table: for each input the shortest and the median time of several runs, the shortest time of a twin in plain
 Rust (audit_twin.rs, built with rustc -O) and the ratio to it, and the peak memory above that of the bare process (the
-same command on a trace of two events) beside what it is to stay below: the input and 16 bytes an event. A second table is
-of the audit of programs, on beginnings of traces of plays: its shortest time beside those of the audit of their bits
-and of the twin, and its peak memory. A third is of plays: their time, that of a play whose trace is written, and the peak
-memory of both. It builds the programs first where they are not built.
+same command on a trace of two events) beside its limit: the input and 16 bytes per event. A second table is
+for the audit of programs, on prefixes of traces of plays: its shortest time beside those of the audit of their bits
+and of the twin, and its peak memory. A third is for plays: their time, that of a play whose trace is written, and the peak
+memory of both. It builds the programs first if they are not built.
 """
 import json
 import os
@@ -26,12 +26,12 @@ RUNS = 20
 
 
 def quiet(events):
-    """Reads of s0 that no write overlaps: each answers its first value."""
+    """Reads of s0 that no write overlaps: each returns its first value."""
     return "shape 1 3 1\n" + "C read s0\nC got s0 1\n" * (events // 2)
 
 
 def overlapped(events):
-    """One write of s0 that stays open, and reads of s0 under it, with answers in turn."""
+    """One write of s0 that stays open, and reads of s0 during it, with alternating answers."""
     lines = ["shape 1 3 1", "P write s0 0", "C read s0"]
     while len(lines) - 1 < events:
         lines.append(f"C got s0 {len(lines) // 2 % 2}")
@@ -41,7 +41,7 @@ def overlapped(events):
 
 
 def random_bits(events):
-    """Random accesses to random bits of the largest shape. Reads that a write overlaps answer at random."""
+    """Random accesses to random bits of the largest shape. Reads that a write overlaps return a random value."""
     pick = random.Random(1)
     read_by = {
         "P": [f"r{i}" for i in range(256)],
@@ -61,7 +61,7 @@ def random_bits(events):
                 opened[side] = [bit, None, beside is not None and beside[0] == bit]
                 lines.append(f"{side} read {bit}")
             else:
-                # now and then the bit that the other side reads
+                # sometimes the bit that the other side reads
                 beside = opened[other]
                 overlaps = beside is not None and beside[1] is None and pick.random() < 0.5
                 bit = beside[0] if overlaps else pick.choice(written_by[side])
@@ -82,23 +82,23 @@ def random_bits(events):
 
 
 def script(schedule, items, modulus=3, width=1):
-    """A script with this schedule: the consumer wants more items than there are, so that it never is done."""
+    """A script with this schedule; the consumer takes more items than there are, so that it is never done."""
     fields = {"capacity": 1, "modulus": modulus, "width": width, "items": items, "takes": 2000, "close": False}
     return json.dumps(fields | {"schedule": schedule, "oracle": "01"}, separators=(",", ":"))
 
 
 def one_side(letters):
-    """Letters of one side, under one count: two puts, of which the second finds the ring full again and again."""
+    """Letters of one side in a single run: a put, and then puts that find the ring full again and again."""
     return script(f"P{letters}", [1, 1])
 
 
 def both_sides(letters):
-    """Letters of the two sides in turn, each written out, so that reads overlap writes."""
+    """Letters of the two sides in turn, each written separately, so that reads overlap writes."""
     return script("PC" * (letters // 2), [1, 0] * 500)
 
 
 def long_calls(letters):
-    """Letters of the two sides, for calls so long that the items last: counts modulo 256 and items of 64 digits."""
+    """Letters of the two sides, for calls long enough that the items suffice: counts modulo 256 and items of 64 digits."""
     return script(("PPC" * letters)[:letters], [2**64 - 1, 0] * 500, 256, 64)
 
 
@@ -110,14 +110,14 @@ def played(text):
 
 def item_by_item(events):
     """The lines of a trace of many short calls: six items are put and taken one by one, and then the last three of
-    these again and again, as the ring is after them what it was before them."""
+    these repeatedly, since the ring is in the same state after them as before."""
     again = "P8C10P8C10P10C6"
     lines = played(script("P8C10P10C12P10C6" + again, [1, 0, 1, 0, 1, 1]))
     return lines + lines[-52:] * (events // 52)
 
 
 def seconds(command, text, wanted):
-    """Runs the command once on the text, and times it. Where no output is wanted, any does."""
+    """Runs the command once on the text, and times it. If `wanted` is None, any output is accepted."""
     start = time.perf_counter()
     done = subprocess.run(command, input=text.encode(), capture_output=True)
     took = time.perf_counter() - start
@@ -127,8 +127,8 @@ def seconds(command, text, wanted):
 
 
 def peak(command, text):
-    """Runs the command once on the text, and gives its peak memory in KiB. Its output is a pipe that is full, so that it
-    waits in its last write, when all else is done, and its peak can be read."""
+    """Runs the command once on the text, and returns its peak memory in KiB. Its output is a full pipe, so that it
+    waits in its last write, after all its work, and its peak can be read."""
     read_end, write_end = os.pipe()
     os.set_blocking(write_end, False)
     try:
@@ -155,7 +155,7 @@ def peak(command, text):
 
 
 def times(command, twin, text, wanted):
-    """The times of some runs in milliseconds, and those of the twin's, turn by turn."""
+    """The times in milliseconds of several runs, alternating with runs of the twin."""
     took = [], []
     for _ in range(RUNS):
         for which, each in enumerate([command, twin]):
@@ -165,12 +165,12 @@ def times(command, twin, text, wanted):
 
 def build():
     subprocess.run([f"{TOP}/lamport_ring", "--help"], check=True, stdout=subprocess.DEVNULL)
-    print("bench: building memory_bench by its proof, where it is not built", file=sys.stderr)
+    print("bench: building memory_bench with its proof, if it is not built", file=sys.stderr)
     subprocess.run(["rt", "run"], cwd=f"{TOP}/crates/memory_bench", check=True, capture_output=True)
 
 
 def build_twin(name, folder):
-    """Builds a twin of this folder into another, and gives the path of its program."""
+    """Builds a twin from this folder into another folder, and returns the path of its program."""
     twin = f"{folder}/{name}"
     subprocess.run(["rustc", "-O", "--edition", "2024", "-o", twin, f"{TOP}/bench/{name}.rs"], check=True)
     return twin
@@ -202,7 +202,7 @@ def main():
 
 
 def programs(bare, twin):
-    """The table of the audit of programs. Program and twin have to print the same."""
+    """The table for the audit of programs. Program and twin must print the same."""
     print()
     print("| What | Input, bytes | `audit --bits`, ms | `audit`, ms | Twin, ms | Ratio | Above the bare audit, KiB |")
     print("|---|---|---|---|---|---|---|")
@@ -225,7 +225,7 @@ def programs(bare, twin):
 
 
 def plays(bare):
-    """The table of plays."""
+    """The table for plays."""
     print()
     print("| What | Script, bytes | `play`, ms | Above the bare audit, KiB | `play --trace`, ms | Above the bare audit, KiB |")
     print("|---|---|---|---|---|---|")

@@ -1,9 +1,9 @@
 #!/usr/bin/env python3
 """The audit of recorded calls: python3 bench/calls_bench.py, from any folder, on a machine that does nothing else.
 
-It prints a table: for recordings of some lengths the shortest time of `audit --calls` and of a twin in plain Rust of the same rules
-(calls_twin.rs, built with rustc -O), the ratio, the lines a second, and the peak memory. The queue has 8 cells; both sides are under
-way most of the time, puts find it full and takes find it empty. It builds the program first where it is not built.
+It prints a table: for recordings of several lengths the shortest time of `audit --calls` and of a twin in plain Rust with the same rules
+(calls_twin.rs, built with rustc -O), the ratio, the lines per second, and the peak memory. The queue has 8 cells; both sides are under
+way most of the time, puts find it full and takes find it empty. It builds the program first if it is not built.
 """
 import os
 import random
@@ -20,7 +20,7 @@ CAPACITY = 8
 
 
 def write_calls(path, calls):
-    """Writes a recording of so many calls of a queue. A call takes effect at once, at its begin or at its end."""
+    """Writes a recording of this many calls of a queue. A call takes effect either at its start or at its end."""
     pick = random.Random(1)
     inside, item = [], 0
     answers = {"P": None, "C": None}
@@ -50,7 +50,7 @@ def write_calls(path, calls):
 
 
 def run(command, path):
-    """Runs the command on the file, and gives its seconds and what it printed."""
+    """Runs the command on the file; returns the seconds that it took and what it printed."""
     with open(path, "rb") as file:
         start = time.perf_counter()
         child = subprocess.Popen(command, stdin=file, stdout=subprocess.PIPE)

@@ -2,7 +2,7 @@
 // No word of the format is longer: 2^64 - 1 has 20 digits.
 const LONGEST: usize = 20;
 
-// What a line is, or what its first words are.
+// The kind of a line, or of its first words.
 #[derive(Clone, Copy, Default, PartialEq)]
 pub enum Kind {
     #[default]
@@ -31,7 +31,7 @@ pub enum Kind {
 }
 
 impl Kind {
-    // The line with one more word, which is no number.
+    // The line with one more word, which is not a number.
     fn with(self, word: &[u8]) -> Self {
         match (self, word) {
             (Kind::Start, b"queue") => Kind::Queue,
@@ -58,7 +58,7 @@ impl Kind {
         }
     }
 
-    // How many numbers a line of this kind may have, at least and at most.
+    // The least and the greatest number of numbers that a line of this kind may have.
     fn numbers(self) -> (usize, usize) {
         match self {
             Kind::Queue | Kind::CutQueue => (0, 2),
@@ -92,7 +92,7 @@ fn number(word: &[u8]) -> Option<u64> {
     })
 }
 
-// What a line is that begins so, and where its second word ends: the most frequent ones, which then are not taken word by word.
+// The kind of a line that begins with these bytes, and the end of its second word: for the most frequent lines, which are then not read word by word.
 fn frequent(rest: &[u8]) -> Option<(Kind, usize)> {
     match rest {
         [b'P', b' ', b'p', b'u', b't', b' ', ..] => Some((Kind::Put, 5)),
@@ -105,16 +105,16 @@ fn frequent(rest: &[u8]) -> Option<(Kind, usize)> {
     }
 }
 
-// The line that is being read: the words so far, and the beginning of a word that goes on in the next piece.
+// The line that is being read: the words so far, and the beginning of a word that continues in the next piece.
 #[derive(Default)]
 pub struct Line {
     pub carried: [u8; LONGEST],
     pub length: usize,
     pub kind: Kind,
     pub numbers: Vec<u64>,
-    // how many numbers there were, kept or not
+    // the number of numbers so far, kept or not
     pub counted: usize,
-    // a byte of it was there
+    // whether any byte of it was read
     pub begun: bool,
 }
 
@@ -127,7 +127,7 @@ impl Line {
         self.begun = false;
     }
 
-    // The end of the words that are taken from this part of the piece: one word, or the first two of a frequent line.
+    // The end of the words that are read from this part of the piece: one word, or the first two of a frequent line.
     pub fn take_words(&mut self, rest: &[u8], keeps: bool) -> Option<usize> {
         if !self.begun
             && let Some((kind, end)) = frequent(rest)
@@ -153,7 +153,7 @@ impl Line {
         }
     }
 
-    // A word ends, of which this part is new; a number of items is kept where `keeps`.
+    // A word ends, of which this part is new; a number is kept if `keeps`.
     pub fn end_word(&mut self, part: &[u8], keeps: bool) {
         self.begun = true;
         if self.length == 0 {
@@ -181,7 +181,7 @@ impl Line {
         }
     }
 
-    // Whether this is a line of the format, as the first of a text or further on.
+    // Whether this is a line of the format, as the first line of a text or a later one.
     pub fn is_good(&self, first: bool) -> bool {
         let (least, most) = self.kind.numbers();
         first == matches!(self.kind, Kind::Queue | Kind::CutQueue)

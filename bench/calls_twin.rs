@@ -1,4 +1,4 @@
-// The audit of recorded calls in plain Rust, to measure the program by and to compare it with; it shares no line with it. It reads a
+// The audit of recorded calls in plain Rust, to time the program against and to compare it with; the two share no line of code. It reads a
 // recording on standard input, in pieces, and prints its one finding: `lawful` and a report (status 0), `fault: line L: ..` (status
 // 3), or `refused: calls line L is not a line of the format` (status 1). What it keeps is one line's numbers, the items offered
 // and not taken, and the last 65,536 that were taken.
@@ -10,17 +10,17 @@ use std::process::exit;
 mod lines;
 use lines::{Kind, Line};
 
-// How many items taken by the takes before are looked back over for one that comes again.
+// The number of items taken earlier among which a repeated item is looked for.
 const BACK: usize = 65_536;
 
-// An item that a put offered and no take that ended has taken: the line at which the put began, and that at which it ended.
+// An item that a put offered and no ended take has taken: the line at which the put began, and the line at which it ended.
 struct Offered {
     value: u64,
     of: u64,
     since: u64,
 }
 
-// A put under way: the line at which it began, and how many items it offers; at its begin, the count of taken items and whether a close
+// A put under way: the line at which it began, and the number of items it offers; at its start, the count of taken items and whether a close
 // had ended.
 struct Put {
     line: u64,
@@ -29,7 +29,7 @@ struct Put {
     late: bool,
 }
 
-// What the producer is in.
+// The call of the producer that is under way.
 #[derive(Default)]
 enum PutTurn {
     #[default]
@@ -38,7 +38,7 @@ enum PutTurn {
     Closes,
 }
 
-// A take under way: how many items it asked for; at its begin, the count of stored items and whether a close had ended.
+// A take under way: the number of items it asked for; at its start, the count of stored items and whether a close had ended.
 struct TakeTurn {
     asked: u64,
     stored: u64,
@@ -56,15 +56,15 @@ struct Report {
     overlapped: u64,
 }
 
-// What the lines so far have told. `u64::MAX` stands for a capacity that is not bounded: no count reaches it.
+// What is known from the lines so far. `u64::MAX` means an unbounded capacity: no count reaches it.
 #[derive(Default)]
 struct Audit {
-    // full from so many items on, and never more than so many
+    // the queue may report full at this many items or more, and never holds more than `most`
     full_from: u64,
     most: u64,
     stored: u64,
     taken: u64,
-    // the items number taken + 1 and on, up to those of the put under way
+    // the items from number taken + 1 on, up to those of the put under way
     inside: VecDeque<Offered>,
     // the last items taken, each with the line of its take
     back: VecDeque<(u64, u64)>,
@@ -73,9 +73,9 @@ struct Audit {
     put_overlapped: bool,
     take_overlapped: bool,
     close_began: bool,
-    // where the first close ended, where a take was told so first, and where the last put ended that stored items
+    // the lines at which the first close ended, a take first returned closed, and the last put that stored items ended
     closed_at: Option<u64>,
-    told_at: Option<u64>,
+    closed_since: Option<u64>,
     stored_at: u64,
     report: Report,
 }
@@ -95,7 +95,7 @@ impl Audit {
         }
     }
 
-    // Goes on by a line after the first.
+    // Takes a line after the first.
     fn line(&mut self, at: u64, kind: Kind, numbers: &[u64]) -> Verdict {
         match kind {
             Kind::Put | Kind::Close => self.begin_put(at, kind, numbers),
@@ -119,7 +119,7 @@ impl Audit {
                 PutTurn::Closes => out_of_turn(),
             },
         }?;
-        // Surely inside is what ended puts stored, less what was taken or may be taken already.
+        // The number surely inside: what ended puts stored, minus what was taken or may already be taken.
         let asked = self.take.as_ref().map_or(0, |turn| turn.asked);
         let low = self.stored.saturating_sub(self.taken.saturating_add(asked));
         self.report.low = self.report.low.max(low);
@@ -134,7 +134,7 @@ impl Audit {
             self.close_began = true;
             self.put = PutTurn::Closes;
         } else {
-            // What a put offers that began after a close can never go in: it is not there to be taken.
+            // Items offered by a put that began after a close can never go in: they cannot be taken.
             let late = self.closed_at.is_some();
             if !late {
                 self.inside.extend(numbers.iter().map(|value| Offered {
@@ -179,7 +179,7 @@ impl Audit {
         Ok(())
     }
 
-    // A put ends, and stored so many of its items where that is told.
+    // A put ends, and stored `some` of its items if a number is given.
     fn end_put(&mut self, at: u64, kind: Kind, put: &Put, some: Option<u64>) -> Verdict {
         let offered = put.offered;
         let is_of_another = match kind {
@@ -241,8 +241,8 @@ impl Audit {
         Ok(())
     }
 
-    // A put that stored so many says that there was no room for one more, or for all that it offered. At its begin so many were inside at most
-    // before those that it stored, and later no more.
+    // A put that stored `count` items reports that there was no room for one more, or for all that it offered. At its start at most this many were inside
+    // before the items that it stored, and later not more.
     fn no_room(&self, kind: Kind, count: u64, put: &Put) -> Verdict {
         let (line, offered) = (put.line, put.offered);
         let before = self.stored - put.taken;
@@ -271,7 +271,7 @@ impl Audit {
                 return Err("closed, but no close has begun".into());
             }
             self.none_since("closed", 0, self.stored)?;
-            self.told_at.get_or_insert(at);
+            self.closed_since.get_or_insert(at);
             return Ok(());
         }
         let word = match kind {
@@ -280,8 +280,10 @@ impl Audit {
             Kind::TakeShort => "short",
             _ => "nothing",
         };
-        if let (Some(told_at), true) = (self.told_at, kind != Kind::TakeNothing) {
-            return Err(format!("{word}, but closed was told at line {told_at}"));
+        if let (Some(closed_since), true) = (self.closed_since, kind != Kind::TakeNothing) {
+            return Err(format!(
+                "{word}, but closed was told at line {closed_since}"
+            ));
         }
         for value in values {
             self.take_one(at, *value)?;
@@ -315,7 +317,7 @@ impl Audit {
         Ok(())
     }
 
-    // Of the first `stored` items no more than `few` are inside; else the next one behind these is told.
+    // At most `few` of the first `stored` items are inside; else the next one after these is reported.
     fn none_since(&self, word: &str, few: u64, stored: u64) -> Verdict {
         if stored <= self.taken.saturating_add(few) {
             return Ok(());
@@ -360,7 +362,11 @@ impl Audit {
             overlapped,
         } = self.report;
         let (stored, taken) = (self.stored, self.taken);
-        let told = if self.told_at.is_some() { "yes" } else { "no" };
+        let told = if self.closed_since.is_some() {
+            "yes"
+        } else {
+            "no"
+        };
         let open = u8::from(!matches!(self.put, PutTurn::Rests)) + u8::from(self.take.is_some());
         format!(
             "lawful\ncalls {calls}\nstored {stored}\ntaken {taken}\nfull {full}\nempty {empty}\nnothing {nothing}\n\
@@ -374,7 +380,7 @@ fn refusal(line: u64) -> (i32, String) {
     (1, words)
 }
 
-// A recording that is read in pieces.
+// The reading of a recording in pieces.
 pub struct Reading {
     line: Line,
     at: u64,
@@ -394,7 +400,7 @@ impl Reading {
         }
     }
 
-    // Goes on by a piece, or is refused: the status of the process, and its one line.
+    // Reads the next piece, or refuses it: the exit status of the process, and its one line.
     pub fn read(&mut self, piece: &[u8]) -> Result<(), (i32, String)> {
         let mut rest = piece;
         while let Some(end) = self.line.take_words(rest, self.fault.is_none()) {
@@ -429,7 +435,7 @@ impl Reading {
                     .err()
                     .map(|words| format!("fault: line {at}: {words}"));
             }
-            // A line further on may be no line of the format, and then the whole is refused.
+            // A later line may not be of the format, and then the whole recording is refused.
             Some(_) => {}
         }
         line.clear();
@@ -437,20 +443,23 @@ impl Reading {
         Ok(())
     }
 
-    // What is found of the whole: the status of the process, and what it prints, without the last line feed.
+    // The result for the whole: the exit status of the process, and its output without the last line feed.
     pub fn finding(&self) -> (i32, String) {
         match (&self.audit, &self.fault) {
             (Some(_), _) if self.line.begun => refusal(self.at),
             (None, _) => refusal(self.at),
             (Some(_), Some(fault)) => (3, fault.clone()),
-            (Some(audit), None) => (0, audit.report() + if self.is_cut { "\ncut yes" } else { "" }),
+            (Some(audit), None) => (
+                0,
+                audit.report() + if self.is_cut { "\ncut yes" } else { "" },
+            ),
         }
     }
 }
 
-// Prints the finding, and ends.
+// Prints the finding, and exits.
 #[allow(dead_code)]
-fn tell((status, finding): (i32, String)) -> ! {
+fn end_with((status, finding): (i32, String)) -> ! {
     match writeln!(stdout(), "{finding}") {
         Ok(()) => exit(status),
         Err(_) => exit(1),
@@ -464,10 +473,10 @@ fn main() {
     loop {
         let size = stdin().read(&mut piece).expect("the input can be read");
         if size == 0 {
-            tell(reading.finding());
+            end_with(reading.finding());
         }
         if let Err(refusal) = reading.read(&piece[..size]) {
-            tell(refusal);
+            end_with(refusal);
         }
     }
 }

@@ -1,18 +1,18 @@
-// The form of a trace in plain Rust, written by docs/FORMATS.md: what is refused, and what is said of it. hostile compares the program
+// The format of a trace in plain Rust, written from docs/FORMATS.md: what is refused, and with which message. hostile compares the program
 // with it.
 
 const MOST_EVENTS: usize = 1_000_000;
 const MOST_BYTES: usize = 33_554_432;
 
-// Which of the program's commands reads the trace.
+// The command of the program that reads the trace.
 #[derive(Clone, Copy, PartialEq)]
 pub enum Length {
-    // at most so many events, and kept
+    // a limited number of events, which are kept
     Limited,
     Any,
 }
 
-// A number of at most so many digits, with no leading zero.
+// A number of at most `most` digits, with no leading zero.
 fn number(word: &[u8], digits: usize) -> Option<u64> {
     let plain = word.len() == 1 || word.first() != Some(&b'0');
     let good = plain && (1..=digits).contains(&word.len()) && word.iter().all(u8::is_ascii_digit);
@@ -57,7 +57,7 @@ fn shape_of(line: &[u8]) -> Option<[u64; 5]> {
     (words.len() == 4 || shape[words.len() - 2] != 1).then_some(shape)
 }
 
-// Whether these words are those of an event, where each name of a bit is as `is_bit` says.
+// Whether these words are those of an event whose bit `is_bit` accepts.
 fn is_event(line: &[u8], is_bit: impl Fn(&[u8]) -> bool) -> bool {
     let words: Vec<&[u8]> = line.split(|byte| *byte == b' ').collect();
     match words[..] {
@@ -67,7 +67,7 @@ fn is_event(line: &[u8], is_bit: impl Fn(&[u8]) -> bool) -> bool {
     }
 }
 
-// The name of a bit: its letter, and its numbers as they are written.
+// The name of a bit: its letter, and its numbers as written.
 fn bit_of(word: &[u8]) -> Option<(u8, Vec<&[u8]>)> {
     let (letter, rest) = word.split_first()?;
     match letter {
@@ -99,12 +99,12 @@ fn is_bit_of_some(word: &[u8]) -> bool {
     })
 }
 
-// A number that takes more than 64 bits.
+// A number that needs more than 64 bits.
 fn is_long(word: &[u8]) -> bool {
     word.len() > 19 && word[0] != b'0' && word.iter().all(u8::is_ascii_digit)
 }
 
-// A line as it is shown.
+// A line as it is printed.
 fn shown(line: &[u8]) -> String {
     let mut text = String::new();
     for byte in line {
@@ -158,7 +158,7 @@ fn cause(text: &[u8], at: usize, line: &[u8], has_feed: bool) -> String {
     format!("line {at} {words}: {}", shown(line))
 }
 
-// Whether a line 1 names four or five numbers of which the last is 1.
+// Whether a line 1 has four or five numbers of which the last is 1.
 fn has_batch_of_one(line: &[u8]) -> bool {
     let text = String::from_utf8_lossy(line);
     let words: Vec<&str> = text.split(' ').collect();
@@ -169,7 +169,7 @@ fn has_batch_of_one(line: &[u8]) -> bool {
     words[0] == "shape" && (words.len() == 5 || words.len() == 6) && words[1..].iter().all(is_number) && words[words.len() - 1] == "1"
 }
 
-// What is said of a trace that is refused, line by line; nothing of one that is read.
+// The message for a refused trace, line by line; None for one that is accepted.
 pub fn refusal(text: &[u8], length: Length) -> Option<String> {
     let bad = |at: usize, line: &[u8], has_feed: bool| {
         let words = format!("refused: trace line {at} is not a line of the format\n");

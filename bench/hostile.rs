@@ -1,7 +1,7 @@
-// What bench/hostile has loaded before the program, by LD_PRELOAD: it calls the program's `main` again and again, each time on another
+// Loaded before the program by bench/hostile, with LD_PRELOAD: it calls the program's `main` repeatedly, each time on another
 // input, and compares status, output and standard error with those of twins in plain Rust. Reads of standard input are answered here, in
-// pieces of any size; what is written on standard output and standard error is kept here; what the program allocates is counted. As
-// `main` ends by `_exit`, it runs on a stack of its own, which is left there.
+// pieces of any size; standard output and standard error are kept here; what the program allocates is counted. Since
+// `main` ends by `_exit`, it runs on a stack of its own, which is abandoned there.
 use std::ffi::{CStr, c_char, c_int, c_long, c_void};
 use std::io::Write;
 
@@ -42,7 +42,7 @@ unsafe extern "C" {
     fn swapcontext(from: *mut Context, to: *const Context) -> c_int;
 }
 
-// The C library's ucontext_t on x86-64, of which the stack's place and size stand behind two words.
+// The C library's ucontext_t on x86-64, in which the stack's address and size come after two words.
 #[repr(C, align(16))]
 struct Context {
     flags: u64,
@@ -63,11 +63,11 @@ const CONTEXT: Context = Context {
 };
 const STACK: usize = 8 << 20;
 
-// The run of the program that is under way. (Its commands on an input have one thread.)
+// The current run of the program. (Its commands on an input have one thread.)
 struct Run {
     input: Vec<u8>,
     read: usize,
-    // the most bytes that a read gives
+    // the most bytes that one read returns
     piece: usize,
     out: Vec<u8>,
     err: Vec<u8>,
@@ -81,7 +81,7 @@ static mut RUN: Run = Run {
     out: Vec::new(),
     err: Vec::new(),
 };
-// Whether the program is at work, and not what judges it.
+// Whether the program is running, and not the code that judges it.
 static mut INSIDE: bool = false;
 static mut WORDS: Option<(c_int, *mut *mut c_char, *mut *mut c_char)> = None;
 static mut STATUS: c_int = 0;
@@ -209,7 +209,7 @@ extern "C" fn body() {
     }
 }
 
-// What a run of the program came to.
+// The result of a run of the program.
 struct Seen {
     status: c_int,
     peak: usize,
@@ -248,7 +248,7 @@ unsafe fn judge(stack: &mut [u8], input: Vec<u8>, piece: usize) -> Seen {
     }
 }
 
-// What is wanted of an input: the status, the output, the standard error, and whether the words of the JSON reader stand behind that.
+// The expected result for an input: the status, the output, the standard error, and whether a message of the JSON reader follows that.
 type Wanted = (c_int, String, String, bool);
 
 fn wanted_of_trace(input: &[u8], bits_alone: bool, length: Length) -> Wanted {
@@ -308,7 +308,7 @@ fn wanted_of(kind: Kind, input: &[u8]) -> Wanted {
 fn is_as_wanted(seen: &Seen, run: &Run, (status, out, err, json): &Wanted) -> bool {
     let said = &run.err[..];
     let is_said = if *json {
-        // one line more, in the words of the JSON reader, which have the line and the column
+        // one more line, the message of the JSON reader, with the line and the column
         said.strip_prefix(err.as_bytes()).is_some_and(|line| {
             line.starts_with(b"  ")
                 && line.iter().filter(|byte| **byte == b'\n').count() == 1
@@ -325,8 +325,8 @@ fn text_of(variable: &str) -> String {
     std::env::var(variable).unwrap_or_default()
 }
 
-// The most heap, in bytes, and the longest processor time, in nanoseconds, that an input of this length may take. A play has as much
-// memory as its letters want, at most a million of them, so its bounds stand for these and hardly for its bytes.
+// The most heap, in bytes, and the longest processor time, in nanoseconds, that an input of this length may take. A play takes as much
+// memory as its letters need, at most a million of them, so its bounds follow from these and hardly from its bytes.
 fn bounds(kind: Kind, length: usize) -> (usize, i64) {
     let (heap, nanos) = match kind {
         Kind::LongBits => (64 << 10, 250_000_000),
@@ -336,15 +336,15 @@ fn bounds(kind: Kind, length: usize) -> (usize, i64) {
     (heap, nanos + 1_000 * length as i64)
 }
 
-// What was seen of all inputs.
+// The totals of all inputs.
 #[derive(Default)]
 struct Totals {
     inputs: u64,
     statuses: [u64; 4],
     wrong: u64,
-    // inputs that took more than the bounds
+    // inputs that exceeded the bounds
     over: u64,
-    // of inputs of at most 4 KiB the most heap, and of larger ones the most for a byte; the longest time in this way
+    // of inputs of at most 4 KiB the most heap, and of larger ones the most per byte; the longest time likewise
     small_peak: usize,
     small_nanos: i64,
     large_peak: f64,
@@ -396,7 +396,7 @@ impl Totals {
         }
     }
 
-    fn tell(&self, words: &str, seconds: f64) {
+    fn print(&self, words: &str, seconds: f64) {
         let [done, refused, _, faults] = self.statuses;
         println!(
             "| `{words}` | {} | {done} | {faults} | {refused} | {} | {:.0} | {:.2} | {:.1} | {:.0} | {seconds:.0} |",
@@ -438,7 +438,7 @@ extern "C" fn judge_all(argc: c_int, argv: *mut *mut c_char, envp: *mut *mut c_c
         let seen = unsafe { judge(&mut stack, input.clone(), piece) };
         totals.add(kind, &input, &seen, &wanted);
     }
-    totals.tell(&words, begun.elapsed().as_secs_f64());
+    totals.print(&words, begun.elapsed().as_secs_f64());
     let _ = std::io::stdout().flush();
     c_int::from(totals.wrong > 0 || totals.left > 0 || totals.over > 0)
 }

@@ -1,4 +1,4 @@
-// What hostile feeds the program: examples and what plays give, mutated, cut and put together; every byte at every place of a small
+// The inputs of hostile: examples and results of plays, mutated, cut and combined; every byte at every position of a small
 // input; each limit and one more; deep and enormous ones. The same seed gives the same inputs.
 use crate::play_twin::Play;
 use crate::script_twin;
@@ -33,7 +33,7 @@ impl Kind {
     }
 }
 
-// Numbers that look random (splitmix64).
+// Pseudo-random numbers (splitmix64).
 pub struct Pick(pub u64);
 
 impl Pick {
@@ -98,7 +98,7 @@ const SMALL_TRACE: &str = "shape 1 3 1\nC read s0\nP write s0 0\nC got s0 0\nP w
 const SMALL_CALLS: &str = "queue 1 2\nP put 12 3\nC take 2\nP stored 1\nC item 12\nP close\nP closed\nC take\nC closed\n";
 const SMALL_SCRIPT: &str = "{\"capacity\":2,\"modulus\":5,\"width\":2,\"items\":[1,3],\"takes\":2,\"close\":true,\"schedule\":\"P12C9P8C40\",\"oracle\":\"01\",\"batch\":2,\"take_batch\":2}";
 
-// A script that is one.
+// A valid script.
 pub fn script(pick: &mut Pick) -> String {
     let large = pick.below(50) == 0;
     let capacity = 1 + pick.below(if large { 64 } else { 4 });
@@ -151,7 +151,7 @@ pub struct Maker {
     kind: Kind,
     pick: Pick,
     examples: Vec<Vec<u8>>,
-    // those that do not hang on the seed, the first to be fed last
+    // those that do not depend on the seed; the last one is fed first
     fixed: Vec<Vec<u8>>,
     made: u64,
 }
@@ -160,7 +160,7 @@ fn bytes(text: impl Into<String>) -> Vec<u8> {
     text.into().into_bytes()
 }
 
-// Every byte in the place of each byte and before each byte of a small input, and each cut of it.
+// Every byte instead of each byte and before each byte of a small input, and each prefix of it.
 fn every_byte(small: &str, to: &mut Vec<Vec<u8>>) {
     let small = small.as_bytes();
     for at in 0..small.len() {
@@ -190,7 +190,7 @@ fn limits_of_trace(to: &mut Vec<Vec<u8>>) {
     for (bit, good) in [("s255", "C"), ("s256", "C"), ("c63.63", "C"), ("c64.63", "C"), ("c63.64", "C")] {
         to.push(bytes(format!("shape 64 256 64\n{good} read {bit}\n")));
     }
-    // as many events as a trace may have, and more; with and without a fault behind them
+    // as many events as a trace may have, and more; with and without a fault after them
     let most = "C read s0\nC got s0 1\n".repeat(500_000);
     for tail in ["", "C read s0\n", "nonsense\n", "C", "\n", "C got s0 0\n"] {
         to.push(bytes(format!("shape 1 3 1\n{most}{tail}")));
@@ -204,7 +204,7 @@ fn limits_of_trace(to: &mut Vec<Vec<u8>>) {
         to.push(text);
         to.push(vec![b'\n'; length]);
     }
-    // lines as long as that, and white space before a script
+    // lines of that length, and white space before a script
     to.push(bytes(format!("shape {}\n", "1".repeat(1_000_000))));
     to.push(bytes(format!("shape 1 3 1\nC read s{}\n", "1".repeat(1_000_000))));
     to.push(bytes(format!("shape 1 3 1\nC read {}\n", "\u{1b}".repeat(1_000_000))));
@@ -238,7 +238,7 @@ fn limits_of_calls(to: &mut Vec<Vec<u8>>) {
     to.push(bytes(format!("queue\nP put{items}\nP stored\nC take 999999\nC item{items}\n")));
     to.push(bytes(format!("queue\nP put {}\n", "1".repeat(1_000_000))));
     to.push(bytes(format!("queue {}\n", " ".repeat(1_000_000))));
-    // an item that comes again behind 65,535, 65,536 and 65,537 others that were taken
+    // an item that comes again after 65,535, 65,536 and 65,537 others that were taken
     for others in [65_534, 65_535, 65_536, 65_537] {
         let calls: String = (0..=others).map(|item| format!("P put {item}\nP stored\nC take\nC item {item}\n")).collect();
         to.push(bytes(format!("queue 1\n{calls}C take\nC item 0\n")));
@@ -343,7 +343,7 @@ impl Maker {
         }
     }
 
-    // The next input: all that do not hang on the seed, and then others up to the count.
+    // The next input: first all that do not depend on the seed, then others up to the count.
     pub fn next(&mut self, count: u64) -> Option<Vec<u8>> {
         if let Some(input) = self.fixed.pop() {
             self.made += 1;
@@ -373,7 +373,7 @@ impl Maker {
         }
     }
 
-    // A text that a play gives: the script, its trace or its calls.
+    // A text from a play: the script, its trace or its calls.
     fn played(&mut self) -> Vec<u8> {
         let text = script(&mut self.pick);
         if self.kind.is_script() {
@@ -405,7 +405,7 @@ impl Maker {
         bytes(self.pick.one_of(lines))
     }
 
-    // A place in the text, its end too; or one at which a line begins.
+    // A position in the text, possibly its end; or the start of a line.
     fn place(&mut self, input: &[u8]) -> usize {
         self.pick.below(input.len() + 1)
     }
@@ -440,7 +440,7 @@ impl Maker {
                 input.splice(at..at, line);
             }
             10 => {
-                // a line is left out, or comes twice, or elsewhere
+                // a line is omitted, repeated, or moved
                 let from = self.line_place(input);
                 let end = input[from..].iter().position(|byte| matches!(byte, b'\n' | b','));
                 let to = end.map_or(input.len(), |more| from + more + 1);
@@ -470,7 +470,7 @@ impl Maker {
                 input.splice(at..at, part.repeat(often).into_bytes());
             }
             _ => {
-                // two bytes change places
+                // two bytes are swapped
                 let other = self.place(input);
                 if at < input.len() && other < input.len() {
                     input.swap(at, other);
@@ -479,7 +479,7 @@ impl Maker {
         }
     }
 
-    // The number at this place or behind it becomes another.
+    // The number at or after this position is changed.
     fn change_number(&mut self, input: &mut Vec<u8>, at: usize) {
         let Some(more) = input[at..].iter().position(u8::is_ascii_digit) else {
             return;

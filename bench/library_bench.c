@@ -1,5 +1,5 @@
-/* What the library for C takes for an event, by how many lines a call of it tells: single puts and takes of a queue of 8, of which each
- * finds what it wants. For each number of lines, nanoseconds of processor time an event, the least of seven rounds of 400,000 events.
+/* The cost of an event in the library for C, depending on how many lines one call passes to it: single puts and takes of a queue of 8, each
+ * of which succeeds. For each number of lines, nanoseconds of processor time per event, the least of seven rounds of 400,000 events.
  *
  *     gcc -O2 -I record bench/library_bench.c dist/libring_audit.a -o library_bench && ./library_bench */
 #include <time.h>
@@ -15,7 +15,7 @@ static double seconds(void) {
     return (double)t.tv_sec + (double)t.tv_nsec * 1e-9;
 }
 
-/* The next lines: puts of the items from this one on, and the takes of them. */
+/* The next lines: puts of the items from this one on, and takes of them. */
 static size_t fill(size_t count, uint64_t *item, size_t *used) {
     static const ring_audit_line call[4] = { { RING_PUT, 1 }, { RING_STORED, 0 }, { RING_TAKE, 0 }, { RING_ITEM, 1 } };
     *used = 0;
@@ -39,13 +39,13 @@ int main(void) {
             for (int events = 0; events < EVENTS; events += LINES) {
                 size_t used;
                 fill(LINES, &item, &used);
-                size_t told = 0;
+                size_t given = 0;
                 double began = seconds();
                 for (size_t at = 0; at < LINES; at += counts[k]) {
                     size_t own = 0;
                     for (size_t i = at; i < at + counts[k]; i++) own += lines[i].count;
-                    if (!ring_audit_lines(&a, lines + at, counts[k], numbers + told, own)) return 1;
-                    told += own;
+                    if (!ring_audit_lines(&a, lines + at, counts[k], numbers + given, own)) return 1;
+                    given += own;
                 }
                 took += seconds() - began;
             }
@@ -53,7 +53,7 @@ int main(void) {
             if (took < least) least = took;
             ring_audit_free(&a);
         }
-        printf("%zu lines a call: %.1f ns an event\n", counts[k], least);
+        printf("%zu lines per call: %.1f ns per event\n", counts[k], least);
     }
     return 0;
 }

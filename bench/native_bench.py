@@ -1,11 +1,11 @@
 #!/usr/bin/env python3
-"""Time an item of the ring for C: python3 bench/native_bench.py, from any folder, on a machine that does nothing else.
+"""The time per item of the ring for C: python3 bench/native_bench.py, from any folder, on a machine that does nothing else.
 
-For each shape it prints how many nanoseconds an item takes from the one thread to the other: in `lamport_ring run`, through
-dist/libcounter_ring.a (or the one in $RING_LIBRARY) in a loop of C that does the same, and the ratio of these two. A second table has
-usual rings, whose loops rest and yield in the same way: two in C11 (native/rings.c), Boost's spsc_queue if its header is there, and the
-rtrb of the Rattle kit if `rt` is. Runs are in turn; printed are the medians, with the first and the third quartile. Each of the two
-threads has a core of its own, the last two of those that the bench may use.
+For each shape it prints how many nanoseconds an item takes from one thread to the other: in `lamport_ring run`, and through
+dist/libcounter_ring.a (or the library in $RING_LIBRARY) in a C loop that does the same, and the ratio of the two. A second table has
+ordinary rings, whose loops pause and yield in the same way: two in C11 (native/rings.c), Boost's spsc_queue if its header is installed, and the
+rtrb of the Rattle kit if `rt` is installed. Runs alternate; it prints the medians, with the first and the third quartile. Each of the two
+threads has a core of its own, the last two of those available to the bench.
 """
 import os
 import re
@@ -27,7 +27,7 @@ NATIVE = f"{TOP}/bench/native"
 
 
 def build(folder):
-    """Builds the rings in C, with Boost's if it is there, and rtrb; returns which of these two there are."""
+    """Builds the rings in C, with Boost's if it is installed, and rtrb; returns which of these two were built."""
     library = os.path.join(os.environ.get("RING_LIBRARY", f"{TOP}/dist"), "libcounter_ring.a")
     gcc = ["gcc", "-std=c11", "-O2", "-Wall", "-Wextra", "-Werror", f"-I{TOP}/native/include", "-c", f"{NATIVE}/rings.c", "-o", f"{folder}/rings.o"]
     boost = subprocess.run(["g++", "-O2", "-c", f"{NATIVE}/boost.cpp", "-o", f"{folder}/boost.o"], stderr=subprocess.DEVNULL, check=False).returncode == 0
@@ -48,7 +48,7 @@ def build(folder):
 
 
 def through(command, env):
-    """The nanoseconds an item, of one run of a command that prints those of all items."""
+    """The nanoseconds per item, from one run of a command that prints those of all items."""
     done = subprocess.run(command, env=env, stdin=subprocess.DEVNULL, stdout=subprocess.PIPE, text=True, check=False)
     if done.returncode != 0 or not done.stdout.strip().isdigit():
         sys.exit(f"{command} ended with {done.returncode} and printed {done.stdout!r}")
@@ -56,7 +56,7 @@ def through(command, env):
 
 
 def by_run(shape, env):
-    """The nanoseconds an item, of one run of `lamport_ring run`."""
+    """The nanoseconds per item, from one run of `lamport_ring run`."""
     options = [f"--{name}={number}" for name, number in zip(["capacity", "modulus", "batch", "take-batch"], shape)]
     command = [PROGRAM, "run", "--report", "--ring=counter", "--width=64", *options, f"--count={COUNT}", f"--limit={2**64 - 1}"]
     done = subprocess.run(command, env=env, stdin=subprocess.DEVNULL, stdout=subprocess.PIPE, text=True, check=False)
@@ -96,7 +96,7 @@ def main():
         found = build(folder)
         env = build_apart(folder, cores[-1])
         os.sched_setaffinity(0, cores[:1])
-        print(f"nanoseconds an item, {'two cores' if len(cores) == 2 else 'one core'}, {RUNS} runs of each, {COUNT:,} items\n")
+        print(f"nanoseconds per item, {'two cores' if len(cores) == 2 else 'one core'}, {RUNS} runs of each, {COUNT:,} items\n")
         proved(folder, env)
         usual(folder, env, found)
 

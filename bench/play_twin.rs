@@ -1,5 +1,5 @@
-// The player of scripts in plain Rust, written by docs/MODEL.md: two sides over safe bits, their report, their trace and their calls
-// as a recorder would tell them. hostile compares the program with it, and makes lawful traces and recordings by it.
+// The player of scripts in plain Rust, written from docs/MODEL.md: two sides over safe bits, their report, their trace and their calls
+// as a recorder would record them. hostile compares the program with it, and uses it to make lawful traces and recordings.
 use crate::script_twin::Script;
 use std::collections::VecDeque;
 use std::fmt::Write;
@@ -7,11 +7,11 @@ use std::fmt::Write;
 #[derive(Clone, Copy)]
 struct Access {
     bit: usize,
-    // what is written; none of a read
+    // the value that is written; None for a read
     value: Option<u8>,
 }
 
-// What a side has open. Of a read: what the bit held, and whether a write overlapped it.
+// The open access of a side. For a read: the bit's value, and whether a write overlapped it.
 #[derive(Clone, Copy)]
 struct Open {
     access: Access,
@@ -21,14 +21,14 @@ struct Open {
 
 enum At {
     Resting,
-    // the number of zeros that a scan read; of a take, whether it is the one behind a close
+    // the number of zeros that a scan has read; for a take, whether it is the scan after a close
     Scanning(usize, bool),
     Checking,
-    // the writes and reads that are left, all of them known
+    // the remaining writes and reads, all of them known
     Working,
 }
 
-// A side: its count and the bits of it, where its call stands, how many items that offers or wants, and what it came to.
+// A side: its count and the bits of it, the stage of its call, the number of items offered or asked for, and the result.
 struct Side {
     at: At,
     count: usize,
@@ -47,11 +47,11 @@ pub struct Play<'a> {
     sides: [Side; 2],
     asked: usize,
     events: u64,
-    // how many items the puts stored that are over, and that have begun to write their count
+    // the items stored by puts that are over, and by puts that have begun to write their count
     over: usize,
     put: usize,
     taken: Vec<u64>,
-    told: bool,
+    knows_closed: bool,
     closed: bool,
     full: u64,
     empty: u64,
@@ -61,7 +61,7 @@ pub struct Play<'a> {
 }
 
 impl<'a> Play<'a> {
-    pub fn new(script: &'a Script, tells: bool) -> Self {
+    pub fn new(script: &'a Script, records: bool) -> Self {
         let modulus = script.modulus as usize;
         let bits = 2 * modulus + 1 + (script.capacity * script.width) as usize;
         let mut held = vec![0; bits];
@@ -100,13 +100,13 @@ impl<'a> Play<'a> {
             over: 0,
             put: 0,
             taken: Vec::new(),
-            told: false,
+            knows_closed: false,
             closed: false,
             full: 0,
             empty: 0,
             flicker: 0,
-            trace: tells.then(|| shape + "\n"),
-            calls: tells.then(|| format!("queue {}\n", script.capacity)),
+            trace: records.then(|| shape + "\n"),
+            calls: records.then(|| format!("queue {}\n", script.capacity)),
         }
     }
 
@@ -114,7 +114,7 @@ impl<'a> Play<'a> {
         self.script.modulus as usize
     }
 
-    // The bit of a count: of the producer's, s, and of the consumer's, r.
+    // A bit of a count: s for the producer's, r for the consumer's.
     fn row_bit(&self, side: usize, index: usize) -> usize {
         side * self.modulus() + index
     }
@@ -144,7 +144,7 @@ impl<'a> Play<'a> {
         }
     }
 
-    // The next access of a side, where it is not done.
+    // The next access of a side, if it is not done.
     fn next(&mut self, side: usize) -> Option<Access> {
         let read = |bit| Some(Access { bit, value: None });
         if let At::Resting = self.sides[side].at {
@@ -154,7 +154,7 @@ impl<'a> Play<'a> {
                     self.sides[0].offered = left.min(self.script.batch as usize);
                     self.sides[0].at = At::Scanning(0, false);
                     let offered = self.offered().to_vec();
-                    self.tell("P put", &offered);
+                    self.record("P put", &offered);
                 } else if self.script.close && !self.closed {
                     self.closed = true;
                     let bit = self.close_bit();
@@ -165,19 +165,19 @@ impl<'a> Play<'a> {
                     }]
                     .into();
                     self.sides[0].at = At::Working;
-                    self.tell("P close", &[]);
+                    self.record("P close", &[]);
                 } else {
                     return None;
                 }
             } else {
-                if self.told || self.taken.len() as u64 >= self.script.takes {
+                if self.knows_closed || self.taken.len() as u64 >= self.script.takes {
                     return None;
                 }
                 let left = self.script.takes - self.taken.len() as u64;
                 let wanted = left.min(self.script.take_batch);
                 self.sides[1].offered = wanted as usize;
                 self.sides[1].at = At::Scanning(0, false);
-                self.tell(
+                self.record(
                     "C take",
                     if wanted > 1 {
                         std::slice::from_ref(&wanted)
@@ -200,7 +200,7 @@ impl<'a> Play<'a> {
         &self.script.items[self.over..self.over + self.sides[0].offered]
     }
 
-    fn tell(&mut self, words: &str, numbers: &[u64]) {
+    fn record(&mut self, words: &str, numbers: &[u64]) {
         if let Some(calls) = &mut self.calls {
             calls.push_str(words);
             for number in numbers {
@@ -210,7 +210,7 @@ impl<'a> Play<'a> {
         }
     }
 
-    // The writes of a count, which set its bit and then clear those below, the highest first.
+    // The writes of a count: they set its bit and then clear the bits below, the highest first.
     fn write_count(&mut self, side: usize, count: usize) {
         let first = self.row_bit(side, 0);
         let row = &mut self.sides[side].row;
@@ -233,7 +233,7 @@ impl<'a> Play<'a> {
         self.sides[side].count = count;
     }
 
-    // One letter of a side.
+    // Plays one letter of a side.
     pub fn step(&mut self, side: usize) {
         match self.open[side] {
             None => {
@@ -267,7 +267,7 @@ impl<'a> Play<'a> {
             overlapped,
         });
         if value.is_some() && side == 0 && bit < self.modulus() {
-            // an item is put as its count's write begins
+            // an item counts as put when the write of its count begins
             self.put = self.put.max(self.over + self.sides[0].stored);
         }
         let name = self.name(bit);
@@ -314,7 +314,7 @@ impl<'a> Play<'a> {
             At::Checking => {
                 self.empty += 1;
                 self.sides[side].at = At::Resting;
-                self.tell("C empty", &[]);
+                self.record("C empty", &[]);
             }
             At::Working => self.worked(side, answer),
             At::Resting => unreachable!(),
@@ -329,7 +329,7 @@ impl<'a> Play<'a> {
         if stored == 0 {
             self.full += 1;
             self.sides[0].at = At::Resting;
-            self.tell("P full", &[]);
+            self.record("P full", &[]);
             return;
         }
         self.sides[0].stored = stored;
@@ -362,15 +362,15 @@ impl<'a> Play<'a> {
             self.sides[1].digits.clear();
             self.sides[1].at = At::Working;
         } else if again {
-            self.told = true;
+            self.knows_closed = true;
             self.sides[1].at = At::Resting;
-            self.tell("C closed", &[]);
+            self.record("C closed", &[]);
         } else {
             self.sides[1].at = At::Checking;
         }
     }
 
-    // The first of the accesses that are left has ended.
+    // The first of the remaining accesses has ended.
     fn worked(&mut self, side: usize, answer: u8) {
         let done = self.sides[side].left.pop_front().unwrap();
         if side == 1 && done.value.is_none() {
@@ -387,10 +387,10 @@ impl<'a> Play<'a> {
                 .map(|word| word.fold(0, |item, digit| item << 1 | u64::from(*digit)))
                 .collect();
             self.taken.extend(&items);
-            self.tell("C item", &items);
+            self.record("C item", &items);
         } else if self.sides[0].closing {
             self.sides[0].closing = false;
-            self.tell("P closed", &[]);
+            self.record("P closed", &[]);
         } else {
             let Side {
                 stored, offered, ..
@@ -398,7 +398,7 @@ impl<'a> Play<'a> {
             self.over += stored;
             self.sides[0].stored = 0;
             let part = [stored as u64];
-            self.tell(
+            self.record(
                 "P stored",
                 if stored < offered { &part } else { &part[..0] },
             );
@@ -426,7 +426,7 @@ impl<'a> Play<'a> {
             self.events,
             list(&self.script.items[..self.put]),
             list(&self.taken),
-            if self.told { "yes" } else { "no" },
+            if self.knows_closed { "yes" } else { "no" },
             self.full,
             self.empty,
             self.flicker
@@ -437,7 +437,7 @@ impl<'a> Play<'a> {
         self.trace.as_deref().unwrap_or("")
     }
 
-    // The calls, each begun where its first event stands: what a call tells as it begins stands before what the other side tells.
+    // The calls, each starting at its first event: the line with which a call starts comes before the other side's line.
     pub fn calls(&self) -> &str {
         self.calls.as_deref().unwrap_or("")
     }

@@ -1,11 +1,11 @@
-// What `audit --register` prints, against the definitions by intervals, for many histories: a part of bench/registers, which says how. It has no
-// floor and no single pass: an operation is an interval, and each choice of a write for each read is tried. It begins the program once for
+// Compares what `audit --register` prints with the definitions by intervals, for many histories: a part of bench/registers, which explains how. It has no
+// floor and no single pass: an operation is an interval, and each choice of a write for each read is tried. It starts the program once for
 // each history.
 //
-//     registers all EVENTS PART PARTS -- COMMAND..       this part of all histories of EVENTS events, of two readers and the values 0 and 1
+//     registers all EVENTS PART PARTS -- COMMAND..       one part of all histories of EVENTS events, of two readers and the values 0 and 1
 //     registers random COUNT SEED -- COMMAND..           random ones
 //
-// It prints counts, a line each: a name and a number.
+// It prints counts, one per line: a name and a number.
 #include <algorithm>
 #include <climits>
 #include <cstdint>
@@ -29,7 +29,7 @@ using Number = uint64_t;
 
 // --- histories
 
-// An event: of side 0, the writer, or of a reader; a begin or an end; what it writes, or what it returns.
+// An event: its side (0 is the writer, others are readers); whether it is a start or an end; the value that it writes or returns.
 struct Event {
     int side;
     bool begins;
@@ -49,10 +49,10 @@ struct Operation {
 enum Class { SAFE, REGULAR, BY_READER, ATOMIC };
 const char* const NAMES[] = {"safe", "regular", "atomic by reader", "atomic"};
 
-// The operations of the lines up to one; the first value is a write that ended before the first line. A read that has not ended is left out.
+// The operations in the lines up to `last`; the first value is a write that ended before the first line. A read that has not ended is left out.
 struct History {
     std::vector<Operation> writes, reads;
-    std::vector<int> begins; // of all reads
+    std::vector<int> begins; // the starts of all reads
 
     History(const Register& of, const std::vector<Event>& events, int last) {
         std::map<int, Operation> open;
@@ -91,7 +91,7 @@ size_t overlapping(const History& h, const Operation& read) {
     return size_t(std::count_if(h.writes.begin(), h.writes.end(), [&](const Operation& w) { return overlap(w, read); }));
 }
 
-// The numbers of the writes of its value that a read may be of.
+// The numbers of the writes of its value that a read may be reading.
 std::vector<size_t> may_be_of(const History& h, const Operation& read) {
     std::vector<size_t> found;
     for (size_t n = 0; n < h.writes.size(); n++) {
@@ -101,7 +101,7 @@ std::vector<size_t> may_be_of(const History& h, const Operation& read) {
     return found;
 }
 
-// Whether a choice of a write for each of these reads that inverts no two is accepted; each is tried until one is.
+// Whether some choice of a write for each of these reads, inverting no two, is accepted; choices are tried until one is.
 bool choice(const History& h, const std::vector<Operation>& reads, const std::function<bool(const std::vector<size_t>&)>& accepts) {
     std::vector<std::vector<size_t>> may;
     for (const Operation& read : reads) may.push_back(may_be_of(h, read));
@@ -126,7 +126,7 @@ bool choice(const History& h, const std::vector<Operation>& reads, const std::fu
     return go();
 }
 
-// The reads that keep to one another: of all readers, 0, or of one.
+// The reads that must agree with one another: those of all readers (0), or of one.
 std::vector<Operation> reads_of(const History& h, int reader) {
     std::vector<Operation> found;
     for (const Operation& read : h.reads) {
@@ -154,7 +154,7 @@ bool has(const Register& of, const History& h, Class c) {
     }
 }
 
-// --- what is to be said
+// --- the expected words
 
 Text str(Number n) { return std::to_string(n); }
 Text name_of(int reader) { return "R" + std::to_string(reader); }
@@ -164,7 +164,7 @@ struct Link {
     size_t number;
 };
 
-// The least number that a read has in any choice for these reads, of which it is one; they have a choice.
+// The least number that a read, one of these, has in any choice for them; they have a choice.
 size_t least_of(const History& h, const std::vector<Operation>& reads, size_t at) {
     size_t least = SIZE_MAX;
     choice(h, reads, [&](const std::vector<size_t>& chosen) {
@@ -174,7 +174,7 @@ size_t least_of(const History& h, const std::vector<Operation>& reads, size_t at
     return least;
 }
 
-// Of the reads that had ended before this line, the first to end of those that are of the latest write in every choice; none if that is the first value.
+// Among the reads that had ended before this line, the first to end of those that in every choice are of the latest write; none if that is the first value.
 std::optional<Link> bound(const History& h, int reader, int line) {
     std::vector<Operation> reads;
     for (const Operation& read : reads_of(h, reader)) {
@@ -189,7 +189,7 @@ std::optional<Link> bound(const History& h, int reader, int line) {
     return best;
 }
 
-// Those reads, each after the first because the one before it might be of an earlier write of its value as far as whole writes say.
+// Those reads: each one after the first is there because the one before it could, judged by complete writes alone, be of an earlier write of its value.
 std::vector<Link> chain(const History& h, int reader, int line) {
     std::vector<Link> links;
     for (std::optional<Link> next = bound(h, reader, line); next;) {
@@ -233,7 +233,7 @@ struct Answer {
     bool operator==(const Answer& other) const { return status == other.status && printed == other.printed && said == other.said; }
 };
 
-// The lines of a history in turn, and at which line it lacks each class.
+// The expected answer for a history in turn, and the line at which it lacks each class.
 Answer judged(const Register& of, const std::vector<Event>& events, const Options& how, int (&line_of)[4]) {
     const History whole(of, events, NEVER);
     int best = -1;
@@ -275,7 +275,7 @@ Answer judged(const Register& of, const std::vector<Event>& events, const Option
     return {best >= int(how.least) ? 0 : 3, out, ""};
 }
 
-// The line of the first event that is out of turn.
+// The line of the first event out of turn.
 int out_of_turn(const std::vector<Event>& events) {
     std::map<int, bool> open;
     for (size_t i = 0; i < events.size(); i++) {
@@ -308,8 +308,8 @@ Answer expected(const Register& of, std::vector<Event> events, const Options& ho
     return judged(of, events, how, line_of);
 }
 
-// --- the meaning of what is printed: each read that a reason names is, in every choice of the history before, of the write that is named or
-// of a later one; and the read at fault may be of earlier ones alone.
+// --- the meaning of what is printed: each read that a reason names is, in every choice for the history before, of the write that is named or
+// of a later one; and the read at fault can only be of earlier ones.
 
 bool is_true(const Register& of, const std::vector<Event>& events, const Text& words, int line, Class c) {
     const History h(of, events, line), before(of, events, line - 1);
@@ -318,7 +318,7 @@ bool is_true(const Register& of, const std::vector<Event>& events, const Text& w
     if (!choice(before, reads, [](const std::vector<size_t>&) { return true; })) return false;
     size_t from = words.find("but a read of R");
     int links = 0;
-    // (a link after the first speaks of reads that had ended where the one before it began)
+    // (a link after the first is about reads that had ended when the one before it began)
     int begun = read.begin;
     while (from != Text::npos) {
         int side = 0, ended = 0, written = 0;
@@ -430,14 +430,14 @@ void compare(const Register& of, const std::vector<Event>& events, const Options
     }
     if (good) return;
     if (counts["differ"]++ < 3) {
-        fprintf(stderr, "registers: --at-least %s%s%s\n%sprinted, status %d: %s%s\nwanted, status %d: %s%s\n", NAMES[how.least], how.report ? " --report" : "", how.stop ? " --stop" : "",
+        fprintf(stderr, "registers: --at-least %s%s%s\n%sprinted, status %d: %s%s\nexpected, status %d: %s%s\n", NAMES[how.least], how.report ? " --report" : "", how.stop ? " --stop" : "",
                 text.c_str(), got.status, got.printed.c_str(), got.said.c_str(), want.status, want.printed.c_str(), want.said.c_str());
     }
 }
 
-// --- which histories
+// --- the histories
 
-// Each history of `count` events: every shorter one is the beginning of one, and its class follows from the lines that are printed.
+// Each history of `count` events: every shorter one is a prefix of one, and its class follows from the lines that are printed.
 void all(std::vector<Event>& events, std::vector<bool>& open, size_t count, uint64_t part, uint64_t parts, uint64_t& at) {
     if (events.size() == count) {
         if (at++ % parts == part) compare({0, 2, false}, events, {ATOMIC, true, false});
@@ -469,7 +469,7 @@ void random_ones(uint64_t count, uint64_t seed) {
         std::vector<Number> near = {of.first};
         std::vector<bool> open(5);
         for (uint64_t i = 0; i < size; i++) {
-            // (over seams: R1 reads at each end of a write, of values that come again)
+            // (at seams: R1 reads at each end of a write, of values that repeat)
             int side = in(1, 4) ? int(below(2)) : int(below(readers + 1));
             if (is_long || (is_seam && in(15, 16))) side = i == 2 || i + 2 >= size || (i > 0 && (events.back().side == 0) == events.back().begins);
             bool begins = !open[size_t(side)];

@@ -1,9 +1,9 @@
 #!/usr/bin/env python3
 """The audit of recorded registers: python3 bench/registers_bench.py, from any folder, on a machine that does nothing else.
 
-It prints a table: for recordings of some lengths the shortest time of `audit --register` and of a twin in plain Rust of the same rules
-(registers_twin.rs, built with rustc -O), the ratio, the lines a second, and the peak memory of both. The register is atomic, has the values 0 to
-999, a writer and four readers; all are under way most of the time, and reads are short. One recording more has a read that lasts through it all, so
+It prints a table: for recordings of several lengths the shortest time of `audit --register` and of a twin in plain Rust with the same rules
+(registers_twin.rs, built with rustc -O), the ratio, the lines per second, and the peak memory of both. The register is atomic, has the values 0 to
+999, a writer and four readers; all are under way most of the time, and reads are short. One more recording has a read that lasts through all of it, so
 that each write is kept. It builds the program first if it is not built.
 """
 import os
@@ -21,11 +21,11 @@ VALUES, READERS = 1000, 4
 
 
 def write_recording(path, lines, stalls):
-    """Writes a recording of this many lines. An operation takes effect at once, at its begin or at its end."""
+    """Writes a recording of this many lines. An operation takes effect either at its start or at its end."""
     pick = random.Random(1)
     draw = pick.random
     held = 0
-    # of each side what it has under way: a write's value, if it takes effect at its end; a read's, if it took effect at its begin
+    # what each side has under way: the value of a write that takes effect at its end; the value of a read that took effect at its start
     under_way = [None] * (READERS + 1)
     begun = [False] * (READERS + 1)
     with open(path, "w", encoding="ascii") as file:
@@ -50,7 +50,7 @@ def write_recording(path, lines, stalls):
 
 
 def run(command, path):
-    """Runs the command on the file, and gives its seconds and what it printed."""
+    """Runs the command on the file; returns the seconds that it took and what it printed."""
     with open(path, "rb") as file:
         start = time.perf_counter()
         child = subprocess.Popen([*command, "--report"], stdin=file, stdout=subprocess.PIPE)

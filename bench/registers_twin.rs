@@ -1,14 +1,14 @@
-// The audit of a recorded register in plain Rust, to measure the program by and to compare it with; it shares no line with it. It reads a
-// recording on standard input, in pieces, and prints what `audit --register` prints; its words are those of that command after --register
-// (`--at-least CLASS`, `--report`, `--stop`), and so is its status. What it keeps is the writes that a read under way may be of, and for each
-// reader and for all of them the reads that the next reason would name.
+// The audit of a recorded register in plain Rust, to time the program against and to compare it with; the two share no line of code. It reads a
+// recording on standard input, in pieces, and prints what `audit --register` prints; its arguments are those of that command after --register
+// (`--at-least CLASS`, `--report`, `--stop`), and its status is the same. It keeps the writes that a read under way may return, and for each
+// reader and for all together the reads that the next reason would name.
 use std::collections::VecDeque;
 use std::io::{Read, Write, stdin, stdout};
 use std::process::exit;
 use std::rc::Rc;
 
 const READERS: usize = 64;
-// No line is longer, and no reason names more reads.
+// The longest line, and the most reads that a reason names.
 const LONGEST: usize = 54;
 const NAMED: usize = 8;
 const CANNOT: &str = "this recording cannot tell a regular register from an atomic one";
@@ -27,7 +27,7 @@ enum Line {
     Got(usize, u64),
 }
 
-// A number at the front, in decimal: below 2^64, with no leading zero; and what comes after it.
+// A decimal number at the front, below 2^64, with no leading zero; and the rest after it.
 fn number(text: &[u8]) -> Option<(u64, &[u8])> {
     let end = text
         .iter()
@@ -65,7 +65,7 @@ fn further_line(text: &[u8]) -> Option<Line> {
     whole_number(rest.strip_prefix(b" got ")?).map(|value| Line::Got(reader, value))
 }
 
-// The first value, how many there are where that is told, and whether it is cut.
+// The first value, the number of values if given, and whether the recording is cut.
 fn first_line(text: &[u8]) -> Option<(u64, Option<u64>, bool)> {
     let (rest, is_cut) = match text.strip_prefix(b"cut ") {
         Some(rest) => (rest, true),
@@ -79,7 +79,7 @@ fn first_line(text: &[u8]) -> Option<(u64, Option<u64>, bool)> {
     (first < values).then_some((first, Some(values), is_cut))
 }
 
-// A read that ended, and the line of the least write that it can be of.
+// A read that ended, and the line of the earliest write whose value it can have returned.
 #[derive(Clone, Copy)]
 struct Seen {
     reader: usize,
@@ -88,7 +88,7 @@ struct Seen {
     written: u64,
 }
 
-// The read that raised a floor, those that say why it is of no earlier write, and whether there are more of these.
+// The read that raised a floor, the reads that show why it is of no earlier write, and whether there are more of these.
 #[derive(Clone)]
 struct Chain {
     read: Seen,
@@ -117,7 +117,7 @@ impl Chain {
     }
 }
 
-// The least write that a read may be of, as far as the reads before it say, and those that say so.
+// The earliest write that a read may be of, given the reads before it, and the reads that imply this.
 #[derive(Clone, Default)]
 struct Floor {
     number: u64,
@@ -146,7 +146,7 @@ struct Report {
 
 struct Audit {
     values: Option<u64>,
-    // the values and the lines of the writes from this number on
+    // the values and lines of the writes from this number on
     window: VecDeque<(u64, u64)>,
     base: u64,
     begun: u64,
@@ -321,7 +321,7 @@ impl Audit {
         }
     }
 
-    // From this class on each is missed at this line that was not missed before.
+    // This class and all stronger ones are missed at this line, if they were not missed before.
     fn misses_from(&mut self, class: usize, at: u64, words: impl Fn() -> String) {
         for missed in &mut self.misses[class..] {
             if missed.is_none() {
@@ -330,12 +330,12 @@ impl Audit {
         }
     }
 
-    // The strongest class that it has, by its number from 1; 0 if it has none.
+    // The number of the strongest class that it has, from 1; 0 if none.
     fn best(&self) -> usize {
         self.misses.iter().position(Option::is_some).unwrap_or(4)
     }
 
-    fn told(&self, reports: bool) -> String {
+    fn output(&self, reports: bool) -> String {
         let mut out = match self.best() {
             0 => "not safe".into(),
             best => NAMES[best - 1].to_string(),
@@ -403,7 +403,7 @@ struct Options {
     stops: bool,
 }
 
-// A recording that is read in pieces.
+// The reading of a recording in pieces.
 struct Reading {
     options: Options,
     carried: Vec<u8>,
@@ -415,7 +415,7 @@ struct Reading {
 }
 
 impl Reading {
-    // Goes on by a piece; none where a line is not of the format.
+    // Reads the next piece; None if a line is not of the format.
     fn read(&mut self, piece: &[u8]) -> Option<()> {
         let mut rest = piece;
         while let (Some(end), false) = (rest.iter().position(|byte| *byte == b'\n'), self.is_over) {
@@ -460,7 +460,7 @@ impl Reading {
         Some(())
     }
 
-    // The status of the process, and what it prints.
+    // The exit status of the process, and its output.
     fn finding(&self) -> Option<(i32, String)> {
         let audit = self.audit.as_ref()?;
         if !self.carried.is_empty() {
@@ -471,7 +471,7 @@ impl Reading {
         }
         let cut = if self.is_cut { "\ncut yes" } else { "" };
         let status = if audit.best() > self.options.least { 0 } else { 3 };
-        Some((status, audit.told(self.options.reports) + cut))
+        Some((status, audit.output(self.options.reports) + cut))
     }
 }
 

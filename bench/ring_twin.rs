@@ -1,14 +1,14 @@
-// Rings for one producer and one consumer in plain Rust, over two threads, which ring_bench.py measures `lamport_ring run` against:
+// Rings for one producer and one consumer in plain Rust, on two threads, against which ring_bench.py measures `lamport_ring run`:
 //
-//   ring_twin flicker B M W G H N   a word for each safe bit: the ring of safe bits as its programs say
+//   ring_twin flicker B M W G H N   a word for each safe bit: the ring of safe bits, following its programs
 //   ring_twin counter B M W G H N   a word for each count and for each cell, with counts modulo M
-//   ring_twin usual B M W G H N     head and tail by acquire and release, each kept by the other side as it was last seen; B a power of
-//                                   two, M of no use
+//   ring_twin usual B M W G H N     head and tail with acquire and release, each cached by the other side; B a power of
+//                                   two, M unused
 //
-// Each does what `run` does. It moves the list of the items i mod 2^W, i from 0 to N-1, through B cells into another list, in puts of G
-// items at most and takes of H at most; the producer closes behind the last, and the consumer takes until it is told so. Each side yields its processor at
-// each 256th call, and rests where it has to wait, as by the gate of `run`. The words of the first two lie as those of the rings of
-// `run`. What was taken is compared with what was put, and the text is that of `run --report`.
+// Each does what `run` does: it moves the list of the items i mod 2^W, i from 0 to N-1, through B cells into another list, in puts of G
+// items at most and takes of H at most; the producer closes after the last, and the consumer takes until it finds the ring closed. Each side yields its processor at
+// each 256th call, and pauses when it has to wait, as with the gate of `run`. The words of the first two are laid out as those of the rings of
+// `run`. What was taken is compared with what was put, and the output is that of `run --report`.
 use std::hint::spin_loop;
 use std::process::exit;
 use std::sync::atomic::AtomicU64;
@@ -30,19 +30,19 @@ impl Shape {
         number & (u64::MAX >> (64 - self.width))
     }
 
-    // How far a is ahead of b.
+    // The distance from b up to a.
     fn distance(&self, a: usize, b: usize) -> usize {
         if a >= b { a - b } else { a + self.modulus - b }
     }
 
-    // How many of so many items there is room for.
+    // How many of `offered` items there is room for.
     fn fitting(&self, put: usize, taken: usize, offered: usize) -> usize {
         self.capacity
             .saturating_sub(self.distance(put, taken))
             .min(offered)
     }
 
-    // How many of so many items are shown.
+    // How many of `wanted` items are shown.
     fn shown(&self, put: usize, taken: usize, wanted: usize) -> usize {
         let ahead = self.distance(put, taken);
         if ahead > self.capacity {
@@ -53,7 +53,7 @@ impl Shape {
     }
 }
 
-// So many more, and from 0 on again behind the last.
+// n + more, wrapping around to 0 at `size`.
 fn past_in(n: usize, more: usize, size: usize) -> usize {
     let sum = n + more;
     if sum < size { sum } else { sum - size }
@@ -63,9 +63,9 @@ fn words(length: usize) -> Vec<AtomicU64> {
     (0..length).map(|_| AtomicU64::new(0)).collect()
 }
 
-// The end of a producer.
+// The handle of a producer.
 trait PutEnd: Send {
-    // Stores the first of these items, as many as there is room for, and tells how many: 0 where the ring is full.
+    // Stores the first of these items, as many as there is room for, and returns how many: 0 if the ring is full.
     fn put(&mut self, items: &[u64]) -> usize;
 
     fn close(&mut self);
@@ -77,23 +77,23 @@ enum Taken {
     Closed,
 }
 
-// The end of a consumer.
+// The handle of a consumer.
 trait TakeEnd {
-    // Takes the next items, as many as are shown and there are places for, into the first places.
+    // Takes the next items, as many as are shown and fit, into the first places.
     fn take(&mut self, into: &mut [u64]) -> Taken;
 }
 
-// How many calls a side makes between two that yield.
+// The number of calls that a side makes between two yields.
 const TURN: u64 = 256;
 
-// What a side passes before each of its calls.
+// Called by a side before each of its calls.
 fn pass(count: u64) {
     if count % TURN == TURN - 1 {
         thread::yield_now();
     }
 }
 
-// How a side waits: so many hints are a rest, it rests so often in a row, and then yields. It has had to so many times in a row.
+// How a side waits: the hints in one pause, the pauses in a row before it yields, and how often it has had to wait in a row.
 struct Waiting {
     hints: usize,
     rests: u64,
@@ -121,7 +121,7 @@ impl Waiting {
     }
 }
 
-// Puts the items in order and closes behind the last. Tells how many puts were made, and how many found the ring full.
+// Puts the items in order and closes after the last. Returns how many puts were made, and how many found the ring full.
 fn put_all(mut end: impl PutEnd, shape: Shape, items: &[u64]) -> (u64, u64) {
     let mut waiting = Waiting::new(shape);
     let (mut put, mut calls, mut full) = (0, 0, 0);
@@ -141,7 +141,7 @@ fn put_all(mut end: impl PutEnd, shape: Shape, items: &[u64]) -> (u64, u64) {
     (calls, full)
 }
 
-// Takes until the ring is closed. Tells how many takes found it empty.
+// Takes until the ring is closed. Returns how many takes found it empty.
 fn take_all(mut end: impl TakeEnd, shape: Shape, items: &mut Vec<u64>) -> u64 {
     let mut waiting = Waiting::new(shape);
     let mut room = [0; 64];
@@ -164,7 +164,7 @@ fn take_all(mut end: impl TakeEnd, shape: Shape, items: &mut Vec<u64>) -> u64 {
     }
 }
 
-// Moves the items from the one end to the other, and tells what came of it, from this moment on.
+// Moves the items from one handle to the other and prints the report, timed from `start`.
 fn relay(start: Instant, putter: impl PutEnd, taker: impl TakeEnd, shape: Shape, items: &[u64]) {
     let mut taken = Vec::with_capacity(items.len());
     let ((calls, full), empty) = thread::scope(|scope| {
@@ -182,7 +182,7 @@ fn relay(start: Instant, putter: impl PutEnd, taker: impl TakeEnd, shape: Shape,
     println!("calls {calls}\nfull {full}\nempty {empty}\nitems a second {pace}");
 }
 
-// The words of a ring of safe bits: 0 or 1, or 2 while a write is under way. So many lie between the close bit, the two counts and
+// The words of a ring of safe bits: 0 or 1, or 2 while a write is under way. This many lie between the close bit, the two counts and
 // the cells.
 const APART: usize = 16;
 
@@ -227,7 +227,7 @@ fn write_bit(bit: &AtomicU64, value: u64) {
     bit.store(value, SeqCst);
 }
 
-// A side as it reads. A read is two loads; where they show a write under way, its answers are 0 and 1 in turn.
+// The reads of a side. A read is two loads; if they show a write under way, it returns 0 and 1 alternately.
 struct Reader {
     flip: u64,
 }
@@ -244,7 +244,7 @@ impl Reader {
         answer
     }
 
-    // The number of the lowest bit that answers 1.
+    // The number of the lowest bit that reads as 1.
     fn scan(&mut self, row: &[AtomicU64]) -> usize {
         let mut value = 0;
         while self.read(&row[value]) == 0 {
@@ -254,7 +254,7 @@ impl Reader {
     }
 }
 
-// A side's own count: its bits, and what it remembers of them.
+// A side's own count: its bits, and the values that it remembers.
 struct Row<'a> {
     bits: &'a [AtomicU64],
     set: Vec<bool>,
@@ -267,7 +267,7 @@ impl<'a> Row<'a> {
         Row { bits, set }
     }
 
-    // A unary write: the value's bit is set, and then the set bits below it are cleared, from the highest down.
+    // A unary write: sets the value's bit, then clears the set bits below it, from the highest down.
     fn write(&mut self, value: usize) {
         if !self.set[value] {
             self.write_bit(value, true);
@@ -285,7 +285,7 @@ impl<'a> Row<'a> {
     }
 }
 
-// An end of a ring of safe bits: its own count, the bits of the other one, and what it remembers.
+// A handle of a ring of safe bits: its own count, the bits of the other count, and what it remembers.
 struct FlickerEnd<'a> {
     shape: Shape,
     bits: &'a SafeBits,
@@ -351,7 +351,7 @@ impl TakeEnd for FlickerEnd<'_> {
             if self.reader.read(self.bits.close()) == 0 {
                 return Taken::Empty;
             }
-            // behind a close a second scan tells whether an item came before it
+            // after a close a second scan shows whether an item came before it
             most = self.sees_items(into.len());
             if most == 0 {
                 return Taken::Closed;
@@ -379,13 +379,13 @@ fn flicker(shape: Shape, items: &[u64]) {
     relay(start, putter, taker, shape, items)
 }
 
-// The places of the words of a counter ring.
+// The indexes of the words of a counter ring.
 const CLOSE: usize = 0;
 const S: usize = 1;
 const R: usize = 2;
 const CELLS: usize = 3;
 
-// An end of a counter ring, with the places of its own count and of the other one.
+// A handle of a counter ring, with the indexes of its own count and of the other one.
 struct CounterEnd<'a> {
     shape: Shape,
     words: &'a [AtomicU64],
@@ -449,7 +449,7 @@ impl TakeEnd for CounterEnd<'_> {
             if self.words[CLOSE].load(SeqCst) == 0 {
                 return Taken::Empty;
             }
-            // behind a close a second scan tells whether an item came before it
+            // after a close a second scan shows whether an item came before it
             most = self.sees_items(into.len());
             if most == 0 {
                 return Taken::Closed;
@@ -477,7 +477,7 @@ fn counter(shape: Shape, items: &[u64]) {
 #[repr(align(128))]
 struct Alone(AtomicU64);
 
-// The words of a usual ring: head and tail grow without end.
+// The words of an ordinary ring: head and tail grow without bound.
 struct Usual {
     head: Alone,
     tail: Alone,
@@ -491,7 +491,7 @@ impl Usual {
     }
 }
 
-// An end of a usual ring: its own index, and the other one as it was last seen.
+// A handle of an ordinary ring: its own index, and the other one as it was last seen.
 struct UsualEnd<'a> {
     ring: &'a Usual,
     own: u64,

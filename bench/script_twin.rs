@@ -1,5 +1,5 @@
-// The reader of scripts in plain Rust, written by docs/FORMATS.md: what JSON is, what a script is, what is refused and what is said
-// of it. hostile compares the program with it.
+// The reader of scripts in plain Rust, written from docs/FORMATS.md: what JSON is, what a script is, what is refused, and the messages
+// for it. hostile compares the program with it.
 use crate::form_twin::shape_fault;
 
 const MOST_BYTES: usize = 33_554_432;
@@ -16,12 +16,12 @@ pub struct Script {
     pub items: Vec<u64>,
     pub takes: u64,
     pub close: bool,
-    // a side, 0 for P and 1 for C, and how often
+    // a side (0 is P, 1 is C) and a number of letters
     pub runs: Vec<(usize, u64)>,
     pub oracle: Vec<u8>,
 }
 
-// What is said of a script that is refused: the first line, and how the second begins, or all of it.
+// The message for a refused script: the first line, and the second, or how it begins.
 pub struct Refusal {
     pub first: String,
     pub second: Second,
@@ -91,7 +91,7 @@ impl Json<'_> {
         Some(value)
     }
 
-    // Behind a member: whether another one follows, or the end is here.
+    // After a member: whether another one follows, or this is the end.
     fn goes_on(&mut self, end: &[u8]) -> Option<bool> {
         self.skip();
         if self.takes(b",") {
@@ -251,7 +251,7 @@ const FIELDS: [&str; 10] = [
     "take_batch",
 ];
 
-// Whether a value has the kind of the field of this place.
+// Whether a value has the kind of the field with this index.
 fn has_kind(place: usize, value: &Value) -> bool {
     match (place, value) {
         (3, Value::List(items)) => items.iter().all(|it| matches!(it, Value::Whole(_))),
@@ -293,9 +293,9 @@ fn text(value: &Value) -> &[u8] {
     }
 }
 
-// The place of the first byte that no schedule has there.
+// The index of the first byte that no schedule may have there.
 fn stray(schedule: &[u8]) -> Option<usize> {
-    // what may come: a letter always, a count's first digit behind a letter, further ones behind a digit
+    // what may come: a letter always, the first digit of a count after a letter, further digits after a digit
     let mut first_digit = false;
     let mut digit = false;
     for (place, byte) in schedule.iter().enumerate() {
@@ -333,7 +333,7 @@ fn byte_line(name: &str, text: &[u8], place: usize) -> Second {
     ))
 }
 
-// The script that the bytes are, or what is said of them.
+// The script in these bytes, or the message that refuses them.
 pub fn read(bytes: &[u8]) -> Result<Script, Refusal> {
     if bytes.len() > MOST_BYTES {
         return Err(refused("input is too large", Second::Nothing));

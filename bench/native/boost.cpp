@@ -1,4 +1,4 @@
-// boost.cpp: for rings.c: Boost's spsc_queue.
+// boost.cpp: Boost's spsc_queue, for rings.c.
 #include <boost/lockfree/spsc_queue.hpp>
 #include <cstddef>
 #include <cstdint>

@@ -1,9 +1,9 @@
-/* rings.c: for bench/native_bench.py: what an item costs through the proved ring in C, and through usual rings.
+/* rings.c: the cost of an item through the proved ring in C, and through ordinary rings, for bench/native_bench.py.
  *
- *   rings RING CAPACITY MODULUS BATCH TAKE_BATCH ITEMS    RING is proved (one item a call), several (batches), seq_cst, cached or boost
+ *   rings RING CAPACITY MODULUS BATCH TAKE_BATCH ITEMS    RING is proved (one item per call), several (batches), seq_cst, cached or boost
  *
- * Two threads pass the items 1, 2, ..; a side that finds the ring full or empty rests as `lamport_ring run` does, and yields at each 256th
- * call. It prints how many nanoseconds all items took; status 1 for a wrong item. A usual ring ignores MODULUS, and passes items one by one. */
+ * Two threads pass the items 1, 2, ..; a side that finds the ring full or empty pauses as `lamport_ring run` does, and yields at each 256th
+ * call. It prints the nanoseconds that all items took; status 1 for a wrong item. An ordinary ring ignores MODULUS, and passes items one by one. */
 #define _GNU_SOURCE
 #include <pthread.h>
 #include <sched.h>
@@ -15,11 +15,11 @@
 #include "counter_ring.h"
 
 static size_t capacity, batch, take_batch, items;
-static uint64_t *offered, *taken; /* what is put, and what was taken */
+static uint64_t *offered, *taken; /* the items to put, and those that were taken */
 
 /* ---- the proved ring */
 
-/* Each handle is on cache lines of its own, as each call writes to it. */
+/* Each handle has cache lines of its own, since each call writes to it. */
 static struct {
     _Alignas(128) ring_putter putter;
     _Alignas(128) ring_taker taker;
@@ -45,7 +45,7 @@ static size_t several_take(uint64_t *row, size_t most) {
     return ring_take_all(&ends.taker, row, most, &found) == RING_DONE ? found : 0;
 }
 
-/* ---- usual rings: each index on cache lines of its own; the capacity is a power of two */
+/* ---- ordinary rings: each index has cache lines of its own; the capacity is a power of two */
 
 static struct {
     _Alignas(128) _Atomic size_t head;
@@ -55,7 +55,7 @@ static struct {
     _Alignas(128) _Atomic uint64_t *cells;
 } ring;
 
-/* Sequentially consistent, as C has it if no order is named; a load of the other's index at each call. */
+/* Sequentially consistent, as in C if no order is given; each call loads the other side's index. */
 static size_t seq_cst_put(const uint64_t *row, size_t many) {
     size_t tail = ring.tail;
     (void)many;
@@ -74,7 +74,7 @@ static size_t seq_cst_take(uint64_t *row, size_t most) {
     return 1;
 }
 
-/* By acquire and release; a side keeps the other's index until it needs a newer one. */
+/* With acquire and release; a side caches the other's index until it needs a newer value. */
 static size_t cached_put(const uint64_t *row, size_t many) {
     size_t tail = atomic_load_explicit(&ring.tail, memory_order_relaxed);
     (void)many;
@@ -114,7 +114,7 @@ static inline void turn(uint64_t calls) {
     if (calls % 256 == 255) sched_yield();
 }
 
-/* A side has had to wait so many times in a row. */
+/* A side has had to wait `times` times in a row. */
 static void rest(uint64_t times) {
     if (times > 1 && times * capacity > 16) sched_yield();
     else for (size_t i = 0; i < 4 * capacity; i++) __builtin_ia32_pause();
