@@ -10,23 +10,23 @@
  * at least the capacity + the larger batch + 1, and at most 256; the width, from 1 to 64, is the number of binary digits of an item.
  *
  * What is proved of each call, whatever the other thread does meanwhile: the end's list of accesses grows by exactly those of this call;
- * that list is one side of a lawful history of the ring; the answer is what these accesses came to. Of both ends, once both threads are
+ * that list is one side of a lawful history of the ring; the return value is the result of these accesses. For both ends, once both threads are
  * done (ring_finish): there is one lawful history with both lists; its calls are linearizable; the items taken are a prefix of the items
- * put. docs/GUARANTEES.md has each promise, with the contract that has it.
+ * put. docs/GUARANTEES.md lists each promise, with the contract that states it.
  *
- * What the caller owes, and nothing checks (docs/TRUST.md):
- * - A handle is all 0 before ring_open, and from then on nothing but the library writes to it. No copy of it is used beside it
- *   (ring_move_putter, ring_move_taker move one). What it leads to is neither read nor written.
- * - One call at a time on one handle; the two handles of a ring may be used at the same time. A handle goes to another thread by
+ * What the caller must ensure, and nothing checks (docs/TRUST.md):
+ * - A handle is all 0 before ring_open, and after that only the library writes to it. No copy of it is used
+ *   (ring_move_putter, ring_move_taker move one). What it points to is neither read nor written.
+ * - One call at a time on one handle; the two handles of a ring may be used at the same time. A handle is passed to another thread by
  *   that thread's start or join, by a lock, or by a sequentially consistent atomic.
- * - A pointer leads to as many values as the length after it says, and is not null, even if that length is 0. What two arguments of a
- *   call lead to does not overlap.
+ * - A pointer points to as many values as the length after it says, and is not null, even if that length is 0. The memory that two arguments of a
+ *   call point to does not overlap.
  * - ring_finish is given the two ends of one ring_open, or a handle that has no end.
  * - malloc, realloc and free are those of one allocator, with blocks aligned to 16. No call is made in a signal handler, nor in the forked
  *   child of a process with several threads.
  *
- * With RING_CHECKED defined before this header each call also looks whether its handle was copied, is in a call of another thread, or
- * was freed, and ends the process if so. All files that share a handle define it, or none does. */
+ * With RING_CHECKED defined before this header, each call also checks whether its handle was copied, is in a call of another thread, or
+ * was freed, and ends the process if so. Either all files that share a handle define it, or none does. */
 #ifndef COUNTER_RING_H
 #define COUNTER_RING_H
 #include <stdbool.h>
@@ -34,7 +34,7 @@
 #include <stdint.h>
 
 #ifdef RING_CHECKED
-/* (the library reads and writes the first two fields alone) */
+/* (the library reads and writes only the first two fields) */
 typedef struct { bool is_open; void *at; const void *home; unsigned char is_freed, is_in_call; } ring_putter;
 typedef struct { bool is_open; void *at; const void *home; unsigned char is_freed, is_in_call; } ring_taker;
 #else
@@ -42,11 +42,11 @@ typedef struct { bool is_open; void *at; } ring_putter;
 typedef struct { bool is_open; void *at; } ring_taker;
 #endif
 
-/* What a call of an end answers. RING_NOT_NOW: the ring is full, or empty. RING_OVER: a put finds it closed; a take finds it closed, and
- * all that was put is taken. RING_REFUSED: the handle has no end, an item does not fit the width, or there are none or too many; then
+/* What a call on an end returns. RING_NOT_NOW: the ring is full, or empty. RING_OVER: a put finds it closed; a take finds it closed, and
+ * all that was put has been taken. RING_REFUSED: the handle has no end, an item does not fit the width, or there are none or too many; then
  * nothing is done. */
 enum { RING_DONE = 0, RING_NOT_NOW = 1, RING_OVER = 2, RING_REFUSED = 3 };
-/* What ring_open answers. At all but RING_OPENED nothing is changed. RING_WRONG_..: the number is out of its range. */
+/* What ring_open returns. Unless it is RING_OPENED, nothing is changed. RING_WRONG_..: the number is out of its range. */
 enum { RING_OPENED = 0, RING_WRONG_CAPACITY, RING_WRONG_BATCH, RING_WRONG_TAKE_BATCH, RING_WRONG_MODULUS, RING_WRONG_WIDTH, RING_OUT_OF_MEMORY, RING_HAS_END };
 
 #ifdef __cplusplus
@@ -56,26 +56,26 @@ extern "C" {
 #define RING_NO_END { 0 }
 #endif
 
-/* Makes a ring with nothing put; the two handles, which have no end, get its ends. */
+/* Makes an empty ring; the two handles, which have no end yet, get its ends. */
 uint32_t ring_open(ring_putter *, ring_taker *, uint64_t capacity, uint64_t modulus, uint64_t width, uint64_t batch, uint64_t take_batch);
 /* Puts the item. */
 uint32_t ring_put(ring_putter *, uint64_t item);
-/* Puts the items, from the first on as many as there is room for; how many these are is in *stored. */
+/* Puts the items in order, as many as there is room for; *stored is set to their number. */
 uint32_t ring_put_all(ring_putter *, const uint64_t *items, size_t count, size_t *stored);
 /* Closes the ring. A second close does nothing. Returns whether the handle has an end. */
 bool ring_close(ring_putter *);
 /* Whether the handle has an end that has closed the ring. */
 bool ring_is_closed(ring_putter *);
-/* Takes the next item into *item, which otherwise stays as it was. */
+/* Takes the next item into *item, which is otherwise unchanged. */
 uint32_t ring_take(ring_taker *, uint64_t *item);
-/* Takes the next items, at most as many as there is room for, into the first places; how many these are is in *taken. */
+/* Takes the next items, at most `room`, into the first elements; *taken is set to their number. */
 uint32_t ring_take_all(ring_taker *, uint64_t *into, size_t room, size_t *taken);
-/* Whether the handle has an end of which a take was answered RING_OVER. */
+/* Whether the handle has an end on which a take returned RING_OVER. */
 bool ring_is_told(ring_taker *);
-/* Ends the run of a ring, by its two ends: both are gone, and its memory is freed. Returns whether both handles had an end; if not,
+/* Ends the run of a ring, given its two ends: frees both, and its memory. Returns whether both handles had an end; if not,
  * nothing is done. */
 bool ring_finish(ring_putter *, ring_taker *);
-/* Lets the end go, if there is one. The ring's memory is given back once both ends are gone. */
+/* Frees the end, if there is one. The ring's memory is freed with the second end. */
 void ring_free_putter(ring_putter *);
 void ring_free_taker(ring_taker *);
 #ifdef __cplusplus
@@ -86,7 +86,7 @@ void ring_free_taker(ring_taker *);
 #include <stdio.h>
 #include <stdlib.h>
 
-/* What is done when a handle is misused. It does not return. */
+/* Called when a handle is misused. It does not return. */
 #ifndef RING_MISUSED
 #define RING_MISUSED(what) (fprintf(stderr, "counter_ring.h: %s\n", what), abort())
 #endif
@@ -209,7 +209,7 @@ static inline void ring_checked_free_taker(ring_taker *t) {
 #define ring_free_taker ring_checked_free_taker
 #endif
 
-/* Moves an end, if there is one, from a handle to one that has none. The first has none then. */
+/* Moves an end, if there is one, from a handle to one that has none. Afterwards `from` has none. */
 static inline void ring_move_putter(ring_putter *to, ring_putter *from) {
     const ring_putter none = RING_NO_END;
 #ifdef RING_CHECKED

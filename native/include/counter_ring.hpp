@@ -1,11 +1,11 @@
 // counter_ring.hpp: the ends of the proved ring as values that move and free themselves. C++17; it needs counter_ring.h beside it.
 //
-//     auto ends = counter_ring::open({64});                       a std::optional of both ends: the fault is in the second argument
+//     auto ends = counter_ring::open({64});                       a std::optional of both ends; a second argument receives the fault
 //     std::thread producer([p = std::move(ends->first)]() mutable { while (p.put(7) == counter_ring::reply::not_now) {} p.close(); });
 //     while (!ends->second.is_told()) if (auto item = ends->second.take()) use(*item);
 //
-// An end goes to another thread by a std::thread, a join, a lock or a sequentially consistent atomic, and no two threads call one end at a
-// time. What is proved, and what a caller owes, stands in counter_ring.h.
+// An end is passed to another thread by a std::thread, a join, a lock or a sequentially consistent atomic, and no two threads call one end at the same
+// time. counter_ring.h says what is proved, and what a caller must ensure.
 #ifndef COUNTER_RING_HPP
 #define COUNTER_RING_HPP
 #include <cstddef>
@@ -19,7 +19,7 @@
 
 namespace counter_ring {
 
-// What a call answers: `not_now` if the ring is full or empty; `over` if it is closed, and for a take all that was put is taken; `refused`
+// What a call returns: `not_now` if the ring is full or empty; `over` if it is closed, and for a take all that was put has been taken; `refused`
 // if there is no end, an item does not fit the width, or there are none or too many, and then nothing is done.
 enum class reply : std::uint32_t { done = RING_DONE, not_now = RING_NOT_NOW, over = RING_OVER, refused = RING_REFUSED };
 
@@ -29,7 +29,7 @@ enum class fault : std::uint32_t {
     modulus = RING_WRONG_MODULUS, width = RING_WRONG_WIDTH, out_of_memory = RING_OUT_OF_MEMORY
 };
 
-// What a ring is to be. The counts go up to the modulus, of which any in its range serves.
+// The parameters of a ring. Counts wrap at the modulus; any value in its range works.
 struct shape {
     std::uint64_t capacity;
     std::uint64_t batch = 1;
@@ -38,13 +38,13 @@ struct shape {
     std::uint64_t modulus = 256;
 };
 
-// The reply of a call of several, and how many items it stored or took.
+// The reply of a call for several items, and how many it stored or took.
 struct several {
     reply answer;
     std::size_t count;
 };
 
-// The end that puts. One that was moved from has no end, as one that was made by `putter()`.
+// The end that puts. One that was moved from has no end, nor has a default-constructed `putter()`.
 class putter {
 public:
     putter() noexcept = default;
@@ -59,9 +59,9 @@ public:
     ~putter() { ring_free_putter(&handle_); }
 
     reply put(std::uint64_t item) { return static_cast<reply>(ring_put(&handle_, item)); }
-    // Puts the items, from the first on as many as there is room for.
+    // Puts the items in order, as many as there is room for.
     several put_all(const std::uint64_t *items, std::size_t count) {
-        const std::uint64_t none = 0;       // (a pointer is not null, even if it leads to nothing)
+        const std::uint64_t none = 0;       // (a pointer must not be null, even if its length is 0)
         std::size_t stored = 0;
         const auto answer = static_cast<reply>(ring_put_all(&handle_, count ? items : &none, count, &stored));
         return {answer, stored};
@@ -92,15 +92,15 @@ public:
     }
     ~taker() { ring_free_taker(&handle_); }
 
-    // The next item, if there is one now. `is_told` says whether there will be none.
+    // The next item, if there is one now. `is_told` returns whether there will be no more.
     std::optional<std::uint64_t> take() {
         std::uint64_t item = 0;
         if (ring_take(&handle_, &item) != RING_DONE) return std::nullopt;
         return item;
     }
-    // The same with its reply. `item` is changed only by `done`.
+    // The same with its reply. `item` changes only if the reply is `done`.
     reply take(std::uint64_t &item) { return static_cast<reply>(ring_take(&handle_, &item)); }
-    // Takes the next items, at most as many as there is room for.
+    // Takes the next items, at most `room`.
     several take_all(std::uint64_t *into, std::size_t room) {
         std::uint64_t none = 0;
         std::size_t taken = 0;
@@ -118,7 +118,7 @@ private:
     ring_taker handle_ = RING_NO_END;
 };
 
-// The two ends of a new ring; if there is none, the fault says why.
+// The two ends of a new ring, or nothing: then the fault says why.
 inline std::optional<std::pair<putter, taker>> open(const shape &of, fault *why = nullptr) {
     std::optional<std::pair<putter, taker>> ends(std::in_place);
     const auto answer = ring_open(&ends->first.handle_, &ends->second.handle_, of.capacity, of.modulus, of.width, of.batch, of.take_batch);

@@ -1,4 +1,4 @@
-//! Links libcounter_ring.a, which lies in the folder that COUNTER_RING_LIB names, or in dist/ of this repository, for ARM64 in dist/aarch64-linux/.
+//! Links libcounter_ring.a from the folder that COUNTER_RING_LIB names, or from dist/ of this repository (for ARM64 dist/aarch64-linux/).
 fn main() {
     let here = std::env::var("CARGO_MANIFEST_DIR").unwrap();
     println!("cargo:rerun-if-env-changed=COUNTER_RING_LIB");

@@ -1,4 +1,4 @@
-/* memory.c: each allocation of ring_open is refused in turn. It answers so, gives back what it had, and leaves the handles as they were;
+/* memory.c: each allocation of ring_open is refused in turn. It returns so, frees what it had, and leaves the handles unchanged;
  * and no other call allocates. Linked with -Wl,--wrap=malloc,--wrap=realloc,--wrap=free. */
 #include <stdio.h>
 #include <stdlib.h>
@@ -49,7 +49,7 @@ static int test(uint64_t capacity, int is_finished) {
         answer = ring_open(&p, &t, capacity, 256, 64, capacity, capacity);
         if (answer == RING_OPENED) break;
         if (answer != RING_OUT_OF_MEMORY || live != 0 || p.is_open || p.at || t.is_open || t.at) {
-            printf("memory.c: allocation %ld is refused: answer %u, and %ld blocks are left\n", allocations, answer, live);
+            printf("memory.c: allocation %ld refused: it returned %u, and %ld blocks are not freed\n", allocations, answer, live);
             return 0;
         }
     }
@@ -65,7 +65,7 @@ static int test(uint64_t capacity, int is_finished) {
     ring_is_closed(&p);
     ring_is_told(&t);
     if (made != 0 || live != held) {
-        printf("memory.c: the calls of an end make %ld allocations\n", made);
+        printf("memory.c: the calls on an end made %ld allocations\n", made);
         return 0;
     }
     if (is_finished) {
@@ -75,10 +75,10 @@ static int test(uint64_t capacity, int is_finished) {
         ring_free_putter(&p);
     }
     if (live != 0 || made != 0) {
-        printf("memory.c: %ld blocks are left\n", live);
+        printf("memory.c: %ld blocks are not freed\n", live);
         return 0;
     }
-    printf("memory.c: capacity %llu: each of %ld allocations refused in turn, %zu bytes in all; nothing is left\n", (unsigned long long)capacity, allocations, bytes);
+    printf("memory.c: capacity %llu: each of %ld allocations refused in turn, %zu bytes in all; all freed\n", (unsigned long long)capacity, allocations, bytes);
     return allocations >= 4;
 }
 

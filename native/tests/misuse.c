@@ -1,5 +1,5 @@
-/* misuse.c: what the debug form of the header (RING_CHECKED) ends the process for, each in a child of its own: the child ends by abort,
- * with the due words on stderr; and what is allowed is allowed. */
+/* misuse.c: the misuses for which the debug form of the header (RING_CHECKED) aborts the process, each in a child of its own: the child aborts
+ * with the right message on stderr; and allowed uses are allowed. */
 #define RING_CHECKED
 #include <pthread.h>
 #include <signal.h>
@@ -98,12 +98,12 @@ int main(void) {
         while (length < sizeof said - 1 && (more = read(ends[0], said + length, sizeof said - 1 - length)) > 0) length += (size_t)more;
         close(ends[0]);
         waitpid(child, &status, 0);
-        /* (of two threads that meet, both may say so) */
+        /* (if two threads meet, both may print it) */
         if (strncmp(said, cases[i].words, strlen(cases[i].words)) != 0 || (*cases[i].words ? !WIFSIGNALED(status) || WTERMSIG(status) != SIGABRT : !WIFEXITED(status) || WEXITSTATUS(status) != 7)) {
             printf("misuse.c: %s: status %d, \"%s\"\n", cases[i].name, status, said);
             failed++;
         }
     }
-    if (!failed) printf("misuse.c: each of %zu is told, and what is allowed is allowed\n", sizeof cases / sizeof *cases - 1);
+    if (!failed) printf("misuse.c: each of %zu misuses is reported, and allowed uses are allowed\n", sizeof cases / sizeof *cases - 1);
     return failed != 0;
 }

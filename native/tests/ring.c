@@ -1,5 +1,5 @@
-/* ring.c: the ring from C. What is refused; an end freed before the other; and rounds of random shapes in two threads, whose calls are
- * recorded and judged by the proved audit. With RING_CHECKED it is a test of the debug form of the header too. */
+/* ring.c: the ring from C. Refused calls; one end freed before the other; and rounds with random shapes in two threads, whose calls are
+ * recorded and judged by the proved audit. With RING_CHECKED it tests the debug form of the header too. */
 #include <pthread.h>
 #include <sched.h>
 #include <stdio.h>
@@ -135,7 +135,7 @@ static void test_refusals(void) {
     EXPECT(ring_finish(&putter, &taker) && !putter.is_open && !taker.is_open);
 }
 
-/* each end alone, in either order; and a handle that was freed, again */
+/* each end freed alone, in either order; and a freed handle used again */
 static void test_ends_alone(void) {
     uint64_t item;
     EXPECT(ring_open(&putter, &taker, 2, 4, 8, 1, 1) == RING_OPENED);
@@ -199,6 +199,6 @@ int main(int words, char **word) {
         EXPECT(!putter.is_open && !taker.is_open);
     }
     ring_calls_free(&recorded);
-    printf("ring.c: %d rounds lawful, each item in order; what is refused changes nothing\n", rounds);
+    printf("ring.c: %d rounds lawful, each item in order; refused calls change nothing\n", rounds);
     return 0;
 }

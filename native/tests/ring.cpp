@@ -1,4 +1,4 @@
-// ring.cpp: the ends from C++: moved, never copied, freed as they go; both ways to take; spans from C++20 on.
+// ring.cpp: the ends from C++: moved, never copied, freed when they go out of scope; both ways to take; spans from C++20 on.
 #include <cstdio>
 #include <cstdlib>
 #include <memory>
@@ -35,7 +35,7 @@ static void test_moves() {
     none = std::move(p);
     EXPECT(none && !p && none.put(2) == reply::done);
     auto other = counter_ring::open({1});
-    none = std::move(other->first);         // (the end that it had is freed)
+    none = std::move(other->first);         // (the end that `none` had is freed)
     EXPECT(none.put(9) == reply::done && other->second.take() == 9u);
     counter_ring::taker t = std::move(ends->second);
     std::uint64_t row[2] = {7, 7};

@@ -1,6 +1,6 @@
 //! A bounded ring for one producer and one consumer, of up to 64 numbers, whose code is proved down to Lamport's safe bits.
-//! `counter_ring.h` says what is proved. What it asks of its caller the types here see to: an end is moved and never copied, is called
-//! through `&mut`, and is `Send` and not `Sync`; so no two threads call it at a time, and it goes to another thread by what orders their
+//! `counter_ring.h` says what is proved. The types here ensure what it requires of its caller: an end is moved and never copied, is called
+//! through `&mut`, and is `Send` and not `Sync`; so no two threads call it at the same time, and it reaches another thread by something that orders their
 //! calls (a spawn, a join, a lock, a channel). The memory is the C library's `malloc`; the library is for Linux on x86-64 and ARM64.
 //!
 //! ```no_run
@@ -19,7 +19,7 @@ use std::ffi::c_void;
 use std::fmt;
 use std::marker::PhantomData;
 
-// A handle of the library: whether there is an end, and where it lies. Nothing leads to a handle, so it may be moved.
+// A handle of the library: whether there is an end, and its address. Nothing points to a handle, so it may be moved.
 #[repr(C)]
 struct Handle {
     is_open: bool,
@@ -43,14 +43,14 @@ extern "C" {
     fn ring_free_taker(taker: *mut Handle);
 }
 
-/// What a ring is to be.
+/// The parameters of a ring.
 #[derive(Clone, Copy, PartialEq, Eq, Debug)]
 pub struct Shape {
-    /// How many items it holds: 1 to 64.
+    /// The number of items it can hold: 1 to 64.
     pub capacity: u64,
-    /// Up to what its counts go: at least the capacity + the larger batch + 1, and at most 256. Any in this range serves.
+    /// The number at which its counts wrap: at least the capacity + the larger batch + 1, and at most 256. Any value in this range works.
     pub modulus: u64,
-    /// How many binary digits an item has: 1 to 64.
+    /// The number of binary digits of an item: 1 to 64.
     pub width: u64,
     /// The most items of one [`Putter::put_all`]: 1 to the capacity.
     pub batch: u64,
@@ -91,7 +91,7 @@ impl fmt::Display for OpenError {
 
 impl std::error::Error for OpenError {}
 
-/// What a put answers. `Refused`: the item does not fit the width, and nothing is done.
+/// What a put returns. `Refused`: the item does not fit the width, and nothing is done.
 #[derive(Clone, Copy, PartialEq, Eq, Debug)]
 #[must_use]
 pub enum Put {
@@ -101,7 +101,7 @@ pub enum Put {
     Refused,
 }
 
-/// What a put of several answers: how many were stored. `Refused`: there are none or more than the batch, or one does not fit the width.
+/// What a put of several returns: how many were stored. `Refused`: there are none or more than the batch, or one does not fit the width.
 #[derive(Clone, Copy, PartialEq, Eq, Debug)]
 #[must_use]
 pub enum PutAll {
@@ -111,7 +111,7 @@ pub enum PutAll {
     Refused,
 }
 
-/// What a take answers. `Closed`: the ring is closed, and all that was put is taken.
+/// What a take returns. `Closed`: the ring is closed, and all that was put has been taken.
 #[derive(Clone, Copy, PartialEq, Eq, Debug)]
 #[must_use]
 pub enum Take {
@@ -120,7 +120,7 @@ pub enum Take {
     Closed,
 }
 
-/// What a take of several answers: how many were taken. `Refused`: there is no place, or there are more than the take batch.
+/// What a take of several returns: how many were taken. `Refused`: the slice is empty, or longer than the take batch.
 #[derive(Clone, Copy, PartialEq, Eq, Debug)]
 #[must_use]
 pub enum TakeAll {
@@ -130,8 +130,8 @@ pub enum TakeAll {
     Refused,
 }
 
-/// The end that puts. If it is dropped, the ring stays open: the taker is answered `Empty` from then on, unless [`close`](Putter::close)
-/// came before. It is `Send` and not `Sync`:
+/// The end that puts. If it is dropped, the ring stays open: once empty, takes return `Empty`, unless [`close`](Putter::close)
+/// was called before. It is `Send` and not `Sync`:
 ///
 /// ```compile_fail
 /// fn is_sync<T: Sync>() {}
@@ -147,14 +147,14 @@ pub struct Putter(Handle, PhantomData<*mut ()>);
 /// ```
 pub struct Taker(Handle, PhantomData<*mut ()>);
 
-// SAFETY: the library proves of each handle that it may go to another thread (`handles_may_cross`).
+// SAFETY: the library proves that each handle may be passed to another thread (`handles_may_cross`).
 unsafe impl Send for Putter {}
 unsafe impl Send for Taker {}
 
-/// Makes a ring with nothing put, by its two ends.
+/// Makes an empty ring and returns its two ends.
 pub fn open(shape: Shape) -> Result<(Putter, Taker), OpenError> {
     let (mut putter, mut taker) = (Handle::NO_END, Handle::NO_END);
-    // SAFETY: two handles with no end, of which there is no other copy.
+    // SAFETY: two handles with no end, and no other copies of them.
     let answer = unsafe { ring_open(&mut putter, &mut taker, shape.capacity, shape.modulus, shape.width, shape.batch, shape.take_batch) };
     match answer {
         0 => Ok((Putter(putter, PhantomData), Taker(taker, PhantomData))),
@@ -171,7 +171,7 @@ impl Putter {
     /// Puts the item.
     #[inline]
     pub fn put(&mut self, item: u64) -> Put {
-        // SAFETY: the handle is one that `open` made, of which there is no copy, and `&mut` says that no other call is under way. (So of
+        // SAFETY: the handle was made by `open`, has no copy, and `&mut` means that no other call is under way. (The same holds for
         // each call below.)
         match unsafe { ring_put(&mut self.0, item) } {
             0 => Put::Stored,
@@ -181,7 +181,7 @@ impl Putter {
         }
     }
 
-    /// Puts the items, from the first on as many as there is room for, under one count write.
+    /// Puts the items in order, as many as there is room for, with one count write.
     pub fn put_all(&mut self, items: &[u64]) -> PutAll {
         let mut stored = 0;
         // SAFETY: as above. (The pointer of an empty slice dangles, and is not null.)
@@ -193,7 +193,7 @@ impl Putter {
         }
     }
 
-    /// Puts the item, and calls `wait` each time that the ring is full. Returns `Stored`, `Closed` or `Refused`.
+    /// Puts the item; calls `wait` each time that the ring is full. Returns `Stored`, `Closed` or `Refused`.
     pub fn put_waiting(&mut self, item: u64, mut wait: impl FnMut()) -> Put {
         loop {
             match self.put(item) {
@@ -229,7 +229,7 @@ impl Taker {
         }
     }
 
-    /// Takes the next items under one count write, at most as many as there are places, into the first places. The others stay as they
+    /// Takes the next items with one count write, at most as many as there are elements, into the first elements. The others stay as they
     /// were.
     pub fn take_all(&mut self, into: &mut [u64]) -> TakeAll {
         let mut taken = 0;
@@ -242,18 +242,18 @@ impl Taker {
         }
     }
 
-    /// Whether a take was answered `Closed`.
+    /// Whether a take returned `Closed`.
     pub fn is_told(&mut self) -> bool {
         // SAFETY: as above.
         unsafe { ring_is_told(&mut self.0) }
     }
 
-    /// The items that are there now, up to the first take that finds none.
+    /// The items that are inside now, up to the first take that finds none.
     pub fn now(&mut self) -> Now<'_> {
         Now(self)
     }
 
-    /// All items up to the close. Each time that the ring is empty it calls `wait`.
+    /// All items up to the close. Calls `wait` each time that the ring is empty.
     pub fn wait<W: FnMut()>(&mut self, wait: W) -> Wait<'_, W> {
         Wait(self, wait)
     }
@@ -317,5 +317,5 @@ impl<W: FnMut()> Iterator for Wait<'_, W> {
     }
 }
 
-// (once a take was told `Closed`, each is)
+// (once a take has returned `Closed`, each does)
 impl<W: FnMut()> std::iter::FusedIterator for Wait<'_, W> {}

@@ -1,4 +1,4 @@
-//! The ends from Rust: what is refused, order in two threads, iterators, ends in a channel and in a struct.
+//! The ends from Rust: refused calls, order in two threads, iterators, ends in a channel and in a struct.
 use counter_ring::{open, OpenError, Put, PutAll, Putter, Shape, Take, TakeAll, Taker};
 use std::thread;
 
@@ -60,7 +60,7 @@ fn what_is_there_now_is_iterated() {
     assert!(!taker.is_told());
 }
 
-// An end in a struct of one's own, which a channel brings to another thread.
+// An end in a struct of the user's, which a channel sends to another thread.
 struct Source {
     end: Putter,
     lost: usize,
