@@ -11,6 +11,7 @@ import threading
 import time
 import urllib.parse
 
+sys.path.insert(0, os.path.join(os.path.dirname(os.path.abspath(__file__)), "..", "..", "tests"))
 sys.path.append("/usr/lib/python3/dist-packages")  # for a python3 other than Debian's, which lacks Debian's packages
 try:
     from selenium import webdriver
@@ -19,6 +20,7 @@ try:
     from selenium.webdriver.common.actions.action_builder import ActionBuilder
 except ImportError:
     sys.exit("selenium missing: on Debian, apt-get install python3-selenium")
+from counting import Counting
 
 PAGE = os.path.dirname(os.path.dirname(os.path.abspath(__file__)))
 TOP = os.path.dirname(PAGE)
@@ -26,15 +28,8 @@ EXAMPLES = os.path.join(TOP, "examples")
 TITLE = "Histories of safe bits"  # until the page has read its first text
 KEYS = {"left": "\ue012", "right": "\ue014", "up": "\ue013", "down": "\ue015", "escape": "\ue00c", "enter": "\ue007", "home": "\ue011", "end": "\ue010", "tab": "\ue004", "shift": "\ue008", "ctrl": "\ue009",
         "pageup": "\ue00e", "pagedown": "\ue00f"}
-counts = {"passed": 0, "failed": 0}
-COUNTING = threading.Lock()
-
-
-def same(what, got, want):
-    with COUNTING:
-        counts["passed" if got == want else "failed"] += 1
-    if got != want:
-        print(f"{what}: got {got!r}, want {want!r}")
+counts = Counting(most=400)
+same = counts.same
 
 
 def slack():
@@ -264,5 +259,4 @@ def outside(page):
 
 def ended():
     """Prints the last line; returns the exit status."""
-    print(f"{counts['passed']} passed, {counts['failed']} failed")
-    return counts["failed"] != 0
+    return counts.end()

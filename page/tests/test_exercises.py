@@ -13,7 +13,7 @@ def try_by_node(same, name):
         return print(f"skipped, since node is not on the PATH: {name}")
     said = subprocess.run(["node", os.path.join(PAGE, "tests", name)], capture_output=True, text=True, check=False).stdout
     passed, failed = map(int, re.search(r"(\d+) passed, (\d+) failed\n$", said).groups())
-    counts["passed"] += passed
+    counts.add(passed, 0)
     same(name, [failed, said if failed else ""], [0, ""])
 
 

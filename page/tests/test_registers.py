@@ -14,7 +14,7 @@ def test_module(_, same, __):
         return print("skipped, since node is not on the PATH: recordings of registers, by the module")
     said = subprocess.run(["node", os.path.join(PAGE, "tests", "registers.mjs")], capture_output=True, text=True, check=False)
     passed, failed = map(int, re.search(r"(\d+) passed, (\d+) failed\n$", said.stdout).groups())
-    counts["passed"] += passed
+    counts.add(passed, 0)
     same("recordings of registers, by the module", [failed, said.stdout if failed else ""], [0, ""])
 
 

@@ -213,7 +213,7 @@ def test_tie(page, same, _):
         return same("drawing and proof", found, "to be tried")
     for wrong in found["wrong"]:
         same("drawing and proof", wrong, "right")
-    counts["passed"] += found["right"]
+    counts.add(found["right"], 0)
     same("shaded reads and others", 0 < found["shaded"] < found["reads"], True)
     same("braces", found["braces"] > 40, True)
     print(f"drawing and proof: {found['reads']} reads, {found['shaded']} of them shaded, {found['held']} held values, {found['plays']} plays, {found['calls']} calls, {found['braces']} braces")
