@@ -1,9 +1,9 @@
 #!/bin/sh
-# The tests: the program on each example, what it prints and how it ends, and what it says of random histories of queues and registers; calls of the
-# system that fail; the launcher, tools/install, the packages, what is shipped for ARM64, the documents, the steps of docs/USING.md, some of record/; and
-# each #[test], with no proof of its own. The program is the one that ./lamport_ring runs: the shipped one if it is of these sources. With
-# --prove it is first built here by its proof. What cannot be tried here, for lack of the kit, of Python, of a C compiler or of qemu, is left out,
-# and the end says so, or the part itself. ./gate has the whole: every proof from nothing, the tests' too, and the mutants. The last line is
+# The tests: the program's output and exit status on each example, and what it reports of random histories of queues and registers; failing system
+# calls; the launcher, tools/install, the packages, what is shipped for ARM64, the documents, the steps of docs/USING.md, some of record/; and each #[test],
+# without its proof. The program is the one that ./lamport_ring runs: the shipped one if it was built from these sources. With --prove it is first
+# built here with its proof. What cannot be tested here, for lack of the kit, Python, a C compiler or qemu, is skipped, and the end, or the part
+# itself, says so. ./gate does everything: every proof from nothing, also those of the tests, and the mutants. The last line is
 # `N passed, M failed`.
 set -u
 name=test.sh
@@ -29,7 +29,7 @@ trap 'exit 129' HUP
 case "$*" in
 "" | --prove) ;;
 *)
-    say "./test.sh, or ./test.sh --prove"
+    say "usage: ./test.sh [--prove]"
     exit 2
     ;;
 esac
@@ -37,7 +37,7 @@ passed=0
 failed=0
 missing=
 
-# count FILE: adds what the last line of the file counts; a part without such a line has failed.
+# count FILE: adds the counts in the last line of the file; a part without such a line has failed.
 count() {
     cat "$1"
     numbers=$(tail -n 1 "$1" | sed -n 's/.*: \([0-9]*\) passed, \([0-9]*\) failed$/\1 \2/p')
@@ -47,19 +47,19 @@ count() {
     failed=$((failed + $2))
 }
 
-# lacks COMMAND WHAT: tells that this is left out where the command is not there; whether it is.
+# lacks COMMAND WHAT: whether the command is missing; if so, notes that WHAT is skipped.
 lacks() {
     ! command -v "$1" >/dev/null || return 1
     missing="$missing
-left out, as there is no $1 on the PATH: $2"
+skipped, since $1 is not on the PATH: $2"
 }
 
 ./lamport_ring "${1:---which}" >"$room/built" &
 building=$!
 trying=$building
 
-# rank_tests: gives the tests the lowest rank. Linux may rank sessions, where `nice` counts within one alone, and each run of tests
-# begins one of its own.
+# rank_tests: gives the tests the lowest priority. Linux may schedule by sessions, so that `nice` counts only within one, and each run of tests
+# starts one of its own.
 rank_tests() {
     while kill -0 "$testing" && sleep 1; do
         ps -A -o pid= -o ppid= | awk -v top="$testing" '
@@ -69,8 +69,8 @@ rank_tests() {
     done
 } 2>/dev/null
 
-# The tests need no proof. They run beside the last crates of a build, which leave processors idle, and after it in rank; in a process
-# group of their own, so that an end of this script ends them too.
+# The tests need no proof. They run beside the last crates of a build, which leave processors idle, at a lower priority; in a process
+# group of their own, so that they end with this script.
 using=
 if ! lacks rt "each #[test], the steps of docs/USING.md"; then
     using=using
@@ -83,7 +83,7 @@ if ! lacks rt "each #[test], the steps of docs/USING.md"; then
     ranking=$!
 fi
 
-# try PART..: tries the parts beside what follows.
+# try PART..: runs the parts in the background.
 tried=
 try() {
     for part in "$@"; do
@@ -93,7 +93,7 @@ try() {
     done
 }
 
-# try_after_examples PART: the same after the examples, whose runs over two threads need a processor each.
+# try_after_examples PART: the same once the examples are done, whose runs with two threads need a processor each.
 try_after_examples() {
     {
         while kill -0 "$examples"; do sleep 1; done 2>/dev/null
@@ -103,12 +103,12 @@ try_after_examples() {
     tried="$tried $1"
 }
 
-# compiler: the C compilers that are there.
+# compiler: the C compilers that are installed.
 compiler() { for each in "${CC-}" cc gcc clang; do [ -z "$each" ] || command -v "$each"; done; }
 
 # These need no program.
 # shellcheck disable=SC2086
-lacks python3 "tests of the launcher, what is for ARM64, the words of faults, the classes of registers, the documents, record/ and docs/TRUST.md" || try launcher trust $using
+lacks python3 "the tests of the launcher, of what is for ARM64, of the words of faults, of the classes of registers, of the documents, of record/ and of docs/TRUST.md" || try launcher trust $using
 if wait "$building"; then
     PROGRAM=$(./lamport_ring --which) || exit 1
     export PROGRAM
@@ -126,7 +126,7 @@ if wait "$building"; then
             try_after_examples faults
         else
             missing="$missing
-left out, as there is no C compiler on the PATH: calls of the system that fail (tests/faults)"
+skipped, since there is no C compiler on the PATH: failing system calls (tests/faults)"
         fi
     fi
 else
@@ -138,7 +138,7 @@ wait $trying
 trying=
 for part in $tried; do count "$room/$part"; done
 if [ "$testing" ]; then
-    say "the tests with no proof"
+    say "the tests without their proofs"
     wait "$testing"
     count "$room/unproved"
 fi
