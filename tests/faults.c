@@ -1,9 +1,9 @@
-/* What tests/faults has loaded before the program, by LD_PRELOAD: it makes one call of the system fail, by its kind and its number.
+/* Loaded before the program by tests/faults, with LD_PRELOAD: it makes one system call fail, given by kind and number.
 
-   FAULTS is `KIND NUMBER ERRNO`. Of alloc, read (of standard input), write (of standard output), say (a write of standard error),
-   thread and clock that call fails, with ERRNO. Of short-read, short-write and short-say it moves one byte; nothing-write and
-   nothing-say tell that none was written; kill-write writes half and then kills the process. As it ends it writes on descriptor 3 how
-   many calls of each of the first six kinds there were. */
+   FAULTS is `KIND NUMBER ERRNO`. For alloc, read (of standard input), write (to standard output), say (a write to standard error),
+   thread and clock that call fails, with ERRNO. For short-read, short-write and short-say it moves one byte; nothing-write and
+   nothing-say report that none was written; kill-write writes half and then kills the process. At its end it writes to descriptor 3
+   the number of calls of each of the first six kinds. */
 #define _GNU_SOURCE
 #include <dlfcn.h>
 #include <errno.h>
@@ -55,7 +55,7 @@ __attribute__((constructor)) static void begin(void) {
     abort();
 }
 
-/* (the program ends by this call, which runs no destructor) */
+/* (the program ends with this call, which runs no destructor) */
 void _exit(int status) {
     long counts[KINDS];
     for (int kind = 0; kind < KINDS; kind++) counts[kind] = made[kind];
@@ -63,7 +63,7 @@ void _exit(int status) {
     for (;;) syscall(SYS_exit_group, status);
 }
 
-/* Whether this call is the one. */
+/* Whether this call is the one that must fail. */
 static int is_due(int kind) {
     return atomic_fetch_add(&made[kind], 1) + 1 == number_at && kind == kind_at;
 }

@@ -1,4 +1,4 @@
-"""For the scripts in Python: which crates stand on which, what each is proved from, and the words by which the kit's rattle checks or
+"""For the scripts in Python: which crates depend on which, what each is proved from, and the arguments with which the kit's rattle checks or
 builds one over the libraries of those below it (`rattle build --help`)."""
 import functools
 import hashlib
@@ -13,7 +13,7 @@ PARTS = ("src", "specs", "proofs")
 
 @functools.lru_cache(maxsize=None)
 def listed():
-    """Returns of each crate of crates.txt whether it is a static library, and what it stands on, of the kit too."""
+    """Returns for each crate of crates.txt whether it is a static library, and what it depends on, including the kit's crates."""
     found = {}
     with open(f"{TOP}/crates.txt", encoding="utf-8") as file:
         for line in file:
@@ -24,12 +24,12 @@ def listed():
 
 
 def uses(crate):
-    """Returns the crates of the repository that the crate names."""
+    """Returns the crates of the repository on which the crate depends directly."""
     return [it for it in listed()[crate][1] if it in listed()]
 
 
 def below(crate):
-    """Returns the crates that it stands on, each after those that it stands on itself."""
+    """Returns the crates on which it depends, each after its own dependencies."""
     found = []
     for use in uses(crate):
         found += [it for it in [*below(use), use] if it not in found]
@@ -54,8 +54,8 @@ def kind(crate):
 
 
 def words(crate, libraries, is_checked=False):
-    """Returns what rattle is told of the crate, to be run in its folder. Those below it are read from libraries/NAME.rlib. Where the
-    crate is checked already, the logic is not loaded."""
+    """Returns rattle's arguments for the crate, to be run in its folder. The crates below are read from libraries/NAME.rlib. If the
+    crate is already checked, the logic is not loaded."""
     names = listed()[crate][1]
     found = ["--crate-name", crate, f"src/{'main' if kind(crate) == 'program' else 'lib'}.rt"]
     for name in ["std", *names]:
@@ -67,14 +67,14 @@ def words(crate, libraries, is_checked=False):
 
 
 def code(path):
-    """Returns the lines of the file that are code, as `code` of tools/building.sh does: neither blank nor a comment alone."""
+    """Returns the lines of the file that are code, as `code` of tools/building.sh does: neither blank nor only a comment."""
     left_out = re.compile(rb"[ \t]*(--( .*)?)?" if path.endswith(".antt") else rb"[ \t]*(//.*)?")
     with open(path, "rb") as file:
         return [line for line in file.read().split(b"\n") if not left_out.fullmatch(line)]
 
 
 def sum_of(crate):
-    """Returns a checksum of what the crate's proof is of: the code of its files and of the crates below it, and the kit."""
+    """Returns a checksum of everything that the crate's proof depends on: the code of its files and of the crates below it, and the kit."""
     found = hashlib.sha256()
     with open(f"{kit()}/KIT-ID", "rb") as file:
         found.update(file.read())

@@ -1,11 +1,11 @@
-"""For tools/counts: which statements of lemmas in proofs/, and which definitions of specs/, stand more than once.
+"""For tools/counts: which statements of lemmas in proofs/, and which definitions of specs/, occur more than once.
 
-Two statements are the same where no more differs than the names of variables, what is written `(x : A)` or `{x : A}` or has no name, and
-the names by which a file imports. The parameters of the modules around a lemma belong to its statement, if it names any of them or of
-their other items. Answers to goals, invariants of loops, fields of records, abbreviations and helpers behind `where` are no statements.
-Two definitions are the same where their signatures and their cases are.
+Two statements are the same if they differ only in the names of variables, in whether a binder is written `(x : A)` or `{x : A}` or unnamed, and
+in the names by which a file imports. The parameters of the modules around a lemma belong to its statement if it names any of them or of
+their other items. Answers to goals, invariants of loops, fields of records, abbreviations and helpers after `where` are not statements.
+Two definitions are the same if their signatures and their cases are.
 
-A place whose statement has to stand again says so in the line right above it, by a comment that begins `-- again, ` with the reason."""
+A statement that has to be repeated says so in the line directly above it, in a comment that begins `-- again, ` with the reason."""
 import collections
 import re
 
@@ -19,7 +19,7 @@ CLOSING = {"(": ")", "{": "}", "[": "]"}
 
 
 def parsed(text):
-    """Returns the words of a term as a list, in which each parenthesis with what it holds is a list of its own."""
+    """Returns the words of a term as a list, in which each parenthesized part is a list of its own."""
     stack = [[]]
     for token in TOKEN.findall(text):
         if token in CLOSING:
@@ -39,7 +39,7 @@ def words_of(tree):
 
 
 def bound_by(each):
-    """Returns the names that `(x y : A)` binds, and None of anything else."""
+    """Returns the names that `(x y : A)` binds, and None for anything else."""
     if isinstance(each, list) and each[0] in "({" and ":" in each:
         names = each[1 : each.index(":")]
         return names if all(isinstance(name, str) for name in names) else None
@@ -47,7 +47,7 @@ def bound_by(each):
 
 
 class Scope:
-    """A module within a file: the parameters of it and of those around it, and the names that these and its items have."""
+    """A module within a file: its parameters and those of the modules around it, and the names of these and of its items."""
 
     def __init__(self, depth, outer=None, parameters=""):
         self.depth, self.outer = depth, outer
@@ -59,7 +59,7 @@ class Scope:
 
 
 class Declared:
-    """A signature, where it stands, and its cases."""
+    """A signature, its place, and its cases."""
 
     def __init__(self, file, line, name, scope, signature, is_abbreviation, is_marked):
         self.file, self.line, self.name, self.scope, self.signature = file, line, name, scope, signature
@@ -69,13 +69,13 @@ class Declared:
         return f"{self.file.path}:{self.line} {self.name}"
 
     def parameters(self):
-        """Returns the parameters of the modules around it, if it names one of them or of their other items."""
+        """Returns the parameters of the modules around it if it names one of them or of their other items."""
         heads = {word.partition(".")[0] for text in [self.signature, *self.cases] for word in TOKEN.findall(text)}
         return self.scope.parameters if heads & (self.scope.all_names() - {self.name}) else ""
 
 
 class File:
-    """What a file of specs/ or proofs/ imports and declares."""
+    """The imports and declarations of a file of specs/ or proofs/."""
 
     def __init__(self, path, lines):
         self.path = path
@@ -85,7 +85,7 @@ class File:
         self.read(lines)
 
     def read(self, lines):
-        """Reads item by item, each with all that is indented below it."""
+        """Reads item by item, each with everything indented below it."""
         scopes, at = [Scope(0)], 0
         while at < len(lines):
             line, start = lines[at].rstrip(), at
@@ -123,7 +123,7 @@ class File:
         return None
 
     def import_of(self, is_pub, module, names, alias):
-        """Keeps what each name of an import means."""
+        """Records what each name of an import means."""
         if names is None:
             found = {alias or module.split(".")[-1]: module}
         else:
@@ -134,19 +134,19 @@ class File:
 
 
 def goes_on(line, depth):
-    """Returns whether the line belongs to the item above it, which begins so deep."""
+    """Returns whether the line belongs to the item above it, which begins at this depth."""
     return not line.strip() or line.startswith(" " * (depth + 1)) or line.lstrip()[0] in ")}]"
 
 
 class House:
-    """All files, by the names of their modules."""
+    """All files, by module name."""
 
     def __init__(self, files):
         self.files = {file.name: file for file in files}
         self.crates = {file.crate for file in files}
 
     def meaning(self, file, head, fields):
-        """Returns the whole name of what a word means in a file; of what the kit has, the last part alone."""
+        """Returns the full name of what a word means in a file; for the kit's items only the last part."""
         if head in file.own:
             return ".".join([file.name, head, *fields])
         whole = file.imports.get(head, head)
@@ -161,7 +161,7 @@ class House:
         return ".".join([whole if is_ours else whole.split(".")[-1], *fields])
 
     def form(self, each):
-        """Returns what is the same of a statement, or of a definition, wherever it stands; None of what is neither."""
+        """Returns the normal form of a statement or of a definition, which is the same wherever it occurs; None for anything else."""
         if "/specs/" in each.file.path:
             return repr(Form(self, each).definition()) if each.cases else None
         tree = parsed(f"{each.parameters()} {each.signature}")
@@ -173,7 +173,7 @@ class House:
 
 
 class Form:
-    """Terms, in which each variable is the number of those that are bound around it, and each other word is its whole name."""
+    """Terms in which each variable is the number of variables bound around it, and each other word is its full name."""
 
     def __init__(self, house, declared):
         self.house, self.declared, self.names_values = house, declared, False
@@ -198,7 +198,7 @@ class Form:
         return ".".join([number, *fields])
 
     def term(self, tree, outer, bound):
-        """Returns the form of a term, around which these variables are bound, by what their names mean, and so many."""
+        """Returns the form of a term; `outer` has the variables bound around it, by name, and `bound` is their number."""
         scope, said, at = dict(outer), [], 0
         while at < len(tree):
             each = tree[at]
@@ -230,7 +230,7 @@ class Form:
 
 
 def again(all_files):
-    """Returns what stands more than once, each as its places but for those that say why."""
+    """Returns what occurs more than once, each as its places except those that say why."""
     files = [File(path, lines) for path, lines in all_files.items() if path.endswith(".antt")]
     house, found = House(files), collections.defaultdict(list)
     for each in (it for file in files for it in file.declared):
