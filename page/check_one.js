@@ -42,7 +42,7 @@ function inside(mostWords) {
   };
   return {
     thrown: guarded(error => thrown(error)),
-    // Takes the construction; returns what is data of it.
+    // Takes the construction; returns its data.
     take: guarded(it => {
       if (it === null || typeof it !== "object") return '{"form":null}';
       const {values, first, readers, registers, memory, write, read} = it;
@@ -55,26 +55,26 @@ function inside(mostWords) {
       if (memory !== undefined) fields += `,"memory":${text(memory)}`;
       return `{"form":{${fields}}}`;
     }),
-    // Begins an operation: of a write its value, of a read its reader; what is remembered as text. Returns whether there is a generator.
+    // Begins an operation, given the value of a write or the reader of a read, and the memory as text. Returns whether there is a generator.
     begin: guarded((isRead, value, memory) => {
       my = parse(memory);
       run = isRead ? apply(form.read, form, [my, value]) : apply(form.write, form, [value, my]);
       return `{"isGenerator":${run !== null && run !== undefined && typeof run.next === "function"}}`;
     }),
-    // Goes on to the next access or to the end, with the answer as text; "" is none.
+    // Continues to the next access or to the end, with the answer as text; "" means none.
     next: guarded(answer => taken(answer === "" ? run.next() : run.next(parse(answer)))),
     read: name => ({does: "read", name}),
     write: (name, value) => ({does: "write", name, value}),
   };
 }
 
-// What a call of the context returned, which is text; nothing else that it may return or throw is touched.
+// The text that a call into the context returned; anything else that it may return or throw is not touched.
 function answerOf(call, ...given) {
   let said = null;
   try {
     said = call(...given);
   } catch {
-    // out of stack, say
+    // out of stack, for example
   }
   if (typeof said !== "string") throw new Wrong("the construction broke off");
   const it = JSON.parse(said);
@@ -91,7 +91,7 @@ function fill(old, now) {
   for (const [name, value] of Object.entries(now)) Object.defineProperty(old, name, {value, writable: true, enumerable: true, configurable: true});
 }
 
-// The construction of a text, with procedures that run in its context.
+// The construction in a text, with procedures that run in its context.
 function constructionOf(text) {
   const context = createContext({__proto__: null}, {codeGeneration: {strings: false, wasm: false}});
   const its = new Script(`(${inside})(${MOST_WORDS})`).runInContext(context);

@@ -1,5 +1,5 @@
 #!/usr/bin/env python3
-"""Writes the page as one file that needs no server, page/lamport_ring.html, and what page/src/index.html asks a server for, page/src/made.
+"""Writes the page as one file that needs no server, page/lamport_ring.html, and the files that page/src/index.html requests from a server, page/src/made.
 
     page/pack.py            with the module that page/build made, or else with that of the page that is there
     page/pack.py --check    writes nothing; says how the page that is there differs from what these sources give, and what a lesson lacks
@@ -19,22 +19,22 @@ MADE = os.path.join(SOURCES, "made")
 TOP = os.path.dirname(PAGE)
 EXAMPLES = os.path.join(TOP, "examples")
 SHIPPED = "lamport_ring.html"
-FIRST = ["new_old_inversion", "plain_path", "plain", "unary", "bit_always_written"]  # what each kind of text begins with
-LEFT_OUT = {  # scripts of more events or letters than a picture is for; an item that JavaScript has no number for
+FIRST = ["new_old_inversion", "plain_path", "plain", "unary", "bit_always_written"]  # the first example of each kind of text
+LEFT_OUT = {  # scripts with too many events or letters for a picture; an item that is not a JavaScript number
     "a_million_idle_letters", "a_million_letters_full", "items_999", "largest_shape"}
 STYLES = ["page", "large", "small", "print"]
-MAIN = "main.js"  # the script that begins the page
-WORKERS = ["worker.js", "lab_worker.js"]  # the scripts with which its workers begin
+MAIN = "main.js"  # the script that starts the page
+WORKERS = ["worker.js", "lab_worker.js"]  # the scripts that start its workers
 IMPORTED = re.compile(r'^import \{ ?([^}]*?) ?\} from "([^"]+)";\n', flags=re.M)
 EXPORTED = re.compile(r"^export ((?:async )?function\*? |const |class )([\w$]+)", flags=re.M)
-# What a text may be, and the ends of the names of its files.
+# The kinds of a text, and the suffixes of their files.
 MODES = {"trace": ".trace", "script": ".json", "calls": ".calls", "register": ".reg", "lab": ".js"}
 FOLDERS = {"trace": EXAMPLES, "script": EXAMPLES, "calls": os.path.join(EXAMPLES, "calls"), "register": os.path.join(EXAMPLES, "registers"),
            "lab": os.path.join(PAGE, "constructions")}
-TAUGHT = ["calls", "register"]  # of these the page has those that are lessons
-BOUND = re.compile(r"^(// \d+ writes?, \d+ reads?): .*$", flags=re.M)  # the line of a construction that names its bound, and what is found within
+TAUGHT = ["calls", "register"]  # of these kinds the page has only the texts that are lessons
+BOUND = re.compile(r"^(// \d+ writes?, \d+ reads?): .*$", flags=re.M)  # the line of a construction with its bound and the result within it
 UNTAUGHT = "Constructions"  # the chapter of the constructions that no lesson names
-# What begins each line of a lesson in lessons.txt: `play` is the link of a script that plays its story; a challenge has its goal, a hint and its own story.
+# The first word of each line of a lesson in lessons.txt: `play` is the link of a script that plays its story; a challenge has its goal, a hint and its own story.
 PARTS = {"=": "title", ">": "play", "?": "question", "!": "answer", "@": "goal", "~": "hint", ".": "story"}
 MADE_OF = re.compile(rb'<meta name="made-of" content="([^"]*)">')
 
@@ -52,13 +52,13 @@ def read(name):
 
 
 def built():
-    """The module that page/build made, and the words for what it was made of; or None."""
+    """The module that page/build made, and a description of its sources; or None."""
     names = ["src/made/ring_page.wasm", "src/made/ring_page.from"]
     return (read(names[0]), read(names[1]).decode().strip()) if all(map(has, names)) else None
 
 
 def shipped():
-    """The same of the page that is there."""
+    """The same from the existing page."""
     if not has(SHIPPED):
         return None
     page = read(SHIPPED)
@@ -67,7 +67,7 @@ def shipped():
 
 
 def sources_sum():
-    """The sum of the sources that the module is to be made of, as page/build takes it."""
+    """The checksum of the module's current sources, as page/build computes it."""
     words = '. "$top/tools/building.sh"; export LC_ALL=C; sources_sum $(crates_below ring_page)'
     return subprocess.run(["sh", "-c", words], env={**os.environ, "top": TOP}, check=True, capture_output=True, text=True).stdout.strip()
 
@@ -76,12 +76,12 @@ def sources_sum():
 
 
 def stories():
-    """What examples/README.md says of each example, without its drawings, as the page draws them: of (mode, name) the paragraphs."""
+    """What examples/README.md says about each example, by (mode, name), as paragraphs; without the drawings, since the page has its own."""
     with open(os.path.join(EXAMPLES, "README.md"), encoding="utf-8") as file:
         text = file.read()
     at, past = text.index("\n## Calls\n"), text.index("\n## Registers\n")
     runs, calls, registers = paragraphs(text[text.index("\n## Scripts\n"):at]), paragraphs(text[at:past]), paragraphs(text[past:])
-    # of lawful calls their line in the table says what they are
+    # lawful calls are described by their line in the table
     for name, words in re.findall(r"^\| `(\w+)` \| lawful: (.*) \|$", text[at:past], flags=re.M):
         calls[name] = [words[0].upper() + words[1:] + ".", *calls.get(name, [])]
     wrong = {("script", name.removeprefix("wrong/")): runs.pop(name) for name in [*runs] if name.startswith("wrong/")}
@@ -90,7 +90,7 @@ def stories():
 
 
 def heads():
-    """Of the constructions, by their names, what the comments at their heads say, but for what is found."""
+    """The header comments of the constructions, by name, without the result."""
     lines = {name: re.match(r"(?://.*\n)*", read(f"constructions/{name}.js").decode())[0].splitlines() for name in constructions()}
     return {name: [line.removeprefix("// ") for line in all_ if not BOUND.match(line)] for name, all_ in lines.items()}
 
@@ -121,12 +121,12 @@ def lesson(said, chapter, mode, name):
 
 
 def lessons():
-    """The lessons in their order."""
+    """The lessons in order."""
     return lessons_and_plays()[0]
 
 
 def lessons_and_plays():
-    """The lessons in their order, of page/lessons.txt, and the scripts that it has, by their names; an example or a construction that has no lesson
+    """The lessons of page/lessons.txt in order, and its scripts, by name; an example or a construction that has no lesson
     there comes last, without a question."""
     said, list_, plays, chapter = stories(), [], {}, ""
     for line in read("lessons.txt").decode().splitlines():
@@ -145,7 +145,7 @@ def lessons_and_plays():
             list_[-1][PARTS[kind]] = words
         elif line.strip():
             sys.exit(f"page/lessons.txt: a line begins with none of {', '.join(['#', *MODES, 'play', *PARTS])}: {line}")
-    # a construction without a story of its own has what its head says
+    # a construction without a story of its own has its header comment
     for it in list_:
         if it["mode"] == "lab" and not it["story"] and it["name"] in constructions():
             it["story"] = heads()[it["name"]]
@@ -173,8 +173,8 @@ def course():
 
 
 def examples():
-    """The files of the examples, and the list of their names; of recorded calls and registers those that are lessons. A script of examples/wrong names in
-    the page the ring that plays it; a construction does not say there what is found of it."""
+    """The files of the examples, and the list of their names; of recorded calls and registers only the lessons. A script of examples/wrong names in
+    the page the ring that plays it; a construction does not contain its result there."""
     said, files, (list_, plays) = stories(), {}, lessons_and_plays()
     listed = {**{mode: [] for mode in MODES}, "lessons": list_, "course": course()}
     taught = [(it["mode"], it["name"]) for it in listed["lessons"]]
@@ -201,7 +201,7 @@ def examples():
 
 
 def untaught(name):
-    """The lesson of a construction that page/lessons.txt does not name: what its head says."""
+    """The lesson of a construction that page/lessons.txt does not name: its header comment."""
     title, *story = heads()[name]
     return {**lesson({}, UNTAUGHT, "lab", name), "title": title, "story": story}
 
@@ -212,7 +212,7 @@ def names(mode):
 
 
 def wrong_scripts(files):
-    """Adds the scripts of examples/wrong, each with the name of its ring; and answers their names."""
+    """Adds the scripts of examples/wrong, each with the name of its ring; returns their names."""
     names = []
     for file in sorted(os.listdir(os.path.join(EXAMPLES, "wrong"))):
         name = file.removesuffix(".json")
@@ -225,7 +225,7 @@ def wrong_scripts(files):
 
 
 def lay_out():
-    """Writes the files that index.html asks a server for; returns the module and what it was made of."""
+    """Writes the files that index.html requests from a server; returns the module and the description of its sources."""
     made = built() or shipped()
     if not made:
         sys.exit("page/pack.py: there is no module: run page/build")
@@ -239,7 +239,7 @@ def lay_out():
 
 
 def imports_of(name, text):
-    """What a script imports: names, and the script that has them, by its place in page/src."""
+    """The imports of a script: the names, and the path in page/src of the script that has them."""
     found = [([*map(str.strip, names.split(","))], os.path.normpath(os.path.join(os.path.dirname(name), path))) for names, path in IMPORTED.findall(text)]
     if len(found) != len(re.findall(r"^import\b", text, flags=re.M)):
         sys.exit(f'page/src/{name}: an import is not of the form import {{ .. }} from "..";')
@@ -247,7 +247,7 @@ def imports_of(name, text):
 
 
 def scripts_of(name, found=None, above=()):
-    """The texts of the scripts that this one imports, and of those that they import, each after those that it imports itself; and of this one, last."""
+    """The texts of the scripts that this one imports, directly or indirectly, each after its own imports; and of this one, last."""
     found = {} if found is None else found
     if name in above:
         sys.exit(f"page/src/{name} imports itself: {' -> '.join([*above, name])}")
@@ -313,17 +313,17 @@ def one_file(module, made_of):
 
 
 def gaps():
-    """What the lessons lack, a line each."""
+    """What the lessons lack, one line each."""
     files = {"story": "examples/README.md", "question": "page/lessons.txt", "answer": "page/lessons.txt"}
     taught = json.loads(examples()["examples.json"])["lessons"]
     return [f"{it['mode']} {it['name']} has no {part} in {file}" for it in taught if it["chapter"] != UNTAUGHT for part, file in files.items() if not it[part]]
 
 
 def wrongs():
-    """What is wrong with the page that is there, a line each."""
+    """What is wrong with the existing page, one line each."""
     if not has(SHIPPED):
         return [f"page/{SHIPPED} is not there: run page/build"]
-    stands, kept, made = read(SHIPPED), shipped(), built()
+    present, kept, made = read(SHIPPED), shipped(), built()
     if kept is None:
         return [f"page/{SHIPPED} has no module, or does not say what it was made of: run page/build"]
     lines, module = gaps() + [f"page/src/{it} is imported by none" for it in unused()], kept[0]
@@ -332,9 +332,9 @@ def wrongs():
     if made and made[0] != module:
         lines.append(f"page/src/made/ring_page.wasm is not the module in page/{SHIPPED}: run page/build, or remove it")
     fresh = one_file(*kept)
-    if fresh != stands:
-        at = next((i for i, (a, b) in enumerate(zip(fresh, stands)) if a != b), min(len(fresh), len(stands)))
-        line = stands[:at].count(b"\n")
+    if fresh != present:
+        at = next((i for i, (a, b) in enumerate(zip(fresh, present)) if a != b), min(len(fresh), len(present)))
+        line = present[:at].count(b"\n")
         lines.append(f"page/{SHIPPED} is not what page/pack.py makes of these sources, from its line {line + 1} on, byte {at}: run page/pack.py")
     return lines
 

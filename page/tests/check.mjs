@@ -166,7 +166,7 @@ for (const [given, words] of [
 ]) same(`misuse: ${given.slice(1).join(" ")}`, checked(...given), [2, words]);
 same("an unknown option", checked(three, odd, "--all")[0], 2);
 const help = checked("--help");
-same("help", [help[0], help.join("\n").includes("node:vm is no\nsecurity boundary")], [0, true]);
+same("help", [help[0], help.join("\n").includes("node:vm is not a\nsecurity boundary")], [0, true]);
 
 rmSync(folder, {recursive: true});
 console.log(`${passed} passed, ${failed} failed`);
