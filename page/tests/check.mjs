@@ -137,10 +137,10 @@ execFileSync("mkfifo", [join(odd, "k.txt")]);
 const AGAIN = "copy it again, from kegbygone-1 to its last character";
 same("files that are no hand-ins", checked(three, odd), [
   1, "Zoë (a.txt): not met, regular: missed, in 13 steps", `b.txt: not met, this code is cut short: ${AGAIN}`, `c.txt: not met, this code is mistyped: ${AGAIN}`,
-  "Eve\\u{202e} (d.txt): not met, this is of another exercise, Another", "Zoë (e.js): not met, regular: missed, in 13 steps",
-  "f.txt: not met, this file has no code; a construction is in a file NAME.js",
-  "g.js: not met, this file is no text in UTF-8", "h.js: not met, this file has more than 1048576 bytes",
-  ...["i", "j.txt", "k.txt"].map(it => `${it}: not met, this is no regular file`), "0 met, 11 not met",
+  "Eve\\u{202e} (d.txt): not met, this is a hand-in of another exercise, Another", "Zoë (e.js): not met, regular: missed, in 13 steps",
+  "f.txt: not met, this file has no code; name a file with a construction NAME.js",
+  "g.js: not met, this file is not valid UTF-8", "h.js: not met, this file has more than 1048576 bytes",
+  ...["i", "j.txt", "k.txt"].map(it => `${it}: not met, this is not a regular file`), "0 met, 11 not met",
 ]);
 rmSync(join(odd, "e.js"));
 const [status, ...report] = checked(three, odd, "--report", "Zoë");

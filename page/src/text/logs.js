@@ -55,10 +55,10 @@ export function logRecording(log) {
   for (const [at, given] of inLines(log).replace(/^\uFEFF/, "").replace(/^\s*[[(](?=\s*[{#])/, "").split("\n").entries()) {
     if (/^[\s\])]*$/.test(given) || /^\s*;/.test(given)) continue;
     const it = operationIn(given), number = at + 1;
-    if (!it) return refused(number, "is no operation");
+    if (!it) return refused(number, "is not an operation with :process, :type, :f and :value, as JSON or EDN");
     const {process, type, f, value} = it;
     if (!/^\d+$/.test(process)) continue; // of a nemesis
-    if (!Object.hasOwn(BEGINS_OF, f)) return refused(number, `has the function ${f}: only enqueue, dequeue and close are read`);
+    if (!Object.hasOwn(BEGINS_OF, f)) return refused(number, `has the function ${f}, but only enqueue, dequeue and close are supported`);
     const [side, word] = BEGINS_OF[f], before = processes[side] ??= process;
     if (before !== process)
       return refused(number,
@@ -67,17 +67,17 @@ export function logRecording(log) {
     const isItem = /^(?:0|[1-9]\d{0,19})$/.test(value) && BigInt(value) < 2n ** 64n;
     if (type === "invoke") {
       if (open.has(side))
-        return refused(number, `begins a call of process ${process}, whose call of line ${open.get(side).number} has not ended`);
-      if (f === "enqueue" && !isItem) return refused(number, `enqueues ${value}: an item is a number below 2^64`);
+        return refused(number, `begins a call of process ${process}, but its call of line ${open.get(side).number} has not ended`);
+      if (f === "enqueue" && !isItem) return refused(number, `enqueues ${value}, but an item must be a number below 2^64`);
       open.set(side, {f, number});
       lines.push(f === "enqueue" ? `P put ${value}` : `${side} ${word}`);
       continue;
     }
-    if (open.get(side)?.f !== f) return refused(number, `ends no ${f} of process ${process}`);
+    if (open.get(side)?.f !== f) return refused(number, `ends a ${f} of process ${process}, which has none under way`);
     if (type === "info") continue; // it may take effect at any time, and never ends
     const end = ENDS_OF[f][type];
-    if (!end) return refused(number, `has the type ${type} of ${f}`);
-    if (end === "C item" && !isItem) return refused(number, `dequeues ${value}: an item is a number below 2^64`);
+    if (!end) return refused(number, `has the type ${type}, which is not supported for ${f}`);
+    if (end === "C item" && !isItem) return refused(number, `dequeues ${value}, but an item must be a number below 2^64`);
     open.delete(side);
     isEverFull ||= end === "P full";
     lines.push(end === "C item" ? `C item ${value}` : end);
