@@ -4,7 +4,7 @@
 
 static ring_calls rec;
 
-/* (of a third put nothing would be lost: it wakes who sleeps) */
+/* (with a third put nothing would be lost: it wakes the sleeper) */
 enum { CALLS = FORM == BELL ? 2 : 3 };
 
 static void produce(void) {

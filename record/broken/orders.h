@@ -1,7 +1,7 @@
-/* orders.h: small queues for one producer and one consumer in C11, of eleven usual forms, each right if BUG is 0; and 15 bugs of memory orders and of what
- * an operation may do, as such queues have had. No execution that is sequentially consistent shows 1 to 11: what the other side stored has to be seen
- * late. README.md has a table of them. -DBUG=n takes a bug, and the form that has it; -DBUG=0 -DFORM=n a form. Slots are atomic, so none is a data race,
- * but for 10, whose slot is plain. */
+/* orders.h: small queues for one producer and one consumer in C11, of eleven common forms, each correct if BUG is 0; and 15 bugs in memory orders, or in
+ * assumptions about an operation, like those found in such queues. No sequentially consistent execution shows 1 to 11: a side must see the other's stores
+ * late. README.md has a table of them. -DBUG=n selects a bug, and the form that has it; -DBUG=0 -DFORM=n a form. Slots are atomic, so none is a data race,
+ * except 10, whose slot is plain. */
 #include <pthread.h>
 #include <stdatomic.h>
 #include <stdbool.h>
@@ -50,12 +50,12 @@ enum { NONE, ITEM, CLOSED, CAPACITY = 2 };
 
 #define LOAD(word, order) atomic_load_explicit(&(word), memory_order_##order)
 #define STORE(word, value, order) atomic_store_explicit(&(word), value, memory_order_##order)
-/* An order of the right form, or `relaxed` with this bug. */
+/* The right memory order, or `relaxed` with this bug. */
 #define LOAD_BUT(bug, word, order) (BUG == (bug) ? LOAD(word, relaxed) : LOAD(word, order))
 #define STORE_BUT(bug, word, value, order) do { if (BUG == (bug)) STORE(word, value, relaxed); else STORE(word, value, order); } while (0)
 
 #if FORM == RING
-/* Counts that only grow, over slots that are atomic. Bug 1: the tail is stored relaxed. Bug 2: it is loaded so. */
+/* Counts that only grow, over atomic slots. Bug 1: the tail is stored relaxed. Bug 2: it is loaded relaxed. */
 #define HEAD_LINE "queue 2"
 static _Atomic uint64_t slot[CAPACITY], head, tail;
 
@@ -83,7 +83,7 @@ static int q_take(uint64_t *item) {
 #endif
 
 #if FORM == SEQUENCES
-/* Each slot has a number: of the put that may use it next, or one more, of the take. Bug 3: the put stores it relaxed. Bug 4: the take loads it so. */
+/* Each slot has a number: of the put that may use it next, or one more, of the take. Bug 3: the put stores it relaxed. Bug 4: the take loads it relaxed. */
 #define HEAD_LINE "queue 2"
 static struct { _Atomic uint64_t number, item; } slot[CAPACITY];
 static uint64_t put_number, take_number;
@@ -146,7 +146,7 @@ static int q_take(uint64_t *item) {
 #endif
 
 #if FORM == CACHED
-/* The consumer keeps the tail as it saw it last, and looks again only if that says empty. Bug 7: it looks again with a relaxed load. */
+/* The consumer caches the tail, and loads it again only if the cached value says empty. Bug 7: it loads it again relaxed. */
 #define HEAD_LINE "queue 2"
 static _Atomic uint64_t slot[CAPACITY], head, tail;
 static uint64_t cached;
@@ -177,8 +177,8 @@ static int q_take(uint64_t *item) {
 #endif
 
 #if FORM == CLOSES
-/* A ring that is closed: a take that finds nothing looks at the close, and then again for items. Bug 8: the close is stored relaxed. Bug 9: it is
- * loaded so. */
+/* A ring that can be closed: a take that finds nothing looks at the close, and then again for items. Bug 8: the close is stored relaxed. Bug 9: it is
+ * loaded relaxed. */
 #define HEAD_LINE "queue 2"
 #define HAS_CLOSE
 static _Atomic uint64_t slot[CAPACITY], head, tail;
@@ -214,8 +214,8 @@ static int q_take(uint64_t *item) {
 #endif
 
 #if FORM == HANDSHAKE
-/* One slot, which is plain, and two flags: a side that wants the slot raises its own and looks at the other's, as Dekker does; if that is raised it
- * gives up. Bug 10: by release and acquire, not seq_cst: each may miss the other's. */
+/* One plain slot and two flags: a side that needs the slot raises its own flag and looks at the other's, as in Dekker's algorithm; if that is raised it
+ * gives up. Bug 10: with release and acquire, not seq_cst: each may miss the other's. */
 #define HEAD_LINE "queue 0 1"
 static atomic_bool wants[2];
 static uint64_t slot;
@@ -255,8 +255,8 @@ static int q_take(uint64_t *item) {
 #endif
 
 #if FORM == BELL
-/* A ring whose consumer sleeps while it is empty: it says so, looks once more, and sleeps; the producer stores its item, and looks whether it sleeps.
- * Between the two of each side stands a fence. Bug 11: that of the producer is missing. Bug 12: the wake-up goes to nobody, since the producer looks
+/* A ring whose consumer sleeps while it is empty: it announces this, looks once more, and sleeps; the producer stores its item, and checks for a sleeper.
+ * Each side has a fence between the two. Bug 11: the producer's fence is missing. Bug 12: the wake-up is lost, since the producer checks
  * before it stores. */
 #define HEAD_LINE "queue 2"
 static _Atomic uint64_t slot[CAPACITY], head, tail;
@@ -309,7 +309,7 @@ static int q_take(uint64_t *item) {
 #endif
 
 #if FORM == CONDITION
-/* One slot under a lock, with conditions to wait for. Bug 13: the consumer does not look again after it was woken, which may be for no reason. */
+/* One slot under a lock, with condition variables. Bug 13: the consumer does not look again after a wake-up, which may be spurious. */
 #define HEAD_LINE "queue 1"
 static pthread_mutex_t lock = PTHREAD_MUTEX_INITIALIZER;
 static pthread_cond_t changes = PTHREAD_COND_INITIALIZER;
@@ -343,7 +343,7 @@ static int q_take(uint64_t *item) {
 #endif
 
 #if FORM == STATES
-/* One slot with a state, which a side changes by a weak compare-and-swap; that may fail although the state is the one expected. Bug 14: a put takes such
+/* One slot with a state, which a side changes by a weak compare-and-swap; that may fail although the state is the expected one. Bug 14: a put takes such
  * a failure for full. Bug 15: a take takes it for empty. */
 #define HEAD_LINE "queue 1"
 enum { FREE, BUSY, FULL };
@@ -355,7 +355,7 @@ static void q_reset(void) {
     STORE(slot, 0, relaxed);
 }
 
-/* Changes the state, if it is the one expected; with a bug it tries once. */
+/* Changes the state if it is the expected one; with a bug it tries only once. */
 static bool change(int expected, int wanted, bool once) {
     int seen = expected;
     while (!atomic_compare_exchange_weak_explicit(&state, &seen, wanted, memory_order_acquire, memory_order_relaxed)) {
@@ -380,7 +380,7 @@ static int q_take(uint64_t *item) {
 #endif
 
 #if FORM == NODES
-/* Nodes out of a pool, each used once, with plain items: a put links its node to the last one, a take goes on to the next. */
+/* Nodes from a pool, each used once, with plain items: a put links its node to the last one, a take advances to the next. */
 #define HEAD_LINE "queue"
 enum { POOL = 8 };
 static struct { _Atomic unsigned next; uint64_t item; } node[POOL];
@@ -414,7 +414,7 @@ static int q_take(uint64_t *item) {
 
 #if FORM == SEQLOCK
 /* One slot of two words and a number, odd while the slot is written: a take reads the number, the words, and the number again, and takes nothing if it
- * has changed. The producer writes only once the last item was taken. */
+ * has changed. The producer writes only after the last item was taken. */
 #define HEAD_LINE "queue 1"
 static _Atomic uint64_t number, taken, half[2];
 

@@ -1,4 +1,4 @@
-// ring.cpp: ring BUG CALLS SEED: records a producer's and a consumer's thread over the ring of ring.hpp with this bug, 0 for none.
+// ring.cpp: ring BUG CALLS SEED: records a producer's and a consumer's thread over the ring of ring.hpp with this bug (0: none).
 #include <cstdlib>
 #include <thread>
 #include "../include/ring_calls.hpp"
@@ -36,7 +36,7 @@ template <int BUG, class R> int record(u64 calls, u64 seed, const char* head) {
     std::thread consumer([&] {
         Random g{seed * 13 + 7};
         meet();
-        // (where the close is lost nothing tells it the end)
+        // (if the close is lost, the consumer never learns of the end)
         for (int late = 0, got = NONE; got != CLOSED && late < 100; late += over) {
             rec.take([&](auto tell) {
                 u64 v = 0;
@@ -62,6 +62,6 @@ template <int BUG = 0> int pick(int bug, u64 calls, u64 seed) {
 
 int main(int argc, char** argv) {
     if (argc == 4) return pick(atoi(argv[1]), strtoull(argv[2], nullptr, 10), strtoull(argv[3], nullptr, 10));
-    fputs("ring BUG CALLS SEED: BUG from 0, none, to 20\n", stderr);
+    fputs("usage: ring BUG CALLS SEED, with BUG from 0 (none) to 20\n", stderr);
     return 2;
 }

@@ -1,7 +1,7 @@
-// ring.hpp: a small ring for one producer and one consumer, right where BUG is 0, and 20 ways to have it wrong; README.md tells them.
+// ring.hpp: a small ring for one producer and one consumer, correct if BUG is 0, and 20 ways to get it wrong; README.md lists them.
 //
-// Its words are sequentially consistent, so each bug is one of logic, and each processor shows it. hold() waits for a while now and
-// then, as a thread does that is preempted: it widens the windows that a race needs. With -DNO_HOLD it does nothing.
+// Its words are sequentially consistent, so each bug is one of logic, and every processor shows it. hold() sometimes waits for a while,
+// like a preempted thread: it widens the windows that a race needs. With -DNO_HOLD it does nothing.
 #pragma once
 #include <atomic>
 #include <cstddef>
@@ -27,7 +27,7 @@ inline void hold(Random& g, u64 often = 16) {
 
 enum { NONE, ITEM, CLOSED };
 
-// The slots from head up to tail hold the items; one slot is kept free, so that a full ring differs from an empty one.
+// The slots from head up to tail hold the items; one slot stays free, so that a full ring differs from an empty one.
 template <int BUG> struct Ring {
     static constexpr u64 SLOTS = BUG == 5 ? 10 : 9;
     static constexpr u64 NOTHING = ~(u64)0;
@@ -54,7 +54,7 @@ template <int BUG> struct Ring {
         return true;
     }
 
-    // Stores as many as there is room for, under one move of the tail. (Bug 20 is here alone.)
+    // Stores as many as there is room for, with one move of the tail. (Bug 20 is only here.)
     size_t put_all(const u64* v, size_t m) {
         u64 t = tail, room = (head + SLOTS - t - 1) % SLOTS;
         if (m > room) m = room;
@@ -78,7 +78,7 @@ template <int BUG> struct Ring {
         return ITEM;
     }
 
-    // Nothing, then closed, then nothing once more: only then is it the end.
+    // Nothing, then closed, then nothing once more: only this is the end.
     int take(u64& v) {
         if (BUG == 12 && closed && after(head) == tail) return CLOSED;
         if (look(v) == ITEM) return ITEM;
@@ -94,7 +94,7 @@ template <int BUG> struct Ring {
     }
 };
 
-// The other usual form: counts that only grow. (Bugs 2 and 6 are here.)
+// The other common form: counts that only grow. (Bugs 2 and 6 are here.)
 template <int BUG> struct CountRing {
     static constexpr u64 CAPACITY = BUG == 6 ? 6 : 8;
     word cell[8] = {}, head{0}, tail{0}, closed{0};
@@ -126,7 +126,7 @@ template <int BUG> struct CountRing {
     void close() { closed = 1; }
 };
 
-// A count of the items inside that both sides change. (Bug 19: by a load and a store.)
+// A count of the items inside that both sides change. (Bug 19: with a load and a store.)
 struct SharedCountRing {
     word cell[8] = {}, count{0}, closed{0};
     u64 p = 0, c = 0;

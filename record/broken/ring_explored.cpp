@@ -1,4 +1,4 @@
-// ring_explored.cpp: ring_explored BUG PUTS SEED: a test for explore.h of the ring of ring.hpp with this bug, 0 for none.
+// ring_explored.cpp: ring_explored BUG PUTS SEED: a test for explore.h of the ring of ring.hpp with this bug (0: none).
 #include <cstdlib>
 #include <thread>
 #include "../include/explore.h"
@@ -33,7 +33,7 @@ template <int BUG, class R> struct Test {
         rec.close([&] { ring->close(); });
     }
 
-    // (where the close is lost nothing tells it the end)
+    // (if the close is lost, the consumer never learns of the end)
     static void consume() {
         for (u64 takes = 0, got = NONE; got != CLOSED && takes < 2 * puts_wanted + 20; takes++) {
             rec.take([&](auto tell) {
@@ -59,7 +59,7 @@ template <int BUG = 0> int pick(int bug) {
 
 int main(int argc, char** argv) {
     if (argc != 4) {
-        fputs("ring_explored BUG PUTS SEED: BUG from 0, none, to 20\n", stderr);
+        fputs("usage: ring_explored BUG PUTS SEED, with BUG from 0 (none) to 20\n", stderr);
         return 2;
     }
     puts_wanted = strtoull(argv[2], nullptr, 10);

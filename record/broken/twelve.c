@@ -19,14 +19,14 @@ static uint64_t puts_wanted = FORM == BATCHES ? 4 : FORM == NODES ? 5 : BUG == 5
 static void rest(bool stopped) { if (stopped) sched_yield(); }
 static bool goes_on(void) { return true; }
 #else
-/* Where the end is lost nothing tells it to the consumer: some takes behind the producer's end it gives up. */
+/* If the end is lost, the consumer never learns of it: it gives up after some takes after the producer's end. */
 static atomic_bool is_over;
 static bool goes_on(void) {
     static int late;
     return (late += is_over) < 1000;
 }
 
-/* Between calls a side rests for a moment, longer now and then and where it was stopped. */
+/* Between calls a side pauses for a moment, sometimes longer, and longer if it was stopped. */
 static _Thread_local uint64_t random_state;
 static void rest(bool stopped) {
     random_state ^= random_state << 13;
@@ -92,7 +92,7 @@ static void *run_consumer(void *seed) {
 
 int main(int argc, char **argv) {
     pthread_t p, c;
-    if (argc != 3) { fputs("twelve PUTS SEED\n", stderr); return 2; }
+    if (argc != 3) { fputs("usage: twelve PUTS SEED\n", stderr); return 2; }
     puts_wanted = strtoull(argv[1], NULL, 10);
     uint64_t seed = strtoull(argv[2], NULL, 10);
     if (!ring_calls_init(&rec, puts_wanted * 64 + (1 << 20))) return 2;

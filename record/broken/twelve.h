@@ -1,5 +1,5 @@
-/* twelve.h: small queues for one producer and one consumer in C11, of seven usual forms with their usual memory orders, each right where BUG
- * is 0; and 13 bugs that such queues have had. README.md tells them. -DBUG=n takes a bug, and the form that has it; -DBUG=0 -DFORM=n a form. */
+/* twelve.h: small queues for one producer and one consumer in C11, of seven common forms with their common memory orders, each correct if BUG
+ * is 0; and 13 bugs like those found in such queues. README.md lists them. -DBUG=n selects a bug, and the form that has it; -DBUG=0 -DFORM=n a form. */
 #include <linux/futex.h>
 #include <stdatomic.h>
 #include <stdbool.h>
@@ -87,7 +87,7 @@ static bool q_look(queue *q, uint64_t *item) {
 #endif
 
 #if FORM == SLOT_FREE
-/* Slots from head up to tail, one kept free. Bugs 7 and 12. */
+/* Slots from head up to tail, of which one stays free. Bugs 7 and 12. */
 enum { SLOTS = 3 };
 #define HEAD_LINE "queue 2"
 typedef struct { uint64_t slot[SLOTS]; atomic_uint head, tail; atomic_bool closed; } queue;
@@ -117,7 +117,7 @@ static bool q_look(queue *q, uint64_t *item) {
 #endif
 
 #if FORM == CACHED
-/* Each side keeps the other's count as it saw it last, and looks again where that would stop it. Bug 3. */
+/* Each side caches the other's count, and loads it again if the cached one would stop it. Bug 3. */
 enum { CAPACITY = 2 };
 #define HEAD_LINE "queue 2"
 typedef struct { uint64_t slot[CAPACITY]; _Atomic uint64_t head, tail; uint64_t seen_head, seen_tail; atomic_bool closed; } queue;
@@ -152,7 +152,7 @@ static bool q_look(queue *q, uint64_t *item) {
 #endif
 
 #if FORM == BLOCKING
-/* Both sides wait, by a futex: each change raises the count of events, and wakes the other. Bug 8. */
+/* Both sides wait on a futex: each change increments the count of events, and wakes the other. Bug 8. */
 enum { CAPACITY = 2 };
 #define HEAD_LINE "queue 2"
 typedef struct { uint64_t slot[CAPACITY]; _Atomic uint64_t head, tail; atomic_uint events; atomic_bool closed; } queue;
@@ -208,7 +208,7 @@ static void q_close(queue *q) {
 #endif
 
 #if FORM == BATCHES
-/* Puts of several items under one move of the tail, takes of one; one slot is kept free. Bug 10. */
+/* Puts of several items with one move of the tail, takes of one; one slot stays free. Bug 10. */
 enum { SLOTS = 4, BATCH = 2 };
 #define HEAD_LINE "queue 3"
 typedef struct { uint64_t slot[SLOTS]; atomic_uint head, tail; atomic_bool closed; } queue;
@@ -220,10 +220,10 @@ static void q_reset(queue *q) {
     atomic_init(&q->closed, false);
 }
 
-/* Stores as many of n as there is room for. */
+/* Stores as many of the n items as there is room for. */
 static unsigned q_put_all(queue *q, const uint64_t *items, unsigned n) {
     const unsigned tail = LOAD(q->tail), head = ACQUIRE(q->head);
-    /* in two parts, up to the last slot and from the first one on: where head is slot 0, the last slot is the one kept free */
+    /* in two parts, up to the last slot and from the first one on; if head is slot 0, the last slot is the free one */
     const unsigned parts = tail < head ? head - tail - 1 : SLOTS - tail + (head > 0 ? head - 1 : 0);
     const unsigned room = BUG == 10 ? parts : (head + SLOTS - tail - 1) % SLOTS;
     if (n > room) n = room;
@@ -242,14 +242,14 @@ static bool q_look(queue *q, uint64_t *item) {
 #endif
 
 #if FORM == NODES
-/* A list of nodes out of a pool, from which both sides take, by compare-and-swap of its top with a count of changes beside it. A take
+/* A list of nodes from a pool that both sides use, by compare-and-swap of its top, which has a count of changes beside it. A take
  * copies the item into two nodes of its own (an answer, say), so a put may find up to two nodes fewer than are free. Bug 9. */
 enum { POOL = 6 };
 #define HEAD_LINE "queue 2 4"
 typedef struct { uint64_t item; atomic_uint next, below; } node;
 typedef struct { node nodes[POOL]; _Atomic uint64_t top; unsigned first, last; atomic_bool closed; } queue;
 
-/* The count of changes, one up, where the top keeps it. */
+/* The count of changes plus one, in its position in the top. */
 static uint64_t next_count(uint64_t top) { return BUG == 9 ? 0 : ((top >> 32) + 1) << 32; }
 
 static void pool_give(queue *q, unsigned n) {
@@ -258,7 +258,7 @@ static void pool_give(queue *q, unsigned n) {
     while (!atomic_compare_exchange_weak_explicit(&q->top, &top, next_count(top) | n, memory_order_release, memory_order_relaxed));
 }
 
-/* The node on top; 0: there is none. */
+/* The node on top; 0 if there is none. */
 static unsigned pool_take(queue *q) {
     uint64_t top = ACQUIRE(q->top), rest;
     do {
@@ -317,7 +317,7 @@ static void q_reset(queue *q) {
     atomic_init(&q->closed, false);
 }
 
-/* (The halves are the same, so that a recording can have the item as one number.) */
+/* (The halves are equal, so that a recording can have the item as one number.) */
 static bool q_put(queue *q, uint64_t item) {
     const uint64_t tail = LOAD(q->tail);
     if (tail - ACQUIRE(q->head) == CAPACITY) return false;
@@ -339,7 +339,7 @@ static bool q_look(queue *q, uint64_t *item) {
 #endif
 
 #if FORM != BLOCKING
-/* Nothing, then closed, then nothing once more: only then is it the end. */
+/* Nothing, then closed, then nothing once more: only this is the end. */
 static int q_take(queue *q, uint64_t *item) {
     if (q_look(q, item)) return ITEM;
     if (!ACQUIRE(q->closed)) return NONE;

@@ -77,7 +77,7 @@ def shrink_of(recording, verdict):
     good = status == 0 and small.split(b"\n")[0] == recording.split(b"\n")[0] and words[0] == words[1] and by_program == in_process
     good = good and verdict_of(small).startswith(f"fault: line {lines}: ")
     most = recording.split(b"\n")[0].split(b" ")[-1].decode()
-    reason = f"shrink: {lines} lines: {int(most) + 1 if most.isdigit() else ''} items have to be inside, each of which has to be stored\n"
+    reason = f"shrink: {lines} lines: {int(most) + 1 if most.isdigit() else ''} items must be inside, each of which must be stored first\n"
     good = good and took < 10 and (lines <= 12 or said.startswith(reason))
     return lines, "" if good else (verdict, f"{took:.0f} s", small[:1000], said, by_program[1:])
 
@@ -119,7 +119,7 @@ def try_shrinks():
     for text, want, said in ((f"{filled}P put 7\nP full\n", "P put 7\nP full\n", "line 17: full, but at most 7 inside since line 16"),
                              (f"{filled}P put 7 8\nP short\n", "P put 7 8\nP short\n", "line 17: short for 2, but at most 7 inside since line 16")):
         head = "queue 8\n" if want.endswith("full\n") else "queue 9\n"
-        told = f"shrink: of the whole recording: {said}; record/head tells the first line that fits\n"
+        told = f"shrink: of the whole recording: {said}; record/head finds the first line that fits\n"
         seen = in_both_ways("shrink", (head + text).encode())[:2]
         check(f"shrink: {said}", all(each == ((head + want).encode(), told, 0) for each in seen), seen)
     long = b"queue 8\n" + b"".join(b"P put %d\nC take\nP stored\nC item %d\n" % (at, at) for at in range(250_000)) + b"C take\nC closed\n"
@@ -139,11 +139,11 @@ def try_heads(ring):
     filled = "".join(f"P put {at}\nP stored\n" for at in range(512))
     for text, want, said in (
         (f"queue 1 512\nP put 9\nP stored\nP put 9\nP full\nC take\nC item 9\n{filled}", "queue 1 512", "overlapped 0: "),
-        (f"queue\n{filled}", "queue 512", "no call says that the queue is full, so 512 "),
+        (f"queue\n{filled}", "queue 512", "no call reports that the queue is full, so 512 "),
         (f"cut queue 1000\n{filled}P put 9\nC take\nP full\n", "cut queue 512", "the recording is cut"),
         (f"{filled}P put 9 9 9\nP short\n", "queue 514", "each number from 512 to 514 is lawful"),
         ("queue 3\nP put 9\nP full\n", "queue 0 1", "overlapped 0: "),
-        ("queue 9\n", "queue 1", "no call says"),
+        ("queue 9\n", "queue 1", "no call reports"),
     ):
         by_program, in_process, _ = in_both_ways("head", text.encode())
         good = by_program == in_process and in_process[0] == f"{want}\n".encode() and said in in_process[1]
@@ -172,7 +172,7 @@ def try_head(text):
     # the line, and behind it lines that are not to be lawful
     if last > first:
         heads = [numbers, (first + 1, last) if last > first + 1 else (last,), *([(first, last - 1)] if last > first + 1 else [])]
-    elif "no call says that the queue is full" in in_process[1]:
+    elif "no call reports that the queue is full" in in_process[1]:
         heads = [numbers, *([(first - 1,)] if first > 1 else [])]
     else:
         heads = [numbers, (first + 1,)]
