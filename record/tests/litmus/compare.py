@@ -10,6 +10,9 @@ import sys
 import time
 
 HERE = os.path.dirname(os.path.abspath(__file__))
+sys.path.insert(0, os.path.join(HERE, "../../../tests"))
+from counting import Counting
+
 # Orders of each kind of operation, by the style of a test.
 STYLES = {
     "mixed": {"R": ("rlx", "acq", "sco"), "W": ("rlx", "rel", "sco"), "U": ("rlx", "acq", "rel", "arl", "sco"), "F": ("acq", "rel", "arl", "sco")},
@@ -68,7 +71,7 @@ def has(outcomes, weak):
 
 
 def main(litmus, axioms, count, seed):
-    dice, failed, passed, found, began = random.Random(seed), 0, 0, 0, time.monotonic()
+    dice, counts, found, began = random.Random(seed), Counting(most=10), 0, time.monotonic()
     # (more choices than any of these tests has)
     pairs = {rules: (Judge([litmus], EXPLORE_BOUND="24", EXPLORE_SECONDS="120", EXPLORE_SEQUENCES=rules), Judge([axioms, rules])) for rules in ("20", "11")}
     tests = [(name, test, weak, known, rules) for name, test, weak, known in named_tests() for rules in pairs]
@@ -82,12 +85,9 @@ def main(litmus, axioms, count, seed):
             wanted = known == "allowed" or (known.startswith("C++20 allows") and "RC11" not in known and rules == "20")
             good = good and (not is_known or has(permitted, weak) == wanted)
         found += len(permitted)
-        passed, failed = passed + good, failed + (not good)
-        if not good and failed <= 10:
-            print(f"FAILED: {name} {rules}: {test}: missing {sorted(permitted - explored)[:3]}, too many {sorted(explored - permitted)[:3]} {printed[:200]}", flush=True)
+        counts.check(good, f"{name} {rules}: {test}", f"missing {sorted(permitted - explored)[:3]}, too many {sorted(explored - permitted)[:3]} {printed[:200]}")
     print(f"{len(named_tests())} named tests and {count} random ones, {found} outcomes, {time.monotonic() - began:.1f} s")
-    print(f"{passed} passed, {failed} failed")
-    return failed > 0
+    return counts.end()
 
 
 if __name__ == "__main__":

@@ -13,24 +13,19 @@ import tempfile
 from collections import Counter
 
 HERE = os.path.dirname(os.path.abspath(__file__))
-sys.path[:0] = [HERE, os.path.join(HERE, "../../include/python")]
+sys.path[:0] = [HERE, os.path.join(HERE, "../../include/python"), os.path.join(HERE, "../../../tests")]
 import cases
 import orders
 import ring_audit
 import ring_calls
+from counting import Counting
 
 BUILD = "gcc -std=c11 -O2 -Wall -Wextra -Wpedantic -Werror"
 BATCH = 2000
-passed = failed = 0
+counts = Counting(most=10)
+check = counts.check
 # How often each end came in a run of each verdict, and each kind of words; and the verdicts.
 ends, words, verdicts = Counter(), Counter(), Counter()
-
-
-def check(what, good, seen):
-    global passed, failed
-    passed, failed = passed + bool(good), failed + (not good)
-    if not good and failed < 10:
-        print(f"FAILED: {what}: {seen}", flush=True)
 
 
 def line_of(told):
@@ -91,11 +86,11 @@ def compare(judge, runs):
     text = "".join("\n".join(run.lines) + "\n\n" for run in runs)
     ran = subprocess.run([judge], input=text, capture_output=True, text=True, check=False)
     answers = ran.stdout.splitlines()
-    check("the judge answers each", ran.returncode == 0 and len(answers) == len(runs), f"{ran.returncode}, {len(answers)}: {ran.stderr}")
+    check(ran.returncode == 0 and len(answers) == len(runs), "the judge answers each", f"{ran.returncode}, {len(answers)}: {ran.stderr}")
     for run, answer in zip(runs, answers):
         told = answer.split("\t")
         what = differs(run, told) if len(told) == 6 else "no answer"
-        check("a case", not what, "\n".join([str(what), answer, *run.lines]))
+        check(not what, "a case", "\n".join([str(what), answer, *run.lines]))
 
 
 def compare_long(judge):
@@ -108,7 +103,7 @@ def compare_long(judge):
                         ([f"P put {many}", "P stored", *wrong], "fresh\tstrict\thanded\t")):
         text = "\n".join(["queue", *(f"1 0 {line}" for line in lines), "", ""])
         ran = subprocess.run([judge], input=text, capture_output=True, text=True, check=False)
-        check("a long run", ran.stdout.startswith(want) and ran.stdout.endswith("\ttoo long\n") == (lines != calls[:8000]), ran.stdout)
+        check(ran.stdout.startswith(want) and ran.stdout.endswith("\ttoo long\n") == (lines != calls[:8000]), "a long run", ran.stdout)
 
 
 def tell(count):
@@ -121,7 +116,7 @@ def tell(count):
         print(f"{times:8} {it}")
     if count >= BATCH:
         kinds = {(side, end) for _, side, end in ends}
-        check("each end in each verdict", len(kinds) == 15 and all(ends[verdict, *kind] for verdict in ("fault", "strict") for kind in kinds), ends)
+        check(len(kinds) == 15 and all(ends[verdict, *kind] for verdict in ("fault", "strict") for kind in kinds), "each end in each verdict", ends)
 
 
 def main(count, seed, judge=None):
@@ -134,8 +129,7 @@ def main(count, seed, judge=None):
             compare(judge, [run_of(seed, number) for number in range(first, min(first + BATCH, count))])
         compare_long(judge)
     tell(count)
-    print(f"{passed} passed, {failed} failed")
-    return failed != 0
+    return counts.end()
 
 
 if __name__ == "__main__":

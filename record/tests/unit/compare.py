@@ -23,9 +23,10 @@ from collections import Counter
 
 HERE = os.path.dirname(os.path.dirname(os.path.dirname(os.path.abspath(__file__))))
 TOP = os.path.dirname(HERE)
-sys.path.insert(0, f"{HERE}/include/python")
+sys.path[:0] = [f"{HERE}/include/python", f"{TOP}/tests"]
 import ring_audit
 import ring_calls
+from counting import Counting
 
 AUDIT = shlex.split(os.environ.get("AUDIT", ""))
 if not AUDIT:
@@ -35,14 +36,8 @@ NAMES = ("put", "close", "take", "stored", "some", "full", "put_short", "put_not
          "item", "some_items", "empty", "take_short", "take_nothing", "told")
 # How often a judge tells of a recording that it has no call, where it is more than once: as it is written, too, or judged twice.
 TELLS = {"judge_rs": 2, "judge_go": 3}
-passed = failed = 0
-
-
-def check(what, good, seen):
-    global passed, failed
-    passed, failed = passed + bool(good), failed + (not good)
-    if not good and failed < 10:
-        print(f"FAILED: {what}: {seen}", flush=True)
+counts = Counting(most=10)
+check = counts.check
 
 
 def parts_of(line):
@@ -156,17 +151,17 @@ def judge_by_c(judge, recordings):
                 file.write(recording.text)
         keep = {**os.environ, "RING_AUDIT_KEEP": f"{room}/kept"}
         ran = subprocess.run([*shlex.split(judge), *names], capture_output=True, text=True, check=False, env=keep)
-        check(f"{judge} ends well", ran.returncode == 0, ran.stderr[-1000:])
+        check(ran.returncode == 0, f"{judge} ends well", ran.stderr[-1000:])
         answers = ran.stdout.split("\n\n")
-        check(f"{judge} judges each", len(answers) == len(recordings) + 1, len(answers))
+        check(len(answers) == len(recordings) + 1, f"{judge} judges each", len(answers))
         told = re.split(r"(?m)^(?=fault: |refused: )", without_full_logs(ran.stderr).split("\n", 1)[-1])[1:]
         for recording, answer in zip(recordings, answers):
-            check(f"{judge} of {recording.text[-1000:]}", answer + "\n" == recording.answer, answer)
+            check(answer + "\n" == recording.answer, f"{judge} of {recording.text[-1000:]}", answer)
             shown = "" if recording.is_lawful else told.pop(0) if told else ""
-            check(f"{judge} shows of {recording.text[-1000:]}", recording.is_shown(shown), shown)
-        check(f"{judge} tells no more", not told, told)
+            check(recording.is_shown(shown), f"{judge} shows of {recording.text[-1000:]}", shown)
+        check(not told, f"{judge} tells no more", told)
         with open(f"{room}/kept", encoding="ascii") as file:
-            check(f"{judge} keeps the last one", file.read() == [it for it in recordings if not it.is_lawful][-1].text, "another")
+            check(file.read() == [it for it in recordings if not it.is_lawful][-1].text, f"{judge} keeps the last one", "another")
 
 
 def report_of(audit, is_cut):
@@ -206,14 +201,14 @@ def judge_by_python(recordings, kept):
         with contextlib.redirect_stderr(io.StringIO()) as told:
             result = ring_audit.lawful(rec, recording.head)
         says = [f"{audit.fault() or report_of(audit, recording.is_cut)}\n" for audit in (by_kind, by_name)]
-        check(f"ring_audit.py of {recording.text[-1000:]}", says == [recording.answer] * 2, says)
+        check(says == [recording.answer] * 2, f"ring_audit.py of {recording.text[-1000:]}", says)
         lawful = len(answers) if recording.is_lawful else int(re.search(r"line (\d+)", recording.words)[1]) - 2
-        check(f"the answers of ring_audit.py of {recording.text[-1000:]}", answers == [True] * lawful + [False] * (len(answers) - lawful), answers)
+        check(answers == [True] * lawful + [False] * (len(answers) - lawful), f"the answers of ring_audit.py of {recording.text[-1000:]}", answers)
         good = bool(result) == recording.is_lawful and result.words == repr(result) == recording.words and recording.is_shown(without_full_logs(told.getvalue()))
-        check(f"lawful of ring_audit.py of {recording.text[-1000:]}", good, f"{result.words}: {told.getvalue()}")
+        check(good, f"lawful of ring_audit.py of {recording.text[-1000:]}", f"{result.words}: {told.getvalue()}")
         if not recording.is_lawful:
             with open(kept, encoding="ascii") as file:
-                check("ring_audit.py keeps it", file.read() == recording.text, recording.text)
+                check(file.read() == recording.text, "ring_audit.py keeps it", recording.text)
 
 
 def main(count, seed, *judges):
@@ -221,18 +216,17 @@ def main(count, seed, *judges):
     # Of each kind of line and of each kind of words there is one.
     kinds = Counter(parts_of(line)[0] for recording in recordings for line in recording.lines[1:])
     words = Counter(re.sub(r"\d+", "N", recording.words) for recording in recordings)
-    check("all kinds of lines", len(kinds) == len(NAMES), kinds)
+    check(len(kinds) == len(NAMES), "all kinds of lines", kinds)
     print(f"{len(recordings)} recordings, {sum(kinds.values())} lines, {words['lawful']} lawful, {len(words) - 1} kinds of words of the others")
     for judge in judges:
         judge_by_c(judge, recordings)
-        check(f"{judge} tells that there is no call", is_told_of_none(functools.partial(said_by, judge), TELLS.get(os.path.basename(judge), 1)), said_by(judge, "queue 8\n"))
-        check(f"{judge} tells that no calls overlap", is_told_alone(functools.partial(said_by, judge)), "another")
-    check("ring_audit.py tells that no calls overlap", is_told_alone(said_by_python), "another")
-    check("ring_audit.py tells that there is no call", is_told_of_none(said_by_python, 1), said_by_python("queue 8\n"))
+        check(is_told_of_none(functools.partial(said_by, judge), TELLS.get(os.path.basename(judge), 1)), f"{judge} tells that there is no call", said_by(judge, "queue 8\n"))
+        check(is_told_alone(functools.partial(said_by, judge)), f"{judge} tells that no calls overlap", "another")
+    check(is_told_alone(said_by_python), "ring_audit.py tells that no calls overlap", "another")
+    check(is_told_of_none(said_by_python, 1), "ring_audit.py tells that there is no call", said_by_python("queue 8\n"))
     with tempfile.TemporaryDirectory() as room:
         judge_by_python(recordings, f"{room}/kept")
-    print(f"{passed} passed, {failed} failed")
-    return failed != 0
+    return counts.end()
 
 
 if __name__ == "__main__":

@@ -17,6 +17,9 @@ import sys
 import tempfile
 
 TOP = os.path.dirname(os.path.dirname(os.path.dirname(os.path.dirname(os.path.abspath(__file__)))))
+sys.path.insert(0, f"{TOP}/tests")
+from counting import Counting
+
 loader = importlib.machinery.SourceFileLoader("registers", f"{TOP}/tests/registers")
 registers = importlib.util.module_from_spec(importlib.util.spec_from_loader("registers", loader))
 loader.exec_module(registers)
@@ -38,7 +41,7 @@ def cases(count, seed):
 
 
 def main(count, seed, *judges):
-    passed = failed = 0
+    counts = Counting(most=3)
     there = [(text, without_reasons(told)) for text, told in cases(int(count), seed) if registers.parsed(text)[-1] is None]
     with tempfile.TemporaryDirectory() as room:
         for at, (text, _) in enumerate(there):
@@ -48,15 +51,11 @@ def main(count, seed, *judges):
             ran = subprocess.run([*shlex.split(judge), *(str(at) for at in range(len(there)))], cwd=room, capture_output=True, text=True, check=False)
             found = re.split(r"(?<=\n)\n", ran.stdout)[:-1]
             if ran.returncode != 0 or len(found) != len(there):
-                print(f"FAILED: {judge}: status {ran.returncode} after {len(found)} of {len(there)} recordings: {ran.stderr[-1000:]}")
-                failed += 1
+                counts.check(False, judge, f"status {ran.returncode} after {len(found)} of {len(there)} recordings: {ran.stderr[-1000:]}")
                 continue
             for (text, told), it in zip(there, found):
-                passed, failed = passed + (it == told), failed + (it != told)
-                if it != told and failed < 4:
-                    print(f"FAILED: {judge}: of\n{text}it is found\n{it}and not\n{told}")
-    print(f"{passed} passed, {failed} failed")
-    return failed != 0
+                counts.check(it == told, f"{judge}: of\n{text}it finds\n{it}and not\n{told}")
+    return counts.end()
 
 
 if __name__ == "__main__":

@@ -9,6 +9,7 @@ import subprocess
 import sys
 
 import compare
+from counting import Counting
 
 CONVERT, LOGS = f"{compare.HERE}/convert", f"{compare.HERE}/tests/logs"
 LOADER = importlib.machinery.SourceFileLoader("convert", CONVERT)
@@ -41,14 +42,8 @@ WANTED = {
     "close_fails.edn": ("line 2 has the type fail, which is not supported for close", ""),
     "other_line.edn": (f"line 2 {NO_OPERATION}", ""),
 }
-passed = failed = 0
-
-
-def check(what, seen, wanted):
-    global passed, failed
-    passed, failed = passed + (seen == wanted), failed + (seen != wanted)
-    if seen != wanted:
-        print(f"FAILED: {what}: {seen!r}, not {wanted!r}", flush=True)
+counts = Counting()
+same = counts.same
 
 
 def converted(words, log=""):
@@ -65,38 +60,37 @@ def converted(words, log=""):
 
 
 def main():
-    check("each log is tested", sorted(os.listdir(LOGS)), sorted(WANTED))
+    same("each log is tested", sorted(os.listdir(LOGS)), sorted(WANTED))
     for name, (wanted, verdict) in WANTED.items():
         path = f"{LOGS}/{name}"
         text = wanted.replace("|", "\n")
-        check(name, converted([path]), (0, text, "") if verdict else (1, "", f"convert: {wanted}\n"))
+        same(name, converted([path]), (0, text, "") if verdict else (1, "", f"convert: {wanted}\n"))
         if verdict:
             found = subprocess.run(compare.AUDIT, input=text, capture_output=True, text=True, check=False).stdout
-            check(f"{name}: the audit", found.split("\n")[0], verdict)
+            same(f"{name}: the audit", found.split("\n")[0], verdict)
     with open(f"{LOGS}/lost.edn", encoding="utf-8") as file:
         log = file.read()
-    check("standard input, and a byte order mark", converted([], f"\ufeff{log}"), (0, "queue\nP put 1\nP stored\nC take\nC empty\n", ""))
-    check("carriage returns", converted([], log.replace("\n", "\r\n"))[1].count("\n"), 5)
-    check("a queue", converted(["--queue", "8", f"{LOGS}/jepsen.edn"])[1].split("\n")[0], "queue 8")
-    check("a queue of two numbers", converted(["--queue", "2 8"], log)[1].split("\n")[0], "queue 2 8")
+    same("standard input, and a byte order mark", converted([], f"\ufeff{log}"), (0, "queue\nP put 1\nP stored\nC take\nC empty\n", ""))
+    same("carriage returns", converted([], log.replace("\n", "\r\n"))[1].count("\n"), 5)
+    same("a queue", converted(["--queue", "8", f"{LOGS}/jepsen.edn"])[1].split("\n")[0], "queue 8")
+    same("a queue of two numbers", converted(["--queue", "2 8"], log)[1].split("\n")[0], "queue 2 8")
     done = subprocess.run([CONVERT], input=b"{}\n", capture_output=True, check=False)
-    check("by itself", (done.returncode, done.stdout, done.stderr), (1, b"", f"convert: line 1 {NO_OPERATION}\n".encode()))
-    check("an empty log", converted([]), (0, "queue\n", ""))
-    check("help", [converted(["--help"])[::2], converted(["-h"])[1].startswith("record/convert")], [(0, ""), True])
+    same("by itself", (done.returncode, done.stdout, done.stderr), (1, b"", f"convert: line 1 {NO_OPERATION}\n".encode()))
+    same("an empty log", converted([]), (0, "queue\n", ""))
+    same("help", [converted(["--help"])[::2], converted(["-h"])[1].startswith("record/convert")], [(0, ""), True])
     for words in (["a", "b"], ["--queue"]):
-        check(f"the command line {words}", converted(words), (2, "", "usage: record/convert [--queue B] [LOG]\n"))
+        same(f"the command line {words}", converted(words), (2, "", "usage: record/convert [--queue B] [LOG]\n"))
     for queue in ("nonsense", "0", "08", "8 8", "8 2", "1 2 3", "-1", " 8", "8\n", "8 ", "٣", f"{2**64}", f"1 {2**64}", "cut 8", "queue 8"):
         status, printed, said = converted(["--queue", queue], log)
         seen = status, printed, said.count("\n"), said.startswith(f"convert: --queue {ascii(queue)}: expected a number ")
-        check(f"the queue {queue!r}", seen, (2, "", 1, True))
+        same(f"the queue {queue!r}", seen, (2, "", 1, True))
     for queue in ("", "1", f"{2**64 - 1}", "0 1", f"0 {2**64 - 1}"):
-        check(f"the queue {queue!r}", converted(["--queue", queue], log)[:2], (0, f"queue {queue}".rstrip() + "\nP put 1\nP stored\nC take\nC empty\n"))
+        same(f"the queue {queue!r}", converted(["--queue", queue], log)[:2], (0, f"queue {queue}".rstrip() + "\nP put 1\nP stored\nC take\nC empty\n"))
     for begin in ("[", '{"a":', '{"process":0,"type":"invoke","f":"enqueue","value":' + "["):
-        check(f"nested deeply: {begin}", converted([], f"{log}{begin * 100_000}\n"), (1, "", f"convert: line 5 {NO_OPERATION}\n"))
-    check("no text", converted([], log.encode() + b"\n\xff\n"), (1, "", "convert: line 6 is not valid UTF-8\n"))
-    check("no file", converted([f"{LOGS}/none"]), (1, "", f"convert: {LOGS}/none: No such file or directory\n"))
-    print(f"{passed} passed, {failed} failed")
-    return failed != 0
+        same(f"nested deeply: {begin}", converted([], f"{log}{begin * 100_000}\n"), (1, "", f"convert: line 5 {NO_OPERATION}\n"))
+    same("no text", converted([], log.encode() + b"\n\xff\n"), (1, "", "convert: line 6 is not valid UTF-8\n"))
+    same("no file", converted([f"{LOGS}/none"]), (1, "", f"convert: {LOGS}/none: No such file or directory\n"))
+    return counts.end()
 
 
 if __name__ == "__main__":

@@ -10,17 +10,12 @@ import sys
 import tempfile
 
 import compare
+from counting import Counting
 
 HERE = compare.HERE
 MOST = 2**64 - 1
-passed = failed = 0
-
-
-def check(what, good, seen):
-    global passed, failed
-    passed, failed = passed + bool(good), failed + (not good)
-    if not good:
-        print(f"FAILED: {what}: {seen}", flush=True)
+counts = Counting()
+check = counts.check
 
 
 def verdict_of(recording):
@@ -84,14 +79,14 @@ def shrink_of(recording, verdict):
 
 def try_shrink(what, recording):
     lines, lacks = shrink_of(recording, verdict_of(recording))
-    check(what, not lacks, lacks)
+    check(not lacks, what, lacks)
     return lines
 
 
 def try_shrinks():
     """Recordings of each kind of fault; those of batches and of equal items; long ones; and what has no fault."""
     for words_of in (("queue 8", "P stored", "P stored 1", "C item"), ("cut queue 8", "P some 3", "P some 1", "C some")):
-        check("shrink of batches: 5 lines are left", (lines := try_shrink("shrink of batches", in_batches(2000, *words_of))) == 5, lines)
+        check((lines := try_shrink("shrink of batches", in_batches(2000, *words_of))) == 5, "shrink of batches: 5 lines are left", lines)
     sevens, pairs = " 7" * 1000, "".join(f"P put {at}\nC take\nP stored\nC item {at}\n" for at in range(8, 30_000))
     for text, most in (
         (f"queue 8\n{'P put 7|P stored|C take|C item 7|' * 2000}C take|C item 7\n", 7),
@@ -106,7 +101,7 @@ def try_shrinks():
         (f"queue 100\n{pairs}" + "".join(f"P put {3 * at} {3 * at + 1} {3 * at + 2}|P stored\n" for at in range(34)), 69),
     ):
         text = text.replace("|", "\n").encode()
-        check(f"shrink: {most} lines are left of {text[-100:]}", (lines := try_shrink(f"shrink of {text[-100:]}", text)) == most, lines)
+        check((lines := try_shrink(f"shrink of {text[-100:]}", text)) == most, f"shrink: {most} lines are left of {text[-100:]}", lines)
     for text in compare.texts(40, "shrink"):
         text = text.encode()
         if verdict_of(text).startswith("fault: "):
@@ -114,16 +109,16 @@ def try_shrinks():
         else:
             by_program, in_process, _ = in_both_ways("shrink", text)
             good = all(seen[0] == b"" and seen[1].startswith("shrink: ") and seen[2] == 1 for seen in (by_program, in_process))
-            check(f"shrink has nothing to do with {text[-1000:]}", good, (by_program, in_process))
+            check(good, f"shrink has nothing to do with {text[-1000:]}", (by_program, in_process))
     filled = "".join(f"P put {at}\nP stored\n" for at in range(7))
     for text, want, said in ((f"{filled}P put 7\nP full\n", "P put 7\nP full\n", "line 17: full, but at most 7 inside since line 16"),
                              (f"{filled}P put 7 8\nP short\n", "P put 7 8\nP short\n", "line 17: short for 2, but at most 7 inside since line 16")):
         head = "queue 8\n" if want.endswith("full\n") else "queue 9\n"
         told = f"shrink: of the whole recording: {said}; record/head finds the first line that fits\n"
         seen = in_both_ways("shrink", (head + text).encode())[:2]
-        check(f"shrink: {said}", all(each == ((head + want).encode(), told, 0) for each in seen), seen)
+        check(all(each == ((head + want).encode(), told, 0) for each in seen), f"shrink: {said}", seen)
     long = b"queue 8\n" + b"".join(b"P put %d\nC take\nP stored\nC item %d\n" % (at, at) for at in range(250_000)) + b"C take\nC closed\n"
-    check("shrink of a long recording", (lines := try_shrink("shrink of 1,000,003 lines", long)) == 3, lines)
+    check((lines := try_shrink("shrink of 1,000,003 lines", long)) == 3, "shrink of a long recording", lines)
 
 
 def try_heads(ring):
@@ -135,7 +130,7 @@ def try_heads(ring):
             for text in (recording, recording.split(b"\n", 1)[1], b"queue 512\n" + recording.split(b"\n", 1)[1]):
                 by_program, in_process, _ = in_both_ways("head", text)
                 good = by_program == in_process and in_process[2] == 0 and re.fullmatch(want, in_process[0])
-                check(f"head of bug {bug}, seed {seed}", good, (by_program, in_process))
+                check(good, f"head of bug {bug}, seed {seed}", (by_program, in_process))
     filled = "".join(f"P put {at}\nP stored\n" for at in range(512))
     for text, want, said in (
         (f"queue 1 512\nP put 9\nP stored\nP put 9\nP full\nC take\nC item 9\n{filled}", "queue 1 512", "overlapped 0: "),
@@ -147,13 +142,13 @@ def try_heads(ring):
     ):
         by_program, in_process, _ = in_both_ways("head", text.encode())
         good = by_program == in_process and in_process[0] == f"{want}\n".encode() and said in in_process[1]
-        check(f"head: {want}", good, (by_program, in_process))
+        check(good, f"head: {want}", (by_program, in_process))
     for text, want in (("queue 8\nC take\nC item 1\n", (b"fault: line 3: item 1 was not inside; none is next\n", "", 3)),
                        ("C take\nC item 1\n", (b"fault: line 3: item 1 was not inside; none is next\n", "", 3)),
                        ("", (b"", "head: there is no text\n", 1)), ("queue 8\nP put\n", (b"", "", 1)), ("C item 01\n", (b"", "", 1))):
         by_program, in_process, _ = in_both_ways("head", text.encode())
         good = all(seen[0] == want[0] and want[1] in seen[1] and seen[2] == want[2] for seen in (by_program, in_process))
-        check(f"head of {text}", good, (by_program, in_process))
+        check(good, f"head of {text}", (by_program, in_process))
     for text in [*compare.texts(40, "head")][::3]:
         try_head(text)
 
@@ -165,7 +160,7 @@ def try_head(text):
     if in_process[2] != 0:
         verdict = verdict_of(f"queue 0 {MOST}\n{lines}".encode())
         good = in_process[2] == (3 if verdict.startswith("fault") else 1) and in_process[0] == f"{verdict}\n".encode() * (in_process[2] == 3)
-        check(f"head of {text[-1000:]}", good and by_program[::2] == in_process[::2], (verdict, by_program, in_process))
+        check(good and by_program[::2] == in_process[::2], f"head of {text[-1000:]}", (verdict, by_program, in_process))
         return
     numbers = [int(word) for word in in_process[0].decode().removeprefix("cut ").split()[1:]]
     first, last = numbers[0], numbers[-1]
@@ -178,7 +173,7 @@ def try_head(text):
         heads = [numbers, (first + 1,)]
     verdicts = [verdict_of(f"{' '.join(map(str, ('queue', *head)))}\n{lines}".encode()) for head in heads]
     good = verdicts[0] == "lawful" and "lawful" not in verdicts[1:] and by_program == in_process
-    check(f"head of {text[-1000:]}", good, (heads, verdicts, by_program, in_process))
+    check(good, f"head of {text[-1000:]}", (heads, verdicts, by_program, in_process))
 
 
 def try_help():
@@ -186,15 +181,14 @@ def try_help():
         for words, status in (("--help", 0), ("-h", 0), ("", 2), ("--what --help", 2)):
             done = subprocess.run([f"{HERE}/{tool}", *words.split()], capture_output=True, text=True, check=False)
             used = (done.stdout, done.stderr)[status == 2].startswith(f"record/{tool} CALLS")
-            check(f"{tool} {words}", done.returncode == status and used and (status == 2) == (done.stdout == ""), done)
+            check(done.returncode == status and used and (status == 2) == (done.stdout == ""), f"{tool} {words}", done)
 
 
 def main(ring):
     try_help()
     try_shrinks()
     try_heads(ring)
-    print(f"{passed} passed, {failed} failed")
-    return failed != 0
+    return counts.end()
 
 
 if __name__ == "__main__":
