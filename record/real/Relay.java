@@ -5,7 +5,7 @@ import java.util.SplittableRandom;
 import java.util.function.Function;
 import java.util.function.Supplier;
 
-/** A producer's and a consumer's thread over a queue, recorded. It closes by a flag beside the queue, and the consumer looks once more. */
+/** A producer's and a consumer's thread over a queue, recorded. The close is a flag beside the queue, after which the consumer looks once more. */
 final class Relay {
     private static volatile boolean done;
 

@@ -1,4 +1,4 @@
-// atomic_queue.cpp: atomic_queue's queues of one producer and one consumer, and of many, here with one of each. Debian: libatomic-queue-dev
+// atomic_queue.cpp: atomic_queue's queues for one producer and one consumer, and for many, here with one of each. Debian: libatomic-queue-dev
 #include <atomic_queue/atomic_queue.h>
 #include "relay.h"
 

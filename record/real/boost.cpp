@@ -1,4 +1,4 @@
-// boost.cpp: Boost.Lockfree spsc_queue, and queue, which is one of many producers and consumers, here with one of each. Debian: libboost-dev
+// boost.cpp: Boost.Lockfree spsc_queue, and queue, which is for many producers and consumers, here with one of each. Debian: libboost-dev
 #include <boost/lockfree/queue.hpp>
 #include <boost/lockfree/spsc_queue.hpp>
 #include "relay.h"

@@ -1,5 +1,5 @@
-// cds.cpp: libcds's WeakRingBuffer, of one producer and one consumer, and some of its queues of many, here with one of each. Debian: libcds-dev.
-// A SegmentedQueue promises no order within a segment, here of 4 items: it shows as a fault.
+// cds.cpp: libcds's WeakRingBuffer, for one producer and one consumer, and some of its queues for many, here with one of each. Debian: libcds-dev.
+// A SegmentedQueue promises no order within a segment, here of 4 items: this shows up as a fault.
 #include <cds/container/msqueue.h>
 #include <cds/container/segmented_queue.h>
 #include <cds/container/vyukov_mpmc_cycle_queue.h>
@@ -21,7 +21,7 @@ static void make() {
     links = new std::remove_pointer_t<decltype(links)>;
     segments = new std::remove_pointer_t<decltype(segments)>(4);
 }
-// A thread that uses hazard pointers has to be known to the library.
+// A thread that uses hazard pointers has to be registered with the library.
 static void attach() {
     static thread_local bool is_attached;
     if (!is_attached) cds::threading::Manager::attachThread();

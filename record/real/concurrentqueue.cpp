@@ -1,5 +1,5 @@
-// concurrentqueue.cpp: moodycamel's ConcurrentQueue, of many producers and consumers, here with one of each. Debian: libconcurrentqueue-dev. Where it
-// may not grow it has one block of 32, and is full once that is written to its end, until all of it is read: `queue 1 32`.
+// concurrentqueue.cpp: moodycamel's ConcurrentQueue, for many producers and consumers, here with one of each. Debian: libconcurrentqueue-dev. If it
+// may not grow it has one block of 32, and is full from when the block is written to its end until all of it is read: `queue 1 32`.
 #include <concurrentqueue/concurrentqueue.h>
 #include "relay.h"
 

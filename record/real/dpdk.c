@@ -1,5 +1,5 @@
-/* dpdk.c: DPDK's rte_ring, as one of one producer and one consumer. Debian: libdpdk-dev. A ring of 8 slots holds 7, but where it is made
- * for exactly 8. `burst` stores as many as there is room for; `bulk` all or nothing: recorded as a burst it tells full with room. */
+/* dpdk.c: DPDK's rte_ring, for one producer and one consumer. Debian: libdpdk-dev. A ring of 8 slots holds 7, unless it is made
+ * for exactly 8. `burst` stores as many as there is room for; `bulk` all or nothing: recorded as a burst, it reports full with room. */
 #include <rte_ring.h>
 #include "relay.h"
 

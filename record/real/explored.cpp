@@ -10,7 +10,7 @@
 static constexpr int CALLS = 4;
 static ring_calls rec;
 
-// One queue, made anew for each execution.
+// A queue, constructed anew for each execution.
 template <class Q> struct One {
     static inline Q* queue = nullptr;
     static void reset() {

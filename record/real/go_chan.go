@@ -1,4 +1,4 @@
-// go_chan.go: Go's channel of capacity 8. No argument: lists its ways; NAME CALLS: writes a recording.
+// go_chan.go: Go's channel of capacity 8. No argument: lists its variants; NAME CALLS: writes a recording.
 package main
 
 import (

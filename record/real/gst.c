@@ -1,5 +1,5 @@
-/* gst.c: GStreamer's GstAtomicQueue. Debian: libgstreamer1.0-dev. It is never full. Where it grows while a take
- * rests in it, it may lose what is inside: record/hunt finds that (docs/MEASURED.md). */
+/* gst.c: GStreamer's GstAtomicQueue. Debian: libgstreamer1.0-dev. It is never full. If it grows while a take
+ * is paused in it, it may lose what is inside: record/hunt finds that (docs/MEASURED.md). */
 #include <gst/gst.h>
 #include "relay.h"
 

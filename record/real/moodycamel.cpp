@@ -1,5 +1,5 @@
-// moodycamel.cpp: moodycamel's ReaderWriterQueue and its circular buffer. Debian: libreaderwriterqueue-dev. A ReaderWriterQueue that was asked to
-// hold 8 holds 15 where it may not grow.
+// moodycamel.cpp: moodycamel's ReaderWriterQueue and its circular buffer. Debian: libreaderwriterqueue-dev. A ReaderWriterQueue made to
+// hold 8 holds 15 if it may not grow.
 #include <readerwriterqueue/readerwritercircularbuffer.h>
 #include <readerwriterqueue/readerwriterqueue.h>
 #include "relay.h"

@@ -1,4 +1,4 @@
-/* portaudio.c: PortAudio's ring buffer. Debian: portaudio19-dev has it in libportaudio.a and no header for it: what is called here is declared as in
+/* portaudio.c: PortAudio's ring buffer. Debian: portaudio19-dev has it in libportaudio.a but has no header for it: the functions called here are declared as in
  * pa_ringbuffer.h of its source. All of its 8 elements are used. */
 #include "relay.h"
 

@@ -1,5 +1,5 @@
-/* posix.c: a message queue and a pipe of the system's kernel. Nothing is to be installed. The pipe has one page, 512 items of 8 bytes; it is full
- * once the page is written to its end, until all of it is read, so with as few as one item inside: `queue 1 512`. */
+/* posix.c: a message queue and a pipe of the kernel. Nothing needs to be installed. The pipe has one page, 512 items of 8 bytes; it is full
+ * from when the page is written to its end until all of it is read, so with as few as one item inside: `queue 1 512`. */
 #define _GNU_SOURCE
 #include <fcntl.h>
 #include <mqueue.h>

@@ -1,5 +1,5 @@
 """python_std.py: queue.Queue, queue.SimpleQueue and collections.deque of CPython. No argument: lists them; NAME CALLS: writes a recording.
-A deque of a greatest length drops its oldest item where it is full, and says nothing: no queue of this kind."""
+A deque with a maximum length silently drops its oldest item when it is full: it is not such a queue."""
 import collections
 import os
 import queue
@@ -11,7 +11,7 @@ import time
 sys.path.insert(0, os.path.join(os.path.dirname(os.path.dirname(os.path.abspath(__file__))), "include", "python"))
 import ring_calls
 
-# How each is made, its first line, the names of its put and take, what the audit is to say.
+# How each is made, its first line, the names of its put and take, the expected verdict of the audit.
 QUEUES = {
     "python_queue": (lambda: queue.Queue(8), "queue 8", "put_nowait", "get_nowait", "lawful"),
     "python_simple_queue": (queue.SimpleQueue, "queue", "put", "get_nowait", "lawful"),
@@ -46,7 +46,7 @@ def consume(rec, take, done):
     pick, told = random.Random(2), False
     while not told:
         rec.take()
-        was_done = done.is_set()  # before the look: what is not found then is not to come
+        was_done = done.is_set()  # before the look: if it is set, nothing more will come
         try:
             rec.item(take())
             rest(pick, False)

@@ -1,4 +1,4 @@
-/* qb.c: libqb's ring of chunks in shared memory, with a semaphore that counts them, and without. Debian: libqb-dev. The smallest one has a page, in
+/* qb.c: libqb's ring of chunks in shared memory, with and without a semaphore that counts them. Debian: libqb-dev. The smallest one has a page, in
  * which a chunk of 8 bytes takes 16, and the last one is not used: it holds 255. */
 #include <qb/qbrb.h>
 #include <unistd.h>

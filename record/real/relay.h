@@ -1,24 +1,24 @@
 /* relay.h: a producer's and a consumer's thread over a queue, recorded. Each program of this folder has a table of its queues and
- * ends in relay_main: with no argument it lists their names, each with what the audit is to say; NAME CALLS writes a recording.
+ * ends in relay_main: with no argument it lists their names, each with the expected verdict of the audit; NAME CALLS writes a recording.
  *
- * The producer puts 0, 1, 2, .., in so many calls, and closes: a flag beside the queue, as these queues have no close. The consumer takes
- * until it finds nothing, then the flag set, then nothing once more: told closed. Both rest for a moment now and then. */
+ * The producer puts 0, 1, 2, .., in CALLS calls, and closes: by a flag beside the queue, since these queues have no close. The consumer takes
+ * until it finds nothing, then the flag set, then nothing once more: this is recorded as closed. Both sometimes pause for a moment. */
 #include <pthread.h>
 #include <sched.h>
 #include "ring_calls.h"
 
 typedef struct {
     const char *name, *head;
-    const char *verdict;                                /* NULL: lawful; else how its fault's words begin, numbers left out */
+    const char *verdict;                                /* NULL: lawful; else the beginning of its fault's words, without numbers */
     void (*make)(void);
     int (*put)(uint64_t item);                          /* whether it was stored */
-    int (*take)(uint64_t *item);                        /* 1 an item, 0 empty, 2 nothing is said */
-    size_t (*put_all)(const uint64_t *items, size_t n); /* how many were stored; NULL: one by one */
+    int (*take)(uint64_t *item);                        /* 1: an item; 0: empty; 2: no reason given */
+    size_t (*put_all)(const uint64_t *items, size_t n); /* the number stored; NULL: one by one */
     size_t (*take_all)(uint64_t *items, size_t n);
-    int ends;                                           /* how its calls of several items end: one of those below */
+    int ends;                                           /* how its calls for several items end: one of those below */
 } relay_queue;
 
-/* As many as there is room for, or are inside; all or none; perhaps fewer, and it does not say why. */
+/* As many as there is room for, or are inside; all or none; possibly fewer, with no reason given. */
 enum { RELAY_AS_MANY, RELAY_ALL_OR_NONE, RELAY_SOME };
 
 enum { RELAY_BATCH = 5 };
@@ -60,7 +60,7 @@ static inline void *relay_producer(void *unused) {
     return unused;
 }
 
-/* A look: how many items came, or -1 where nothing is said. */
+/* A look: the number of items that came, or -1 if no reason is given. */
 static inline long relay_look(uint64_t *items, size_t n) {
     int one;
     if (relay_q->take_all) return (long)relay_q->take_all(items, n);
@@ -74,7 +74,7 @@ static inline void *relay_consumer(void *unused) {
     for (;;) {
         uint64_t items[RELAY_BATCH];
         int all_or_none = relay_q->ends == RELAY_ALL_OR_NONE, is_done = (int)RING_CALLS_STD(atomic_load)(&relay_done);
-        /* (a take of all or nothing that is to be told closed has to ask for one) */
+        /* (a take of all or nothing that may be recorded as closed has to ask for one) */
         size_t n = relay_q->take_all && !(is_done && all_or_none) ? 1 + relay_random(&g) % RELAY_BATCH : 1;
         long m;
         all_or_none = all_or_none && n > 1;
@@ -85,7 +85,7 @@ static inline void *relay_consumer(void *unused) {
             m = relay_look(items, n);
             if (m == 0) { ring_calls_told(&relay_rec); return unused; }
         }
-        /* (one of all or nothing that is closed meanwhile may not call itself short where nothing is inside) */
+        /* (a take of all or nothing must not be recorded as short if the queue is closed meanwhile and nothing is inside) */
         if (m < 0 || (is_done && all_or_none)) ring_calls_take_nothing(&relay_rec);
         else if (m == 0 && all_or_none) ring_calls_take_short(&relay_rec);
         else if (m > 0 && relay_q->ends == RELAY_SOME) ring_calls_some_items(&relay_rec, items, (size_t)m);
@@ -102,13 +102,13 @@ static inline int relay_main(int argc, char **argv, const relay_queue *queues, s
     if (argc < 3) return argc != 1;
     relay_calls = strtoull(argv[2], NULL, 10);
     if (!relay_q || !ring_calls_init(&relay_rec, (size_t)relay_calls * 24 + 4096)) {
-        fprintf(stderr, "%s: no such queue, or no memory\n", argv[1]);
+        fprintf(stderr, "%s: no such queue, or out of memory\n", argv[1]);
         return 2;
     }
     relay_q->make();
     pthread_t p, c;
     if (pthread_create(&p, NULL, relay_producer, NULL) || pthread_create(&c, NULL, relay_consumer, NULL)) {
-        fprintf(stderr, "%s: no thread\n", argv[1]);
+        fprintf(stderr, "%s: cannot create a thread\n", argv[1]);
         return 2;
     }
     pthread_join(p, NULL);

@@ -1,7 +1,7 @@
 //! relay.rs: a producer's and a consumer's thread over a queue, recorded, as in relay.h. A program has a table of its queues and ends in `relay`:
-//! with no argument it lists their names, each with what the audit is to say; NAME CALLS writes a recording.
+//! with no argument it lists their names, each with the expected verdict of the audit; NAME CALLS writes a recording.
 //!
-//! The producer puts 0, 1, 2, .., in so many calls, and closes; the consumer takes until it is told. Both rest for a moment now and then.
+//! The producer puts 0, 1, 2, .., in CALLS calls, and closes; the consumer takes until it finds the queue closed. Both sometimes pause for a moment.
 #![allow(dead_code)]
 #[path = "../include/rust/ring_calls.rs"]
 mod ring_calls;
@@ -14,11 +14,11 @@ use std::thread;
 /// How a take ended.
 pub enum Took { Item(u64), Empty, Closed }
 
-/// A put answers whether the item was stored; where it is dropped the queue is closed.
+/// A put returns whether the item was stored; dropping it closes the queue.
 pub type Put = Box<dyn FnMut(u64) -> bool + Send>;
 pub type Take = Box<dyn FnMut() -> Took + Send>;
 
-/// The name of a queue; the first line of its recording; `lawful`, or how the words of its fault begin, numbers left out; what makes it.
+/// The name of a queue; the first line of its recording; `lawful`, or the beginning of its fault's words, without numbers; its constructor.
 pub struct Queue(pub &'static str, pub &'static str, pub &'static str, pub fn() -> (Put, Take));
 
 pub fn ends(put: impl FnMut(u64) -> bool + Send + 'static, take: impl FnMut() -> Took + Send + 'static) -> (Put, Take) {
@@ -31,7 +31,7 @@ impl Drop for SetAtDrop {
     fn drop(&mut self) { self.0.store(true, SeqCst) }
 }
 
-/// The ends of a queue that has no close: a flag beside it. The consumer is told closed where it finds nothing, then the flag set, then
+/// The ends of a queue that has no close: with a flag beside it. The consumer finds it closed if it finds nothing, then the flag set, then
 /// nothing once more.
 pub fn flagged_ends(
     mut put: impl FnMut(u64) -> bool + Send + 'static, mut take: impl FnMut() -> Option<u64> + Send + 'static,

@@ -1,8 +1,8 @@
 //! rust_crates.rs: queues of crates that Debian packages. Debian: cargo librust-crossbeam-channel-dev librust-crossbeam-queue-dev
 //! librust-concurrent-queue-dev librust-async-channel-dev librust-flume-dev librust-tokio-dev librust-futures-channel-dev
 //!
-//! A channel is closed where its sender is dropped; a crossbeam queue has a flag beside it. The bounded channel of futures holds one more for each
-//! sender than it was asked for, and may call itself full with one inside: `queue 1 9`. A channel of 0 has an item only while it is handed over.
+//! A channel is closed when its sender is dropped; a crossbeam queue has a flag beside it. The bounded channel of futures holds one more per
+//! sender than its capacity, and may report full with one inside: `queue 1 9`. A channel of capacity 0 has an item only while it is handed over.
 mod relay;
 use relay::{Put, Queue, Take, Took, ends, flagged_ends, relay};
 use std::sync::Arc;
@@ -48,7 +48,7 @@ fn crossbeam_unbounded() -> (Put, Take) {
     ends(move |item| sender.try_send(item).is_ok(), try_take!(receiver, crossbeam_channel::TryRecvError::Empty))
 }
 
-// Its close is its own: where the put is dropped.
+// It has a close of its own, called when the put is dropped.
 struct Closes(Arc<concurrent_queue::ConcurrentQueue<u64>>);
 
 impl Drop for Closes {

@@ -1,4 +1,4 @@
-//! rust_std.rs: std's `sync_channel` and `channel`, which are closed where the sender is dropped.
+//! rust_std.rs: std's `sync_channel` and `channel`, which are closed when the sender is dropped.
 mod relay;
 use relay::{Put, Queue, Take, Took, ends, relay};
 use std::sync::mpsc::{Receiver, TryRecvError, channel, sync_channel};

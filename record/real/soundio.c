@@ -1,4 +1,4 @@
-/* soundio.c: libsoundio's ring buffer of bytes. Debian: libsoundio-dev. Asked for 64 bytes it takes a page, 512 items of 8 bytes, mapped twice in a
+/* soundio.c: libsoundio's ring buffer of bytes. Debian: libsoundio-dev. Asked for 64 bytes, it takes a page, 512 items of 8 bytes, mapped twice in a
  * row, so that no batch wraps. */
 #include <soundio/soundio.h>
 #include "relay.h"

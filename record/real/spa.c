@@ -1,4 +1,4 @@
-/* spa.c: the ring buffer of PipeWire's SPA, two indices beside a memory of yours. Debian: libspa-0.2-dev. All of its 64 bytes are used. */
+/* spa.c: the ring buffer of PipeWire's SPA: two indexes for memory of the caller's. Debian: libspa-0.2-dev. All of its 64 bytes are used. */
 #include <spa/utils/ringbuffer.h>
 #include "relay.h"
 

@@ -1,4 +1,4 @@
-// tbb.cpp: oneTBB's concurrent_bounded_queue, of many producers and consumers, here with one of each. Debian: libtbb-dev
+// tbb.cpp: oneTBB's concurrent_bounded_queue, for many producers and consumers, here with one of each. Debian: libtbb-dev
 #include <tbb/concurrent_queue.h>
 #include "relay.h"
 

@@ -1,11 +1,11 @@
-/* zmq.c: a pair of ZeroMQ's sockets in one process. Debian: libzmq3-dev. Two high-water marks of 4 make 8. A sender that does not wait hears late of
- * what was received, and may call itself full with nothing inside: `queue 0 8`; as any other queue it tells full with room. */
+/* zmq.c: a pair of ZeroMQ sockets in one process. Debian: libzmq3-dev. Two high-water marks of 4 make 8. A sender that does not wait learns late of
+ * what was received, and may report full with nothing inside: `queue 0 8`; described otherwise, it reports full with room. */
 #include <errno.h>
 #include <zmq.h>
 #include "relay.h"
 
 static void *sender, *receiver;
-/* (a call that a signal ended did nothing) */
+/* (a call that a signal interrupted did nothing) */
 static void *socket_of(void *context, int (*join)(void *, const char *)) {
     void *s = zmq_socket(context, ZMQ_PAIR);
     int mark = 4, good = s && !zmq_setsockopt(s, ZMQ_SNDHWM, &mark, sizeof mark) && !zmq_setsockopt(s, ZMQ_RCVHWM, &mark, sizeof mark);
