@@ -152,8 +152,8 @@ class Orders:
         self.check("explore --part", status == 0 and "This holds of this part of the executions, " in printed, (status, printed))
         status, printed = self.explore("broken/orders.c -- -DFORM=7", "--jobs 4")
         self.check("explore --jobs: what it means", status == 0 and "This holds of this test, " in printed, (status, printed))
-        for words, wanted in (("--jobs 0 x.c", "--jobs needs a number from 1"), ("--bound x x.c", "invalid int value: 'x'"), ("--what x.c", "--what"),
-                              ("--jobs 2 --part 1/2 x.c", "it goes without --part"), ("--orders --jobs 2 x.c", "--orders goes without --jobs"),
+        for words, wanted in (("--jobs 0 x.c", "--jobs needs a whole number from 1"), ("--bound x x.c", "invalid int value: 'x'"), ("--what x.c", "--what"),
+                              ("--jobs 2 --part 1/2 x.c", "it cannot be combined with --part"), ("--orders --jobs 2 x.c", "--orders cannot be combined with --jobs"),
                               ("--junit /nowhere/x.xml tests/late.c", "explore: /nowhere/x.xml: No such file or directory")):
             status, printed = self.explore(words)
             self.check(f"explore {words}", status == 2 and wanted in printed, (status, printed))

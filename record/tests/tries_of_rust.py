@@ -30,16 +30,16 @@ MPSC_WAITS = (0, LAWFUL), (2, NOT_SEEN.format("producer", "WaitToken::wait"))
 OF_CRATES = ("array_queue", "seg_queue", "concurrent_queue", "crossbeam_channel", "futures_channel")
 # What cannot be built: variables, the words of the command line, what is said.
 REFUSED = (
-    ("RUSTC=no_rustc", "rust/ring.rs", "no_rustc: No such file or directory: a test in Rust needs rustc 1.63 or newer (Debian: apt-get install rustc); RUSTC=.. takes another"),
-    ("RUSTC=$ROOM/old_rustc", "rust/ring.rs", "rustc 1.48 is too old: a test in Rust needs 1.63 or newer; RUSTC=.. takes another"),
+    ("RUSTC=no_rustc", "rust/ring.rs", "no_rustc: No such file or directory: a test in Rust needs rustc 1.63 or newer (Debian: apt-get install rustc); set RUSTC=.. for another one"),
+    ("RUSTC=$ROOM/old_rustc", "rust/ring.rs", "rustc 1.48 is too old: a test in Rust needs 1.63 or newer; set RUSTC=.. for another one"),
     ("RUSTC=$ROOM/other_rustc", "rust/ring.rs", "$ROOM/other_rustc makes programs for aarch64-apple-darwin: explore needs x86_64-unknown-linux-gnu"),
-    ("CC=no_cc", "rust/ring.rs", "no_cc: not found: a test in Rust is linked by it (Debian: apt-get install gcc); CC=.. takes another"),
-    ("LIBRARY=/nowhere", "rust/ring.rs", "/nowhere/libring_audit.a: there is no such file; LIBRARY=FOLDER takes that of another folder"),
-    ("", "nowhere.rs", "nowhere.rs: there is no such file"),
-    ("", "rust/ring.rs queue=nowhere/src/lib.rs:std", "nowhere/src/lib.rs: there is no such file or folder"),
-    ("", "rust/ring.rs rust/nodes.rs", "rust/nodes.rs: a crate is given as NAME=rust/nodes.rs, or by its folder; a module of the test is named in the test alone, as `mod nodes;`"),
-    ("", "rust/ring.rs rust", "rust: there is no Cargo.toml: give NAME=FILE for a crate without one"),
-    ("", "explore_test.c rust/ring.rs", "explore_test.c: a test in Rust is named first, then the crates that it needs"),
+    ("CC=no_cc", "rust/ring.rs", "no_cc: not found, but it is needed to link a test in Rust (Debian: apt-get install gcc); set CC=.. for another one"),
+    ("LIBRARY=/nowhere", "rust/ring.rs", "/nowhere/libring_audit.a: no such file; set LIBRARY=FOLDER for another folder"),
+    ("", "nowhere.rs", "nowhere.rs: no such file"),
+    ("", "rust/ring.rs queue=nowhere/src/lib.rs:std", "nowhere/src/lib.rs: no such file or folder"),
+    ("", "rust/ring.rs rust/nodes.rs", "rust/nodes.rs: give a crate as NAME=rust/nodes.rs, or by its folder; a module of the test is named only in the test, as `mod nodes;`"),
+    ("", "rust/ring.rs rust", "rust: no Cargo.toml: give NAME=FILE for a crate without one"),
+    ("", "explore_test.c rust/ring.rs", "explore_test.c: give the test in Rust first, then the crates that it needs"),
 )
 
 

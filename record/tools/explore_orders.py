@@ -1,10 +1,10 @@
-"""explore_orders.py: for record/explore --orders: of each atomic access and each fence of a test the weakest memory order with which nothing goes wrong.
+"""explore_orders.py: for record/explore --orders: finds for each atomic access and fence of a test the weakest memory order with which nothing goes wrong.
 
-The test is compiled once: the explorer is told each order as the code is run, and takes another one in its place (EXPLORE_ORDERS). Each order is
-lowered alone, and then all of them together: one after the other, each as far as it goes with those before it as they are by then, so that in
-the end none can be lowered further. What goes wrong is a fault, a hang, a crash, a data race, a use after free, or a load that may come late
-(EXPLORE_LATE), which hardware other than x86 has. Weaker orders permit more executions; so what is known of some orders is known of weaker or of
-stronger ones, and is not explored again."""
+The test is compiled once: the explorer sees each order when the code runs, and replaces it (EXPLORE_ORDERS). First each order is lowered
+alone, and then all of them together: one after the other, each as far as possible given those lowered before it, so that in
+the end none can be lowered further. What can go wrong is a fault, a hang, a crash, a data race, a use after free, or a load that may be delayed
+(EXPLORE_LATE), as on hardware other than x86. Weaker orders permit more executions, so a result for some orders carries over to weaker or
+stronger ones, which are not explored again."""
 import collections
 import json
 import os
@@ -15,16 +15,16 @@ import time
 
 import explore_parts
 
-# As weak as this one or weaker.
+# The orders as weak as this one or weaker.
 WEAKER = {"relaxed": {"relaxed"}, "acquire": {"relaxed", "acquire"}, "release": {"relaxed", "release"},
           "acq_rel": {"relaxed", "acquire", "release", "acq_rel"}, "seq_cst": {"relaxed", "acquire", "release", "acq_rel", "seq_cst"}}
-# What an access of a kind may have, the weakest first. A fence that is relaxed is none.
+# The orders that an access of a kind may have, weakest first. A relaxed fence is no fence.
 ORDERS = {"load": ("relaxed", "acquire", "seq_cst"), "store": ("relaxed", "release", "seq_cst"), "failure": ("relaxed", "acquire", "seq_cst"),
           "update": ("relaxed", "acquire", "release", "acq_rel", "seq_cst"), "fence": ("relaxed", "acquire", "release", "acq_rel", "seq_cst")}
 NAMES = {"failure": "failing compare-and-swap", "update": "read-modify-write"}
-# A place in the text: where it stands, what it does, the order there, and its addresses in the program (a line may have several).
+# A site in the text: its place, what it does, its order, and its addresses in the program (a line may have several).
 Site = collections.namedtuple("Site", "place what order at")
-# What goes wrong: in words, and the schedule of an execution that shows it.
+# What goes wrong: the words, and the schedule of an execution that shows it.
 Found = collections.namedtuple("Found", "words schedule")
 
 
@@ -37,7 +37,7 @@ def name_of(order, what):
 
 
 def short(words):
-    """A finding without what its schedule shows: `data race at slot+8 (my.c:10 and my.c:13)`."""
+    """A short form of a finding, without what the schedule shows: `data race at slot+8 (my.c:10 and my.c:13)`."""
     race = re.match(r"(data race|use after free): .*? at (\S+|block \S+|the stack of the \S+) \((.*?)\), which .*? \((.*?)\)", words)
     return f"{race[1]} at {race[2]} ({race[3]}, {race[4]})" if race else words
 
@@ -49,7 +49,7 @@ class Search:
         self.report = {}
 
     def call(self, **more):
-        """Explores once: its status, what it printed, and its report."""
+        """Explores once; returns the status, the output and the report."""
         path = f"{self.room}/orders.json"
         if os.path.exists(path):
             os.remove(path)
@@ -62,7 +62,7 @@ class Search:
             return done.returncode, done.stdout + done.stderr, {}
 
     def read_sites(self):
-        """Explores the test with the orders of its text; status and text if that cannot be done."""
+        """Explores the test with the orders of its text; returns status and output if that is not possible."""
         status, text, self.report = self.call(EXPLORE_SITES="1")
         found = {}
         for at, what, order, place in re.findall(r"(?m)^site (\w+!?) (\w+) (\w+) (.*)$", text):
@@ -101,7 +101,7 @@ class Search:
         return None
 
     def alone(self, orders, i):
-        """Of the site i each order below its own that had to be tried, with what goes wrong: up to the weakest ones that suffice."""
+        """For site i, each order below its own that had to be tried, with what goes wrong: up to the weakest ones that suffice."""
         tried, enough = [], []
         for order in ORDERS[self.sites[i].what]:
             if order == orders[i] or not at_most(order, orders[i]) or any(at_most(it, order) for it in enough):
@@ -120,7 +120,7 @@ class Search:
         return orders
 
     def below(self, orders, i):
-        """What goes wrong with the orders next below that of the site i."""
+        """What goes wrong with the orders just below that of site i."""
         less = [it for it in ORDERS[self.sites[i].what] if it != orders[i] and at_most(it, orders[i])]
         nearest = [it for it in less if not any(it != other and at_most(it, other) for other in less)]
         return [(it, self.outcome([*orders[:i], it, *orders[i + 1:]])) for it in nearest]
@@ -145,7 +145,7 @@ def print_set(search, orders, wide):
 
 
 def search(program, name, env, room):
-    """Prints what it finds; 0 if there are orders that suffice, 3 if the text's own do not, 2 if the test cannot be explored."""
+    """Prints what it finds; returns 0 if the orders of the text suffice, 3 if they do not, 2 if the test cannot be explored."""
     it, began = Search(program, env, room), time.monotonic()
     status, text = it.read_sites()
     if status == 2 or not it.sites:

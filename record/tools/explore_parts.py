@@ -1,7 +1,7 @@
-"""explore_parts.py: for record/explore: a test in several processes, each of which makes a part of the executions, and a report for JUnit.
+"""explore_parts.py: for record/explore: runs a test in several processes, each of which makes a part of the executions, and writes a JUnit report.
 
-Each part learns from its executions which memory both sides touch. If one has learned more than the rest, all parts are made again with what
-each knows, since there are more places then at which a side may be preempted: so the parts together are all executions, each once."""
+Each part learns from its executions which memory both sides touch. If one part has learned more than the others, all parts are repeated with the
+combined knowledge, since a side may then be preempted at more places: so the parts together make every execution exactly once."""
 import json
 import os
 import subprocess
@@ -22,7 +22,7 @@ def known_of(path):
 
 
 class Part:
-    """The Kth of N parts, under way: what it prints goes into a file."""
+    """The Kth of N parts, running: its output goes to a file."""
 
     def __init__(self, program, env, room, number, parts):
         self.report, self.known, self.printed = (f"{room}/{name}.{number}" for name in ("report", "known", "printed"))
@@ -36,8 +36,8 @@ class Part:
         with open(self.printed, encoding="utf-8", errors="replace") as file:
             return file.read()
 
-    def told(self):
-        """What its report says; nothing if it has written none, as after a crash."""
+    def contents(self):
+        """The contents of its report; empty if it has written none, as after a crash."""
         try:
             with open(self.report, encoding="utf-8") as file:
                 return json.load(file)
@@ -46,7 +46,7 @@ class Part:
 
 
 def run_once(program, env, room, parts):
-    """Runs all parts, and ends them as soon as one has found something: that one, or None, and all of them."""
+    """Runs all parts, and stops them as soon as one has found something: returns that one, or None, and all of them."""
     all_parts = [Part(program, env, room, number, parts) for number in range(1, parts + 1)]
     found, waiting = None, list(all_parts)
     while waiting and not found:
@@ -61,7 +61,7 @@ def run_once(program, env, room, parts):
 
 
 def union(all_parts):
-    """What the parts know as shared, if they do not know the same; else nothing."""
+    """The union of the memory that the parts know as shared, if they differ; else empty."""
     known = [known_of(part.known) for part in all_parts]
     merged = {}
     for line in (line for one in known for line in one):
@@ -73,10 +73,10 @@ def union(all_parts):
 
 
 def merge(all_parts, seconds):
-    told = [part.told() for part in all_parts]
-    whole = {name: sum(one.get(name, 0) for one in told) for name in SUMS}
-    whole.update({name: max(one.get(name, 0) for one in told) for name in GREATEST})
-    whole.update(seconds=seconds, whole=all(one.get("whole") for one in told), closes=any(one.get("closes") for one in told))
+    reports = [part.contents() for part in all_parts]
+    whole = {name: sum(one.get(name, 0) for one in reports) for name in SUMS}
+    whole.update({name: max(one.get(name, 0) for one in reports) for name in GREATEST})
+    whole.update(seconds=seconds, whole=all(one.get("whole") for one in reports), closes=any(one.get("closes") for one in reports))
     return whole
 
 
@@ -88,7 +88,7 @@ def never_reached(whole):
 
 
 def print_merged(whole, parts, last):
-    """In the words of the test itself."""
+    """Prints the result in the words of the test itself."""
     print(f"{whole['executions']:,} executions within a bound of {whole['level']}, in {parts} parts, {whole['seconds']:.2f} s: all lawful")
     if not whole["whole"]:
         print("not all: the time was over")
@@ -120,7 +120,7 @@ def write_junit(path, name, status, text, seconds):
 
 
 def run(program, name, env, room, parts, junit):
-    """Runs the test in so many parts, prints what was found as one test would, and returns its status."""
+    """Runs the test in this many parts, prints the findings as a single test would, and returns the status."""
     began = time.monotonic()
     while True:
         found, all_parts = run_once(program, env, room, parts)
@@ -133,7 +133,7 @@ def run(program, name, env, room, parts, junit):
     seconds = time.monotonic() - began
     status = found.process.returncode if found else 0
     if status < 0:
-        print(f"explore: the test ended by signal {-status}", file=sys.stderr)
+        print(f"explore: the test was killed by signal {-status}", file=sys.stderr)
         status = 2
     text = (found or all_parts[0]).text()
     if found or parts == 1:

@@ -1,11 +1,11 @@
-"""Builds a test in Rust for record/explore, whose form include/rust/explore.rs describes.
+"""Builds a test in Rust for record/explore; include/rust/explore.rs describes its form.
 
-rustc makes code that a thread sanitizer can follow by -Zsanitizer=thread; the explorer is linked in the sanitizer's place. The crates that the test
-needs are compiled so from their sources, so all of their accesses are seen. Rust's std has been compiled already. What of it is generic or inline is
-compiled with the test; of what remains, the functions that wait or lock are taken out by the linker (--wrap):
+rustc instruments code for a thread sanitizer with -Zsanitizer=thread; the explorer is linked instead of the sanitizer. The crates that the test
+needs are compiled in the same way from their sources, so all of their accesses are seen. Rust's std is already compiled: its generic or inline parts are
+compiled with the test; of the rest, the functions that wait or lock are replaced by the linker (--wrap):
 
-  STANDS_FOR  for some of them the explorer has functions of its own (explorer/rust.inc);
-  UNSEEN      of a test that calls one of these, nothing can be said: it is stopped, and says so."""
+  REPLACED    for some of them the explorer has functions of its own (explorer/rust.inc);
+  UNSEEN      a test that calls one of these cannot be explored: it stops with a message."""
 import glob
 import os
 import re
@@ -19,10 +19,10 @@ import library
 RECORD = os.path.dirname(os.path.dirname(os.path.abspath(__file__)))
 OLDEST = (1, 63)
 TARGET = "x86_64-unknown-linux-gnu"
-# (without -Zshare-generics=no generic functions of std are taken from its library if that has them for the same type; those that are never inlined
-# still are, as the growth of a Vec<u8>)
+# (without -Zshare-generics=no, generic functions of std are taken from its library if it has them for the same type; those that are never inlined
+# still are, such as the growth of a Vec<u8>)
 SEEN = "-Zsanitizer=thread -Zshare-generics=no -Cpanic=abort -Copt-level=1 -Ccodegen-units=1 -Cdebuginfo=2".split()
-# Further flags, of which each is given if this rustc has it: by the name that it has in the list of flags.
+# More flags, each given if this rustc has it; with its name in the list of flags.
 FURTHER = (("-Z", "external-clangrt", "-Zexternal-clangrt"), ("-C", "unsafe-allow-abi-mismatch", "-Cunsafe-allow-abi-mismatch=sanitizer"),
            ("-C", "dwarf-version", "-Cdwarf-version=4"))
 # The linker for a rustc without -Zexternal-clangrt, which would link the sanitizer's library.
@@ -34,8 +34,8 @@ done
 exec {linker} "$@"
 """
 
-# Functions of std, by their names without crate numbers and angle brackets, and those of explorer/rust.inc.
-STANDS_FOR = (
+# Functions of std, by their names without crate numbers and angle brackets, and their replacements in explorer/rust.inc.
+REPLACED = (
     (r"std::sys::.*::Mutex::lock_contended", "explore_std_lock"),
     (r"std::sys::.*::(Mutex::wake|futex_wake|futex_wake_all)", "explore_std_wake"),
     (r"std::sys::.*::Condvar::wait", "explore_std_wait"),
@@ -48,10 +48,10 @@ STANDS_FOR = (
 )
 UNSEEN = (r"std::(sys|sys_common|sync)::.*(Mutex|Condvar|RwLock|Once|Barrier|ReentrantLock|Parker|SyncWaker|SignalToken|WaitToken)::\w+",
           r"std::thread::(.*::)?(park|park_timeout|park_timeout_ms|unpark)")
-# (std's own use, or no access that another thread makes)
+# (used by std itself, or without accesses that another thread makes)
 SEEN_ENOUGH = r".*::(new|fmt|default|drop|is_leader|is_poisoned|timed_out|poison|raw|verify)"
 
-# A call of such a function saves its arguments, asks explore_std_unseen, which does not return in a run, and goes on.
+# A call of such a function saves its arguments, calls explore_std_unseen, which does not return during a run, and continues.
 STUB = """    .globl "__wrap_{name}"
 "__wrap_{name}":
     push %rdi; push %rsi; push %rdx; push %rcx; push %r8; push %r9; push %rax
@@ -65,13 +65,13 @@ STUB = """    .globl "__wrap_{name}"
 
 
 def stop(words):
-    """Ends the program as record/explore does if it cannot explore."""
+    """Exits as record/explore does if it cannot explore."""
     print(f"explore: {words}", file=sys.stderr)
     sys.exit(2)
 
 
 def run(command, env=None, hint=""):
-    """Runs it; if it fails, ends with status 2."""
+    """Runs a command; if it fails, exits with status 2."""
     try:
         status = subprocess.run(command, check=False, env={**os.environ, **(env or {})}).returncode
     except OSError as error:
@@ -81,26 +81,26 @@ def run(command, env=None, hint=""):
 
 
 def answer(command):
-    """What a command prints."""
+    """The output of a command."""
     return subprocess.run(command, capture_output=True, text=True, check=False).stdout
 
 
 # ---- the compiler ----
 
 class Compiler:
-    """rustc: $RUSTC, else that of the PATH, and the flags that it needs for code whose accesses are seen."""
+    """rustc: $RUSTC, or the one on the PATH, and the flags that it needs to instrument accesses."""
 
     def __init__(self, room):
         self.command = shlex.split(os.environ.get("RUSTC", "rustc"))
-        # (flags that begin with -Z are for a nightly rustc, or for one that is made to take them)
+        # (flags that begin with -Z need a nightly rustc, or one that is made to accept them)
         os.environ["RUSTC_BOOTSTRAP"] = "1"
         self.check_version()
         self.c = shlex.split(os.environ.get("CC", "gcc"))
         linker = shutil.which(self.c[0])
         if not linker:
-            stop(f"{self.c[0]}: not found: a test in Rust is linked by it (Debian: apt-get install gcc); CC=.. takes another")
+            stop(f"{self.c[0]}: not found, but it is needed to link a test in Rust (Debian: apt-get install gcc); set CC=.. for another one")
         if not shutil.which("readelf") or not shutil.which("c++filt"):
-            stop("readelf, c++filt: not found: a test in Rust needs them (Debian: apt-get install binutils)")
+            stop("readelf, c++filt: not found, but a test in Rust needs them (Debian: apt-get install binutils)")
         lists = {kind: answer([*self.command, f"{kind}help"]) for kind in ("-Z", "-C")}
         if not re.search(r"(?m)^ +-Z +sanitizer=", lists["-Z"]):
             stop(f"{shlex.join(self.command)} has no -Zsanitizer=thread")
@@ -117,18 +117,18 @@ class Compiler:
             printed = subprocess.run([*self.command, "-vV"], capture_output=True, text=True, check=False)
         except OSError as error:
             stop(f"{self.command[0]}: {error.strerror}: a test in Rust needs rustc {OLDEST[0]}.{OLDEST[1]} or newer "
-                 "(Debian: apt-get install rustc); RUSTC=.. takes another")
+                 "(Debian: apt-get install rustc); set RUSTC=.. for another one")
         version = re.search(r"(?m)^release: (\d+)\.(\d+)", printed.stdout)
         host = re.search(r"(?m)^host: (\S+)", printed.stdout)
         if not version or not host:
-            stop(f"{shlex.join(self.command)} -vV does not say its version: {printed.stderr.strip()}")
+            stop(f"{shlex.join(self.command)} -vV does not print its version: {printed.stderr.strip()}")
         if (int(version[1]), int(version[2])) < OLDEST:
-            stop(f"rustc {version[1]}.{version[2]} is too old: a test in Rust needs {OLDEST[0]}.{OLDEST[1]} or newer; RUSTC=.. takes another")
+            stop(f"rustc {version[1]}.{version[2]} is too old: a test in Rust needs {OLDEST[0]}.{OLDEST[1]} or newer; set RUSTC=.. for another one")
         if host[1] != TARGET:
             stop(f"{shlex.join(self.command)} makes programs for {host[1]}: explore needs {TARGET}")
 
     def std(self):
-        """The functions that std's library has: by their linker names, how they are called in words."""
+        """The functions in std's library: linker names, with the demangled names."""
         folder = answer([*self.command, "--print", "target-libdir"]).strip()
         library = glob.glob(f"{glob.escape(folder)}/libstd-*.rlib")
         if not library:
@@ -139,10 +139,10 @@ class Compiler:
         return {name: re.sub(r"\[[0-9a-f]+\]|::h[0-9a-f]{16}$|[<>]", "", words) for name, words in zip(names, demangled)}
 
     def waits(self, room):
-        """A file of flags for the linker: what stands for functions of std that wait or lock, or reports that they are called."""
+        """A file of linker flags: replacements for functions of std that wait or lock, or reports that they are called."""
         flags, stubs = [], []
         for name, words in self.std().items():
-            by = next((by for pattern, by in STANDS_FOR if re.fullmatch(pattern, words)), None)
+            by = next((by for pattern, by in REPLACED if re.fullmatch(pattern, words)), None)
             unseen = not by and any(re.fullmatch(pattern, words) for pattern in UNSEEN) and not re.fullmatch(SEEN_ENOUGH, words)
             if by or unseen:
                 flags.append(f"-Wl,--wrap={name}")
@@ -161,8 +161,8 @@ class Compiler:
 # ---- the crates ----
 
 class Crate:
-    """A crate that the test needs: its name, its file, its edition (None: that of the test), its features, the names that it needs (None:
-    all before it), its environment, the folder of its own folder; whether it has a build script."""
+    """A crate that the test needs: its name, its file, its edition (None: that of the test), its features, the crates that it needs (None:
+    all before it), its environment, the parent of its folder; whether it has a build script."""
 
     def __init__(self, name, source, edition=None, features=(), needs=None, env=None, beside=None):
         self.name, self.source, self.edition, self.features = name.replace("-", "_"), source, edition, features
@@ -170,41 +170,41 @@ class Crate:
 
 
 def crate_of(word):
-    """The crate that a word of the command line names: NAME=FILE, NAME=FOLDER or FOLDER, each with :FEATURE,FEATURE or without."""
+    """The crate that an argument names: NAME=FILE, NAME=FOLDER or FOLDER, each with or without :FEATURE,FEATURE."""
     name, path = word.split("=", 1) if "=" in word else (None, word)
     wanted = None
     if not os.path.exists(path) and ":" in path:
         path, wanted = path.rsplit(":", 1)
         wanted = [feature for feature in wanted.split(",") if feature]
     if not os.path.exists(path):
-        stop(f"{path}: there is no such file or folder")
+        stop(f"{path}: no such file or folder")
     if os.path.isdir(path):
         return crate_of_folder(name, path, wanted)
     if not name:
         module = os.path.basename(path).split(".")[0]
-        stop(f"{path}: a crate is given as NAME={path}, or by its folder; a module of the test is named in the test alone, as `mod {module};`")
+        stop(f"{path}: give a crate as NAME={path}, or by its folder; a module of the test is named only in the test, as `mod {module};`")
     return Crate(name, path, features=wanted or ())
 
 
 def crate_of_folder(name, folder, wanted):
-    """As its Cargo.toml says: edition, source, features (those of `default` unless others are named)."""
+    """The crate that a Cargo.toml describes: edition, source, features (those of `default` unless others are named)."""
     try:
         import tomllib
     except ImportError:
-        stop(f"{folder}: python3 older than 3.11 does not read Cargo.toml: give NAME={folder}/src/lib.rs:FEATURE,FEATURE")
+        stop(f"{folder}: python3 before 3.11 cannot read Cargo.toml: give NAME={folder}/src/lib.rs:FEATURE,FEATURE")
     try:
         with open(f"{folder}/Cargo.toml", "rb") as file:
             manifest = tomllib.load(file)
     except OSError:
-        stop(f"{folder}: there is no Cargo.toml: give NAME=FILE for a crate without one")
+        stop(f"{folder}: no Cargo.toml: give NAME=FILE for a crate without one")
     except tomllib.TOMLDecodeError as error:
         stop(f"{folder}/Cargo.toml: {error}")
     package, library = manifest.get("package", {}), manifest.get("lib", {})
     if library.get("proc-macro") or library.get("proc_macro"):
-        stop(f"{folder}: a crate of macros that run in the compiler is not built")
+        stop(f"{folder}: procedural macros are not supported")
     own_name, source = library.get("name", package.get("name", "")), f"{folder}/{library.get('path', 'src/lib.rs')}"
     if not own_name or not os.path.exists(source):
-        stop(f"{folder}: its Cargo.toml names no library, or {source} is not there")
+        stop(f"{folder}: its Cargo.toml names no library, or {source} does not exist")
     edition = package.get("edition", "2015")
     version = package.get("version", "0.0.0")
     version = version if isinstance(version, str) else "0.0.0"
@@ -213,14 +213,14 @@ def crate_of_folder(name, folder, wanted):
     features = closure(manifest.get("features", {}), wanted)
     needs = [need.replace("-", "_") for need, how in manifest.get("dependencies", {}).items()
              if not isinstance(how, dict) or not how.get("optional") or need in features]
-    edition = edition if isinstance(edition, str) else None     # (else it is that of a workspace)
+    edition = edition if isinstance(edition, str) else None     # (else it is inherited from a workspace)
     crate = Crate(name or own_name, source, edition, features, needs, env, os.path.dirname(os.path.abspath(folder)))
     crate.has_script = bool(package.get("build", os.path.exists(f"{folder}/build.rs")))
     return crate
 
 
 def closure(features, wanted):
-    """The features that are on: those wanted, else `default`, and those that they turn on. `dep:NAME` and `NAME/FEATURE` turn NAME on,
+    """The enabled features: those wanted, else `default`, and those that they enable. `dep:NAME` and `NAME/FEATURE` turn NAME on,
     `NAME?/FEATURE` nothing."""
     on, todo = [], list(wanted) if wanted is not None else ["default"] * ("default" in features)
     while todo:
@@ -232,7 +232,7 @@ def closure(features, wanted):
 
 
 def with_needs(crates):
-    """These, and those that they need and that lie beside them: NAME or NAME-VERSION, as in a folder of `cargo vendor` or of Debian."""
+    """These, and the crates that they need and that are in the folder beside them: NAME or NAME-VERSION, as in a folder of `cargo vendor` or of Debian."""
     crates = list(crates)
     for crate in crates:
         for need in crate.needs or ():
@@ -244,13 +244,13 @@ def with_needs(crates):
 
 
 def in_order(crates):
-    """Each after those that it needs; a crate given by its file needs all before it."""
+    """The crates, each after those that it needs; a crate given by its file needs all before it."""
     done, left = [], list(crates)
     while left:
         waiting = {crate.name for crate in left}
         ready = next((crate for crate in left if (crate is left[0] if crate.needs is None else not waiting & set(crate.needs))), None)
         if ready is None:
-            stop(f"the crates {', '.join(sorted(waiting))} need each other")
+            stop(f"the crates {', '.join(sorted(waiting))} depend on each other in a circle")
         done.append(ready)
         left.remove(ready)
     return done
@@ -259,22 +259,22 @@ def in_order(crates):
 # ---- what record/explore calls ----
 
 def is_rust(sources):
-    """Whether the sources of a test are those of one in Rust."""
+    """Whether these are the sources of a test in Rust."""
     return any(source.endswith(".rs") for source in sources)
 
 
 def build(sources, flags, program, room, explorer):
     """Builds the program from the test, which comes first, and the crates that it needs. The flags go to rustc for each of them; --edition is
-    that of the test and of crates given by their file, 2021 if none is given. What is made on the way is left in the folder room. explorer returns
+    that of the test and of crates given by their file (default 2021). Intermediate files are left in the folder room. explorer returns
     the explorer's object, for a C compiler and that folder."""
     test, *words = sources
     if not test.endswith(".rs"):
-        stop(f"{test}: a test in Rust is named first, then the crates that it needs")
+        stop(f"{test}: give the test in Rust first, then the crates that it needs")
     if not os.path.isfile(test):
-        stop(f"{test}: there is no such file")
+        stop(f"{test}: no such file")
     archive = f"{library.folder()}/libring_audit.a"
     if not os.path.exists(archive):
-        stop(f"{archive}: there is no such file; LIBRARY=FOLDER takes that of another folder")
+        stop(f"{archive}: no such file; set LIBRARY=FOLDER for another folder")
     compiler = Compiler(room)
     crates = in_order(with_needs(map(crate_of, words)))
     scripts = [crate.name for crate in crates if crate.has_script]

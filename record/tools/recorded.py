@@ -1,6 +1,6 @@
-"""recorded.py: what record/shrink and record/head share: a recording as numbers, and its audit.
+"""recorded.py: shared by record/shrink and record/head: a recording as numbers, and its audit.
 
-The audit is in process, by ring_audit.py, where libring_audit.so.1 is found and $AUDIT is not set; else it is a program that is run each time:
+The audit runs in process, by ring_audit.py, if libring_audit.so.1 is found and $AUDIT is not set; otherwise it is a program that is run each time:
 $AUDIT, or ./lamport_ring audit --calls of this repository. Both find the same."""
 import array
 import os
@@ -21,28 +21,28 @@ KINDS = {words: kind for kind, words in enumerate(WORDS)}
  ITEM, TAKE_SOME, EMPTY, TAKE_SHORT, TAKE_NOTHING, TOLD) = range(len(WORDS))
 LINE = re.compile(r"(?:(?:P put|C item|C some)(?: (?:0|[1-9][0-9]*))+|P (?:stored|(?:stored|some) [1-9][0-9]*|full|short|nothing|closed?)|"
                   r"C (?:take|take (?:[2-9]|[1-9][0-9]+)|empty|short|nothing|closed))\n")
-# Lines that stand without numbers: most of a recording.
+# Lines without numbers: most of a recording.
 BARE = {f"{words}\n": kind for words, kind in KINDS.items() if LINE.fullmatch(f"{words}\n")}
 OUT_OF_TURN, NOT_LINEARIZABLE = 1, 2
 
-# What is found of a recording: the line at fault and the words behind `fault: line L: `; line 0 where it is lawful, and then the report,
+# The finding for a recording: the line at fault and the words after `fault: line L: `; line 0 if it is lawful, and then the report,
 # by the names of its lines.
 Found = namedtuple("Found", "line words report")
 
 
 class Refused(Exception):
-    """A text that is no recording, or an audit that does not answer; as text it says why."""
+    """A text that is not a recording, or an audit that does not answer; its text says why."""
 
 
 class Recording:
-    """head: its first line, without `cut `, None where it has none. Of each further line lines has its kind and, from bit 32 on, how many
-    numbers it has; numbers has those of all lines, one after the other. body: the text behind the first line, once it was asked for."""
+    """head: its first line without `cut `, or None. lines: for each further line its kind and, from bit 32 on, how many
+    numbers it has; numbers: those of all lines, one after the other. body: the text after the first line, once it was requested."""
 
     def __init__(self, head, is_cut, lines, numbers):
         self.head, self.is_cut, self.lines, self.numbers, self.body = head, is_cut, lines, numbers, None
 
     def events(self):
-        """Of each line behind the first one its kind and its numbers."""
+        """The kind and the numbers of each line after the first."""
         at = 0
         for line in self.lines:
             end = at + (line >> 32)
@@ -53,7 +53,7 @@ class Recording:
         return ("cut " if self.is_cut else "") + head
 
     def text(self, head):
-        """Its text, with this first line."""
+        """The text of the recording, with this first line."""
         self.body = self.body or "".join(line_of(*event) + "\n" for event in self.events())
         return f"{self.first_line(head)}\n{self.body}"
 
@@ -72,7 +72,7 @@ def recording_of(head, is_cut, events):
 
 
 def read(path):
-    """The recording in this file, whose first line may be missing, and is not looked at; whether it is lawful is for the audit to say."""
+    """The recording in this file; its first line may be missing, and is not checked; only the audit decides whether it is lawful."""
     with open(path, encoding="ascii", errors="replace", newline="\n") as file:
         first = file.readline()
         has_head = re.match(r"cut |queue", first) is not None
@@ -98,7 +98,7 @@ def read(path):
 
 
 class Judge:
-    """Audits recordings of at most so many items in all."""
+    """Audits recordings with at most `items` items in all."""
 
     def __init__(self, items):
         self.command, self.items, self.audit = shlex.split(os.environ.get("AUDIT", "")), max(items, 1), None
@@ -109,11 +109,11 @@ class Judge:
         except (OSError, ImportError):
             done = subprocess.run([LAUNCHER, "--which"], stdout=subprocess.PIPE, text=True, check=False)
             if done.returncode != 0:
-                raise Refused("there is no audit") from None
+                raise Refused("there is no audit: neither libring_audit.so.1 nor ./lamport_ring was found") from None
             self.command = [done.stdout.strip(), "audit", "--calls"]
 
     def found(self, recording, head):
-        """What the audit finds of it with this first line."""
+        """The audit's finding for the recording with this first line."""
         return self.found_by_program(recording, head) if self.command else self.found_in_process(recording, head)
 
     def found_in_process(self, recording, head):
@@ -124,7 +124,7 @@ class Judge:
                 self.audit = ring_audit.Audit(head, self.items, min(self.items, ring_audit.TAKEN))
         except ValueError:
             raise Refused("calls line 1 is not a line of the format") from None
-        # (copies: the lists that it hears are its own from then on)
+        # (copies, since the audit takes over the lists passed to it)
         if self.audit.hear(recording.lines[:], recording.numbers[:]):
             report = self.audit.report()._asdict()
             return Found(0, "", {**report, "told": "yes" if report["told"] else "no", "cut": "yes" if recording.is_cut else "no"})
@@ -140,11 +140,11 @@ class Judge:
             return Found(0, "", {"cut": "no", **report, **counts, "inside": tuple(map(int, report["inside"].split(" ")))})
         if done.returncode == 3:
             return found_in(done.stdout.split("\n")[0])
-        raise Refused(f"the audit says: {(done.stderr or done.stdout).strip()}")
+        raise Refused(f"the audit failed: {(done.stderr or done.stdout).strip()}")
 
 
 def found_in(words):
     found = re.fullmatch(r"fault: line (\d+): (.*)", words)
     if not found:
-        raise Refused(f"the audit says: {words}")
+        raise Refused(f"the audit failed: {words}")
     return Found(int(found[1]), found[2], {})

@@ -1,26 +1,26 @@
-/* rests.c: what record/hunt has loaded before a recorder, by LD_PRELOAD, on Linux with glibc: it has each thread rest now and then at an
- * instruction that nobody chose, as one that is preempted does, and pins the threads to processors. The program stays as it is. By hand:
+/* rests.c: loaded before a recorder by record/hunt, with LD_PRELOAD, on Linux with glibc: it sometimes pauses each thread at an
+ * arbitrary instruction, as preemption does, and pins the threads to processors. The program is unchanged. By hand:
  *
  *     cc -O2 -shared -fPIC -pthread rests.c -o rests.so -ldl -lrt
  *     RESTS=20 RESTS_SEED=1 RESTS_PIN=2,3 LD_PRELOAD=$PWD/rests.so ./my > my.calls
  *
- * RESTS        microseconds between two rests of a thread, on average; 0, or not set: no rests
- * RESTS_SEED   a number: of another one the rests are others. (The same rests do not give the same run.)
- * RESTS_PIN    processors, to which the threads are pinned in turn: to the first one the thread that makes the first other one
- * RESTS_TOLD   a file of 16 bytes, where two numbers are counted up: the threads that were met, and their rests
+ * RESTS        average microseconds between two rests (pauses) of a thread; 0, or not set: no rests
+ * RESTS_SEED   a number: another number gives other rests. (The same rests do not give the same run.)
+ * RESTS_PIN    processors, to which the threads are pinned in turn: the thread that creates the first other one to the first processor
+ * RESTS_TOLD   a file of 16 bytes with two counters: the threads seen, and their rests
  *
- * Nothing is done before a program makes its first thread. Each thread has a timer of its own, whose signal reaches that thread alone;
- * the handler rests, and only then sets the timer again, so that between two rests a thread goes on. It calls what may be called in a
- * handler, keeps errno, and is no place where a thread is cancelled. A thread that waits in the kernel is left alone more and more.
+ * Nothing happens before a program creates its first thread. Each thread has a timer of its own, whose signal reaches only that thread;
+ * the handler rests, and only then sets the timer again, so that a thread makes progress between two rests. It calls only what a
+ * handler may call, keeps errno, and is not a cancellation point. A thread that waits in the kernel is disturbed less and less often.
  *
- * The signal is the first one from SIGRTMIN+7 on that the program has no handler for. A program that takes it later has at most one of
- * each thread's, and no rests from there on: nothing sets the timers again. With SA_RESTART most calls of the system go on behind a
+ * The signal is the first one from SIGRTMIN+7 on for which the program has no handler. A program that installs one later gets at most one signal
+ * per thread, and no rests from then on: nothing sets the timers again. With SA_RESTART most system calls continue after a
  * signal; nanosleep, poll, select, epoll_wait and a few more end with EINTR. A child that a fork makes has no rests before it makes a
  * thread.
  *
- * At SIGQUIT each thread prints on standard error where it stands, a line `rests: thread 7 stands at /path/my +0x1234` for each call that it is in, the
- * innermost first; then the process ends as it does without this. A program that has a handler of its own for SIGQUIT when it makes its first thread
- * keeps it, and prints nothing of this. */
+ * At SIGQUIT each thread prints to standard error where it is, a line `rests: thread 7 is at /path/my +0x1234` for each call that it is in, the
+ * innermost first; then the process ends as it would without this. A program that has a handler of its own for SIGQUIT when it creates its first thread
+ * keeps it, and prints none of this. */
 #define _GNU_SOURCE
 #include <dlfcn.h>
 #include <errno.h>
@@ -44,8 +44,8 @@
 #define sigev_notify_thread_id _sigev_un._tid
 #endif
 
-/* In nanoseconds: after how long at most a thread is looked at again that waits in the kernel, and how short it has to have run since then;
- * how much further off every eighth rest is, on average, so that a thread goes on where signals are slow. */
+/* In nanoseconds: the maximum time until a thread that waits in the kernel is checked again, and how little it must have run since then;
+ * the average extra delay of every eighth rest, so that a thread makes progress even if signals are slow. */
 enum { MOST_CALLS = 32, LONGEST_WAIT = 10000000, LEAST_RUN = 30000, FURTHER = 50000, MOST_PROCESSORS = 64 };
 
 typedef struct { _Atomic uint64_t threads, rests; } counts;
@@ -58,7 +58,7 @@ typedef struct {
     int64_t wait;
     past seen;
 } side;
-/* What a new thread is to run. */
+/* What a new thread runs. */
 typedef struct { void *(*run)(void *); thrd_start_t run_c11; void *argument; } start;
 
 static int (*make_thread)(pthread_t *, const pthread_attr_t *, void *(*)(void *), void *);
@@ -71,7 +71,7 @@ static _Atomic unsigned threads_met;
 static counts here, *told = &here;
 static pthread_once_t once = PTHREAD_ONCE_INIT;
 static pthread_key_t at_end_of_thread;
-/* (there as soon as its thread is: a handler must not be the first to ask for it) */
+/* (allocated with its thread: a handler must not be the first to access it) */
 static __thread side mine __attribute__((tls_model("initial-exec")));
 
 static uint64_t drawn(void) {
@@ -100,7 +100,7 @@ static void spin(uint64_t most) {
     for (volatile uint64_t n = drawn() % most; n > 0;) n = n - 1;
 }
 
-/* For 50 us at least where it sleeps, up to 30 us or 2 us where it does not. */
+/* For at least 50 us if it sleeps, otherwise up to 30 us or 2 us. */
 static void rest(void) {
     struct timespec moment = {0, 1000};
     switch (drawn() % 8) {
@@ -113,9 +113,9 @@ static void rest(void) {
     atomic_fetch_add_explicit(&told->rests, 1, memory_order_relaxed);
 }
 
-/* ---- where each thread stands ---- */
+/* ---- where each thread is ---- */
 
-/* Whether that is asked; how many have printed it. */
+/* Whether this is requested; how many threads have printed it. */
 static _Atomic int stand_is_asked, have_stood;
 
 /* Prints the calls that this thread is in, without those of the handlers, which come first. */
@@ -127,7 +127,7 @@ static void print_stand(int handlers) {
     for (int i = handlers; i < count; i++) {
         Dl_info it;
         if (!dladdr(calls[i], &it) || !it.dli_fname) continue;
-        const int n = snprintf(text + used, sizeof text - used, "rests: thread %ld stands at %s +0x%lx\n", syscall(SYS_gettid), it.dli_fname,
+        const int n = snprintf(text + used, sizeof text - used, "rests: thread %ld is at %s +0x%lx\n", syscall(SYS_gettid), it.dli_fname,
                                (unsigned long)((char *)calls[i] - (char *)it.dli_fbase));
         if (n > 0 && used + (size_t)n < sizeof text) used += (size_t)n;
     }
@@ -135,7 +135,7 @@ static void print_stand(int handlers) {
     atomic_fetch_add(&have_stood, 1);
 }
 
-/* Asks each other thread, and waits for it for a moment. */
+/* Asks each other thread, and waits a moment for it. */
 static void ask_others(void) {
     struct { uint64_t inode; int64_t offset; unsigned short length; char type, name[]; } *it;
     char room[4096];
@@ -164,7 +164,7 @@ static void on_quit(int number) {
     raise(number);
 }
 
-/* (backtrace loads a library when it is called first, which a handler must not) */
+/* (the first call of backtrace loads a library, which a handler must not do) */
 static void watch_quit(void) {
     void *call[1];
     struct sigaction now, ours = {.sa_handler = on_quit, .sa_flags = SA_ONSTACK};
@@ -191,7 +191,7 @@ static void on_signal(int number) {
     errno = kept;
 }
 
-/* 0 where the program has handlers for them all. */
+/* 0 if the program has handlers for all of them. */
 static int free_signal(void) {
     for (int number = SIGRTMIN + 7; number <= SIGRTMAX; number++) {
         struct sigaction now;
@@ -206,7 +206,7 @@ static void end_of_thread(void *unused) {
     timer_delete(mine.timer);
 }
 
-/* (a timer stays with the process that made it) */
+/* (a timer belongs to the process that made it) */
 static void in_child(void) { mine.is_met = mine.has_timer = 0; }
 
 static void read_environment(void) {
@@ -289,7 +289,7 @@ static int begin_c11(void *passed) {
     return that.run_c11(that.argument);
 }
 
-/* NULL where there is no memory: the thread then goes without rests. */
+/* NULL if there is no memory: the thread then runs without rests. */
 static start *start_of(void *(*run)(void *), thrd_start_t run_c11, void *argument) {
     start *that = malloc(sizeof *that);
     if (that) *that = (start){run, run_c11, argument};
