@@ -15,7 +15,7 @@ fn pack(bytes: &[u8]) -> u64 {
     u64::from_be_bytes(whole)
 }
 
-// (Whatever comes of it, the ring is closed in the end: else the other thread would wait for ever.)
+// (Whatever comes of it, the ring is closed in the end: else the other thread would wait forever.)
 fn read_file(mut putter: Putter, from: File) -> io::Result<()> {
     let read = put_file(&mut putter, from);
     putter.close();

@@ -27,7 +27,7 @@ extern "C" {
 /* Explores and prints what was found. reset is called before each execution, then produce and consume run as the two sides; head
  * is the first line of a recording, "queue 2". Limits come from the environment (EXPLORE_HELP=1 lists them).
  * Returns the status to end with: 0 all that was tried is lawful; 2 it cannot explore, as stderr says; 3 a fault, a data race or a
- * use after free; 4 both sides wait for ever, a side goes on for ever, or it crashed. */
+ * use after free; 4 both sides wait forever, a side goes on for ever, or it crashed. */
 int explore(void (*reset)(void), void (*produce)(void), void (*consume)(void), const char *head);
 /* For a side: a number from 0 to n - 1, n at most 256. Every number is tried: 0 first, each other one is a choice as a preemption is. In reset it
  * is 0. So a test that draws needs no seed. */

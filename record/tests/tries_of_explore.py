@@ -18,9 +18,9 @@ FOUND = (
     ("early_free", 3, r"^use after free: the consumer frees block \d \(explore_test.c:\d+\), which the consumer freed \(explore_test.c:\d+\)\n"),
     ("early_free", 3, r"^use after free: the producer writes atomically 8 bytes at block 1\+8 \(explore_test.c:\d+\), which the consumer freed \("),
     ("lost_wide", 3, r"^fault: line 4: item \d+ was not inside; item 1111 "),
-    ("lost_condition", 4, r"^waits for ever: the producer is over, the consumer waits at explore_test.c:\d+\n"),
-    ("lost_c11_condition", 4, r"^waits for ever: the producer is over, the consumer waits at explore_test.c:\d+\n"),
-    ("two_locks", 4, r"^both wait for ever: the producer waits at explore_test.c:\d+, the consumer waits at explore_test.c:\d+\n"
+    ("lost_condition", 4, r"^waits forever: the producer is over, the consumer waits at explore_test.c:\d+\n"),
+    ("lost_c11_condition", 4, r"^waits forever: the producer is over, the consumer waits at explore_test.c:\d+\n"),
+    ("two_locks", 4, r"^both wait forever: the producer waits at explore_test.c:\d+, the consumer waits at explore_test.c:\d+\n"
                      r" +1  queue 2\n +2  P put 1\n +3  C take\n"),
     ("spins", 4, r"^hangs: the producer is over, the consumer goes on at explore_test.c:\d+\n"),
     ("yields", 4, r"^hangs: the producer goes on at explore_test.c:\d+, the consumer goes on at explore_test.c:\d+\n"),
@@ -28,38 +28,38 @@ FOUND = (
     ("crashes", 4, r"^crash: Segmentation fault, in the consumer\n(.|\n)*    the producer stops before explore_test.c:\d+\n"),
     ("asserts", 4, r"^crash: Aborted, in the consumer\n"),
     ("wrong_side", 2, r"explore: the producer's function records a call of the consumer\n"),
-    ("not_the_same", 2, r"explore: the test does not do the same again in the same schedule: "),
+    ("not_the_same", 2, r"explore: the test is not deterministic: "),
     ("apart", 2, r"explore: no memory that both sides touch was seen: "),
-    ("no_head", 2, r'^explore: "queue 02" is no first line of a recording, as "queue 2"\n'),
+    ("no_head", 2, r'^explore: "queue 02" is not a first line of a recording, such as "queue 2"\n'),
 )
 # The same of explore_test.cpp.
 CPP_LAWFUL = ("queue", "wait", "throws")
-CPP_FOUND = (("lost", 4, r"^waits for ever: the producer is over, the consumer waits at explore_test.cpp:\d+\n"),)
+CPP_FOUND = (("lost", 4, r"^waits forever: the producer is over, the consumer waits at explore_test.cpp:\d+\n"),)
 # The same of explore_rings.c.
 RINGS_LAWFUL = ("ring", "place", "spin_both", "spin_box", "guard_and", "guard_or", "guard_choice")
 RINGS_FOUND = (
     ("spin_put", 4, r"^hangs: the producer goes on at explore_rings.c:\d+, the consumer is over\n"),
-    ("no_end", 3, r"^fault: line 7: out of turn\nP put 4 begins before put 3 of line 6 has ended: is an end missing, as full\?\n"),
-    ("put_none", 2, r"^refused: calls line \d+ is not a line of the format\na put has at least one item\n"),
-    ("no_begin", 3, r"^fault: line \d+: out of turn\nthe consumer has no call that this ends: is a begin missing, as take\?\n"),
+    ("no_end", 3, r"^fault: line 7: out of turn\nP put 4 begins before put 3 of line 6 has ended: is an end missing, such as full\?\n"),
+    ("put_none", 2, r"^refused: calls line \d+ is not a line of the format\na put must have at least one item\n"),
+    ("no_begin", 3, r"^fault: line \d+: out of turn\nthe consumer has no call that this ends: is a start missing, such as take\?\n"),
     ("bug_ring", 3, r"^fault: line 4: item 0 was not inside; item 1 of line 2 is next\n"),
     ("spin_full", 4, r"^hangs: the producer goes on at explore_rings.c:\d+, the consumer is over\n"),
 )
 # A reset that leaves something behind, or what is no test: status 2, these words alone, and no fault.
-NOT_THE_SAME = "explore: the test does not do the same again in the same schedule: reset has to set back all that the sides change\n"
-THREAD = "explore: the test starts a thread: its two sides are functions that explore() calls\n"
-NO_CALL = "explore: no call was recorded: do the two functions record their calls, by the names of ring_calls.h?\n"
+NOT_THE_SAME = "explore: the test is not deterministic: the same schedule gave another run; reset must restore everything that the sides change\n"
+THREAD = "explore: the test starts a thread, but its two sides must be functions that explore() calls\n"
+NO_CALL = "explore: no call was recorded: do the two functions record their calls, with the functions of ring_calls.h?\n"
 REFUSED = (
     *((f"{bug}reset_{way}", NOT_THE_SAME) for bug in ("", "bug_") for way in ("nothing", "once", "but_head", "but_tail")),
     ("later_fault", NOT_THE_SAME), ("later_hang", NOT_THE_SAME), ("later_race", NOT_THE_SAME), ("later_crash", NOT_THE_SAME),
     ("posix_thread", THREAD), ("c11_thread", THREAD), ("runs_thread", THREAD),
     ("", "explore: the test does not call explore()\n"), ("leaves", "explore: the test ended the program within explore()\n"),
-    ("head", 'explore: "queu 2" is no first line of a recording, as "queue 2"\n'),
+    ("head", 'explore: "queu 2" is not a first line of a recording, such as "queue 2"\n'),
 )
 # Of each bug of twelve.h what is told.
 TWELVE = ("data race: the consumer reads 8 bytes at q .twelve.h:", "item 0 was not inside", "full, but at most 1 inside",
           "stored, but at least 3 inside", "item 5, but item 1 of line 2", "item 5, but item 1 of line 2", "closed, but item 2 was inside",
-          "waits for ever: the producer is over, the consumer waits at twelve.h:", "full, but at most 1 inside", "stored, but at least 4 inside",
+          "waits forever: the producer is over, the consumer waits at twelve.h:", "full, but at most 1 inside", "stored, but at least 4 inside",
           "empty, but item 2 was inside", "item 3 comes again", "item 1000003 was not inside")
 FORMS = range(1, 8)
 # Puts, preemptions and a seed that show a bug of ring.hpp; 10, 2 and 1 where nothing is said.
@@ -137,19 +137,19 @@ class Tries:
         self.check("explore twice", status == 0 and re.findall(r"(?m)^(\d+) exec", printed) == ["130", "268"], (status, printed))
         for way, options, want, words in (
             ("spin_long", {"BOUND": 0}, 0, "2 executions within a bound of 0, "),
-            ("no_fence", {"RACES": 0}, 0, "data races were not looked for."),
+            ("no_fence", {"RACES": 0}, 0, "data races were not checked."),
             ("counts", {"BOUND": 0}, 0, "2 of them were cut, after 10,000 steps "),
             ("counts", {"BOUND": 0, "STEPS": 50000}, 0, "2 executions within a bound of 0, "),
-            ("condition", {"SECONDS": 0, "BOUND": 8}, 0, "\nnot all: the time was over at those with "),
+            ("condition", {"SECONDS": 0, "BOUND": 8}, 0, "\nnot all: the time ran out at those with "),
             ("mutex", {"HELP": 1}, 0, "EXPLORE_SCHEDULE="),
-            ("mutex", {"BOUND": 25}, 2, "EXPLORE_BOUND is no number up to 24\n"),
-            ("mutex", {"WAKES": "x"}, 2, "EXPLORE_WAKES is no number up to 24\n"),
-            ("mutex", {"PART": "5/4"}, 2, "EXPLORE_PART is as `1/4`\n"),
+            ("mutex", {"BOUND": 25}, 2, "EXPLORE_BOUND is not a number up to 24\n"),
+            ("mutex", {"WAKES": "x"}, 2, "EXPLORE_WAKES is not a number up to 24\n"),
+            ("mutex", {"PART": "5/4"}, 2, "EXPLORE_PART must look like `1/4`\n"),
             ("mutex", {"SCHEDULE": "P C1:olds"}, 2, "EXPLORE_SCHEDULE is as "),
-            ("mutex", {"STEPS": "x"}, 2, "EXPLORE_STEPS is no such number\n"),
-            ("mutex", {"RACES": 2}, 2, "EXPLORE_RACES is 0 or 1\n"),
+            ("mutex", {"STEPS": "x"}, 2, "EXPLORE_STEPSis not a valid number\n"),
+            ("mutex", {"RACES": 2}, 2, "EXPLORE_RACES must be 0 or 1\n"),
             ("mutex", {"SCHEDULE": "P1C"}, 2, "EXPLORE_SCHEDULE is as "),
-            ("mutex", {"SCHEDULE": "P999 C"}, 2, "explore: the schedule is none of this test\n"),
+            ("mutex", {"SCHEDULE": "P999 C"}, 2, "explore: the schedule does not fit this test\n"),
             ("mutex", {"SCHEDULE": "C"}, 0, "\nlawful\n"),
             ("mutex", {"DUMP": "/nowhere/at/all"}, 2, "EXPLORE_DUMP: the file cannot be written\n"),
         ):
@@ -287,7 +287,7 @@ class Tries:
         status, _, said = self.run(f"{shlex.quote(here)}/explore")
         self.check("explore without words", status == 2 and "record/explore my_explore.c" in said, said)
         status, _, said = self.run(f"{shlex.quote(here)}/explore nowhere.c")
-        self.check("explore of no file", status == 2 and "explore: status 1: gcc " in said, said)
+        self.check("explore of no file", status == 2 and "explore: this command failed with status 1: gcc " in said, said)
 
 
 def order_of(lines):

@@ -11,8 +11,8 @@ from xml.etree import ElementTree
 BUGS = (
     (3, "item 0 was not inside"), (3, "item 0 was not inside"), (3, "item 0 was not inside"), (3, "item 0 was not inside"), (3, "item 0 was not inside"),
     (3, "item 0 was not inside"), (3, "item 0 was not inside"), (3, "closed, but item 1 of line 2 is inside"), (3, "closed, but item 1 of line 2 is inside"),
-    (3, "data race: .* at (full|slot) "), (4, "waits for ever: the producer is over, the consumer waits at orders.h:"),
-    (4, "waits for ever: the producer is over, the consumer waits at orders.h:"), (3, "item 1 comes again|item 0 was not inside"),
+    (3, "data race: .* at (full|slot) "), (4, "waits forever: the producer is over, the consumer waits at orders.h:"),
+    (4, "waits forever: the producer is over, the consumer waits at orders.h:"), (3, "item 1 comes again|item 0 was not inside"),
     (3, "full, but at most 0 inside"), (3, "empty, but item 1 was inside"),
 )
 # The one that a sequentially consistent execution shows, with no wake-up and no failure that need not be.
@@ -120,21 +120,21 @@ class Orders:
         self.check("explore --jobs", good and suite.attrib["failures"] == "0", (status, printed, report))
         status, printed = self.explore("broken/orders.c -- -DBUG=11", "--jobs 3 --junit $ROOM/junit.xml")
         suite = ElementTree.parse(f"{room}/junit.xml").getroot()
-        good = status == 4 and "waits for ever: " in printed and suite.attrib["failures"] == "1"
-        self.check("explore --jobs of a bug", good and "waits for ever: " in suite.find("testcase/failure").attrib["message"], (status, printed))
+        good = status == 4 and "waits forever: " in printed and suite.attrib["failures"] == "1"
+        self.check("explore --jobs of a bug", good and "waits forever: " in suite.find("testcase/failure").attrib["message"], (status, printed))
 
     def options(self):
-        """One order for both sides; loads that come late; files with their folders; places that accesses of several sizes have; words that are none."""
+        """One order for both sides; loads that be delayed; files with their folders; places that accesses of several sizes have; words that are none."""
         status, printed = self.explore("broken/orders.c -- -DFORM=1", "--strict")
         good = status == 3 and re.match(r"not strict: line \d+: empty, and line \d+: full: no order has both, ", printed)
         self.check("explore --strict of a ring by acquire and release", good, (status, printed))
         status, printed = self.explore("broken/orders.c -- -DFORM=1", "--strict", OLDER=0)
         self.check("explore --strict, sequentially consistent", status == 0, (status, printed))
         status, printed = self.explore("tests/late.c", "--late")
-        good = status == 0 and re.search(r"(?m)^perhaps late: the consumer's load of slot(\+8)? \(late.c:\d+\) may find the producer's later store \(late.c:\d+\), ", printed)
+        good = status == 0 and re.search(r"(?m)^perhaps delayed: the consumer's load of slot(\+8)? \(late.c:\d+\) may find the producer's later store \(late.c:\d+\), ", printed)
         self.check("explore --late", good and re.search(r"(?m)^schedule: P", printed), (status, printed))
         status, printed = self.explore("tests/late.c", "")
-        self.check("explore without --late", status == 0 and "perhaps late" not in printed, (status, printed))
+        self.check("explore without --late", status == 0 and "perhaps delayed" not in printed, (status, printed))
         status, printed = self.explore("tests/late.c -- -DSIZES", "")
         self.check("explore: several sizes", status == 0 and re.search(r"(?m)^of (slot\S* ?)+,?.* not all older values are tried: ", printed), (status, printed))
         status, printed = self.explore("broken/orders.c -- -DBUG=1", "--paths")

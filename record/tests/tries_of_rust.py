@@ -4,7 +4,7 @@ import re
 import shlex
 
 # Tests in rust/ that are right, and what is reported of each with --cfg bug.
-RACE = r"(?m)^data race: the consumer reads 8 bytes at block 1(\+\d+)? \({0}.rs:{1}\), which the producer wrote \({0}.rs:{2}\) with nothing between that orders them$"
+RACE = r"(?m)^data race: the consumer reads 8 bytes at block 1(\+\d+)? \({0}.rs:{1}\), which the producer wrote \({0}.rs:{2}\) with nothing in between that orders them$"
 FREED = r"(?m)^use after free: the {} 8 bytes at block \d \(nodes.rs:\d+\), which the consumer freed \(nodes.rs:{}\)$"
 BUGS = (
     ("ring", RACE, ("*self.slots[head", "*self.slots[tail")),
@@ -15,12 +15,12 @@ BUGS = (
 )
 # What std has, by the ways of of_std.rs: the status, and what is reported.
 LAWFUL = r"^[\d,]+ executions within a bound of \d, .*: all lawful$"
-NOT_SEEN = r"^explore: of_std.rs:\d+: the {} calls std::.*{}\w*, which is compiled already in Rust's std: its accesses are not seen, so nothing can be said of this test$"
-THREAD = r"^explore: the test starts a thread: its two sides are functions that explore\(\) calls$"
+NOT_SEEN = r"^explore: of_std.rs:\d+: the {} calls std::.*{}\w*, which is compiled already in Rust's std: its accesses are not seen, so this test cannot be explored$"
+THREAD = r"^explore: the test starts a thread, but its two sides must be functions that explore\(\) calls$"
 OF_STD = (
     *((way, 0, LAWFUL) for way in ("mutex", "condvar", "wait_timeout", "park", "drops_ends", "mpsc", "mpsc_sync", "rests", "thread_local", "prints")),
-    ("forgets", 4, r"^waits for ever: the producer is over, the consumer waits at of_std.rs:\d+$"),
-    ("parks_late", 4, r"^waits for ever: the producer is over, the consumer waits at of_std.rs:\d+$"),
+    ("forgets", 4, r"^waits forever: the producer is over, the consumer waits at of_std.rs:\d+$"),
+    ("parks_late", 4, r"^waits forever: the producer is over, the consumer waits at of_std.rs:\d+$"),
     ("panics", 4, r"here it is(.|\n)*^crash: Aborted, in the consumer$"),
     ("barrier", 2, NOT_SEEN.format("producer", "Barrier::wait")), ("once", 2, NOT_SEEN.format("producer", "Once::call")),
     ("rwlock", 2, NOT_SEEN.format("consumer", "RwLock::write_contended")), ("spawns", 2, THREAD), ("scope", 2, THREAD),

@@ -91,7 +91,7 @@ def print_merged(whole, parts, last):
     """Prints the result in the words of the test itself."""
     print(f"{whole['executions']:,} executions within a bound of {whole['level']}, in {parts} parts, {whole['seconds']:.2f} s: all lawful")
     if not whole["whole"]:
-        print("not all: the time was over")
+        print("not all: the time ran out")
     if whole["cut"]:
         print(f"{whole['cut']:,} of them were cut")
     print(f"reached: full {whole['full']:,}, empty {whole['empty']:,}, no reason given {whole['nothing']:,}, told {whole['told']:,}, overlapped "

@@ -40,7 +40,7 @@ mod explorer {
 }
 
 /// Explores a test, prints what was found and ends the program with its status: 0 all that was tried is lawful; 2 it cannot explore, as
-/// standard error says; 3 a fault, a data race or a use after free; 4 both sides wait for ever, a side goes on for ever, or it crashed.
+/// standard error says; 3 a fault, a data race or a use after free; 4 both sides wait forever, a side goes on for ever, or it crashed.
 ///
 /// `head` is the first line of a recording, as `"queue 2"`. `make` makes the two ends of the queue, before each run: for a queue that both sides
 /// share, two clones of an `Arc`. It also sets back the statics that the sides change. `produce` and `consume` are the two sides.
