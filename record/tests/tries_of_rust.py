@@ -15,7 +15,7 @@ BUGS = (
 )
 # What std has, by the ways of of_std.rs: the status, and what is reported.
 LAWFUL = r"^[\d,]+ executions within a bound of \d, .*: all lawful$"
-NOT_SEEN = r"^explore: of_std.rs:\d+: the {} calls std::.*{}\w*, which is compiled already in Rust's std: its accesses are not seen, so this test cannot be explored$"
+NOT_SEEN = r"^explore: of_std.rs:\d+: the {} calls std::.*{}\w*, which Rust's std has already compiled: its accesses are not seen, so this test cannot be explored$"
 THREAD = r"^explore: the test starts a thread, but its two sides must be functions that explore\(\) calls$"
 OF_STD = (
     *((way, 0, LAWFUL) for way in ("mutex", "condvar", "wait_timeout", "park", "drops_ends", "mpsc", "mpsc_sync", "rests", "thread_local", "prints")),
