@@ -1,13 +1,13 @@
-/* ring_audit.h: judges the calls of a queue with one producer and one consumer in the process that makes them, as in a unit test.
+/* ring_audit.h: judges the calls of a queue with one producer and one consumer in the process that makes them, for example in a unit test.
  * The verdict is that of the proved audit, `lamport_ring audit --calls`, in the same words, with no text and no other process.
  * C11, and C++ from C++11; it needs ring_calls.h beside it, and the library: libring_audit.a or .so in dist/ (Linux on x86-64)
  * or dist/aarch64-linux/ (on ARM64).
  *
- *     two threads record their calls in a ring_calls, as ring_calls.h tells; when both were joined:
+ *     two threads record their calls in a ring_calls, as ring_calls.h describes; after both were joined:
  *         assert(ring_audit_lawful(&rec, "queue 8"));
- *     Where they are not lawful stderr has `fault: line 5: empty, but item 12 was inside since line 3`, and the lines meant. Where
+ *     If they are not lawful, stderr has `fault: line 5: empty, but item 12 was inside since line 3`, and those lines. If
  *     RING_AUDIT_KEEP names a file in the environment, the recording is written there, for record/shrink and for the page.
- *     Where of the first 1000 calls that a program has judged so none overlapped one of the other side, stderr says so, once.
+ *     If none of the first 1000 calls that a program judges in this way overlapped one of the other side, stderr says so, once.
  *
  *     many rounds, in the same memory:
  *         ring_audit a = RING_AUDIT_NONE;
@@ -17,27 +17,27 @@
  *     without a recorder, line by line, with room for 20 items, those inside and those that a put offers:
  *         if (!ring_audit_init(&a, "queue 8", 20)) ..
  *         ring_audit_put(&a, 7);  ring_audit_stored(&a);  ring_audit_take(&a);  ring_audit_item(&a, 7);      1 while all is lawful
- *         ring_audit_print(&a, stdout);                            `lawful` and what was seen, or the words of the first fault
+ *         ring_audit_print(&a, stdout);                            `lawful` and the report, or the words of the first fault
  *
- * The library is proved. This file is not; record/test tests it. What C owes the library, and nothing checks:
- * - The state is all 0, but for its two lists, before ring_audit_begin; then nothing but the library changes it.
- * - Each list has as many slots as is said, and nothing else touches them. No pointer is null, also where it points to no numbers.
- *   (This file sees to these two.)
+ * The library is proved. This file is not; record/test tests it. What C code must ensure for the library, and nothing checks:
+ * - The state is all 0, except its two lists, before ring_audit_begin; after that only the library changes it.
+ * - Each list has as many slots as stated, and nothing else touches them. No pointer is null, even if it points to no numbers.
+ *   (This file ensures these two.)
  * - One call at a time on one state: threads that share a ring_audit need a lock.
- * - Of a state and its copy only one goes on, for both have the same slots. */
+ * - Of a state and its copy only one may be used, since both have the same slots. */
 #ifndef RING_AUDIT_H
 #define RING_AUDIT_H
 #include <assert.h>
 #include <stdbool.h>
 #include "ring_calls.h"
 
-/* An item that comes again is told as such where it is among so many taken last. */
+/* An item that comes again is reported as such if it is among this many taken last. */
 #ifndef RING_AUDIT_TAKEN
 #define RING_AUDIT_TAKEN 65536
 #endif
 
-/* What the library has. Of a line: its kind, as in ring_calls.h, and how many numbers stand in it. Found: the line at fault, the one that
- * contradicts it, 0 where none does, how many bytes its words have, and the verdict. */
+/* The library's types. A line: its kind, as in ring_calls.h, and the number of its numbers. A finding: the line at fault, the one that
+ * contradicts it (0 if none does), the number of bytes of its words, and the verdict. */
 typedef struct { uint64_t item, offered_at, stored_at; } ring_audit_offered;
 typedef struct { uint64_t item, taken_at; } ring_audit_taken;
 typedef struct { uint32_t word, count; } ring_audit_line;
@@ -90,13 +90,13 @@ enum {
     RING_AUDIT_TOO_LONG, RING_AUDIT_NO_STATE, RING_AUDIT_NO_MEMORY, RING_AUDIT_OTHER_LIBRARY
 };
 
-/* What was heard; what is found of the first line that was not; whether calls are missing behind the last line; the words. */
+/* The state after the accepted lines; the finding for the first line that was not accepted; whether calls are missing after the last line; the words. */
 typedef struct { ring_audit_state state; ring_audit_found found; bool cut; char words[320]; } ring_audit;
 
 /* "lawful", or the words of the first line that is not. */
 static inline const char *ring_audit_words(const ring_audit *a) { return a->words; }
 
-/* Keeps what is found, and its words; those of a cause come from the library. Returns whether all of it was heard. */
+/* Records the finding and its words; those of a cause come from the library. Returns whether all lines were accepted. */
 static inline int ring_audit_find(ring_audit *a, ring_audit_found found, const uint8_t *cause) {
     const unsigned long long line = (unsigned long long)found.line;
     const size_t room = sizeof a->words;
@@ -118,7 +118,7 @@ static inline int ring_audit_find(ring_audit *a, ring_audit_found found, const u
     return found.verdict == RING_AUDIT_HEARD;
 }
 
-/* Keeps a verdict that has no cause. */
+/* Records a verdict that has no cause. */
 static inline int ring_audit_say(ring_audit *a, uint32_t verdict, uint64_t line) {
     ring_audit_found found = { line, 0, 0, verdict };
     return ring_audit_find(a, found, (const uint8_t *)"");
@@ -130,7 +130,7 @@ static inline void ring_audit_free(ring_audit *a) {
     memset(&a->state, 0, sizeof a->state);
 }
 
-/* The numbers of a first line, "queue 8", "queue 1 512" or "queue": how many; 3 where it is none. */
+/* The numbers of a first line, "queue 8", "queue 1 512" or "queue"; returns how many, or 3 if it is not a first line. */
 static inline size_t ring_audit_numbers(const char *head, uint64_t numbers[2]) {
     size_t count = 0;
     if (strncmp(head, "queue", 5) != 0) return 3;
@@ -146,7 +146,7 @@ static inline size_t ring_audit_numbers(const char *head, uint64_t numbers[2]) {
     return *head ? 3 : count;
 }
 
-/* Forgets what was heard, and begins again in the same memory. Answers 0 where the head is none. */
+/* Discards everything, and begins again in the same memory. Returns 0 if the head is not a first line. */
 static inline int ring_audit_restart(ring_audit *a, const char *head) {
     uint64_t numbers[2] = { 0, 0 };
     size_t count = ring_audit_numbers(head, numbers);
@@ -163,8 +163,8 @@ static inline int ring_audit_restart(ring_audit *a, const char *head) {
     return ring_audit_say(a, RING_AUDIT_HEARD, 0);
 }
 
-/* Takes memory for so many items offered and taken, where there is less; what was heard is then forgotten. Answers 0 where there is
- * none, and where the library is of another version. */
+/* Allocates memory for this many items offered and taken, if there is less; then the earlier lines are discarded. Returns 0 if out of
+ * memory, or if the library is of another version. */
 static inline int ring_audit_grow(ring_audit *a, size_t offered, size_t taken) {
     static const uint64_t sizes[6] = { sizeof(ring_audit_state), sizeof(ring_audit_offered), sizeof(ring_audit_taken),
                                        sizeof(ring_audit_line), sizeof(ring_audit_counts), sizeof(ring_audit_found) };
@@ -183,8 +183,8 @@ static inline int ring_audit_grow(ring_audit *a, size_t offered, size_t taken) {
     return ring_audit_say(a, RING_AUDIT_NO_MEMORY, 0);
 }
 
-/* Begins; room: how many items are inside at most, with those that a put offers. Answers 0, and tells why on stderr, where there is
- * no memory, the head is none, or the library is of another version. */
+/* Begins; room: the most items inside, plus those that a put offers. Returns 0, and prints why to stderr, if there is
+ * no memory, the head is not a first line, or the library is of another version. */
 static inline int ring_audit_init(ring_audit *a, const char *head, size_t room) {
     memset(a, 0, sizeof *a);
     if (ring_audit_grow(a, room, RING_AUDIT_TAKEN) && ring_audit_restart(a, head)) return 1;
@@ -193,7 +193,7 @@ static inline int ring_audit_init(ring_audit *a, const char *head, size_t room) 
     return 0;
 }
 
-/* Hears lines, whose numbers stand one after the other. Answers 1 as long as all is lawful; the first fault stays. */
+/* Takes the next lines, with all their numbers in a row. Returns 1 as long as everything is lawful; the first fault stays. */
 static inline int ring_audit_lines(ring_audit *a, const ring_audit_line *lines, size_t count, const uint64_t *numbers, size_t n) {
     ring_audit_found found;
     uint8_t cause[256];
@@ -204,7 +204,7 @@ static inline int ring_audit_lines(ring_audit *a, const ring_audit_line *lines, 
     return ring_audit_find(a, found, cause);
 }
 
-/* Hears a line: its kind, as in ring_calls.h, and the numbers that stand in it. */
+/* Takes the next line: its kind, as in ring_calls.h, and its numbers. */
 static inline int ring_audit_event(ring_audit *a, int kind, const uint64_t *numbers, size_t n) {
     static const uint64_t none = 0;
     ring_audit_line line = { (uint32_t)kind, (uint32_t)n };
@@ -212,7 +212,7 @@ static inline int ring_audit_event(ring_audit *a, int kind, const uint64_t *numb
     return a->found.verdict == RING_AUDIT_HEARD && ring_audit_say(a, RING_AUDIT_NO_ROOM, a->state.line + 1);
 }
 
-/* The producer's, with the names of the recorder. */
+/* The producer's, named as in the recorder. */
 static inline int ring_audit_put_all(ring_audit *a, const uint64_t *items, size_t n) { return ring_audit_event(a, RING_PUT, items, n); }
 static inline int ring_audit_put(ring_audit *a, uint64_t item) { return ring_audit_put_all(a, &item, 1); }
 static inline int ring_audit_stored(ring_audit *a) { return ring_audit_event(a, RING_STORED, NULL, 0); }
@@ -243,7 +243,7 @@ static inline int ring_audit_take_short(ring_audit *a) { return ring_audit_event
 static inline int ring_audit_take_nothing(ring_audit *a) { return ring_audit_event(a, RING_TAKE_NOTHING, NULL, 0); }
 static inline int ring_audit_told(ring_audit *a) { return ring_audit_event(a, RING_TOLD, NULL, 0); }
 
-/* Hears what a recorder has, in the order in which ring_calls_write writes it. No thread records meanwhile. */
+/* Takes what a recorder has, in the order in which ring_calls_write writes it. No thread may record meanwhile. */
 static inline int ring_audit_logs(ring_audit *a, const ring_calls *rec) {
     enum { LINES = 256, NUMBERS = 1024 };
     ring_audit_line lines[LINES];
@@ -268,7 +268,7 @@ static inline int ring_audit_logs(ring_audit *a, const ring_calls *rec) {
     return ring_audit_lines(a, lines, count, numbers, used);
 }
 
-/* Judges what a recorder has, from its first line on, in memory of a, which grows to what that needs; before the first time a is
+/* Judges what a recorder has, from its first line on, in the memory of a, which grows as needed; before the first time a is
  * RING_AUDIT_NONE. */
 static inline int ring_audit_judge(ring_audit *a, const ring_calls *rec, const char *head) {
     uint64_t numbers[2] = { 0, 0 }, offered = 0, taken = 0, put = 0, take = 1;
@@ -283,7 +283,7 @@ static inline int ring_audit_judge(ring_audit *a, const ring_calls *rec, const c
         if (kind == RING_TAKE && n > 0 && rec->c.words[i + 2] > take) take = rec->c.words[i + 2];
         if (kind == RING_ITEM || kind == RING_TAKE_SOME) taken += n;
     }
-    /* of a queue with a bound no more are inside than that and what a take under way wants */
+    /* a queue with a bound has no more inside than that, plus what a take under way asks for */
     if (count == 1 || count == 2) {
         uint64_t most = numbers[count - 1];
         if (most < offered && take < offered && most + take + put < offered) offered = most + take + put;
@@ -292,7 +292,7 @@ static inline int ring_audit_judge(ring_audit *a, const ring_calls *rec, const c
     return ring_audit_grow(a, (size_t)offered, (size_t)taken) && ring_audit_restart(a, head) && ring_audit_logs(a, rec);
 }
 
-/* Writes the lines round the one at fault, and the one that contradicts it, as they stand in the recording. */
+/* Writes the lines around the one at fault, and the one that contradicts it, as they are in the recording. */
 static inline void ring_audit_show(const ring_audit *a, const ring_calls *rec, const char *head, FILE *out) {
     enum { BEFORE = 6, BEHIND = 2 };
     ring_calls_walk walk = ring_calls_begin(rec);
@@ -309,7 +309,7 @@ static inline void ring_audit_show(const ring_audit *a, const ring_calls *rec, c
     }
 }
 
-/* Writes the recording to the file that RING_AUDIT_KEEP names in the environment; one that was there is lost. */
+/* Writes the recording to the file that RING_AUDIT_KEEP names in the environment, replacing it. */
 static inline void ring_audit_keep(const ring_calls *rec, const char *head) {
     const char *name = getenv("RING_AUDIT_KEEP");
     FILE *file = name && *name ? fopen(name, "w") : NULL;
@@ -318,8 +318,8 @@ static inline void ring_audit_keep(const ring_calls *rec, const char *head) {
     if (name && *name && !written) fprintf(stderr, "%s: the recording cannot be written\n", name);
 }
 
-/* Counts the calls of lawful recordings, of all rounds of a program. Where the first RING_AUDIT_ALONE of them came one after the other, none
- * under way while one of the other side was, stderr says so, once: a single round may do so by chance. */
+/* Counts the calls of lawful recordings, over all rounds of a program. If the first RING_AUDIT_ALONE of them came one after the other, none
+ * overlapping one of the other side, prints this to stderr, once: in a single round it may be chance. */
 static inline void ring_audit_count(ring_audit *a) {
     enum { RING_AUDIT_ALONE = 1000 };
     static ring_calls_counter calls, overlapped;
@@ -335,8 +335,8 @@ static inline void ring_audit_count(ring_audit *a) {
     }
 }
 
-/* Whether what a recorder has is lawful. Where not, stderr has the words and the lines, and the recording is kept. Where it is, and has no
- * call or is cut, stderr is told so, and where no calls overlap. */
+/* Whether what a recorder has is lawful. If not, stderr has the words and the lines, and the recording is kept. If it is, but has no
+ * call, is cut, or no calls overlap, this is printed to stderr. */
 static inline int ring_audit_lawful(const ring_calls *rec, const char *head) {
     ring_audit a = RING_AUDIT_NONE;
     int lawful = ring_audit_judge(&a, rec, head);
@@ -352,7 +352,7 @@ static inline int ring_audit_lawful(const ring_calls *rec, const char *head) {
     return lawful;
 }
 
-/* Prints what audit --calls prints: the report, or the words of a fault. Answers 0 where not all was written. */
+/* Prints what audit --calls prints: the report, or the words of a fault. Returns 0 if not everything was written. */
 static inline int ring_audit_print(ring_audit *a, FILE *out) {
     ring_audit_counts r;
     fprintf(out, "%s\n", ring_audit_words(a));

@@ -1,11 +1,11 @@
-// ring_calls.hpp: ring_calls.h for C++ from C++17: a call of yours in a call of the recorder.
+// ring_calls.hpp: ring_calls.h for C++ from C++17: pass your call to a call of the recorder.
 //
 //     ring_calls_recorder rec(1 << 20);                                              words of 8 bytes for each side
 //     producer:  rec.put(item, [&] { return q.push(item); });                        true: stored, false: full
-//                rec.put_all(items, n, [&] { return q.push(items, n); });            how many were stored
+//                rec.put_all(items, n, [&] { return q.push(items, n); });            returns how many were stored
 //                rec.close([&] { q.close(); });
 //     consumer:  rec.take([&](auto tell) { uint64_t v; if (q.pop(v)) tell.item(v); else tell.empty(); });
-//     when both threads were joined:  rec.write("queue 8", file);
+//     after both threads were joined:  rec.write("queue 8", file);
 #pragma once
 #include "ring_calls.h"
 #include <cstddef>
@@ -15,7 +15,7 @@ class ring_calls_recorder {
     ring_calls rec;
 
 public:
-    // Throws bad_alloc where there is no memory.
+    // Throws bad_alloc if out of memory.
     explicit ring_calls_recorder(std::size_t words) {
         if (!ring_calls_init(&rec, words)) {
             ring_calls_free(&rec);
@@ -26,7 +26,7 @@ public:
     ring_calls_recorder(const ring_calls_recorder&) = delete;
     ring_calls_recorder& operator=(const ring_calls_recorder&) = delete;
 
-    // The call answers whether the item was stored.
+    // The call returns whether the item was stored.
     template <class Call> bool put(uint64_t item, Call call) {
         ring_calls_put(&rec, item);
         bool stored = call();
@@ -34,7 +34,7 @@ public:
         return stored;
     }
 
-    // The call answers how many of the items were stored, as many as there was room for.
+    // The call returns how many of the items were stored: as many as there was room for.
     template <class Call> std::size_t put_all(const uint64_t* items, std::size_t n, Call call) {
         ring_calls_put_all(&rec, items, n);
         std::size_t stored = call();
@@ -42,7 +42,7 @@ public:
         return stored;
     }
 
-    // The call answers how many of the items were stored, and does not say why not more.
+    // The call returns how many of the items were stored, with no reason given why not more.
     template <class Call> std::size_t put_some(const uint64_t* items, std::size_t n, Call call) {
         ring_calls_put_all(&rec, items, n);
         std::size_t stored = call();
@@ -50,7 +50,7 @@ public:
         return stored;
     }
 
-    // The call answers whether all of the items were stored; else none was.
+    // The call returns whether all of the items were stored; otherwise none was.
     template <class Call> bool put_all_or_none(const uint64_t* items, std::size_t n, Call call) {
         ring_calls_put_all(&rec, items, n);
         bool stored = call();
@@ -66,7 +66,7 @@ public:
         ring_calls_closed(&rec);
     }
 
-    // How a take ended: one of these, once, right after your call.
+    // How a take ended: call one of these, once, directly after your call.
     class Tell {
         ring_calls* rec;
         friend class ring_calls_recorder;
@@ -75,10 +75,10 @@ public:
     public:
         void item(uint64_t v) { ring_calls_item(rec, v); }
         void items(const uint64_t* v, std::size_t n) { ring_calls_items(rec, v, n); }
-        // the call does not say why not more
+        // with no reason given why not more
         void some_items(const uint64_t* v, std::size_t n) { ring_calls_some_items(rec, v, n); }
         void empty() { ring_calls_empty(rec); }
-        // a take of all or nothing that asked for so many
+        // an all-or-nothing take that asked for this many
         void too_few(std::size_t asked) { if (asked > 1) ring_calls_take_short(rec); else ring_calls_empty(rec); }
         void nothing() { ring_calls_take_nothing(rec); }
         void closed() { ring_calls_told(rec); }
@@ -94,7 +94,7 @@ public:
 
     bool write(const char* head, FILE* out) const { return ring_calls_write(&rec, head, out) != 0; }
 
-    // Forgets what was recorded, between two rounds of a test: while no thread records.
+    // Discards what was recorded, between two rounds of a test: while no thread records.
     void restart() { ring_calls_restart(&rec); }
 
     // What was recorded, for ring_audit.hpp.

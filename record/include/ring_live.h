@@ -1,34 +1,34 @@
-/* ring_live.h: records the calls of a queue with one producer and one consumer and audits them while they come, in a thread of
- * its own and in memory that does not grow: for runs of hours. The verdict is that of the proved audit, `lamport_ring audit
+/* ring_live.h: records the calls of a queue with one producer and one consumer and audits them as they happen, in a thread of
+ * its own and in constant memory: for runs of hours. The verdict is that of the proved audit, `lamport_ring audit
  * --calls`, in the same words. C11 with POSIX threads (-std=gnu11), and C++ from C++11; it needs ring_calls.h and ring_audit.h
  * beside it, and the library of the latter.
  *
  *     ring_live live;
- *     if (!ring_live_begin(&live, "queue 8")) ..              before the threads; stderr has why not
- *     producer:  if (!ring_live_put(&live, item)) return;     0: there was a fault; nothing more is recorded, and each answers 0
+ *     if (!ring_live_begin(&live, "queue 8")) ..              before the threads; if it fails stderr says why
+ *     producer:  if (!ring_live_put(&live, item)) return;     0: there was a fault; nothing more is recorded, and all calls return 0
  *                if (my_put(item)) ring_live_stored(&live); else ring_live_full(&live);
  *     consumer:  if (!ring_live_take(&live)) return;
  *                if (my_take(&item)) ring_live_item(&live, item); else ring_live_empty(&live);
- *     when both threads were joined:
+ *     after both threads were joined:
  *         int lawful = ring_live_end(&live);
- *         ring_live_print(&live, stdout);                     `lawful` and what was seen, or the words of the fault
+ *         ring_live_print(&live, stdout);                     `lawful` and the report, or the words of the fault
  *         ring_live_free(&live);
  *
- * At the first fault stderr has its words and the lines round it, and each side is stopped at its next event: the queue stands
- * as it is then, some calls further on than the line at fault. A side that is blocked in a call stays there, unless the other
- * one wakes it; ring_live_at_fault tells a third thread, which may then call ring_live_end, though not ring_live_free. In the
- * environment RING_LIVE_TRAP=1 raises SIGTRAP at a fault, for a debugger (on Windows it is a breakpoint); RING_LIVE_TELL=1 tells
- * each second on stderr how far the run is, 60 each minute: `behind` is how many events the monitor has not heard.
+ * At the first fault stderr has its words and the lines around it, and each side is stopped at its next event: the queue stays
+ * in that state, some calls after the line at fault. A side that is blocked in a call stays there, unless the other
+ * one wakes it; a third thread can check ring_live_at_fault, and may then call ring_live_end, but not ring_live_free. In the
+ * environment RING_LIVE_TRAP=1 raises SIGTRAP at a fault, for a debugger (on Windows a breakpoint); RING_LIVE_TELL=1 prints
+ * the progress to stderr each second, 60 each minute: `behind` is the number of events that the monitor has not processed.
  *
- * Why there is no false alarm: tickets are those of ring_calls.h, whose argument holds. Each ticket is of one event, so the
- * monitor, which knows the next one, finds its event at one side or at the other, and waits for no side that has nothing to
- * tell. An event is shown to it before the recorder's call ends: a call that blocks has its begin shown. What a side learns of
- * the monitor orders no more than tickets do, for a begin behind it has a ticket above those of all events that the monitor has
+ * Why there are no false alarms: the tickets are those of ring_calls.h, whose argument applies. Each ticket belongs to one event, so the
+ * monitor, which knows the next one, finds its event on one side or the other, and never waits for a side that has no events.
+ * An event becomes visible to it before the recorder's call ends: the start of a blocking call is visible. What a side learns from
+ * the monitor orders no more than tickets do, since a later start has a greater ticket than all events that the monitor has
  * seen.
  *
- * Where the log of a side is full both sides wait until the monitor has heard all. A side waits before a begin draws its
- * ticket, with room for the end too: nothing waits between a begin and its end, and a queue that blocks is not kept from going
- * on. Both go on at the same time, for calls to overlap as they did. How often this was, the lines of RING_LIVE_TELL have as
+ * If the log of a side is full, both sides wait until the monitor has processed everything. A side waits before a start draws its
+ * ticket, until there is room for the end too: nothing waits between a start and its end, and a blocking queue can always
+ * continue. Both sides continue at the same time, so that calls overlap as before. The lines of RING_LIVE_TELL show how often this happened as
  * `waits`. */
 #ifndef RING_LIVE_H
 #define RING_LIVE_H
@@ -44,32 +44,32 @@
 #error "ring_live.h needs POSIX: -std=gnu11, or -D_POSIX_C_SOURCE=200809L"
 #endif
 
-/* The most items that a call offers or wants. */
+/* The most items that a call offers or asks for. */
 #ifndef RING_LIVE_MOST
 #define RING_LIVE_MOST 64
 #endif
-/* The words of a side's log, of 8 bytes, a power of two. An event has one, and one more for each of its numbers. */
+/* The number of words of a side's log, of 8 bytes each; a power of two. An event takes one word, and one more for each of its numbers. */
 #ifndef RING_LIVE_WORDS
 #define RING_LIVE_WORDS 65536
 #endif
-/* The most items inside that can be audited, of a queue with no bound or a larger one. */
+/* The most items inside that can be audited, for a queue with no bound or a larger one. */
 #ifndef RING_LIVE_INSIDE
 #define RING_LIVE_INSIDE 65536
 #endif
 
 enum {
     RING_LIVE_MASK = RING_LIVE_WORDS - 1,
-    RING_LIVE_CALL = 2 * (RING_LIVE_MOST + 1),          /* the most words of a begin and its end */
-    RING_LIVE_LINES = 256,                              /* the most lines that are heard together */
+    RING_LIVE_CALL = 2 * (RING_LIVE_MOST + 1),          /* the most words of a start and its end */
+    RING_LIVE_LINES = 256,                              /* the most lines that are processed together */
     RING_LIVE_BITS = 16                                 /* an event's first word: its kind in 4 bits, its numbers, its ticket */
 };
 static_assert(RING_LIVE_MOST >= 1 && RING_LIVE_MOST < 4096, "from 1 to 4095");
 static_assert((RING_LIVE_WORDS & RING_LIVE_MASK) == 0 && RING_LIVE_WORDS >= 16 * RING_LIVE_CALL, "a power of two, not small");
 
-/* What the recorder's calls do. A side may have both wait or stop; the monitor alone ends a wait. */
+/* What the recorder's calls do. A side may make both wait or stop; only the monitor ends a wait. */
 enum { RING_LIVE_GO, RING_LIVE_WAIT, RING_LIVE_STOP };
 
-/* A side's log. Each line here is written by one thread; apart keeps it from the next one's line of the cache. */
+/* A side's log. Each line here is written by one thread; `apart` keeps it off the next one's cache line. */
 typedef struct {
     ring_calls_counter shown; char apart1[120];                         /* the side's: words written */
     ring_calls_counter done; char apart2[120];                          /* the monitor's: words read */
@@ -77,7 +77,7 @@ typedef struct {
     const uint64_t *log; uint64_t read, known; char apart4[104];        /* the monitor's own: words read; shown, as it last was */
 } ring_live_side;
 
-/* Lines, some heard and the others next, and their numbers. */
+/* Lines, some already processed and the others next, and their numbers. */
 typedef struct {
     uint64_t first;                                                     /* the number of its first line */
     size_t used, heard, numbers_used, numbers_heard;
@@ -88,7 +88,7 @@ typedef struct {
 typedef struct {
     ring_live_side p, c;
     ring_calls_counter next; char apart1[120];                          /* the next ticket */
-    ring_calls_counter state, over, refused; char apart2[104];          /* refused: the items of a call that has too many */
+    ring_calls_counter state, over, refused; char apart2[104];          /* refused: the number of items of a call that has too many */
     /* the monitor's own while it runs */
     uint64_t ticket, waits, told_calls;                                 /* ticket: that of the next event */
     double began, told;                                                 /* seconds of the clock */
@@ -108,7 +108,7 @@ static inline void ring_live_store(ring_calls_counter *word, uint64_t value) {
     RING_CALLS_STD(atomic_store_explicit)(word, value, RING_CALLS_STD(memory_order_release));
 }
 
-/* Changes the state, where it still is the one given. */
+/* Changes the state if it is still the given one. */
 static inline int ring_live_change(ring_live *r, uint64_t from, uint64_t to) {
     return RING_CALLS_STD(atomic_compare_exchange_strong_explicit)(&r->state, &from, to, RING_CALLS_STD(memory_order_acq_rel),
                                                                    RING_CALLS_STD(memory_order_acquire));
@@ -128,12 +128,12 @@ static inline double ring_live_seconds(void) {
 /* Whether there was a fault. */
 static inline int ring_live_at_fault(const ring_live *r) { return ring_live_load(&r->state) == RING_LIVE_STOP; }
 
-/* "lawful", or the words of the fault: behind ring_live_end. */
+/* "lawful", or the words of the fault: after ring_live_end. */
 static inline const char *ring_live_words(const ring_live *r) { return ring_audit_words(&r->audit); }
 
 /* The recorder. */
 
-/* Waits until there is room for a call. Answers 0 where both sides are stopped. */
+/* Waits until there is room for a call. Returns 0 if both sides are stopped. */
 static inline int ring_live_room(ring_live *r, ring_live_side *s) {
     for (unsigned round = 0;; round++) {
         uint64_t state = ring_live_load(&r->state);
@@ -147,7 +147,7 @@ static inline int ring_live_room(ring_live *r, ring_live_side *s) {
     }
 }
 
-/* Stops both sides for a call of too many items; the monitor tells so. Answers 0. */
+/* Stops both sides because of a call with too many items; the monitor reports it. Returns 0. */
 static inline int ring_live_refuse(ring_live *r, uint64_t items) {
     uint64_t state;
     ring_live_store(&r->refused, items);
@@ -172,7 +172,7 @@ static inline int ring_live_event(ring_live *r, ring_live_side *s, int kind, con
     return 1;
 }
 
-/* The producer's: each before the call, or after it, as in ring_calls.h. They answer 1, or 0 where both sides are stopped. */
+/* The producer's: each before the call, or after it, as in ring_calls.h. They return 1, or 0 if both sides are stopped. */
 static inline int ring_live_put_all(ring_live *r, const uint64_t *items, size_t n) {
     return ring_live_event(r, &r->p, RING_PUT, items, n);
 }
@@ -209,7 +209,7 @@ static inline int ring_live_told(ring_live *r) { return ring_live_event(r, &r->c
 
 /* The monitor. */
 
-/* Moves events from what is known of the logs to a page that has room, in the order of their tickets. Answers how many. */
+/* Moves known events from the logs to a page that has room, in the order of their tickets. Returns how many. */
 static inline size_t ring_live_merge(ring_live *r) {
     if (r->page->used == RING_LIVE_LINES) {
         ring_live_page *before = r->page_before;
@@ -244,7 +244,7 @@ static inline size_t ring_live_merge(ring_live *r) {
     return count;
 }
 
-/* Hears what the page has that was not heard. Answers 0 where a line of it is not lawful. */
+/* Processes the new lines of the page. Returns 0 if one of them is not lawful. */
 static inline int ring_live_hear(ring_live *r) {
     ring_live_page *page = r->page;
     const ring_audit_line *lines = page->lines + page->heard;
@@ -255,7 +255,7 @@ static inline int ring_live_hear(ring_live *r) {
     return ring_audit_lines(&r->audit, lines, count, numbers, n);
 }
 
-/* Writes the lines round the one at fault, and the one that contradicts it, as far as the two pages have them. */
+/* Writes the lines around the one at fault, and the one that contradicts it, as far as the two pages have them. */
 static inline void ring_live_show(const ring_live *r, FILE *out) {
     enum { BEFORE = 6, BEHIND = 2 };
     const ring_live_page *const pages[2] = { r->page_before, r->page };
@@ -287,7 +287,7 @@ static inline void ring_live_trap(void) {
 #endif
 }
 
-/* Stops both sides, and tells why. */
+/* Stops both sides, and prints why. */
 static inline void ring_live_stop(ring_live *r) {
     ring_live_store(&r->state, RING_LIVE_STOP);
     fprintf(stderr, "%s\n", ring_live_words(r));
@@ -295,14 +295,14 @@ static inline void ring_live_stop(ring_live *r) {
     if (r->traps) ring_live_trap();
 }
 
-/* The same, where it is not the audit that has the words. */
+/* The same, if the words are not the audit's. */
 static inline void ring_live_stop_for(ring_live *r, uint32_t verdict, const char *before, uint64_t number, const char *behind) {
     r->audit.found.verdict = verdict;
     snprintf(r->audit.words, sizeof r->audit.words, "refused: %s %llu %s", before, (unsigned long long)number, behind);
     ring_live_stop(r);
 }
 
-/* Tells how far the run is, where it is time to. */
+/* Prints the progress if it is time to. */
 static inline void ring_live_tell(ring_live *r) {
     const double now = r->each ? ring_live_seconds() : 0, since = now - r->told;
     ring_audit_counts seen;
@@ -315,9 +315,9 @@ static inline void ring_live_tell(ring_live *r) {
     r->told_calls = seen.calls;
 }
 
-/* Hears what is shown now. Answers 0 where it is not lawful, or where no more is to come, and told so. */
+/* Processes what is visible now. Returns 0 if it is not lawful, or if nothing more will come. */
 static inline int ring_live_round(ring_live *r, size_t *count) {
-    /* (before what is shown: at the end, and where both sides wait or are stopped, that is all) */
+    /* (read before the visible events: at the end, and if both sides wait or are stopped, those are all) */
     const uint64_t over = ring_live_load(&r->over), state = ring_live_load(&r->state);
     r->p.known = ring_live_load(&r->p.shown);
     r->c.known = ring_live_load(&r->c.shown);
@@ -338,8 +338,8 @@ static inline int ring_live_round(ring_live *r, size_t *count) {
     return state != RING_LIVE_STOP && !over;
 }
 
-/* Its thread. It rests after each round where it is not far behind, the longer the fewer come: so many are heard together, and the
- * sides are seldom asked what they have. */
+/* The monitor's thread. It pauses after each round unless it is far behind, longer if fewer events come: so it processes many together, and
+ * rarely reads the sides' counters. */
 static inline void *ring_live_monitor(void *passed) {
     ring_live *r = (ring_live *)passed;
     long rest = 50;
@@ -351,7 +351,7 @@ static inline void *ring_live_monitor(void *passed) {
     return NULL;
 }
 
-/* Begins. Answers 0, and tells why on stderr, where there is no memory or no thread, the head is none, or the library is of
+/* Begins. Returns 0, and prints why to stderr, if there is no memory or no thread, the head is not a first line, or the library is of
  * another version. */
 static inline int ring_live_begin(ring_live *r, const char *head) {
     uint64_t numbers[2] = { 0, 0 };
@@ -366,7 +366,7 @@ static inline int ring_live_begin(ring_live *r, const char *head) {
         RING_CALLS_STD(atomic_init)(&s->done, (uint64_t)0);
         s->log = s->words = (uint64_t *)malloc(RING_LIVE_WORDS * sizeof(uint64_t));
         s->at = s->seen = s->read = s->known = 0;
-        /* the pages are there before the recording begins */
+        /* so that the pages are present before the recording starts */
         if (s->words) memset(s->words, 1, RING_LIVE_WORDS * sizeof(uint64_t));
     }
     RING_CALLS_STD(atomic_init)(&r->next, (uint64_t)0);
@@ -381,7 +381,7 @@ static inline int ring_live_begin(ring_live *r, const char *head) {
     r->page = (ring_live_page *)calloc(1, sizeof *r->page);
     r->page_before = (ring_live_page *)calloc(1, sizeof *r->page);
     snprintf(r->head, sizeof r->head, "%s", head);
-    /* (inside are at most those, and what a take under way wants and a put offers) */
+    /* (the most inside, plus what a take under way asks for and a put offers) */
     if (!ring_audit_init(&r->audit, head, inside + 2 * RING_LIVE_MOST)) return 0;
     if (r->p.words && r->c.words && r->page && r->page_before) {
         r->page->first = 2;
@@ -396,7 +396,7 @@ static inline int ring_live_begin(ring_live *r, const char *head) {
     return r->has_begun;
 }
 
-/* Ends, when both sides were joined, or at a fault. Answers whether all was lawful. Where it is, and no call was recorded, stderr is told. */
+/* Ends, after both sides were joined, or at a fault. Returns whether all was lawful. If so, and no call was recorded, prints this to stderr. */
 static inline int ring_live_end(ring_live *r) {
     ring_live_store(&r->over, 1);
     if (r->has_begun) pthread_join(r->monitor, NULL);
@@ -406,10 +406,10 @@ static inline int ring_live_end(ring_live *r) {
     return 1;
 }
 
-/* Prints what audit --calls prints: the report, or the words of the fault. Answers 0 where not all was written. */
+/* Prints what audit --calls prints: the report, or the words of the fault. Returns 0 if not everything was written. */
 static inline int ring_live_print(ring_live *r, FILE *out) { return ring_audit_print(&r->audit, out); }
 
-/* Gives the memory back, also where it did not begin. */
+/* Frees the memory, also if it did not begin. */
 static inline void ring_live_free(ring_live *r) {
     free(r->p.words);
     free(r->c.words);
