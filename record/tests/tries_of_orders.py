@@ -106,7 +106,7 @@ class Orders:
             reports, texts, sums = [], [], set()
             for part in range(1, 6):
                 _, out, _ = self.run(f"EXPLORE_BOUND={bound} EXPLORE_PART={part}/5 EXPLORE_REPORT=$ROOM/part.json EXPLORE_DUMP=$ROOM/part.txt $ROOM/parts")
-                sums.update(re.findall(r"has the sum (\w+) ", out.decode()))
+                sums.update(re.findall(r"have the checksum (\w+) ", out.decode()))
                 with open(f"{room}/part.json", encoding="utf-8") as file, open(f"{room}/part.txt", encoding="ascii") as dump:
                     reports.append(json.load(file))
                     texts += dump.read().split("\n\n")[:-1]
@@ -140,7 +140,7 @@ class Orders:
         status, printed = self.explore("broken/orders.c -- -DBUG=1", "--paths")
         self.check("explore --paths", status == 3 and f" finds at {self.here}/broken/orders.h:" in printed, (status, printed))
         status, printed = self.explore("broken/orders.c -- -DBUG=14", "", SCHEDULE="P14 C P4:fail C9:old2")
-        good = status == 3 and "C9:old2 is no choice of this test" in printed and "P4:fail is no" not in printed
+        good = status == 3 and "C9:old2 is not a choice of this test" in printed and "P4:fail is no" not in printed
         self.check("explore: a choice of a schedule that is none", good, (status, printed))
         for standard, want in ((17, 0), (20, 3)):
             for words, options in (("", "-o $ROOM/sequences "), ("$ROOM/sequences", "")):
