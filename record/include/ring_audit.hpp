@@ -14,7 +14,7 @@
 #include <ostream>
 #include <string>
 
-// What was found of a recording: true where it is lawful.
+// The finding for a recording: true if it is lawful.
 class ring_audit_result {
     bool is_lawful;
     std::string said, shown;
@@ -25,7 +25,7 @@ public:
     explicit operator bool() const { return is_lawful; }
     // `lawful`, or the words of the first line that is not.
     const std::string& words() const { return said; }
-    // The lines round that one and the one that contradicts it, as they stand in the recording; of a lawful one none.
+    // The lines around that one and the one that contradicts it, as they are in the recording; of a lawful one none.
     const std::string& lines() const { return shown; }
     friend std::ostream& operator<<(std::ostream& out, const ring_audit_result& found) {
         return out << found.said << '\n' << found.shown;
@@ -41,8 +41,8 @@ public:
     ring_auditor(const ring_auditor&) = delete;
     ring_auditor& operator=(const ring_auditor&) = delete;
 
-    // Whether what a recorder has is lawful; head is the first line of the recording: "queue 8", "queue 1 512" or "queue". Where it has
-    // no call or is cut, stderr is told so, and where no calls overlap.
+    // Whether what a recorder has is lawful; head is the first line of the recording: "queue 8", "queue 1 512" or "queue". If it is, but has
+    // no call, is cut, or no calls overlap, this is printed to stderr.
     ring_audit_result lawful(const ring_calls& rec, const char* head) {
         ring_audit_result found(ring_audit_judge(&audit, &rec, head) != 0, ring_audit_words(&audit));
         if (found) {

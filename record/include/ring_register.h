@@ -11,9 +11,9 @@
  * Each number is that of one thread; a writer that reads too takes a number of its own. A write of the value that the register holds is
  * a write: record it. A read that finds no value is recorded with a number that is no value: 4 if the first line is "register 0 4".
  *
- * Why there is no false alarm. Each begin takes the next ticket of one counter before the operation, each end after it, so an
- * interval is only ever widened. The threads write the counter by fetch_add alone. If the ticket of an end is below that of a begin, the
- * begin's fetch_add (acquire) reads from the release sequence that the end's fetch_add (release) heads: the one operation happens before
+ * Why there are no false alarms. Each start takes the next ticket of one counter before the operation, each end after it, so an
+ * interval can only get wider. The threads write the counter by fetch_add alone. If the ticket of an end is smaller than that of a start, the
+ * start's fetch_add (acquire) reads from the release sequence that the end's fetch_add (release) heads: the one operation happens before
  * the other in the sense of C11. All other operations overlap in the recording. With wider intervals each read may be of the same writes
  * and perhaps of more, no read is overlapped by fewer of them, and fewer reads have to keep to one another. So the recording has each
  * class that the register has there, and a class that the recording lacks the register lacks. The price: a ticket orders

@@ -7,7 +7,7 @@ package main
 //	}
 //
 // The verdict is that of the proved audit, `lamport_ring audit --calls`, in the same words, with no text and no other process:
-// the error is `fault: line 5: empty, but item 12 was inside since line 3`, and the lines meant. Where RING_AUDIT_KEEP names a
+// the error is `fault: line 5: empty, but item 12 was inside since line 3`, and those lines. If RING_AUDIT_KEEP names a
 // file in the environment, the recording is written there, for record/shrink and for the page. Judge counts, too, what a lawful
 // one has.
 //
@@ -18,7 +18,7 @@ package main
 // The library is proved. This file is not; record/test tests it. It keeps what is owed to the library, and not checked by that:
 //   - The state is all 0, but for its two lists, before ring_audit_begin; then the library alone changes it, and no copy is made.
 //   - Each list has as many slots as is said, and nothing else touches them: they are memory of C, from calloc up to free. No
-//     pointer is null, also where it points to no numbers. What Go lends has no pointers in it, and the library keeps none of it.
+//     pointer is null, even if it points to no numbers. What Go lends has no pointers in it, and the library keeps none of it.
 //   - One call at a time on one state: each has a state of its own.
 
 /*
@@ -66,7 +66,7 @@ size_t ring_audit_hear(ring_audit_state *, const ring_audit_line *lines, size_t 
 bool ring_audit_report(ring_audit_state *, ring_audit_counts *report);
 void ring_audit_layout(uint64_t *sizes, size_t count);
 
-// A state with its lists, all 0, in one piece, which free frees; NULL where there is no memory.
+// A state with its lists, all 0, in one piece, which free frees; NULL if out of memory.
 static ring_audit_state *ring_audit_new(size_t offered, size_t taken) {
     ring_audit_state *s = calloc(1, sizeof *s + offered * sizeof *s->offered + taken * sizeof *s->taken);
     if (s) {
@@ -92,13 +92,13 @@ import (
 )
 
 const (
-	// An item that comes again is told as such where it is among so many taken last.
+	// An item that comes again is reported as such if it is among this many taken last.
 	ringTaken = 65536
-	// So many lines are told before the one at fault, and behind it.
+	// The number of lines that are shown before the one at fault, and after it.
 	ringBefore, ringBehind = 6, 2
-	// Lines are heard so many at a time, with so many numbers at most; one that has more of them is heard alone.
+	// Lines are passed in groups of at most this many lines and numbers; a line with more numbers is passed alone.
 	ringLines, ringNumbers = 256, 1024
-	// So many calls with none that overlaps are told.
+	// This many calls without an overlap are reported.
 	ringAlone = 1000
 	// Kinds of lines, by their places in ringWords.
 	ringPut, ringTake, ringItem, ringSome = 0, 2, 9, 10
@@ -109,14 +109,14 @@ const (
 // RingFault is what is found of calls that are not lawful, or that cannot be judged.
 type RingFault struct {
 	Words         string // of the first line that is not lawful
-	Line, Against uint64 // that line, and the one that contradicts it; 0 where there is none
-	Lines         string // those round it and the one that contradicts it, as they stand in the recording
+	Line, Against uint64 // that line, and the one that contradicts it; 0 if there is none
+	Lines         string // those round it and the one that contradicts it, as they are in the recording
 }
 
 func (f *RingFault) Error() string { return strings.TrimRight(f.Words+"\n"+f.Lines, "\n") }
 
-// RingReport is what audit --calls counts of lawful calls. Inside: surely so many at some moment, and so many at most; Cut: calls
-// are missing behind the last line.
+// RingReport is what audit --calls counts of lawful calls. Inside: the most surely inside at some moment, and the most perhaps inside; Cut: calls
+// are missing after the last line.
 type RingReport struct {
 	Calls, Stored, Taken, Full, Empty, Nothing uint64
 	Told                                       bool
@@ -141,8 +141,8 @@ func (r RingReport) String() string {
 }
 
 // Lawful judges what r has, once both goroutines have ended; head is the first line of the recording: "queue 8", "queue 1 512" or
-// "queue". The error, nil where it is lawful, is a *RingFault; where it is nil, and no call was recorded, the history is cut, or no calls
-// overlap, standard error is told.
+// "queue". The error, nil if it is lawful, is a *RingFault; if it is nil, and no call was recorded, the history is cut, or no calls
+// overlap, this is printed to standard error.
 func Lawful(head string, r *RingCalls) error {
 	_, err := Judge(head, r)
 	return err
@@ -183,7 +183,7 @@ func (r RingReport) count() {
 	}
 }
 
-// Hears what both logs have, in the order in which Write writes it.
+// Takes what both logs have, in the order in which Write writes it.
 func (r *RingCalls) judge(head string) (RingReport, *RingFault) {
 	var sizes [6]C.uint64_t
 	C.ring_audit_layout(&sizes[0], C.size_t(len(sizes)))
@@ -250,7 +250,7 @@ func (r *RingCalls) judge(head string) (RingReport, *RingFault) {
 	}, nil
 }
 
-// Where these numbers begin; never nil.
+// The address of these numbers; never nil.
 func ringAt(numbers []uint64) *C.uint64_t {
 	if len(numbers) == 0 {
 		numbers = []uint64{0}
@@ -316,7 +316,7 @@ func (r *RingCalls) room(capacity []uint64) (offered, taken uint64) {
 			taken += count
 		}
 	}
-	// of a queue with a bound no more are inside than that and what a take under way wants
+	// a queue with a bound has no more inside than that, plus what a take under way asks for
 	if len(capacity) > 0 {
 		most := capacity[len(capacity)-1]
 		if most < offered && take < offered && most+take+put < offered {
@@ -326,7 +326,7 @@ func (r *RingCalls) room(capacity []uint64) (offered, taken uint64) {
 	return offered, min64(taken, ringTaken)
 }
 
-// The lines round the one at fault, and the one that contradicts it, as they stand in the recording.
+// The lines around the one at fault, and the one that contradicts it, as they are in the recording.
 func (r *RingCalls) linesOf(fault *RingFault, head string) string {
 	var shown strings.Builder
 	out, events := bufio.NewWriter(&shown), r.events()

@@ -2,16 +2,16 @@
 // Copy it into your package and name that in the next line.
 package main
 
-//	rec := NewRingCalls(1 << 20)                     room for so many words of 8 bytes on each side: a put with its end takes 5
+//	rec := NewRingCalls(1 << 20)                     room for this many words of 8 bytes on each side: a put with its end takes 5
 //	producer:  rec.Put(v);    if put(v) { rec.Stored() } else { rec.Full() }
 //	           rec.Close();   close(q);  rec.Closed()
 //	consumer:  rec.Take();    v, ok := take();  if ok { rec.Item(v) } else { rec.Empty() }       (rec.Told(): empty and closed)
 //	when both goroutines have ended:  rec.Write("queue 8", file)                  rec.Restart() for a next round
 //
-// Why there is no false alarm: each begin takes the next ticket of one counter before the call, each end after it, so an interval
-// is only ever widened. Atomic operations of Go are sequentially consistent: where the ticket of an end is below that of a begin, the one
+// Why there are no false alarms: each start takes the next ticket of one counter before the call, each end after it, so an interval
+// can only get wider. Atomic operations of Go are sequentially consistent: if the ticket of an end is smaller than that of a start, the one
 // call happens before the other, and a right queue has to respect that. All other calls overlap in the recording. While recording nothing
-// is allocated and nothing locked; where a side has no more room the history is cut there, for both sides: its first line begins
+// is allocated and nothing locked; if the log of a side is full the history is cut there, for both sides: its first line begins
 // with `cut`, and Write says on standard error whose log was full; and where no call was recorded.
 
 import (
@@ -41,7 +41,7 @@ type RingCalls struct {
 	ticket uint64
 }
 
-// NewRingCalls has room for so many words on each side.
+// NewRingCalls has room for this many words on each side.
 func NewRingCalls(words int) *RingCalls {
 	log := func() ringLog {
 		w := make([]uint64, words)
@@ -91,7 +91,7 @@ func (r *RingCalls) StoredOf(stored, offered uint64) {
 	}
 }
 
-// Some: the first ones were stored, so many, and the call does not say why not more.
+// Some: the first `stored` items were stored, with no reason given why not more.
 func (r *RingCalls) Some(stored uint64) {
 	if stored == 0 {
 		r.PutNothing()
@@ -103,7 +103,7 @@ func (r *RingCalls) Some(stored uint64) {
 // PutShort: a put of all or nothing; of two items or more none was stored, there was not room for all.
 func (r *RingCalls) PutShort() { r.event(&r.p, 6) }
 
-// PutNothing: none was stored, and the call does not say why.
+// PutNothing: none was stored, with no reason given.
 func (r *RingCalls) PutNothing() { r.event(&r.p, 7) }
 
 // Closed: a close ends, or a put that found the queue closed.
@@ -112,7 +112,7 @@ func (r *RingCalls) Closed() { r.event(&r.p, 8) }
 // The consumer's.
 func (r *RingCalls) Take() { r.event(&r.c, 2) }
 
-// TakeAll: at most so many items, from 1.
+// TakeAll: at most this many items, at least 1.
 func (r *RingCalls) TakeAll(most uint64) {
 	if most > 1 {
 		r.event(&r.c, 2, most)
@@ -123,7 +123,7 @@ func (r *RingCalls) TakeAll(most uint64) {
 func (r *RingCalls) Item(items ...uint64) { r.event(&r.c, 9, items...) }
 func (r *RingCalls) Empty()               { r.event(&r.c, 11) }
 
-// SomeItems: these items, and the call does not say why not more.
+// SomeItems: these items, with no reason given why not more.
 func (r *RingCalls) SomeItems(items ...uint64) {
 	if len(items) == 0 {
 		r.TakeNothing()
@@ -155,7 +155,7 @@ func (r *RingCalls) events() *ringEvents {
 	return &ringEvents{r.p.words[:r.p.used], r.c.words[:r.c.used], min64(r.p.cut, r.c.cut)}
 }
 
-// The next event; false behind the last one.
+// The next event; false after the last one.
 func (e *ringEvents) next() (ringEvent, bool) {
 	ticket := func(words []uint64) uint64 {
 		if len(words) > 0 && words[1] < e.cut {
@@ -192,7 +192,7 @@ func (e ringEvent) write(out *bufio.Writer) {
 	out.WriteByte('\n')
 }
 
-// Tells standard error where the history is cut, and where it has no call.
+// Prints to standard error if the history is cut, or has no call.
 func (r *RingCalls) tell() {
 	if r.events().cut != math.MaxUint64 {
 		side, log := "producer", &r.p
@@ -205,8 +205,8 @@ func (r *RingCalls) tell() {
 	}
 }
 
-// Write writes the recording; head is its first line: "queue 8", "queue 1 512" or "queue". Where the history is cut, and where it has no
-// call, standard error is told.
+// Write writes the recording; head is its first line: "queue 8", "queue 1 512" or "queue". If the history is cut, or has no
+// call, prints this to standard error.
 func (r *RingCalls) Write(head string, to io.Writer) error {
 	out, events := bufio.NewWriter(to), r.events()
 	r.tell()

@@ -7,17 +7,17 @@ import java.util.concurrent.atomic.AtomicLong;
  * Records the calls of a queue with one producer and one consumer, for {@code lamport_ring audit --calls}.
  *
  * <pre>
- * RingCalls rec = new RingCalls(1 << 20);      room for so many words of 8 bytes on each side: a put with its end takes 5
+ * RingCalls rec = new RingCalls(1 << 20);      room for this many words of 8 bytes on each side: a put with its end takes 5
  * producer:  rec.put(v);   if (q.offer(v)) rec.stored(); else rec.full();
  *            rec.close();  close();  rec.closed();
  * consumer:  rec.take();   Long v = q.poll();  if (v != null) rec.item(v); else rec.empty();      (rec.told(): empty and closed)
  * when both threads were joined:  rec.write("queue 8", writer);
  * </pre>
  *
- * Why there is no false alarm: each begin takes the next ticket of one counter before the call, each end after it, so an
- * interval is only ever widened. getAndIncrement is sequentially consistent: where the ticket of an end is below that of a begin, the one
+ * Why there are no false alarms: each start takes the next ticket of one counter before the call, each end after it, so an
+ * interval can only get wider. getAndIncrement is sequentially consistent: if the ticket of an end is smaller than that of a start, the one
  * call happens before the other, and a right queue has to respect that. All other calls overlap in the recording. While recording nothing
- * is allocated (but by the boxing of your own items) and nothing locked; where a side has no more room the history is cut there, for
+ * is allocated (but by the boxing of your own items) and nothing locked; if the log of a side is full the history is cut there, for
  * both sides: its first line begins with {@code cut}, and write says on System.err whose log was full; and where no call was recorded.
  * Items are longs, written without a sign: -1 is 18446744073709551615.
  */
@@ -83,33 +83,33 @@ public final class RingCalls {
     public void storedOf(int stored, int offered) {
         if (stored == 0) full(); else if (stored == offered) stored(); else one(puts, 3, stored);
     }
-    /** The first ones were stored, so many, and the call does not say why not more. */
+    /** The first `stored` items were stored, with no reason given why not more. */
     public void some(int stored) { if (stored == 0) putNothing(); else one(puts, 4, stored); }
     public void full() { begin(puts, 5, 0); }
-    /** A put of all or nothing: of two items or more none was stored, there was not room for all. */
+    /** An all-or-nothing put of two items or more: none was stored, since there was not room for all. */
     public void putShort() { begin(puts, 6, 0); }
-    /** None was stored, and the call does not say why. */
+    /** None was stored, with no reason given. */
     public void putNothing() { begin(puts, 7, 0); }
     /** A close ends, or a put that found the queue closed. */
     public void closed() { begin(puts, 8, 0); }
 
     public void take() { begin(takes, 2, 0); }
-    /** At most so many items, from 1. */
+    /** At most this many items, at least 1. */
     public void takeAll(int most) { if (most > 1) one(takes, 2, most); else take(); }
     public void item(long item) { one(takes, 9, item); }
     public void items(long[] items, int n) { if (n == 0) empty(); else all(takes, 9, items, n); }
-    /** So many items, and the call does not say why not more. */
+    /** So many items, with no reason given why not more. */
     public void someItems(long[] items, int n) { if (n == 0) takeNothing(); else all(takes, 10, items, n); }
     public void empty() { begin(takes, 11, 0); }
-    /** A take of all or nothing: of two items or more there were not enough. */
+    /** An all-or-nothing take of two items or more: there were not enough. */
     public void takeShort() { begin(takes, 12, 0); }
     public void takeNothing() { begin(takes, 13, 0); }
     /** Empty, and closed. */
     public void told() { begin(takes, 14, 0); }
 
     /**
-     * Writes the recording; head is its first line: "queue 8", "queue 1 512" or "queue". Where the history is cut, and where it has no call,
-     * System.err is told.
+     * Writes the recording; head is its first line: "queue 8", "queue 1 512" or "queue". If the history is cut, or has no call,
+     * prints this to System.err.
      */
     public void write(String head, Writer out) throws IOException {
         long cut = Math.min(puts.cut, takes.cut);

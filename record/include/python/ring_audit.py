@@ -25,11 +25,11 @@ import sys
 
 import ring_calls
 
-# An item that comes again is told as such where it is among so many taken last.
+# An item that comes again is reported as such if it is among this many taken last.
 TAKEN = 65536
-# So many lines are told before the one at fault, and behind it.
+# The number of lines that are shown before the one at fault, and after it.
 BEFORE, BEHIND = 6, 2
-# Where so many calls came one after the other, none under way while one of the other side was, stderr says so.
+# If this many calls came one after the other, none overlapping one of the other side, stderr says so.
 ALONE = 1000
 # The words of each verdict, in order.
 WORDS = ("lawful", "fault: line {line}: out of turn", "fault: line {line}: {cause}", "refused: calls line {line} is not a line of the format",
@@ -57,14 +57,14 @@ _State = _struct("_State", (_at, "offered"), (_size, "offered_room"), (_at, "tak
 # What audit --calls counts of a lawful recording; inside: surely at some moment, and at most.
 Report = collections.namedtuple("Report", "calls stored taken full empty nothing told inside overlapped open")
 _loaded = None
-# Where dist/ has the library for each machine.
+# The place of the library in dist/, for each machine.
 _FOLDERS = {"x86_64": "", "aarch64": "aarch64-linux/"}
 # Of the lawful recordings of all rounds how many calls there were, and how many of them overlapped.
 _counted = [0, 0]
 
 
 def load(path=None):
-    """The library: of this path, or the one that was loaded before, or the first one of those that the head of this file tells."""
+    """The library: at this path, or the one loaded before, or the first one of those listed at the top of this file."""
     global _loaded
     if path or not _loaded:
         here = os.path.dirname(os.path.abspath(__file__))
@@ -90,13 +90,13 @@ def load(path=None):
 
 
 def _slice(numbers):
-    """Numbers as the library takes them, where they stand and how many; no null where there are none."""
+    """Numbers as the library takes them: their address and how many; never null."""
     numbers.append(0)
     return (_u64 * len(numbers)).from_buffer(numbers), len(numbers) - 1
 
 
 class Audit(ring_calls.Calls):
-    """An audit that hears line by line, by the names of the recorder; each answers whether all was lawful so far. room: how many items are
+    """An audit that takes line by line, named as in the recorder; each returns whether everything was lawful so far. room: how many items are
     inside at most, with those that a put offers. The first fault stays."""
 
     def __init__(self, head, room, taken=TAKEN):
@@ -105,7 +105,7 @@ class Audit(ring_calls.Calls):
         self.restart(head)
 
     def restart(self, head):
-        """Forgets what was heard, and begins again; head is the first line: "queue 8", "queue 1 512" or "queue"."""
+        """Discards everything, and begins again; head is the first line: "queue 8", "queue 1 512" or "queue"."""
         self._state, self.found, self._fault = _State(), _Found(), None
         self._state.offered, self._state.offered_room = ctypes.addressof(self._offered), self._room[0]
         self._state.taken, self._state.taken_room = ctypes.addressof(self._taken), self._room[1]
@@ -115,13 +115,13 @@ class Audit(ring_calls.Calls):
             raise ValueError(f"not the first line of a recording: {head!r}")
 
     def event(self, kind, numbers=()):
-        """Hears a line: its kind, as in ring_calls.h, and the numbers that stand in it."""
+        """Takes the next line: its kind, as in ring_calls.h, and its numbers."""
         return self.hear(array.array("Q", (kind | len(numbers) << 32,)), array.array("Q", numbers))
 
     _p = _c = event
 
     def hear(self, lines, numbers):
-        """Hears lines: of each its kind and, from bit 32 on, how many numbers it has; the numbers of all, one after the other. The lists
+        """Takes the next lines: for each its kind and, from bit 32 on, how many numbers it has; the numbers of all, one after the other. The lists
         are its own from then on."""
         if not self._fault:
             cause, found = ctypes.create_string_buffer(256), _Found()
@@ -137,7 +137,7 @@ class Audit(ring_calls.Calls):
         return self._fault
 
     def report(self):
-        """What audit --calls counts, of the lines that were heard."""
+        """What audit --calls counts, for the lines so far."""
         counts = _Counts()
         self._library.ring_audit_report(ctypes.byref(self._state), ctypes.byref(counts))
         *numbers, told, surely, perhaps, overlapped, under_way = (getattr(counts, name) for name, _ in _Counts._fields_)
@@ -145,7 +145,7 @@ class Audit(ring_calls.Calls):
 
 
 class Result:
-    """What was found of a recording: true where it is lawful. words: `lawful`, or those of the first line that is not. As text it has the
+    """The finding for a recording: true if it is lawful. words: `lawful`, or those of the first line that is not. As text it has the
     lines meant, too."""
 
     def __init__(self, words, lines=""):
@@ -162,7 +162,7 @@ class Result:
 
 
 def _shown(found, lines):
-    """The lines round the one at fault, and the one that contradicts it, as they stand in the recording."""
+    """The lines around the one at fault, and the one that contradicts it, as they are in the recording."""
     shown, last = [], 0
     for number, line in enumerate(lines, 1):
         if number > found.line + BEHIND:
@@ -175,7 +175,7 @@ def _shown(found, lines):
 
 
 def _count(report):
-    """Counts the calls of a lawful recording. That none of many overlapped is told once: a single round may be so by chance."""
+    """Counts the calls of a lawful recording. If none of many overlapped, this is printed once: in a single round it may be chance."""
     before = _counted[0]
     _counted[:] = before + report.calls, _counted[1] + report.overlapped
     if _counted[1] == 0 and before < ALONE <= _counted[0]:
@@ -184,8 +184,8 @@ def _count(report):
 
 
 def lawful(recorder, head):
-    """Whether what a recorder has is lawful, as a Result. Where not, stderr has the words and the lines, and the recording is kept. Where it
-    is, and has no call or is cut, stderr is told so, and where no calls overlap."""
+    """Whether what a recorder has is lawful, as a Result. If not, stderr has the words and the lines, and the recording is kept. Where it
+    is, but has no call, is cut, or no calls overlap, this is printed to stderr."""
     lines, numbers = array.array("Q"), array.array("Q")
     for kind, values in recorder.events():
         lines.append(kind | len(values) << 32)

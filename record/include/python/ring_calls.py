@@ -6,10 +6,10 @@
     consumer:  rec.take();   v = my_take();  rec.item(v) if v is not None else rec.empty()             (rec.told(): empty and closed)
     when both threads were joined:  rec.write('queue 8', file);  rec.restart() for a next round
 
-Why there is no false alarm: each begin takes the next ticket of one counter before the call, each end after it, so an interval is only
+Why there are no false alarms: each start takes the next ticket of one counter before the call, each end after it, so an interval is only
 ever widened. next() of a count is one step of C under the interpreter's lock, and that lock orders the threads: where the ticket of an end
 is below that of a begin, the one call happens before the other. (A build without that lock needs a lock round next.) The logs are there
-before the recording begins, but CPython allocates its numbers as it goes. Where a side has no more room the history is cut there,
+before the recording begins, but CPython allocates its numbers as it goes. If the log of a side is full the history is cut there,
 for both sides: a first part of what happened, whose first line begins with `cut`; write says on stderr whose log was full, and
 where no call was recorded."""
 import array
@@ -66,18 +66,18 @@ class Calls:
         return self._p(3, (stored,) if stored < offered else ()) if stored else self.full()
 
     def some(self, stored):
-        """The first ones were stored, so many, and the call does not say why not more."""
+        """The first `stored` items were stored, with no reason given why not more."""
         return self._p(4, (stored,)) if stored else self.put_nothing()
 
     def full(self):
         return self._p(5)
 
     def put_short(self):
-        """A put of all or nothing: of two items or more none was stored, there was not room for all."""
+        """An all-or-nothing put of two items or more: none was stored, since there was not room for all."""
         return self._p(6)
 
     def put_nothing(self):
-        """None was stored, and the call does not say why."""
+        """None was stored, with no reason given."""
         return self._p(7)
 
     def closed(self):
@@ -91,14 +91,14 @@ class Calls:
         return self._c(9, items) if items else self.empty()
 
     def some_items(self, *items):
-        """These items, and the call does not say why not more."""
+        """These items, with no reason given why not more."""
         return self._c(10, items) if items else self.take_nothing()
 
     def empty(self):
         return self._c(11)
 
     def take_short(self):
-        """A take of all or nothing: of two items or more there were not enough."""
+        """An all-or-nothing take of two items or more: there were not enough."""
         return self._c(12)
 
     def take_nothing(self):
@@ -141,7 +141,7 @@ class Recorder(Calls):
             yield " ".join([WORDS[kind], *map(str, numbers)])
 
     def tell(self):
-        """Tells stderr where the history is cut, and where it has no call."""
+        """Prints to stderr if the history is cut, or has no call."""
         if self.cut() != NEVER:
             side, log = ("producer", self.puts) if self.puts.cut < self.takes.cut else ("consumer", self.takes)
             print(f"ring_calls: the {side}'s log was full after {len(log.words)} words: the recording is a first part of what happened", file=sys.stderr)
@@ -149,8 +149,8 @@ class Recorder(Calls):
             print("ring_calls: no call was recorded: is it this Recorder that was called, and were both threads joined?", file=sys.stderr)
 
     def write(self, head, out):
-        """Writes the recording; head is its first line: "queue 8", "queue 1 512" or "queue". Where the history is cut, and where it has no
-        call, stderr is told."""
+        """Writes the recording; head is its first line: "queue 8", "queue 1 512" or "queue". If the history is cut, or has no
+        call, prints this to stderr."""
         self.tell()
         if hasattr(out, "reconfigure"):
             out.reconfigure(newline="\n")  # (on Windows a line would end in CR LF, which the audit refuses)

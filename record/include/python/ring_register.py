@@ -11,9 +11,9 @@ or by hand:
 A write of the value that the register holds is a write: record it. A read that finds no value is recorded with a number that is no value:
 4 if the first line is "register 0 4".
 
-Why there is no false alarm: each begin takes the next ticket of one counter before the operation, each end after it, so an interval is only
+Why there are no false alarms: each start takes the next ticket of one counter before the operation, each end after it, so an interval is only
 ever widened, and with wider intervals each class permits what it did and more. next() of a count is one step of C under the interpreter's lock, and that
-lock orders the threads: if the ticket of an end is below that of a begin, the one operation happens before the other. (A build without
+lock orders the threads: if the ticket of an end is smaller than that of a start, the one operation happens before the other. (A build without
 that lock needs a lock round next.) The logs are there before the recording begins, but CPython allocates its numbers as it goes. If a
 thread has no more room the history is cut there, for all threads: a first part of what happened, whose first line begins with `cut`; print
 reports on stderr whose log was full, or that nothing was recorded.
@@ -108,14 +108,14 @@ class Recorder:
 
     @contextlib.contextmanager
     def writing(self, value):
-        """What stands under it is a write of the value. (One that raises has not ended.)"""
+        """The block under it is a write of the value. (One that raises has not ended.)"""
         self.write(value)
         yield
         self.wrote()
 
     @contextlib.contextmanager
     def reading(self, reader):
-        """What stands under it is a read, which calls what is given with what it read, once. (One that does not has not ended.)"""
+        """The block under it is a read, which calls the given function once with the value read. (One that does not has not ended.)"""
         seen = []
 
         def got(value):

@@ -111,7 +111,7 @@ impl Clock {
     pub fn new() -> Self { Self::default() }
 }
 
-/// The producer's calls: a begin before each call of the queue, an end after it.
+/// The producer's calls: a start before each call of the queue, an end after it.
 pub struct PutLog<'a>(PhantomData<&'a Clock>);
 
 #[rustfmt::skip]
@@ -129,13 +129,13 @@ impl<'a> PutLog<'a> {
     #[inline(always)] pub fn stored_of(&mut self, stored: usize, offered: usize) {
         if stored == 0 { self.full() } else if stored == offered { self.stored() } else { event(3, &[stored as u64]) }
     }
-    /// The first `stored` of the items were stored, and the call does not say why not more.
+    /// The first `stored` of the items were stored, with no reason given why not more.
     #[inline(always)] pub fn some(&mut self, stored: usize) { if stored > 0 { event(4, &[stored as u64]) } else { self.nothing() } }
     /// None was stored: the queue is full.
     #[inline(always)] pub fn full(&mut self) { event(5, &[]) }
-    /// A put of all or nothing: of two items or more none was stored, there was not room for all.
+    /// An all-or-nothing put of two items or more: none was stored, since there was not room for all.
     #[inline(always)] pub fn short(&mut self) { event(6, &[]) }
-    /// None was stored, and the call does not say why.
+    /// None was stored, with no reason given.
     #[inline(always)] pub fn nothing(&mut self) { event(7, &[]) }
     /// A close ends, or a put that found the queue closed.
     #[inline(always)] pub fn closed(&mut self) { event(8, &[]) }
@@ -143,7 +143,7 @@ impl<'a> PutLog<'a> {
     pub fn restart(&mut self) {}
 }
 
-/// The consumer's calls: a begin before each call of the queue, an end after it.
+/// The consumer's calls: a start before each call of the queue, an end after it.
 pub struct TakeLog<'a>(PhantomData<&'a Clock>);
 
 #[rustfmt::skip]
@@ -157,13 +157,13 @@ impl<'a> TakeLog<'a> {
     #[inline(always)] pub fn item(&mut self, item: u64) { event(9, &[item]) }
     /// These items were taken, as many as were asked for or inside; none says that the queue is empty.
     #[inline(always)] pub fn items(&mut self, items: &[u64]) { if items.is_empty() { self.empty() } else { event(9, items) } }
-    /// These items were taken, and the call does not say why not more.
+    /// These items were taken, with no reason given why not more.
     #[inline(always)] pub fn some(&mut self, items: &[u64]) { if items.is_empty() { self.nothing() } else { event(10, items) } }
     /// None was taken: the queue is empty.
     #[inline(always)] pub fn empty(&mut self) { event(11, &[]) }
-    /// A take of all or nothing: of two items or more there were not enough.
+    /// An all-or-nothing take of two items or more: there were not enough.
     #[inline(always)] pub fn short(&mut self) { event(12, &[]) }
-    /// None was taken, and the call does not say why.
+    /// None was taken, with no reason given.
     #[inline(always)] pub fn nothing(&mut self) { event(13, &[]) }
     /// The queue is empty, and closed.
     #[inline(always)] pub fn closed(&mut self) { event(14, &[]) }
@@ -199,8 +199,8 @@ impl<P, C, M: Fn() -> (P, C), F: Fn(&mut P, &mut PutLog), G: Fn(&mut C, &mut Tak
 }
 
 static mut TEST: Option<*mut dyn Test> = None;
-// SAFETY: TEST is set before the explorer calls one of these. A side that stands still holds no reference that another uses: each has its
-// own end, and the rest of the test is read alone.
+// SAFETY: TEST is set before the explorer calls one of these. A suspended side holds no reference that another uses: each has its
+// own end, and the rest of the test is only read.
 fn test() -> *mut dyn Test { unsafe { TEST.unwrap() } }
 extern "C" fn reset() { unsafe { (*test()).reset() } }
 extern "C" fn produce_side() { unsafe { (*test()).produce() } }
@@ -213,7 +213,7 @@ extern "C" fn current_thread() -> *const u8 {
     unsafe { transmute_copy(&handle) }
 }
 
-/// Where the token of `thread::park` lies in that: `unpark` makes it 1. std does not say where, so one is called; 0 if it is not found.
+/// The offset of the token of `thread::park` in that: `unpark` makes it 1. std does not specify it, so one is called; 0 if it is not found.
 fn offset_of_token() -> usize {
     const WORDS: usize = 12;
     assert_eq!(std::mem::size_of::<thread::Thread>(), std::mem::size_of::<usize>());
