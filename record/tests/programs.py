@@ -1,5 +1,5 @@
-"""The programs of record/: what each is, how it is seen that it can be built, how to get what it needs (on Debian), how it is built and
-started. The commands are those of a shell in record/; $ROOM is a folder for what they make, $LIBRARY that of libring_audit."""
+"""The programs of record/: a name for each, how to check that it can be built, how to install what it needs (on Debian), how to build and
+start it. The commands are for a shell in record/; $ROOM is a folder for their results, $LIBRARY the folder of libring_audit."""
 import collections
 
 Program = collections.namedtuple("Program", "name needs get build start")
@@ -9,7 +9,7 @@ CPP = "g++ -std=c++17 -O2 -Wall -Wextra -Werror -pthread -Iinclude"
 RUST = "rustc --edition 2021 -O"
 GO = "GO111MODULE=off GOCACHE=$ROOM/cache go build"
 JCTOOLS = "/usr/share/java/jctools-core.jar"
-# Rust's crates as Debian has them: their sources, and how cargo builds of these alone.
+# Debian's Rust crates: their sources, and how cargo builds with only these.
 CRATES = "/usr/share/cargo/registry"
 OF_CRATES = ("async-channel", "concurrent-queue", "crossbeam-channel", "crossbeam-queue", "flume", "futures-channel", "tokio")
 CARGO = f"""cargo build -q --release --offline --config 'source.crates-io.replace-with="debian"' --config 'source.debian.directory="{CRATES}"'"""
@@ -48,7 +48,7 @@ REGISTERS = [
       for name, compiler, kind in (("c11", "gcc -std=c11", "c"), ("cpp11", "g++ -x c++ -std=c++11", "c"), ("cpp17", "g++ -std=c++17", "cpp"))),
     Program("registers in python", "true", "", "true", "python3 tests/registers/registers.py"),
 ]
-# Registers that threads write and read, of three kinds; and one in Python, as a student would write it.
+# Registers of three kinds that threads write and read; and one in Python, as a student would write it.
 REGISTER_THREADS = Program("registers of threads", "command -v gcc", "apt-get install build-essential",
                            f"{C} tests/registers/threads.c -o $ROOM/register_threads", "$ROOM/register_threads")
 REGISTER_STUDENT = Program("registers of a student", "true", "", "true", "python3 tests/registers/student.py")
@@ -94,7 +94,7 @@ REAL = [
 
 BROKEN = Program("broken", "command -v g++", "apt-get install build-essential", f"{CPP} broken/ring.cpp -o $ROOM/ring", "$ROOM/ring")
 
-# What makes a recording small, and what finds its first line; what reads logs of other tests; the program of README.md; and a ring under Relacy.
+# record/shrink and record/head; record/convert; the program of README.md; and a ring under Relacy.
 SMALL = Program("shrink and head", "command -v g++", "apt-get install build-essential", f"{CPP} broken/ring.cpp -o $ROOM/ring_of_heads",
                 "python3 tests/unit/small.py $ROOM/ring_of_heads")
 CONVERT = Program("convert", "true", "", "true", "python3 tests/unit/logs.py")
@@ -104,7 +104,7 @@ README = Program("README", "command -v gcc", "apt-get install build-essential", 
 RELACY = Program("relacy", "echo '#include <relacy/relacy.hpp>' | g++ -x c++ -E -", "apt-get install relacy-dev",
                  f"{CPP} tests/relacy_ring.cpp -o $ROOM/relacy_ring && {CPP} -DRELAXED tests/relacy_ring.cpp -o $ROOM/relacy_ring_relaxed", "$ROOM/relacy_ring")
 
-# The ring that does not wait in the middle of a call, and what is hard on a hunt.
+# The ring without waits in the middle of a call, and programs that are hard for a hunt.
 HUNT = Program("hunt", "command -v g++ && command -v cc", "apt-get install build-essential",
                f"{CPP} -DNO_HOLD broken/ring.cpp -o $ROOM/ring_that_runs && {C} -g tests/hunt_test.c -o $ROOM/hunt_test && {C} -static tests/hunt_test.c -o $ROOM/hunt_test_static",
                "$ROOM/ring_that_runs")
@@ -125,7 +125,7 @@ def register_unit(name, compiler):
     return f"{compiler} -O2 -Wall -Wextra -Wpedantic -Werror -pthread -Iinclude tests/unit/register_unit.c -x none $LIBRARY/libring_audit.a -o $ROOM/judge_registers_{name}"
 
 
-# Each links the audit, or loads it, and judges in process: a small ring, the right one and one with a bug; and recordings.
+# Each links or loads the audit and judges in process: a small ring, correct and with a bug; and recordings.
 UNIT = [
     in_process("in c", "command -v gcc", "build-essential", f"{C} tests/unit/unit.c $LIBRARY/libring_audit.a -o $ROOM/unit_c", "$ROOM/unit_c"),
     in_process("in c, sanitized", "command -v gcc", "build-essential",
@@ -173,19 +173,19 @@ def live(name, compiler, needs="true", get=""):
                    f"-x none $LIBRARY/libring_audit.a -o $ROOM/live_{name}", f"$ROOM/live_{name}")
 
 
-# Each records live, recordings and small queues, right ones and with bugs; with sanitizers and small logs the right ones alone.
+# Each records live: recordings and small queues, correct ones and with bugs; with sanitizers and small logs only correct ones.
 THREADS = "gcc -std=gnu11 -O1 -g -fsanitize=thread -DRING_LIVE_WORDS=4096"
 LIVE = [
     live("c11", "gcc -std=gnu11 -O2"),
     live("cpp11", "g++ -x c++ -std=c++11 -O2"),
     live("sanitized", f"gcc -std=gnu11 -O1 {SANITIZED} -DRING_LIVE_WORDS=4096"),
-    # (not every kernel runs what is built this way)
+    # (not every kernel runs programs built in this way)
     live("sanitized_threads", THREADS, f"echo 'int main(void) {{ return 0; }}' | {THREADS} -x c - -o $ROOM/none && $ROOM/none",
          "; sysctl vm.mmap_rnd_bits=28"),
 ]
 
 
-# The test of what explore.h models, by both compilers and with its sanitizers, and the ring of 20 bugs; twelve.h is built bug by bug.
+# The test of what explore.h models, with both compilers and with its sanitizers, and the ring of 20 bugs; twelve.h is built bug by bug.
 EXPLORED = "-fsanitize=thread -fno-builtin -O1 -gdwarf-4 -Wall -Wextra -Werror -Iinclude"
 EXPLORER = "gcc -std=c11 -O2 -Wall -Wextra -Wpedantic -Werror -Iinclude -c explorer/explore.c"
 
@@ -212,14 +212,14 @@ EXPLORE_CLANG = Program("explore by clang", f"{EXPLORE.needs} && command -v clan
 EXPLORE_REAL = Program("explore of real queues", f"{EXPLORE.needs} && for header in boost/lockfree/spsc_queue.hpp readerwriterqueue/readerwriterqueue.h; "
                        "do echo \"#include <$header>\" | g++ -x c++ -E - > $ROOM/none || exit 1; done", "apt-get install libboost-dev libreaderwriterqueue-dev",
                        "./explore -o $ROOM/explored real/explored.cpp -- -std=c++17 -Wall -Wextra -Werror; test -x $ROOM/explored", "$ROOM/explored")
-# What older values and the other choices show; and litmus tests, against the axioms and against Relacy.
+# What older values and the other choices reveal; and litmus tests, against the axioms and against Relacy.
 EXPLORE_ORDERS = Program("explore of orders", EXPLORE.needs, EXPLORE.get, "true", "")
 EXPLORE_LITMUS = Program("explore of litmus tests", EXPLORE.needs, EXPLORE.get,
                          f"{CPP} tests/litmus/axioms.cpp -o $ROOM/axioms && ./explore -o $ROOM/litmus tests/litmus/litmus.c -- -Wall -Wextra -Werror < /dev/null 2> $ROOM/none; "
                          "test -x $ROOM/litmus", "python3 tests/litmus/compare.py $ROOM/litmus $ROOM/axioms 600 1")
 EXPLORE_RELACY = Program("explore of litmus tests by relacy", f"{RELACY.needs} && {EXPLORE.needs}", RELACY.get,
                          " && ".join(f"g++ -std=c++17 -O1 -DTEST={test} tests/litmus/relacy.cpp -o $ROOM/relacy_{test}" for test in (1, 2, 3)), "")
-# Tests in Rust: what they may use of std, and queues of Debian's packages of crates.
+# Tests in Rust: the parts of std that they may use, and queues from Debian's packages of crates.
 EXPLORED_CRATES = ("concurrent-queue", "crossbeam-channel", "crossbeam-queue", "futures-channel")
 EXPLORE_RUST = Program("explore of rust", " && ".join([EXPLORE.needs, "command -v rustc && command -v readelf && command -v c++filt",
                                                        *(f"ls -d {CRATES}/{each}-[0-9]*" for each in EXPLORED_CRATES)]),

@@ -14,10 +14,10 @@ import sys
 from collections import namedtuple
 
 INCLUDE = os.path.join(os.path.dirname(os.path.dirname(os.path.abspath(__file__))), "include")
-# What a thread does: a begin or an end of a call, or an access of the word with this name, which is 0 at first and which others write as 1.
+# What a thread does: a start or an end of a call, or an access of the word with this name, which is initially 0 and which others write as 1.
 BEGIN, END, COUNTER = "begin", "end", "next"
 Event = namedtuple("Event", "thread writes word acquires releases")
-# An execution: of each begin and end, in the order of the text, its ticket; of each read of the queue what it found.
+# An execution: the ticket of each start and end, in program order; the value found by each read of the queue.
 Execution = namedtuple("Execution", "tickets found")
 
 
@@ -39,7 +39,7 @@ def is_acyclic(count, edges):
 
 
 def events_of(threads, acquires, releases):
-    """Returns the events of the text, of each begin and end its read and its write, and which events come before which in the text."""
+    """Returns the events of the program (a read and a write for each start and end), and which events precede which in the program."""
     events, updates, before = [], [], []
     for thread, text in enumerate(threads):
         first = len(events)
@@ -54,7 +54,7 @@ def events_of(threads, acquires, releases):
 
 
 def local_order(events, updates, before, from_store):
-    """What is ordered within a thread, in the words of the model: aob and bob, of what these texts have."""
+    """What is ordered within a thread, in the model's terms: aob and bob, for what these programs contain."""
     order = list(updates)
     order += [(a, b) for a, b in from_store if events[a].thread == events[b].thread and a in (w for _, w in updates) and events[b].acquires]
     order += [(a, b) for a, b in before if events[a].acquires or events[b].releases]
@@ -62,13 +62,13 @@ def local_order(events, updates, before, from_store):
 
 
 def executions(threads, acquires, releases):
-    """Makes each execution that the model allows, where what stands in `acquires` and `releases` has that order."""
+    """Makes each execution that the model allows, if the operations in `acquires` and `releases` have that order."""
     events, updates, before = events_of(threads, acquires, releases)
     reads = [a for a, it in enumerate(events) if not it.writes and it.word != COUNTER]
     stores = {a: [b for b, it in enumerate(events) if it.writes and it.word == events[a].word] for a in reads}
     same_word = [(a, b) for a, b in before if events[a].word == events[b].word]
     for turn in itertools.permutations(updates):
-        # (no write of the counter comes between the read and the write of an update: each finds the one before it)
+        # (no write of the counter comes between the read and the write of an update: each finds the previous one)
         from_store = [(earlier[1], later[0]) for earlier, later in zip(turn, turn[1:])]
         pairs = [*itertools.combinations(turn, 2)]
         coherence, from_read = [(a[1], b[1]) for a, b in pairs], [(a[0], b[1]) for a, b in pairs]
@@ -84,28 +84,28 @@ def executions(threads, acquires, releases):
 
 
 class Text:
-    """Two threads, of which each makes one call with accesses, and other calls. No word is written twice."""
+    """Two threads, each of which makes one call with accesses, and other calls. No word is written twice."""
 
     def __init__(self, name, producer, consumer):
         self.name, self.threads = name, (producer, consumer)
         steps = [(thread, step) for thread, text in enumerate(self.threads) for step in text]
         ends = [at for at, (_, step) in enumerate(steps) if step in (BEGIN, END)]
-        # of each thread the numbers, among the begins and ends, of those around its accesses
+        # for each thread the numbers, among the starts and ends, of those around its accesses
         self.calls = []
         for thread in range(2):
             access = next(at for at, (of, step) in enumerate(steps) if of == thread and step not in (BEGIN, END))
             end = sum(at < access for at in ends)
             self.calls.append((end - 1, end))
-        # what each read finds if the producer's call comes first: what its own thread, or the other, writes
+        # what each read finds if the producer's call comes first: the value that its own thread, or the other, writes
         self.if_first = [int(thread == 1) for thread, step in steps if step[0] == "read"]
 
     def order(self, made):
-        """Returns which call the recording has before the other, by their threads; None if they overlap."""
+        """Returns which thread's call comes before the other in the recording; None if they overlap."""
         (put_begins, put_ends), (take_begins, take_ends) = ((made.tickets[a], made.tickets[b]) for a, b in self.calls)
         return 0 if put_ends < take_begins else 1 if take_ends < put_begins else None
 
     def looks(self, made):
-        """Returns which call its accesses say came first; None if neither: some were seen and some were not."""
+        """Returns which call came first according to its accesses; None if neither: some were seen and some were not."""
         return 0 if made.found == self.if_first else 1 if made.found == [1 - it for it in self.if_first] else None
 
 
@@ -149,14 +149,14 @@ def try_text(text):
 
 
 def try_hidden():
-    """A put that stores its cell and then its index, both relaxed: the index is seen and the cell is not, but by calls that overlap alone."""
+    """A put that stores its cell and then its index, both relaxed: the index is seen before the cell, but only by calls that overlap."""
     text = TEXTS[3]
     orders = [text.order(it) for it in executions(text.threads, *RIGHT) if it.found == [1, 0]]
     expect(orders and set(orders) == {None}, f"a missing order in a put is seen by calls in the orders {orders}")
 
 
 def try_headers():
-    """The recorders take tickets by these orders. (Else the counter is set to 0 alone, while no thread records.)"""
+    """The recorders take tickets with these orders. (Otherwise the counter is only set to 0, while no thread records.)"""
     for name, kind in (("ring_calls.h", "RING_ENDS"), ("ring_register.h", "RING_REGISTER_ENDS")):
         with open(f"{INCLUDE}/{name}", encoding="utf-8") as file:
             lines = [line for line in file if "&r->next" in line]

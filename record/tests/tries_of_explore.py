@@ -1,4 +1,4 @@
-"""Tests record/explore for record/test, which gives them its own check, run and verdict_of."""
+"""Tests record/explore for record/test, which passes its own check, run and verdict_of."""
 import os
 import random
 import re
@@ -6,7 +6,7 @@ import shlex
 
 import programs
 
-# Small tests of explore_test.c: those that are lawful, and of the others the status and what is printed.
+# Small tests of explore_test.c: the lawful ones, and for the others the status and the output.
 LAWFUL = ("mutex", "c11_mutex", "condition", "c11_condition", "spinlock", "yieldlock", "sleeplock", "semaphore", "list", "fences", "wide",
           "large", "pair", "timed", "lost_timed", "bell")
 ALLOCATES = ("list",)
@@ -32,10 +32,10 @@ FOUND = (
     ("apart", 2, r"explore: no memory that both sides touch was seen: "),
     ("no_head", 2, r'^explore: "queue 02" is not a first line of a recording, such as "queue 2"\n'),
 )
-# The same of explore_test.cpp.
+# The same for explore_test.cpp.
 CPP_LAWFUL = ("queue", "wait", "throws")
 CPP_FOUND = (("lost", 4, r"^waits forever: the producer is over, the consumer waits at explore_test.cpp:\d+\n"),)
-# The same of explore_rings.c.
+# The same for explore_rings.c.
 RINGS_LAWFUL = ("ring", "place", "spin_both", "spin_box", "guard_and", "guard_or", "guard_choice")
 RINGS_FOUND = (
     ("spin_put", 4, r"^hangs: the producer goes on at explore_rings.c:\d+, the consumer is over\n"),
@@ -45,7 +45,7 @@ RINGS_FOUND = (
     ("bug_ring", 3, r"^fault: line 4: item 0 was not inside; item 1 of line 2 is next\n"),
     ("spin_full", 4, r"^hangs: the producer goes on at explore_rings.c:\d+, the consumer is over\n"),
 )
-# A reset that leaves something behind, or what is no test: status 2, these words alone, and no fault.
+# A reset that does not restore everything, or a program that is not a test: status 2, only these words, and no fault.
 NOT_THE_SAME = "explore: the test is not deterministic: the same schedule gave another run; reset must restore everything that the sides change\n"
 THREAD = "explore: the test starts a thread, but its two sides must be functions that explore() calls\n"
 NO_CALL = "explore: no call was recorded: do the two functions record their calls, with the functions of ring_calls.h?\n"
@@ -56,13 +56,13 @@ REFUSED = (
     ("", "explore: the test does not call explore()\n"), ("leaves", "explore: the test ended the program within explore()\n"),
     ("head", 'explore: "queu 2" is not a first line of a recording, such as "queue 2"\n'),
 )
-# Of each bug of twelve.h what is told.
+# The finding for each bug of twelve.h.
 TWELVE = ("data race: the consumer reads 8 bytes at q .twelve.h:", "item 0 was not inside", "full, but at most 1 inside",
           "stored, but at least 3 inside", "item 5, but item 1 of line 2", "item 5, but item 1 of line 2", "closed, but item 2 was inside",
           "waits forever: the producer is over, the consumer waits at twelve.h:", "full, but at most 1 inside", "stored, but at least 4 inside",
           "empty, but item 2 was inside", "item 3 comes again", "item 1000003 was not inside")
 FORMS = range(1, 8)
-# Puts, preemptions and a seed that show a bug of ring.hpp; 10, 2 and 1 where nothing is said.
+# Puts, preemptions and a seed that show a bug of ring.hpp; 10, 2 and 1 by default.
 RING = {6: (300, 0, 1), 7: (20, 1, 8), 8: (20, 0, 86), 15: (20, 1, 8), 16: (20, 1, 15), 17: (20, 0, 86), 18: (20, 1, 1)}
 ENDS = r"put|close|take|stored|some|full|short|nothing|closed|item|empty"
 
@@ -72,7 +72,7 @@ class Tries:
         self.check, self.run, self.verdict_of = check, run, verdict_of
 
     def explore(self, command, **options):
-        """Its status and what it printed and said, with these limits."""
+        """Runs a test with these limits; returns its status and its whole output."""
         env = " ".join(f"EXPLORE_{name}={shlex.quote(str(value))}" for name, value in options.items())
         status, out, said = self.run(f"{env} {command}")
         return status, out.decode(errors="replace") + said
@@ -82,7 +82,7 @@ class Tries:
             return file.read()
 
     def is_played_again(self, command, printed, **options):
-        """The schedule that was printed, played alone, has the same words and the same recording."""
+        """The printed schedule, replayed, gives the same words and the same recording."""
         before = self.kept()
         schedule = re.search(r"(?m)^schedule: (.*)$", printed)[1]
         _, again = self.explore(command, KEEP=f"{os.environ['ROOM']}/kept.calls", SCHEDULE=schedule, **options)
@@ -90,7 +90,7 @@ class Tries:
         return self.kept() == before and any(line.startswith(words) for line in again.split("\n"))
 
     def ways(self, name, lawful=LAWFUL, found=FOUND):
-        """What is right is lawful in more than one execution; what is wrong is found, and its schedule can be played again."""
+        """Correct tests are lawful in more than one execution; faults are found, and their schedules can be replayed."""
         for way in lawful:
             status, printed = self.explore(f"$ROOM/{name} {way}")
             count = re.match(r"([\d,]+) executions within a bound of 3, \d+\.\d\d s: all lawful\nreached: ", printed)
@@ -110,7 +110,7 @@ class Tries:
             self.check(f"explore_rings {way}", status == 2 and printed == words, (status, printed))
 
     def steps(self):
-        """A schedule that is played tells what each access does, its order, and where a pointer points."""
+        """A replayed schedule shows what each access does, its order, and what a pointer points to."""
         for way, schedule, wanted in (
             ("explore_rings place", "P4 C", ("stores place = slot+8 (release)  (", "compares place: had slot+8, failed (relaxed)  (",
                       "compares place: had slot+8, wrote 0 (acquire)  (", "reads slot+8 = 1  (", "compares box: had 0, failed (seq_cst)  (",
@@ -172,8 +172,8 @@ class Tries:
         print(f"explore: {len(texts)} recordings judged as by the audit: {seen}", flush=True)
 
     def none_is_missed(self, way, preemptions, tried):
-        """Of schedules drawn at random, in which a side may stop at any access, how many have no execution tried with the same calls in an
-        order that is as strict."""
+        """How many of the random schedules, in which a side may stop at any access, have no tried execution with the same calls in an
+        order that is at least as strict."""
         dump, draw, missed, played = f"{os.environ['ROOM']}/dump", random.Random(f"{way} {preemptions}"), 0, 0
         self.explore(f"$ROOM/explore_test {way}", BOUND=tried, OLDER=0, WAKES=0, DUMP=dump)
         orders = {}
@@ -200,7 +200,7 @@ class Tries:
         self.check("explore: too few preemptions do miss some", missed > 0, missed)
 
     def twelve(self):
-        """Each bug is found within a second, and its schedule played again; each form is right."""
+        """Each bug is found within a second, and its schedule can be replayed; each form is correct."""
         for bug, words in enumerate(TWELVE, 1):
             name = f"twelve_{bug}"
             status, _, said = self.run(programs.explored(name, "gcc -std=gnu11", "broken/twelve.c", f"-DEXPLORED -DBUG={bug}"))
@@ -221,7 +221,7 @@ class Tries:
             self.check(f"explore: form {form}", good and "no data race was seen." in printed, (status, printed, said))
 
     def weakened(self, here):
-        """Each memory order of a right queue that is made relaxed is told as a data race, and as nothing else."""
+        """Each memory order of a correct queue that is made relaxed is reported as a data race, and as nothing else."""
         room = os.environ["ROOM"]
         with open(f"{here}/broken/twelve.h", encoding="ascii") as file:
             header = file.read()
@@ -291,7 +291,7 @@ class Tries:
 
 
 def order_of(lines):
-    """The calls of each side in these lines, and which calls of the two sides come one behind the other."""
+    """The calls of each side in these lines, and which calls of the two sides follow one another."""
     calls = {"P": [], "C": []}
     for at, line in enumerate(lines):
         if not re.match(rf"[PC] ({ENDS})( |$)", line):

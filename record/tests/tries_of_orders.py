@@ -1,5 +1,5 @@
-"""Tests what record/explore finds by older values and by the other choices, for record/test: the queues of broken/orders.h, right and with 15 bugs; the
-weakest orders of six of them; a test that draws; parts of all executions; and conditions that gcc alone would make racy."""
+"""Tests what record/explore finds with older values and the other choices, for record/test: the queues of broken/orders.h, correct and with 15 bugs; the
+weakest orders of six of them; a test that draws; parts of all executions; and conditions that only gcc would make racy."""
 import concurrent.futures
 import json
 import os
@@ -7,7 +7,7 @@ import re
 import shlex
 from xml.etree import ElementTree
 
-# Of each bug of broken/orders.h the status, and what is printed.
+# The status and the output for each bug of broken/orders.h.
 BUGS = (
     (3, "item 0 was not inside"), (3, "item 0 was not inside"), (3, "item 0 was not inside"), (3, "item 0 was not inside"), (3, "item 0 was not inside"),
     (3, "item 0 was not inside"), (3, "item 0 was not inside"), (3, "closed, but item 1 of line 2 is inside"), (3, "closed, but item 1 of line 2 is inside"),
@@ -15,10 +15,10 @@ BUGS = (
     (4, "waits forever: the producer is over, the consumer waits at orders.h:"), (3, "item 1 comes again|item 0 was not inside"),
     (3, "full, but at most 0 inside"), (3, "empty, but item 1 was inside"),
 )
-# The one that a sequentially consistent execution shows, with no wake-up and no failure that need not be.
+# The bug that a sequentially consistent execution shows, without spurious wake-ups or failures.
 OF_LOGIC = 12
 FORMS = range(1, 12)
-# Orders that textbooks have, by form: of each a line of the text, its kind, and the weakest order that suffices.
+# The orders found in textbooks, by form: for each a line of the text, its kind, and the weakest order that suffices.
 TEXTBOOK = {
     1: (("LOAD(head, acquire) == CAPACITY", "load", None), ("STORE_BUT(1, tail", "store", "release"), ("LOAD_BUT(2, tail", "load", "acquire"),
         ("STORE(head, h + 1, release)", "store", "release"), ("const uint64_t t = LOAD(tail", "load", "relaxed")),
@@ -65,7 +65,7 @@ class Orders:
             self.check(f"orders: form {form}", good, (status, printed))
 
     def weakest(self):
-        """The weakest orders are those that textbooks have, and are found within five seconds."""
+        """The weakest orders are those in textbooks, and are found within five seconds."""
         with open(f"{self.here}/broken/orders.h", encoding="ascii") as file:
             text = file.read()
         for form, wanted in TEXTBOOK.items():
@@ -84,7 +84,7 @@ class Orders:
         self.check("orders: weakest of a bug", good and re.search(r"store release \(relaxed in the text\)", printed), (status, printed))
 
     def draws(self):
-        """What a test draws needs no seed."""
+        """A test that draws needs no seed."""
         status, printed = self.explore("tests/draws.c", "-o $ROOM/draws")
         self.check("explore: draws", status == 0 and " all lawful\n" in printed, (status, printed))
         status, out, _ = self.run("$ROOM/draws bug")
@@ -98,7 +98,7 @@ class Orders:
         self.check("explore: at most one draw", status == 0, (status, out))
 
     def parts(self):
-        """The parts of all executions are as many as there are, and each once; several processes print the same."""
+        """The parts together make every execution exactly once; several processes print the same."""
         room = os.environ["ROOM"]
         self.explore("broken/orders.c -- -DFORM=7", "-o $ROOM/parts")
         for bound in (2, 3):
@@ -124,7 +124,7 @@ class Orders:
         self.check("explore --jobs of a bug", good and "waits forever: " in suite.find("testcase/failure").attrib["message"], (status, printed))
 
     def options(self):
-        """One order for both sides; loads that be delayed; files with their folders; places that accesses of several sizes have; words that are none."""
+        """One order for both sides; delayed loads; files with their folders; places accessed with several sizes; wrong arguments."""
         status, printed = self.explore("broken/orders.c -- -DFORM=1", "--strict")
         good = status == 3 and re.match(r"not strict: line \d+: empty, and line \d+: full: no order has both, ", printed)
         self.check("explore --strict of a ring by acquire and release", good, (status, printed))
@@ -159,7 +159,7 @@ class Orders:
             self.check(f"explore {words}", status == 2 and wanted in printed, (status, printed))
 
     def guards(self):
-        """Seven ways of writing a condition are lawful, by gcc and by clang."""
+        """Seven ways of writing a condition are lawful, with gcc and with clang."""
         for compiler in ("gcc", "clang"):
             if self.run(f"command -v {compiler}")[0] != 0:
                 print(f"missing: guards by {compiler}: apt-get install {compiler}", flush=True)

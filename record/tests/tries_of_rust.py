@@ -1,9 +1,9 @@
-"""Tests record/explore of tests in Rust for record/test, which gives them its own check and run."""
+"""Tests record/explore on tests in Rust for record/test, which passes its own check and run."""
 import os
 import re
 import shlex
 
-# Tests in rust/ that are right, and what is reported of each with --cfg bug.
+# The tests in rust/, which are correct, and what is reported for each with --cfg bug.
 RACE = r"(?m)^data race: the consumer reads 8 bytes at block 1(\+\d+)? \({0}.rs:{1}\), which the producer wrote \({0}.rs:{2}\) with nothing in between that orders them$"
 FREED = r"(?m)^use after free: the {} 8 bytes at block \d \(nodes.rs:\d+\), which the consumer freed \(nodes.rs:{}\)$"
 BUGS = (
@@ -13,7 +13,7 @@ BUGS = (
     ("nodes", FREED.format("consumer reads atomically", "{1}"), ("drop(unsafe",)),
     ("nodes", FREED.format("producer writes atomically", "{1}"), ("drop(unsafe",)),
 )
-# What std has, by the ways of of_std.rs: the status, and what is reported.
+# The parts of std, by the ways of of_std.rs: the status, and what is reported.
 LAWFUL = r"^[\d,]+ executions within a bound of \d, .*: all lawful$"
 NOT_SEEN = r"^explore: of_std.rs:\d+: the {} calls std::.*{}\w*, which Rust's std has already compiled: its accesses are not seen, so this test cannot be explored$"
 THREAD = r"^explore: the test starts a thread, but its two sides must be functions that explore\(\) calls$"
@@ -28,7 +28,7 @@ OF_STD = (
 # (before Rust 1.67 a channel waits in std's own code)
 MPSC_WAITS = (0, LAWFUL), (2, NOT_SEEN.format("producer", "WaitToken::wait"))
 OF_CRATES = ("array_queue", "seg_queue", "concurrent_queue", "crossbeam_channel", "futures_channel")
-# What cannot be built: variables, the words of the command line, what is said.
+# What cannot be built: variables, arguments, the message.
 REFUSED = (
     ("RUSTC=no_rustc", "rust/ring.rs", "no_rustc: No such file or directory: a test in Rust needs rustc 1.63 or newer (Debian: apt-get install rustc); set RUSTC=.. for another one"),
     ("RUSTC=$ROOM/old_rustc", "rust/ring.rs", "rustc 1.48 is too old: a test in Rust needs 1.63 or newer; set RUSTC=.. for another one"),
@@ -49,7 +49,7 @@ class TriesOfRust:
         self.explore_it = f"{shlex.quote(here)}/explore"
 
     def explore(self, command, folder="."):
-        """Its status and what it printed and said, in this folder of tests/."""
+        """Runs a command in this folder of tests/; returns its status and its whole output."""
         status, out, said = self.run(f"cd {shlex.quote(self.here)}/tests/{folder} && {command}")
         return status, said + out.decode(errors="replace")
 
@@ -59,9 +59,9 @@ class TriesOfRust:
             return next(number for number, line in enumerate(file, 1) if text in line)
 
     def own_queues(self):
-        """The right form of each is lawful; its bug is reported at the lines of the test."""
+        """The correct form of each is lawful; its bug is reported at the lines of the test."""
         for name in sorted({name for name, _, _ in BUGS}):
-            # (whole explores the right ring)
+            # (`whole` explores the correct ring)
             if name != "ring":
                 status, printed = self.explore(f"{self.explore_it} {name}.rs", "rust")
                 good = status == 0 and re.search(LAWFUL, printed, re.M) and printed.endswith("no data race was seen.\n")
@@ -96,7 +96,7 @@ class TriesOfRust:
         self.check("explore of array_queue: the lines of its crate", good, (status, printed))
 
     def crates_by_file(self):
-        """A crate as a file, with a feature, and one that needs it; the queue of the one is used by the test."""
+        """A crate given as a file, with a feature, and one that needs it; the test uses the first one's queue."""
         room = os.environ["ROOM"]
         os.makedirs(f"{room}/crates_of_rust", exist_ok=True)
         with open(f"{self.here}/tests/rust/ring.rs", encoding="utf-8") as file:
@@ -111,7 +111,7 @@ class TriesOfRust:
             self.check(f"explore of crates as files, {feature or 'no feature'}", good, (status, printed))
 
     def kinds(self):
-        """Each kind of event is recorded as ring_calls.rs records it, and each method of the logs is that of ring_calls.rs."""
+        """Each kind of event is recorded as by ring_calls.rs, and the logs have the methods of ring_calls.rs."""
         sides = []
         for command in ("EXPLORE_BOUND=0 EXPLORE_DUMP=$ROOM/kinds_explored " + self.explore_it + " kinds.rs > $ROOM/none; sed '/^$/,$d' $ROOM/kinds_explored",
                         "rustc --edition 2021 --cfg plain kinds.rs -o $ROOM/kinds_plain && $ROOM/kinds_plain"):

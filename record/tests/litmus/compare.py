@@ -1,7 +1,7 @@
 #!/usr/bin/env python3
-"""compare.py LITMUS AXIOMS COUNT SEED: the outcomes of litmus tests that explore finds are those that the axioms permit, none missing and none too
-many: of the named ones in named.txt, and of COUNT random ones. LITMUS is built of litmus.c and the explorer, AXIOMS of axioms.cpp. Half of the tests
-are by the rules of C++20, half by those of C11 to C++17. The last line is `N passed, M failed`."""
+"""compare.py LITMUS AXIOMS COUNT SEED: checks that explore finds exactly the outcomes of litmus tests that the axioms permit, none missing and none too
+many: for the named tests in named.txt, and for COUNT random ones. LITMUS is built from litmus.c and the explorer, AXIOMS from axioms.cpp. Half of the tests
+use the rules of C++20, half those of C11 to C++17. The last line is `N passed, M failed`."""
 import os
 import random
 import re
@@ -13,7 +13,7 @@ HERE = os.path.dirname(os.path.abspath(__file__))
 sys.path.insert(0, os.path.join(HERE, "../../../tests"))
 from counting import Counting
 
-# Orders of each kind of operation, by the style of a test.
+# The orders of each kind of operation, by the style of a test.
 STYLES = {
     "mixed": {"R": ("rlx", "acq", "sco"), "W": ("rlx", "rel", "sco"), "U": ("rlx", "acq", "rel", "arl", "sco"), "F": ("acq", "rel", "arl", "sco")},
     "sc": {"R": ("rlx", "sco", "sco"), "W": ("rlx", "sco", "sco"), "U": ("rlx", "sco"), "F": ("sco",)},
@@ -23,7 +23,7 @@ STYLES = {
 
 
 class Judge:
-    """A program that reads a test to a line and prints its outcomes."""
+    """A program that reads a test from a line and prints its outcomes."""
 
     def __init__(self, command, **more):
         self.process = subprocess.Popen(command, stdin=subprocess.PIPE, stdout=subprocess.PIPE, stderr=subprocess.DEVNULL, text=True, env={**os.environ, **more})
@@ -65,14 +65,14 @@ def named_tests():
 
 
 def has(outcomes, weak):
-    """Whether some outcome has what the weak one says: of P, C and `end` the first values."""
+    """Whether some outcome matches the weak one: the first values of P, C and `end`."""
     wanted = re.findall(r"(P|C|end)((?: \d+)+)", weak)
     return any(all(re.search(rf" {row}{values}(?: |$)", outcome) for row, values in wanted) for outcome in outcomes)
 
 
 def main(litmus, axioms, count, seed):
     dice, counts, found, began = random.Random(seed), Counting(most=10), 0, time.monotonic()
-    # (more choices than any of these tests has)
+    # (the bound is above the choices of any of these tests)
     pairs = {rules: (Judge([litmus], EXPLORE_BOUND="24", EXPLORE_SECONDS="120", EXPLORE_SEQUENCES=rules), Judge([axioms, rules])) for rules in ("20", "11")}
     tests = [(name, test, weak, known, rules) for name, test, weak, known in named_tests() for rules in pairs]
     tests += [("", random_test(dice), "", "", dice.choice(("20", "11"))) for _ in range(count)]

@@ -1,12 +1,12 @@
-"""Random small cases for compare.py: runs of two sides in which a side comes to know what the other did only at times, and perhaps not the
-last of it. Most answers are such as a queue could give that knows no more; some are drawn at will."""
+"""Random small cases for compare.py: runs of two sides in which a side learns what the other did only sometimes, and perhaps not the
+last of it. Most replies are ones that a queue with this knowledge could give; some are arbitrary."""
 from orders import CONSUMER, PRODUCER, Call, Case, stored_by, taken_by
 
 HEADS = ("queue", *("queue 1",) * 3, *("queue 2",) * 4, *("queue 3",) * 3, "queue 4", "queue 0 1", "queue 0 2", "queue 1 2", "queue 1 3",
          "queue 2 3", "queue 2 5", "queue 18446744073709551615", "queue 1 18446744073709551615")
 ENDS = (("stored", "some", "full", "short", "nothing", "closed"), ("item", "some", "empty", "short", "nothing", "closed"))
 INFINITE = float("inf")
-# a take may ask for as many as there are
+# a take may ask for all that there are
 MANY = 2**64 - 1
 
 
@@ -15,7 +15,7 @@ def passed_by(call):
 
 
 class Side:
-    """A side of a run as it is made: its calls, how many have begun and ended, its clock, what it has released, and what it knows."""
+    """A side of a run being made: its calls, how many have begun and ended, its clock, what it has released, and what it knows."""
 
     def __init__(self, clock, other):
         self.calls, self.clock, self.known, self.released = [], clock, other - 1, []
@@ -38,9 +38,9 @@ class Run:
         self.sides = [Side(clocks[s], clocks[1 - s]) for s in (0, 1)]
         self.lines, self.turn = [self.head], 0
         self.counts_up, self.next_item = dice.random() < 0.7, 0
-        # how often a side comes to know of the other, and releases: the more often, the more is ordered
+        # how often a side learns of the other, and releases: the more often, the more is ordered
         self.often = [dice.choice((0.0, 0.1, 0.3, 0.6, 1.0)) for _ in range(3)]
-        # how often a side believes no more than it has to, and how often it is wrong
+        # how often a side assumes no more than it must, and how often it is wrong
         self.late, self.wrong, self.wild = dice.choice((0.0, 0.5, 0.9)), dice.choice((0.0, 0.0, 0.15)), dice.choice((0.0, 0.0, 0.1))
         self.closes = dice.choice((0.0, 0.05, 0.1, 0.4))
         # the sides whose last call stays under way
@@ -140,7 +140,7 @@ class Run:
         me.passed += passed_by(me.calls[-1])
 
     def seen(self, s):
-        """How many items this side may believe that the other passed: from what its calls that it knows have passed to what they may have."""
+        """How many items this side may assume that the other passed: from what the known calls have passed to what they may have passed."""
         other = self.sides[1 - s]
         known = sum(map(passed_by, other.calls[: self.sides[s].knows_ended]))
         under_way = other.calls[-1] if other.under_way else None

@@ -45,14 +45,14 @@ def audit_of(run):
 
 
 def pair_is_at_fault(case, told):
-    """Of a run that is fresh and not strict: whether the two calls named have no order, with what changes the queue."""
+    """For a run that is fresh and not strict: whether the two calls named have no common order with what changes the queue."""
     pair = [int(it) for it in re.findall(r"line (\d+)", told)]
     wanted = [call for row in case.rows for call in row if call.lines[1] and call.lines[1] in (pair[0], pair[1])]
     return len(wanted) == 2 and not orders.has_order(case, lambda call: any(call is it for it in wanted))
 
 
 def differs(run, told):
-    """What is wrong with the judge's answers; None if nothing is. Counts what came."""
+    """What is wrong with the judge's answers, or None. Counts the kinds that occurred."""
     case, (fresh, strict, handed, *by_client, _) = run.case(), told
     is_lawful = audit_of(run)
     if [by_client[0] == "fresh", by_client[1] == "strict"] != [is_lawful] * 2:
@@ -94,7 +94,7 @@ def compare(judge, runs):
 
 
 def compare_long(judge):
-    """A run that is too long has its first part judged: a fault there is reported, and one after it is not."""
+    """Of a run that is too long only a prefix is judged: a fault in it is reported, and one after it is not."""
     calls = [line for item in range(1, 5001) for line in (f"P put {item}", "P stored", "C take", f"C item {item}")]
     many = " ".join(map(str, range(1, 20001)))
     wrong = ["C take", "C item 9"]

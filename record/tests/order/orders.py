@@ -1,4 +1,4 @@
-"""What a run is held to whose calls are ordered by happens-before alone, worked out from the definitions in words by a search of orders.
+"""The requirements on a run whose calls are ordered only by happens-before, computed from the definitions in words by a search of orders.
 
 A case has a first line, as `queue 2`, and two rows of calls, the producer's and the consumer's. The operations are those of docs/MODEL.md:
 a put of three items is three operations, one after the other, and what a call says of why it passed no more is one more operation,
@@ -8,15 +8,15 @@ the end may have stored or taken any number of its first items; a close under wa
 
 - strict: there is one order of all operations.
 - fresh: for each side there is one order of what changes the queue, on both sides, and of what this side finds (full, empty, closed).
-Two other ways to say `fresh` are worked out too: by one answer at a time, and call by call in plain words, without any order."""
+Two other formulations of `fresh` are computed too: one reply at a time, and call by call in plain words, without any order."""
 from collections import namedtuple
 
 PRODUCER, CONSUMER = 0, 1
 CHANGES = ("enqueue", "dequeue", "close")
 
-# A call: its begin ("put", "close", "take"), the items offered or the number wanted; its end ("" if it is under way) with its numbers; how
-# many calls of the other side have ends that happen before its begin; and how many of the producer's calls have begins that happen before
-# its end. Its lines, of the begin and of the end.
+# A call: its start ("put", "close", "take"), the items offered or the number asked for; its end ("" if it is under way) with its numbers; how
+# many calls of the other side have ends that happen before its start; and how many of the producer's calls have starts that happen before
+# its end. Its lines, of the start and of the end.
 Call = namedtuple("Call", "begin offered wanted end numbers after met lines")
 # A case: the numbers of the first line, and the rows of both sides; the line that was out of turn, 0 if none was.
 Case = namedtuple("Case", "bounds rows turn")
@@ -34,7 +34,7 @@ def taken_by(take):
 
 
 def finding_of(call):
-    """What a call that has ended says it found: an operation that changes nothing; None if it says nothing."""
+    """What an ended call reports that it found: an operation that changes nothing; None if it reports nothing."""
     if call.begin == "put":
         count, stored = len(call.offered), stored_by(call)
         found = {"full": ("no room", 1), "short": ("no room", count), "closed": ("shut",)}
@@ -81,7 +81,7 @@ def after(bounds, queue, operation):
 
 
 def rows_of_operations(row, most, is_wanted):
-    """The rows of operations that a row of calls may have been, of those that are wanted, each operation with its call's number."""
+    """The possible rows of operations of a row of calls, only of the wanted kinds, each operation with its call's number."""
     ways = [[]]
     for number, call in enumerate(row):
         ways = [way + [(it, number) for it in more if it[0] in CHANGES or is_wanted(call)] for way in ways for more in operations_of(call, most)]
@@ -89,10 +89,10 @@ def rows_of_operations(row, most, is_wanted):
 
 
 def have_order(case, rows):
-    """Whether these two rows of operations have an order: all are searched. What came before leaves a queue that depends on how many
-    operations of each row it was, and not on their order, so each pair of such numbers is looked at once."""
+    """Whether these two rows of operations have an order: all are searched. The queue left by a prefix depends only on how many
+    operations of each row it has, and not on their order, so each pair of such numbers is visited once."""
     calls = case.rows
-    # of each operation: how many of the other row have to stand before it
+    # for each operation: how many of the other row must come before it
     needs = [[sum(of < calls[s][number].after for _, of in rows[1 - s]) for _, number in rows[s]] for s in (0, 1)]
     seen, waiting = {(0, 0)}, [((0, 0), ((), False))]
     while waiting:
@@ -126,7 +126,7 @@ def is_fresh(case):
 
 
 def is_fresh_one_by_one(case):
-    """One answer at a time; but once a take has returned closed, no later one returns empty or short, or an item."""
+    """One reply at a time; but once a take has returned closed, no later one returns empty or short, or an item."""
     told = False
     for call in case.rows[CONSUMER]:
         if told and (taken_by(call) or call.end in ("empty", "short")):
@@ -151,7 +151,7 @@ def passer_of(row, number, count_of, most_of):
 
 
 def lines_at_fault(case):
-    """The lines that end a call whose answer is wrong by itself."""
+    """The lines that end a call whose reply is wrong by itself."""
     puts, takes = case.rows
     full, most = case.bounds
     closes = [at for at, call in enumerate(puts) if call.begin == "close"]
@@ -199,7 +199,7 @@ def lines_at_fault(case):
 
 
 def are_handed(case):
-    """Whether of each item that was taken, the begin of its put happens before the end of its take."""
+    """Whether, for each item that was taken, the start of its put happens before the end of its take."""
     puts = [at for at, put in enumerate(case.rows[PRODUCER]) for _ in range(stored_by(put) if put.end else len(put.offered))]
     takes = [take for take in case.rows[CONSUMER] for _ in range(taken_by(take))]
     return all(at < take.met for at, take in zip(puts, takes))

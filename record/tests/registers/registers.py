@@ -1,4 +1,4 @@
-"""registers WORDS: as registers.c, by ring_register.py: by hand, and by what is watched; with no WORDS no event."""
+"""registers WORDS: like registers.c, with ring_register.py: by hand, and with watched operations; without WORDS no event."""
 import os
 import sys
 
@@ -15,7 +15,7 @@ for readers in (0, 65):
     except ValueError:
         continue
     sys.exit(2)
-# (a round before, which is forgotten)
+# (an earlier round, which is discarded)
 rec.read(3)
 rec.restart()
 rec.write(1)

@@ -1,5 +1,5 @@
-"""student OPERATIONS: a register as a student may write it, with a writer and two readers; the lines with rec record it. Its values are 0 to 3: of
-its bits the lowest that is set counts, and a write sets its bit and clears the lower ones downwards. It is regular, and not atomic."""
+"""student OPERATIONS: a register as a student may write it, with a writer and two readers; the lines with rec record it. Its values are 0 to 3: the
+lowest set bit is the value, and a write sets its bit and then clears the lower ones downwards. It is regular, and not atomic."""
 import os
 import random
 import sys

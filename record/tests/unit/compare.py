@@ -1,5 +1,5 @@
 #!/usr/bin/env python3
-"""compare.py COUNT SEED JUDGE..: recordings that are judged in process, by each JUDGE, a program built of judge.c, .rs or .go, and by
+"""compare.py COUNT SEED JUDGE..: recordings judged in process, by each JUDGE, a program built from judge.c, .rs or .go, and by
 ring_audit.py, have to be told as the audit tells them: in the same words, with the same report, and with lines as they stand in the
 recording.
 
@@ -34,8 +34,8 @@ if not AUDIT:
 # The recorder's name of each kind of line.
 NAMES = ("put", "close", "take", "stored", "some", "full", "put_short", "put_nothing", "closed",
          "item", "some_items", "empty", "take_short", "take_nothing", "told")
-# How often a judge tells of a recording that it has no call, where it is more than once: as it is written, too, or judged twice.
-TELLS = {"judge_rs": 2, "judge_go": 3}
+# How often a judge reports that a recording has no call, if it is more than once: also when it is written, or judged twice.
+REPORTS = {"judge_rs": 2, "judge_go": 3}
 counts = Counting(most=10)
 check = counts.check
 
@@ -58,7 +58,7 @@ class Recording:
         self.is_lawful = self.words == "lawful"
 
     def is_shown(self, told):
-        """Whether this is what is told of it on stderr: the words, the line at fault, and those round it, as they stand in it."""
+        """Whether stderr reports it correctly: the words, the line at fault, and the lines around it, as they are in the recording."""
         if self.is_lawful:
             return not told
         words, *lines = told.splitlines()
@@ -72,7 +72,7 @@ class Recording:
 
 
 def in_batches(rounds, head):
-    """Puts of three items and takes of two, so that one item stays inside from round to round; in the end the queue is called empty."""
+    """Puts of three items and takes of two, so that one item stays inside from round to round; finally the queue is reported empty."""
     lines, item = [head, "P put 0", "P stored"], 1
     for _ in range(rounds):
         for stored in ("P stored", "P some 3"):
@@ -102,12 +102,12 @@ def texts(count, seed):
     for items in (1022, 1023, 1024, 1025, 5000):
         sevens = " 7" * items
         yield f"queue\nP put 1\nP stored\nP put{sevens}\nP stored\nC take\nC item 1\nC take {items}\nC item{sevens}\nC take\nC empty\n"
-    # what a recorder writes where no items are put
+    # what a recorder writes if no items are put
     yield "queue 8\nP put\n"
 
 
 def without_full_logs(said):
-    """Without the lines that say whose log was full, or that no call was recorded."""
+    """A text without the lines that say whose log was full, or that no call was recorded."""
     return re.sub(r"(?m)^ring_calls: .*\n", "", said)
 
 
@@ -159,13 +159,13 @@ def judge_by_c(judge, recordings):
             check(answer + "\n" == recording.answer, f"{judge} of {recording.text[-1000:]}", answer)
             shown = "" if recording.is_lawful else told.pop(0) if told else ""
             check(recording.is_shown(shown), f"{judge} shows of {recording.text[-1000:]}", shown)
-        check(not told, f"{judge} tells no more", told)
+        check(not told, f"{judge} reports nothing more", told)
         with open(f"{room}/kept", encoding="ascii") as file:
             check(file.read() == [it for it in recordings if not it.is_lawful][-1].text, f"{judge} keeps the last one", "another")
 
 
 def report_of(audit, is_cut):
-    """As the audit prints it."""
+    """A report as the audit prints it."""
     lines = ["lawful"]
     for name, value in audit.report()._asdict().items():
         lines.append(f"{name} {' '.join(map(str, value)) if name == 'inside' else ('no', 'yes')[value] if name == 'told' else value}")
@@ -173,7 +173,7 @@ def report_of(audit, is_cut):
 
 
 def record(calls, kind, numbers):
-    """Calls the recorder's name of this line; its answer."""
+    """Calls the recorder's function for this line; returns its result."""
     if NAMES[kind] == "stored" and numbers:
         return calls.stored_of(numbers[0], numbers[0] + 1)
     return getattr(calls, NAMES[kind])(*numbers)
@@ -213,17 +213,17 @@ def judge_by_python(recordings, kept):
 
 def main(count, seed, *judges):
     recordings = [Recording(text) for text in texts(int(count), seed)]
-    # Of each kind of line and of each kind of words there is one.
+    # Each kind of line, and each kind of words, occurs.
     kinds = Counter(parts_of(line)[0] for recording in recordings for line in recording.lines[1:])
     words = Counter(re.sub(r"\d+", "N", recording.words) for recording in recordings)
     check(len(kinds) == len(NAMES), "all kinds of lines", kinds)
     print(f"{len(recordings)} recordings, {sum(kinds.values())} lines, {words['lawful']} lawful, {len(words) - 1} kinds of words of the others")
     for judge in judges:
         judge_by_c(judge, recordings)
-        check(is_told_of_none(functools.partial(said_by, judge), TELLS.get(os.path.basename(judge), 1)), f"{judge} tells that there is no call", said_by(judge, "queue 8\n"))
-        check(is_told_alone(functools.partial(said_by, judge)), f"{judge} tells that no calls overlap", "another")
-    check(is_told_alone(said_by_python), "ring_audit.py tells that no calls overlap", "another")
-    check(is_told_of_none(said_by_python, 1), "ring_audit.py tells that there is no call", said_by_python("queue 8\n"))
+        check(is_told_of_none(functools.partial(said_by, judge), REPORTS.get(os.path.basename(judge), 1)), f"{judge} reports that there is no call", said_by(judge, "queue 8\n"))
+        check(is_told_alone(functools.partial(said_by, judge)), f"{judge} reports that no calls overlap", "another")
+    check(is_told_alone(said_by_python), "ring_audit.py reports that no calls overlap", "another")
+    check(is_told_of_none(said_by_python, 1), "ring_audit.py reports that there is no call", said_by_python("queue 8\n"))
     with tempfile.TemporaryDirectory() as room:
         judge_by_python(recordings, f"{room}/kept")
     return counts.end()

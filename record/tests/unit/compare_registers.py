@@ -1,5 +1,5 @@
 #!/usr/bin/env python3
-"""compare_registers.py COUNT SEED JUDGE..: what each JUDGE, a program built of register_unit.c, finds of recorded registers in process: the class
+"""compare_registers.py COUNT SEED JUDGE..: what each JUDGE, a program built from register_unit.c, finds in recorded registers in process: the class
 and the lines have to be those that `audit --register` prints, with no reason.
 
 The recordings are those of ../examples/registers, whose verdicts are beside them, and so many random ones by ../tests/registers, which works out
@@ -30,7 +30,7 @@ def without_reasons(printed):
 
 
 def cases(count, seed):
-    """Recordings, each with what is to be printed of it."""
+    """Recordings, each with the expected output."""
     for verdict in sorted(glob.glob(f"{TOP}/examples/registers/*.verdict")):
         with open(verdict, encoding="ascii") as told, open(f"{verdict.removesuffix('verdict')}reg", encoding="ascii", newline="") as file:
             yield file.read(), told.read()

@@ -1,5 +1,5 @@
 #!/usr/bin/env python3
-"""logs.py: tests record/convert, on the logs in ../logs, and words and logs that it refuses. The audit is that of compare.py. The last line is `N passed, M failed`."""
+"""logs.py: tests record/convert on the logs in ../logs, and on arguments and logs that it refuses. The audit is that of compare.py. The last line is `N passed, M failed`."""
 import contextlib
 import importlib.machinery
 import importlib.util
@@ -19,7 +19,7 @@ NO_OPERATION = "is not an operation with :process, :type, :f and :value, as JSON
 ANY = f"queue 0 {2**64 - 1}"
 WHOLE = f"{ANY}|P put 1|C take|P stored|C item 1|C take|C empty|P put {2**64 - 1}|P full|P put 3|C take|C item 3|"
 PLAIN = "queue|P put 1|C take|P stored|C item 1|"
-# Of each log its recording, or why it is refused; and of a recording whether it is lawful.
+# For each log its recording, or why it is refused; and for a recording its verdict.
 WANTED = {
     "jepsen.edn": (WHOLE, "lawful"),
     "jepsen.jsonl": (WHOLE, "lawful"),
@@ -47,7 +47,7 @@ same = counts.same
 
 
 def converted(words, log=""):
-    """Its status, what it prints, and what it says."""
+    """Runs record/convert; returns its status, its output and its standard error."""
     out, said, before = io.StringIO(), io.StringIO(), sys.stdin
     sys.stdin = io.TextIOWrapper(io.BytesIO(log if isinstance(log, bytes) else log.encode()))
     try:

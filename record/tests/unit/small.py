@@ -1,5 +1,5 @@
 #!/usr/bin/env python3
-"""small.py RING: tests record/shrink and record/head, in process and by the program; RING is a program built of broken/ring.cpp. The last line is
+"""small.py RING: tests record/shrink and record/head, with the audit in process and as a program; RING is a program built from broken/ring.cpp. The last line is
 `N passed, M failed`. The audit is that of compare.py."""
 import os
 import re
@@ -28,8 +28,8 @@ def run(command):
 
 
 def in_batches(rounds, head, stored_all, stored_one, took):
-    """A recording of puts of three items and takes of two, where one item stays inside from round to round, so that all calls hang
-    together by items; in the end the queue is called empty. Its first line and its ends have these words."""
+    """A recording of puts of three items and takes of two, where one item stays inside from round to round, so that all calls are
+    connected by items; finally the queue is reported empty. Its first line and its ends have these words."""
     lines, item = [head, "P put 0", "P stored"], 1
     for _ in range(rounds):
         for stored in (3, 3, 1):
@@ -47,8 +47,8 @@ def seconds_of_children():
 
 
 def in_both_ways(tool, recording):
-    """What shrink or head prints of a recording, what it says, and its status: by the program, and in process; and the longer time of the
-    processor."""
+    """The output, standard error and status of shrink or head for a recording: with the audit as a program, and in process; and the longer processor
+    time."""
     with tempfile.NamedTemporaryFile() as file:
         file.write(recording)
         file.flush()
@@ -63,8 +63,8 @@ def in_both_ways(tool, recording):
 
 
 def shrink_of(recording, verdict):
-    """How many lines are left of a recording with this fault; and what is wrong with them, nothing where all is as wanted: in ten seconds 12 at
-    most, or it is said why more are; with the same first line and, at the last line, a fault of the same words."""
+    """How many lines remain of a recording with this fault, and what is wrong with them, if anything: at most 12 lines, within ten seconds,
+    or a message why there are more; with the same first line and, at the last line, a fault with the same words."""
     by_program, in_process, took = in_both_ways("shrink", recording)
     small, said, status = in_process
     lines = small.count(10)
@@ -84,7 +84,7 @@ def try_shrink(what, recording):
 
 
 def try_shrinks():
-    """Recordings of each kind of fault; those of batches and of equal items; long ones; and what has no fault."""
+    """Recordings of each kind of fault; with batches and with equal items; long ones; and recordings without a fault."""
     for words_of in (("queue 8", "P stored", "P stored 1", "C item"), ("cut queue 8", "P some 3", "P some 1", "C some")):
         check((lines := try_shrink("shrink of batches", in_batches(2000, *words_of))) == 5, "shrink of batches: 5 lines are left", lines)
     sevens, pairs = " 7" * 1000, "".join(f"P put {at}\nC take\nP stored\nC item {at}\n" for at in range(8, 30_000))
@@ -122,8 +122,8 @@ def try_shrinks():
 
 
 def try_heads(ring):
-    """Of right rings the first line that is theirs; of those that call themselves full too early or too late what they do; of all a
-    first line that is lawful, where those that are tighter are not."""
+    """For correct rings their own first line; for rings that report full too early or too late what they do; for all a
+    first line that is lawful, while tighter ones are not."""
     for bug, seeds, want in ((0, 2, b"queue 8\n"), (4, 2, b"queue 7\n"), (5, 2, b"queue 9\n"), (10, 2, b"queue ([0-7] )?[78]\n")):
         for seed in range(1, seeds + 1):
             recording = run(f"{ring} {bug} 2000 {seed}")
@@ -154,7 +154,7 @@ def try_heads(ring):
 
 
 def try_head(text):
-    """It is lawful with the line told, and with none that is tighter; or it has a fault with each."""
+    """The recording is lawful with the printed line, and with no tighter one; or it has a fault with each."""
     lines = text.split("\n", 1)[1] if text.startswith(("queue", "cut queue")) else text
     by_program, in_process, _ = in_both_ways("head", text.encode())
     if in_process[2] != 0:
@@ -164,7 +164,7 @@ def try_head(text):
         return
     numbers = [int(word) for word in in_process[0].decode().removeprefix("cut ").split()[1:]]
     first, last = numbers[0], numbers[-1]
-    # the line, and behind it lines that are not to be lawful
+    # the line, followed by lines that must not be lawful
     if last > first:
         heads = [numbers, (first + 1, last) if last > first + 1 else (last,), *([(first, last - 1)] if last > first + 1 else [])]
     elif "no call reports that the queue is full" in in_process[1]:

@@ -1,4 +1,4 @@
-"""test_unit.py: a unit test of a small ring, for pytest, or by itself: it is a queue in each of 10,000 rounds of 100 calls, and with its bug it
+"""test_unit.py: a unit test of a small ring, for pytest or standalone: it is a queue in each of 10,000 rounds of 100 calls, and with its bug it
 is not."""
 import os
 import sys
@@ -10,12 +10,12 @@ import ring_audit
 import ring_calls
 
 SLOTS, ROUNDS, CALLS = 9, 10_000, 50
-# The threads change places within calls, too.
+# Threads are switched within calls, too.
 sys.setswitchinterval(1e-6)
 
 
 class Ring:
-    """The items lie from head up to tail; one slot is kept free. The bug: the tail moves before the cell is written."""
+    """The items are from head up to tail; one slot stays free. The bug: the tail moves before the cell is written."""
 
     def __init__(self, bug):
         self.cells, self.head, self.tail, self.bug = [0] * SLOTS, 0, 0, bug
