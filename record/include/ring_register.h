@@ -1,27 +1,27 @@
 /* ring_register.h: records the reads and writes of a register with one writer and up to 64 readers, for `lamport_ring audit --register`.
- * C11, and C++ from C++11; nothing but this file is needed. To judge in the same process: ring_register_audit.h.
+ * C11, and C++ from C++11; only this file is needed. To judge in the same process: ring_register_audit.h.
  *
  *     ring_register rec;
  *     if (!ring_register_init(&rec, 2, 1 << 20)) ..     2 readers; words of 8 bytes for each thread: an operation takes 5
  *     writer:    ring_register_write(&rec, v);   my_write(v);           ring_register_wrote(&rec);
  *     reader 1:  ring_register_read(&rec, 1);    v = my_read();         ring_register_got(&rec, 1, v);        (readers are counted from 1)
- *     when all threads were joined:  ring_register_print(&rec, "register 0 4", file);  ring_register_free(&rec);
+ *     after all threads were joined:  ring_register_print(&rec, "register 0 4", file);  ring_register_free(&rec);
  *                or ring_register_restart(&rec), and the next round begins.
  *
- * Each number is that of one thread; a writer that reads too takes a number of its own. A write of the value that the register holds is
- * a write: record it. A read that finds no value is recorded with a number that is no value: 4 if the first line is "register 0 4".
+ * Each number belongs to one thread; a writer that also reads needs a number of its own. A write of the value that the register already holds is
+ * a write: record it. A read that finds no value is recorded with a number that is not a value: 4 if the first line is "register 0 4".
  *
  * Why there are no false alarms. Each start takes the next ticket of one counter before the operation, each end after it, so an
- * interval can only get wider. The threads write the counter by fetch_add alone. If the ticket of an end is smaller than that of a start, the
+ * interval can only get wider. The threads write the counter only by fetch_add. If the ticket of an end is smaller than that of a start, the
  * start's fetch_add (acquire) reads from the release sequence that the end's fetch_add (release) heads: the one operation happens before
  * the other in the sense of C11. All other operations overlap in the recording. With wider intervals each read may be of the same writes
- * and perhaps of more, no read is overlapped by fewer of them, and fewer reads have to keep to one another. So the recording has each
- * class that the register has there, and a class that the recording lacks the register lacks. The price: a ticket orders
- * operations that the register itself perhaps does not, so a fence that is missing between operations that do not overlap can go unseen.
+ * and perhaps of more, no read is overlapped by fewer of them, and fewer reads must agree with one another. So the recording has each
+ * class that the register has in this run, and the register lacks each class that the recording lacks. The price: a ticket orders
+ * operations that the register itself may not order, so a missing fence between operations that do not overlap can go unnoticed.
  *
- * While recording nothing is allocated and nothing locked. If a thread has no more room the history is cut, for all threads, at the
- * ticket of the first event that was not kept: a first part of what happened, and a first part has each class that the whole has. The
- * first line then begins with `cut`, and ring_register_print reports on stderr whose log was full. It reports, too, if nothing was
+ * While recording nothing is allocated and nothing locked. If the log of a thread is full, the history is cut, for all threads, at the
+ * ticket of the first event that was not kept: it is a prefix of what happened, and a prefix has each class that the whole has. The
+ * first line then begins with `cut`, and ring_register_print prints to stderr whose log was full. It also prints if nothing was
  * recorded. */
 #ifndef RING_REGISTER_H
 #define RING_REGISTER_H
@@ -46,12 +46,12 @@ typedef _Atomic uint64_t ring_register_counter;
 enum { RING_REGISTER_READERS = 64 };
 enum { RING_WRITE, RING_READ, RING_REGISTER_ENDS, RING_WROTE = RING_REGISTER_ENDS, RING_GOT };
 
-/* The log of a thread: of each event its kind and how many numbers it has, its ticket, the number. */
+/* The log of a thread: for each event its kind and the number of its numbers, its ticket, the number. */
 typedef struct { uint64_t *words; size_t used, room; uint64_t cut; char apart[96]; } ring_register_log;
 /* The log of the writer, then those of the readers. */
 typedef struct { ring_register_log logs[RING_REGISTER_READERS + 1]; int readers; char between[124]; ring_register_counter next; char apart[120]; } ring_register;
 
-/* Forgets what was recorded, between two rounds of a test: while no thread records. */
+/* Discards what was recorded, between two rounds of a test: while no thread records. */
 static inline void ring_register_restart(ring_register *r) {
     for (int i = 0; i <= r->readers; i++) {
         r->logs[i].used = 0;
@@ -72,7 +72,7 @@ static inline int ring_register_init(ring_register *r, int readers, size_t words
         ring_register_log *log = &r->logs[i];
         log->words = there ? (uint64_t *)malloc(words * sizeof(uint64_t)) : NULL;
         log->room = words;
-        if (log->words) memset(log->words, 1, words * sizeof(uint64_t));    /* the pages are there before the recording begins */
+        if (log->words) memset(log->words, 1, words * sizeof(uint64_t));    /* so that the pages are present before the recording starts */
         there = log->words != NULL;
     }
     RING_REGISTER_STD(atomic_init)(&r->next, (uint64_t)0);
@@ -99,7 +99,7 @@ static inline void ring_register_event(ring_register *r, int thread, int kind, c
 static inline void ring_register_write(ring_register *r, uint64_t value) { ring_register_event(r, 0, RING_WRITE, &value); }
 static inline void ring_register_wrote(ring_register *r) { ring_register_event(r, 0, RING_WROTE, NULL); }
 
-/* Those of a reader, from 1 to as many as there are, before a read and after it. */
+/* Those of a reader, numbered from 1, before a read and after it. */
 static inline void ring_register_read(ring_register *r, int reader) { ring_register_event(r, reader, RING_READ, NULL); }
 static inline void ring_register_got(ring_register *r, int reader, uint64_t value) { ring_register_event(r, reader, RING_GOT, &value); }
 
@@ -126,8 +126,8 @@ static inline void ring_register_tell(const ring_register *r) {
     }
 }
 
-/* What was recorded, in the order of the tickets, up to the cut. ring_register_next returns the next event, its kind and how many numbers it has,
- * its ticket, the number, and leaves in `thread` whose it is, 0 for the writer; NULL if there is none. No thread records meanwhile. */
+/* What was recorded, in the order of the tickets, up to the cut. ring_register_next returns the next event: its kind and the number of its numbers,
+ * its ticket, the number; `thread` is set to its thread, 0 for the writer; NULL if there is none. No thread may record meanwhile. */
 typedef struct { const ring_register *rec; uint64_t cut; size_t at[RING_REGISTER_READERS + 1]; int thread; } ring_register_walk;
 
 static inline ring_register_walk ring_register_begin(const ring_register *r) {
@@ -169,7 +169,7 @@ static inline int ring_register_print(const ring_register *r, const char *head, 
     ring_register_walk walk = ring_register_begin(r);
     int written;
 #ifdef _WIN32
-    /* a stream of text would end each line in CR LF, which the audit refuses */
+    /* a text stream would end each line in CR LF, which the audit refuses */
     int mode = fflush(out) == 0 ? _setmode(_fileno(out), _O_BINARY) : -1;
 #endif
     ring_register_tell(r);

@@ -1,9 +1,9 @@
-// ring_register.hpp: ring_register.h for C++ from C++17: an operation of yours in a call of the recorder.
+// ring_register.hpp: ring_register.h for C++ from C++17: pass your operation to a call of the recorder.
 //
 //     ring_register_recorder rec(2, 1 << 20);                                        2 readers; words of 8 bytes for each thread
 //     writer:    rec.write(v, [&] { r.write(v); });
 //     reader 1:  uint64_t v = rec.read(1, [&] { return r.read(); });
-//     when all threads were joined:  rec.print("register 0 4", file);
+//     after all threads were joined:  rec.print("register 0 4", file);
 #pragma once
 #include "ring_register.h"
 #include <cstddef>
@@ -24,7 +24,7 @@ public:
     ring_register_recorder(const ring_register_recorder&) = delete;
     ring_register_recorder& operator=(const ring_register_recorder&) = delete;
 
-    // An operation that throws has not ended, and its thread can record none after it.
+    // An operation that throws has not ended, and its thread can record no further ones.
     template <class Operation> void write(uint64_t value, Operation operation) {
         ring_register_write(&rec, value);
         operation();
@@ -44,6 +44,6 @@ public:
     // For ring_register_audit.h: ring_register_lawful(&rec.recorded(), "register 0 4", RING_REGULAR).
     const ring_register& recorded() const { return rec; }
 
-    // Forgets what was recorded, between two rounds of a test: while no thread records.
+    // Discards what was recorded, between two rounds of a test: while no thread records.
     void restart() { ring_register_restart(&rec); }
 };

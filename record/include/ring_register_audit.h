@@ -1,30 +1,30 @@
-/* ring_register_audit.h: judges a recorded register in the process that reads and writes it, as in a unit test. The judge is the proved
- * one of `lamport_ring audit --register`, with no text and no other process; the reason in words is had from the program alone.
+/* ring_register_audit.h: judges a recorded register in the process that reads and writes it, for example in a unit test. The judge is the proved
+ * one of `lamport_ring audit --register`, with no text and no other process; only the program prints the reason in words.
  * C11, and C++ from C++11; it needs ring_register.h beside it, and the library: libring_audit.a or .so in dist/ (Linux on x86-64)
  * or dist/aarch64-linux/ (on ARM64).
  *
- *     the threads record in a ring_register, as ring_register.h says; when all were joined:
+ *     the threads record in a ring_register, as ring_register.h says; after all were joined:
  *         assert(ring_register_lawful(&rec, "register 0 4", RING_REGULAR));
  *     If the history lacks the class, stderr has the class that it has, and the first line that shows the lack with those around it:
  *         safe
  *         not regular: line 7
  *     If RING_AUDIT_KEEP names a file in the environment, the recording is written there: `lamport_ring audit --register < FILE` says why.
  *
- *     what is found, with nothing printed, as for many rounds in the same logs:
+ *     the finding without printing, for example for many rounds in the same logs:
  *         each:  ring_register_restart(&rec);  ..threads..  ring_register_found found = ring_register_judged(&rec, "register 0 4");
  *                if (!ring_register_has(&found, RING_REGULAR)) ring_register_report(&found, RING_REGULAR, stdout);
  *
- * The library is proved, and takes no memory. This file is not; record/test tests it. It takes 16 bytes for each event and 8 for each write,
- * and gives them back. What the library needs, this file sees to: no pointer is null, and each leads to as many values as is said. */
+ * The library is proved, and allocates no memory. This file is not proved; record/test tests it. It allocates 16 bytes for each event and 8 for each write,
+ * and frees them. This file ensures what the library requires: no pointer is null, and each points to as many values as stated. */
 #ifndef RING_REGISTER_AUDIT_H
 #define RING_REGISTER_AUDIT_H
 #include <assert.h>
 #include "ring_register.h"
 
-/* The classes of Lamport (1986), and between them atomic by reader: no reader by itself goes back to an older write. */
+/* The classes of Lamport (1986), and between them atomic by reader: no single reader goes back to an older write. */
 enum { RING_SAFE = 1, RING_REGULAR, RING_ATOMIC_BY_READER, RING_ATOMIC };
 
-/* What the library has. An event: 0 a write of the value begins, 1 it ends, 2 a read of the reader begins, 3 it ends with the value. Found:
+/* The library's types. An event: 0 a write of the value begins, 1 it ends, 2 a read of the reader begins, 3 it ends with the value. Found:
  * the line that is refused; the first lines with which the history is not safe, not regular, not atomic by reader, not atomic, 0 if it is;
  * its strongest class, 0 if it is not safe; and the verdict. Lines are counted from 1 with that which gives the register. */
 typedef struct { uint32_t kind, reader; uint64_t value; } ring_register_event_line;
@@ -46,7 +46,7 @@ void ring_audit_layout(uint64_t *sizes, size_t count);
 }
 #endif
 
-/* The verdicts; the last two are this file's. As many slots are given as there can be need of, so the fourth does not come. */
+/* The verdicts; the last two are this file's. Enough slots are always given, so the fourth does not occur. */
 enum {
     RING_REGISTER_JUDGED, RING_REGISTER_OUT_OF_TURN, RING_REGISTER_BAD_LINE, RING_REGISTER_NO_SLOTS, RING_REGISTER_NO_MEMORY, RING_REGISTER_OTHER_LIBRARY
 };
@@ -62,8 +62,8 @@ static inline uint64_t ring_register_lacks(const ring_register_found *found, int
     return least <= RING_SAFE ? found->not_safe : least == RING_REGULAR ? found->not_regular : least == RING_ATOMIC_BY_READER ? found->not_by_reader : found->not_atomic;
 }
 
-/* Writes the class that was found, and the first line with which the history lacks the one that is asked for; or why none was found. The words
- * are those of audit --register, but for the reason. */
+/* Writes the class that was found, and the first line at which the history lacks the requested one; or why none was found. The words
+ * are those of audit --register, without the reason. */
 static inline void ring_register_report(const ring_register_found *found, int least, FILE *out) {
     static const char *const classes[] = { "safe", "regular", "atomic by reader", "atomic" };
     const unsigned long long line = (unsigned long long)ring_register_lacks(found, least);
@@ -96,7 +96,7 @@ static inline size_t ring_register_numbers(const char *head, uint64_t numbers[2]
     return *head ? 3 : count;
 }
 
-/* A verdict of a history that was not judged. */
+/* The verdict of a history that was not judged. */
 static inline ring_register_found ring_register_say(uint32_t verdict, uint64_t line) {
     ring_register_found found;
     memset(&found, 0, sizeof found);
@@ -105,7 +105,7 @@ static inline ring_register_found ring_register_say(uint32_t verdict, uint64_t l
     return found;
 }
 
-/* Judges what a recorder has, up to its cut; head is the first line: "register 0 4" or "register 0". No thread records meanwhile. */
+/* Judges what a recorder has, up to its cut; head is the first line: "register 0 4" or "register 0". No thread may record meanwhile. */
 static inline ring_register_found ring_register_judged(const ring_register *rec, const char *head) {
     static const uint32_t kinds[] = { 0, 2, 1, 3 };    /* of RING_WRITE, RING_READ, RING_WROTE, RING_GOT */
     uint64_t numbers[2] = { 0, 0 }, sizes[8] = { 0, 0, 0, 0, 0, 0, 0, 0 };
@@ -156,7 +156,7 @@ static inline void ring_register_show(const ring_register *rec, const char *head
     }
 }
 
-/* Writes the recording to the file that RING_AUDIT_KEEP names in the environment, in place of what was there; and says on stderr what for. */
+/* Writes the recording to the file that RING_AUDIT_KEEP names in the environment, replacing it; and prints this to stderr. */
 static inline void ring_register_keep(const ring_register *rec, const char *head) {
     const char *name = getenv("RING_AUDIT_KEEP");
     FILE *file = name && *name ? fopen(name, "w") : NULL;

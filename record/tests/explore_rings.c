@@ -1,6 +1,6 @@
-/* explore_rings.c: explore_rings WAY: for record/test and tests/record, a ring and a box for explore.h whose sides spin, right boxes whose
- * guards gcc's pass `reassoc` breaks up, a reset that leaves something behind, a call without its end, a put of nothing, no call that is
- * recorded, a thread, and no call of explore. Built as explore.h says. */
+/* explore_rings.c: explore_rings WAY: for record/test and tests/record, a ring and a box for explore.h whose sides spin, correct boxes whose
+ * guards gcc's pass `reassoc` breaks up, a reset that does not restore everything, a call without its end, a put of nothing, no recorded
+ * call, a thread, and no call of explore. Build it as explore.h says. */
 #include "explore.h"
 #include <pthread.h>
 #include <stdatomic.h>
@@ -109,7 +109,7 @@ static void box_take(void) {
     }
 }
 
-/* A box that is told by a pointer, and taken by a comparison. */
+/* A box that is announced by a pointer, and taken by a compare-and-swap. */
 static void place_put(void) {
     ring_calls_put(&rec, 1);
     slot[1] = 1;

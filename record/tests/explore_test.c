@@ -1,5 +1,5 @@
 /* explore_test.c: explore_test WAY: for record/test, small tests for explore.h: queues that wait by all that it models, and tests that are
- * hard on it. Built as explore.h tells. */
+ * hard for it. Build it as explore.h says. */
 #include "explore.h"
 #include <assert.h>
 #include <errno.h>
@@ -92,7 +92,7 @@ static void locked_consume(void) {
     }
 }
 
-/* The same, waiting where it is full or empty; a close without its wake-up loses the other side. */
+/* The same, waiting if it is full or empty; with a close without its wake-up the other side waits forever. */
 static void waiting_produce(void) {
     for (uint64_t item = 1; item <= ITEMS; item++) {
         ring_calls_put(&rec, item);
@@ -280,7 +280,7 @@ static void pair_consume(void) {
     }
 }
 
-/* A wait that is over where the other side moves, by a futex with a time limit. */
+/* A wait that ends when the other side moves, by a futex with a time limit. */
 static void timed_consume(void) {
     const struct timespec moment = { 0, 1000 };
     ring_calls_take(&rec);

@@ -1,6 +1,5 @@
-// explore_test.cpp: explore_test WAY: for record/test, a queue made of C++'s own parts: a deque under a mutex with a condition; `lost`, a
-// close with no wake-up; `wait`, the same where the consumer waits for an atomic object first (C++20); `throws`, calls that end with an
-// exception.
+// explore_test.cpp: explore_test WAY: for record/test, a queue of C++'s own: a deque under a mutex with a condition; `lost`, a close with
+// no wake-up; `wait`, the same, but the consumer waits for an atomic object first (C++20); `throws`, calls that end with an exception.
 #include "explore.h"
 #include "ring_calls.hpp"
 #include <atomic>

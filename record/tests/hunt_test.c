@@ -1,5 +1,5 @@
-/* hunt_test.c: hunt_test WAY: for record/test, recorders that are hard on record/hunt and rests.c. Those that are to end well write a
- * recording of one call, and one is not well that says why on standard error. */
+/* hunt_test.c: hunt_test WAY: for record/test, recorders that are hard for record/hunt and rests.c. Those that must succeed write a
+ * recording of one call; one that fails prints why to standard error. */
 #define _GNU_SOURCE
 #include <errno.h>
 #include <pthread.h>
@@ -12,7 +12,7 @@
 #include <time.h>
 #include <unistd.h>
 
-/* More than a thread of rests.c may have in any table of it. */
+/* More than any table of rests.c has room for. */
 enum { MANY = 500 };
 
 static volatile sig_atomic_t signals;
@@ -70,7 +70,7 @@ static void forks(void) {
     run_two(2);
 }
 
-/* The signal that rests.c takes first has a handler before the first thread is there; or after it. */
+/* The signal that rests.c uses first has a handler before the first thread exists; or after. */
 static void signal_before(void) {
     signal(SIGRTMIN + 7, on_signal);
     run_two(10);
@@ -98,7 +98,7 @@ static void blocked(void) {
     if (pthread_create(&thread, NULL, runs_blocked, &moment) || pthread_join(thread, NULL)) fail("no thread");
 }
 
-/* It may be cancelled where it tests for it, and nowhere else. */
+/* It may be cancelled only where it tests for cancellation. */
 static volatile int is_inside;
 static void *runs_inside(void *unused) {
     for (int i = 0; i < 10000; i++) {

@@ -1,10 +1,10 @@
-/* live_test.c: for record/test: two threads over a small queue, right or with a bug, recorded in one of three ways. C11, C++11.
+/* live_test.c: for record/test: two threads over a small queue, correct or with a bug, recorded in one of three ways. C11, C++11.
  *
- *     live_test WAY QUEUE CAPACITY ITEMS [BUG]    prints what was seen; status 1 where it was not lawful
+ *     live_test WAY QUEUE CAPACITY ITEMS [BUG]    prints the report; status 1 if it was not lawful
  *         WAY     plain, not recorded; logged, by ring_calls.h, and audited at the end; live, by ring_live.h
- *         QUEUE   ring, two indices as in Boost's spsc_queue; blocking, under a mutex: its calls wait where it is full or empty
- *         ITEMS   so many are put, and then the queue is closed
- *         BUG     early, an index is shown before its item; lost, item ITEMS/2 is lost; closed, told with items inside
+ *         QUEUE   ring, two indices as in Boost's spsc_queue; blocking, under a mutex: its calls wait if it is full or empty
+ *         ITEMS   this many are put, and then the queue is closed
+ *         BUG     early, an index is visible before its item; lost, item ITEMS/2 is lost; closed, reported with items inside
  *     live_test feed FILE..                       prints what is found of recordings, whose events one thread records live
  *
  * LIVE_TEST_PIN in the environment has each side run on a processor of its own. */
@@ -105,7 +105,7 @@ static double seconds_of(clockid_t clock) {
     return (double)t.tv_sec + (double)t.tv_nsec * 1e-9;
 }
 
-/* On a processor of its own, where this is asked for: on the first or the second one that it may have. */
+/* On request, runs on a processor of its own: the first or the second of those available. */
 static void begin_side(size_t side) {
     cpu_set_t all, one;
     CPU_ZERO(&one);
@@ -122,7 +122,7 @@ static void end_side(size_t side) {
     sides[side].busy = seconds_of(CLOCK_THREAD_CPUTIME_ID);
 }
 
-/* Each event in the way that is wanted; answers whether to go on. */
+/* Records each event in the chosen way; returns whether to continue. */
 #define RECORD(logged, lives) (is_logged ? (logged, 1) : is_live ? (lives) : 1)
 
 static void *produce(void *unused) {
@@ -137,7 +137,7 @@ static void *produce(void *unused) {
         full++;
         sched_yield();
     }
-    /* (also where there was a fault: so the other side does not wait) */
+    /* (also after a fault, so that the other side does not wait) */
     RECORD(ring_calls_close(&rec), ring_live_close(&live));
     close_queue();
     RECORD(ring_calls_closed(&rec), ring_live_closed(&live));
@@ -230,7 +230,7 @@ static int record(int kind, const uint64_t *numbers, size_t n) {
     }
 }
 
-/* The events of a recording, up to its end or its first fault. Answers 0 where it cannot be read, or does not begin. */
+/* The events of a recording, up to its end or its first fault. Returns 0 if it cannot be read, or does not begin. */
 static int feed(const char *name) {
     static const char *const words[] = { "P put", "P close", "C take",
                                          "P stored", "P some", "P full", "P short", "P nothing", "P closed",

@@ -9,7 +9,7 @@
 #define SHOWN rl::mo_release
 #endif
 
-// Atomics are rl::atomic, what is not atomic rl::var, and ($) stands behind each that is accessed.
+// Atomics are rl::atomic, other variables rl::var, and ($) follows each one that is accessed.
 struct ring_test : rl::test_suite<ring_test, 2> {
     rl::atomic<unsigned> head, tail;
     rl::var<unsigned> cells[2];

@@ -1,7 +1,7 @@
 import java.io.OutputStreamWriter;
 import java.io.Writer;
 
-/** Kinds WORDS: each kind of event, logs of so many words; with no WORDS no event. */
+/** Kinds WORDS: records each kind of event, in logs of WORDS words; without WORDS no event. */
 final class Kinds {
     public static void main(String[] args) throws Exception {
         if (args.length == 0) {

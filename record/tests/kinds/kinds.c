@@ -1,4 +1,4 @@
-/* kinds.c: kinds WORDS: each kind of event, logs of so many words; with no WORDS no event, and a ring_calls that was never begun. As C11 and
+/* kinds.c: kinds WORDS: records each kind of event, in logs of WORDS words; without WORDS no event, and a ring_calls that was never initialized. As C11 and
  * as C++11. */
 #include "ring_calls.h"
 

@@ -1,4 +1,4 @@
-//! kinds WORDS: each kind of event, logs of so many words; with no WORDS no event.
+//! kinds WORDS: records each kind of event, in logs of WORDS words; without WORDS no event.
 #[path = "../../include/rust/ring_calls.rs"]
 mod ring_calls;
 use ring_calls::{Clock, PutLog, TakeLog, write_calls};

@@ -1,10 +1,10 @@
 // axioms.cpp: for compare.py: the outcomes of litmus tests that the axioms of C++20 permit. Reads tests, one to a line, as litmus.c does, and prints the
 // outcomes of each in the words of explore, then a line with a dot. It shares nothing with the explorer: it makes every choice of what each load reads
 // and of an order of modification for each place, and asks the axioms of it.
-//   axioms 20     [atomics.order] and [intro.races] of C++20, but for what is said next
+//   axioms 20     [atomics.order] and [intro.races] of C++20, except as noted next
 //   axioms 11     the same with release sequences of C++11 to C++17, which stores of the same thread continue
 //   axioms rc11   the axioms of RC11 (Lahav and others, 2017), which are the stronger ones of seq_cst
-// In all of them no cycle of program order and reads-from is permitted: C++20 has no axiom against it, and says only that no value comes out of thin air.
+// In all of them no cycle of program order and reads-from is permitted: C++20 has no axiom against it, and only requires that no value appears out of thin air.
 #include <algorithm>
 #include <array>
 #include <cstdio>
@@ -94,7 +94,7 @@ struct execution {
     }
 };
 
-// A read-modify-write reads the write right before its own.
+// A read-modify-write reads the write directly before its own.
 bool is_atomic(const execution& x) {
     for (int i = 0; i < count(); i++) {
         if (events[i].reads && events[i].writes && x.at[i] != x.at[reads_from[i]] + 1) return false;

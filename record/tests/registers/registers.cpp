@@ -1,4 +1,4 @@
-// registers.cpp: as registers.c, by ring_register.hpp, as C++17: an operation stands in those that overlap it.
+// registers.cpp: like registers.c, with ring_register.hpp, in C++17: an operation is nested in those that overlap it.
 #include "ring_register.hpp"
 #include <cstdint>
 #include <cstdlib>

@@ -1,9 +1,9 @@
 /* judge.c: judge FILE..: judges each recording in process: line by line, by the recorder's names, and as the logs of a recorder, alone and
- * behind others. For each it prints what audit --calls prints of it, and an empty line; ring_audit_lawful tells its own on stderr. Status
- * 1 where these differ, 2 where a file is none. As C11 and as C++11. */
+ * behind others. For each it prints what audit --calls prints of it, and an empty line; ring_audit_lawful prints its own to stderr. Status
+ * 1 if they differ, 2 if a file is not a recording. As C11 and as C++11. */
 #include "ring_audit.h"
 
-/* The lines of a recording but for the first one: their kinds, and where their numbers begin, the last one's end too. */
+/* The lines of a recording except the first: their kinds, and the positions of their numbers, with the end of the last. */
 typedef struct { char *text, *head; int *kinds; size_t lines, *first; uint64_t *numbers; bool cut; } recording;
 
 static const char *const words[] = { "P put", "P close", "C take", "P stored", "P some", "P full", "P short", "P nothing", "P closed",
@@ -84,7 +84,7 @@ static bool feed(ring_audit *a, const recording *r, int (*event)(ring_audit *, i
     return same;
 }
 
-/* Whether both tell the same, in words, in what was found and in the report. */
+/* Whether both agree in the words, the finding and the report. */
 static bool tell_the_same(ring_audit *a, ring_audit *b) {
     const ring_audit_found *f = &a->found, *g = &b->found;
     ring_audit_counts r, s;
@@ -120,7 +120,7 @@ static void try_edges(void) {
     must(!ring_audit_restart(&a, "queue") && strcmp(ring_audit_words(&a), "refused: out of memory") == 0, "differs: its words");
 }
 
-/* A state that is none that the library left: it says so, changes no byte of the state, and so the memory can be freed. */
+/* A state that the library did not leave: it reports this and changes no byte of the state, so the memory can be freed. */
 static void try_no_state(void) {
     for (int way = 0; way < 4; way++) {
         ring_audit a;

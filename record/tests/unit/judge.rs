@@ -1,6 +1,6 @@
 //! judge.rs: judge FILE..: judges each recording in process: line by line, by kinds and by names, and as the logs of a recorder
-//! that makes it anew. For each it prints what audit --calls prints of it, and an empty line; what is told of a fault is on
-//! stderr. It panics where these differ.
+//! that makes it anew. For each it prints what audit --calls prints of it, and an empty line; the report of a fault is on
+//! stderr. It panics if they differ.
 #[path = "../../include/rust/ring_audit.rs"]
 mod ring_audit;
 #[path = "../../include/rust/ring_calls.rs"]
@@ -95,7 +95,7 @@ fn try_edges() {
     assert_eq!(audit.fault(), Some("refused: calls line 2 is not a line of the format"));
 }
 
-// Hears a recording line by line; whether each answer is that of all lines so far, and what is told then.
+// Passes a recording line by line; checks each result against that of all lines so far, and the finding.
 fn told_of(head: &str, is_cut: bool, lines: &[Line], event: impl Fn(&mut Audit, u32, &[u64]) -> bool) -> String {
     let mut audit = Audit::new(head, lines.iter().map(|(_, numbers)| numbers.len()).sum()).unwrap();
     let mut all_lawful = true;

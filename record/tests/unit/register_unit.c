@@ -1,5 +1,5 @@
 /* register_unit.c: a unit test of registers. One thread writes and two read, in many rounds, and the history of each round is judged: a word
- * for each reader is regular, one word for both is atomic, and a value in two halves is not safe, which the test wants, too.
+ * for each reader is regular, one word for both is atomic, and a value in two halves is not safe, which the test checks too.
  * register_unit FILE..: judges recordings, which it replays on a recorder: for each it prints what audit --register prints of it, but for the
  * reasons, and an empty line. As C11 and as C++11. */
 #undef NDEBUG
@@ -70,7 +70,7 @@ static void record_round(construction which) {
     for (int i = 0; i < READERS; i++) pthread_join(threads[i], NULL);
 }
 
-/* Rounds of constructions that are right, and of one with a bug, up to the first that shows it. */
+/* Rounds of correct constructions, and of one with a bug, up to the first that shows it. */
 static void try_rounds(void) {
     int with_bug = 0, inverted = 0;
     ring_register_found found;

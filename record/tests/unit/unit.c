@@ -1,5 +1,5 @@
 /* unit.c: a unit test of a small ring. Two threads call it, 100 times in each round, and the calls of each round are judged. The ring is
- * lawful in 10,000 rounds; with its bug it is not, which the test wants, too. */
+ * lawful in 10,000 rounds; with its bug it is not, which the test checks too. */
 #undef NDEBUG
 #include <assert.h>
 #include <pthread.h>
