@@ -198,7 +198,7 @@ static inline void ring_calls_tell(const ring_calls *r) {
         fputs("ring_calls: no call was recorded: was ring_calls_init called, and were both threads joined?\n", stderr);
     } else if (cut != UINT64_MAX) {
         const ring_calls_log *full = r->p.cut == cut ? &r->p : &r->c;
-        fprintf(stderr, "ring_calls: the %s's log was full after %zu words: the recording is a first part of what happened\n",
+        fprintf(stderr, "ring_calls: the %s's log was full after %zu words: the recording is a prefix of what happened\n",
                 full == &r->p ? "producer" : "consumer", full->room);
     }
 }

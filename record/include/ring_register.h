@@ -122,7 +122,7 @@ static inline void ring_register_tell(const ring_register *r) {
     } else if (full >= 0) {
         char name[16] = "W";
         if (full > 0) snprintf(name, sizeof name, "R%d", full);
-        fprintf(stderr, "ring_register: the log of %s was full after %lu words: the recording is a first part of what happened\n", name, (unsigned long)r->logs[full].room);
+        fprintf(stderr, "ring_register: the log of %s was full after %lu words: the recording is a prefix of what happened\n", name, (unsigned long)r->logs[full].room);
     }
 }
 

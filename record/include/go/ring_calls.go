@@ -199,7 +199,7 @@ func (r *RingCalls) tell() {
 		if r.c.cut < r.p.cut {
 			side, log = "consumer", &r.c
 		}
-		fmt.Fprintf(os.Stderr, "ring_calls: the %s's log was full after %d words: the recording is a first part of what happened\n", side, len(log.words))
+		fmt.Fprintf(os.Stderr, "ring_calls: the %s's log was full after %d words: the recording is a prefix of what happened\n", side, len(log.words))
 	} else if r.p.used+r.c.used == 0 {
 		fmt.Fprintln(os.Stderr, "ring_calls: no call was recorded: is it this RingCalls that was called, and have both goroutines ended?")
 	}

@@ -116,7 +116,7 @@ public final class RingCalls {
         if (cut != Long.MAX_VALUE) {
             boolean isPuts = cut == puts.cut;
             System.err.println("ring_calls: the " + (isPuts ? "producer" : "consumer") + "'s log was full after " + (isPuts ? puts : takes).words.length
-                + " words: the recording is a first part of what happened");
+                + " words: the recording is a prefix of what happened");
         } else if (puts.used + takes.used == 0) {
             System.err.println("ring_calls: no call was recorded: is it this RingCalls that was called, and were both threads joined?");
         }

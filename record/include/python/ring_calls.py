@@ -144,7 +144,7 @@ class Recorder(Calls):
         """Prints to stderr if the history is cut, or has no call."""
         if self.cut() != NEVER:
             side, log = ("producer", self.puts) if self.puts.cut < self.takes.cut else ("consumer", self.takes)
-            print(f"ring_calls: the {side}'s log was full after {len(log.words)} words: the recording is a first part of what happened", file=sys.stderr)
+            print(f"ring_calls: the {side}'s log was full after {len(log.words)} words: the recording is a prefix of what happened", file=sys.stderr)
         elif self.puts.used + self.takes.used == 0:
             print("ring_calls: no call was recorded: is it this Recorder that was called, and were both threads joined?", file=sys.stderr)
 

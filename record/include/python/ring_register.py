@@ -154,7 +154,7 @@ class Recorder:
         if cut != NEVER:
             full = next(i for i, log in enumerate(self.logs) if log.cut == cut)
             name, room = f"R{full}" if full else "W", len(self.logs[full].words)
-            print(f"ring_register: the log of {name} was full after {room} words: the recording is a first part of what happened", file=sys.stderr)
+            print(f"ring_register: the log of {name} was full after {room} words: the recording is a prefix of what happened", file=sys.stderr)
         elif not any(log.used for log in self.logs):
             print("ring_register: nothing was recorded: is it this Recorder that was called, and were all threads joined?", file=sys.stderr)
 
