@@ -1,4 +1,4 @@
-"""Tests of the page as it is shipped, for page/test: its one file, its size, and where its parts lie. Each takes the page, a `same` that
+"""Tests of the page as it is shipped, for page/test: its one file, its size, and the layout of its sources. Each takes the page, a `same` that
 compares and a folder."""
 import os
 

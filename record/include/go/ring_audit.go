@@ -170,7 +170,7 @@ func Judge(head string, r *RingCalls) (RingReport, error) {
 // Of the lawful recordings of all rounds how many calls there were, and how many of them overlapped.
 var ringCounted, ringOverlapped uint64
 
-// Counts the calls. Where the first ringAlone of them came one after the other, none under way while one of the other side was, standard error
+// Counts the calls. If the first ringAlone of them came one after the other, none overlapping one of the other side, standard error
 // says so, once: a single round may do so by chance.
 func (r RingReport) count() {
 	if atomic.AddUint64(&ringOverlapped, r.Overlapped) > 0 {

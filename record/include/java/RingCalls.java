@@ -18,7 +18,7 @@ import java.util.concurrent.atomic.AtomicLong;
  * interval can only get wider. getAndIncrement is sequentially consistent: if the ticket of an end is smaller than that of a start, the one
  * call happens before the other, and a right queue has to respect that. All other calls overlap in the recording. While recording nothing
  * is allocated (but by the boxing of your own items) and nothing locked; if the log of a side is full the history is cut there, for
- * both sides: its first line begins with {@code cut}, and write says on System.err whose log was full; and where no call was recorded.
+ * both sides: its first line begins with {@code cut}, and write prints to System.err whose log was full, or that no call was recorded.
  * Items are longs, written without a sign: -1 is 18446744073709551615.
  */
 public final class RingCalls {

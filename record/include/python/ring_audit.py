@@ -184,7 +184,7 @@ def _count(report):
 
 
 def lawful(recorder, head):
-    """Whether what a recorder has is lawful, as a Result. If not, stderr has the words and the lines, and the recording is kept. Where it
+    """Whether what a recorder has is lawful, as a Result. If not, stderr has the words and the lines, and the recording is kept. If it
     is, but has no call, is cut, or no calls overlap, this is printed to stderr."""
     lines, numbers = array.array("Q"), array.array("Q")
     for kind, values in recorder.events():

@@ -1,6 +1,6 @@
 """ring_calls.py: records the calls of a queue with one producer and one consumer thread, for `lamport_ring audit --calls`.
 
-    rec = Recorder(1 << 20)                                        room for so many numbers on each side: a put with its end takes 5
+    rec = Recorder(1 << 20)                                        room for this many numbers on each side: a put with its end takes 5
     producer:  rec.put(v);   rec.stored() if my_put(v) else rec.full()
                rec.close();  my_close();  rec.closed()
     consumer:  rec.take();   v = my_take();  rec.item(v) if v is not None else rec.empty()             (rec.told(): empty and closed)

@@ -1,9 +1,9 @@
 #!/usr/bin/env python3
 """compare.py COUNT SEED JUDGE..: recordings judged in process, by each JUDGE, a program built from judge.c, .rs or .go, and by
-ring_audit.py, have to be told as the audit tells them: in the same words, with the same report, and with lines as they stand in the
+ring_audit.py, must be reported as the audit reports them: in the same words, with the same report, and with lines as they are in the
 recording.
 
-The recordings are those of kinds/, those of ../examples/calls that are of the format, so many random ones by ../tests/causes, whose lines
+The recordings are those of kinds/, those of ../examples/calls that are of the format, COUNT random ones by ../tests/causes, whose lines
 are of all kinds and mostly lawful, up to the first fault, and some at the edges of batches. The audit is $AUDIT, else ../lamport_ring
 audit --calls. The last line is `N passed, M failed`."""
 import contextlib
@@ -112,8 +112,8 @@ def without_full_logs(said):
 
 
 def is_told_of_none(said_of, times):
-    """Whether stderr, said_of(TEXT), has so many lines more of a recording that is cut than of one that is whole, and others of one with no
-    call."""
+    """Whether stderr, said_of(TEXT), has this many lines more for a cut recording than for a whole one, and others for one without
+    calls."""
     whole, none, cut = ([line for line in said_of(text).splitlines() if line.startswith("ring_calls: ")]
                         for text in ("queue 8\nP put 1\n", "queue 8\n", "cut queue 8\nP put 1\n"))
     return (len(none) == len(cut) == len(whole) + times and none[-1].startswith("ring_calls: no call was recorded: ")
@@ -121,7 +121,7 @@ def is_told_of_none(said_of, times):
 
 
 def is_told_alone(said_of):
-    """Whether stderr says it once that of a thousand calls none overlapped, and nothing of fewer calls, or where one pair did."""
+    """Whether stderr reports once that none of a thousand calls overlapped, and nothing for fewer calls, or if one pair did."""
     calls = "P put 1\nP stored\nC take\nC item 1\n"
     few, many, met = ([line for line in said_of(text).splitlines() if line.startswith("ring_audit: ")]
                       for text in (f"queue 8\n{calls * 249}", f"queue 8\n{calls * 500}", f"queue 8\nP put 1\nC take\nP stored\nC item 1\n{calls * 500}"))

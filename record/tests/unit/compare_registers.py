@@ -2,8 +2,8 @@
 """compare_registers.py COUNT SEED JUDGE..: what each JUDGE, a program built from register_unit.c, finds in recorded registers in process: the class
 and the lines have to be those that `audit --register` prints, with no reason.
 
-The recordings are those of ../examples/registers, whose verdicts are beside them, and so many random ones by ../tests/registers, which works out
-from the definitions what is to be printed. Those that are not of the format are left out, as no recorder writes them. The last line is
+The recordings are those of ../examples/registers, whose verdicts are beside them, and COUNT random ones by ../tests/registers, which computes
+from the definitions what must be printed. Invalid ones are left out, since no recorder writes them. The last line is
 `N passed, M failed`."""
 import glob
 import importlib.machinery
