@@ -1,6 +1,7 @@
 // Judges one hand-in for page/check, which runs this in a process of its own. Standard input has JSON, {exercise, text, bounds}; the answer is a line of JSON,
 // {isMet, lines, bound, missed} or {wrong}. The text of the student runs in a context of node:vm of its own, and no object crosses between that and this:
-// what goes in is text and numbers, what comes out is text, and it is read here as data. node:vm is no security boundary: see page/README.md.
+// what goes in is text and numbers, what comes out is text, and it is read here as data. node:vm is not a security boundary: see
+// page/README.md.
 import { readFileSync, writeSync } from "node:fs";
 import { Script, createContext } from "node:vm";
 import { recordingOf } from "./src/lab/explorer.js";
@@ -37,7 +38,7 @@ function inside(mostWords) {
   let form = null, my = null, run = null;
   const taken = step => {
     const {done, value} = step, isDone = !!done;
-    // What is returned is a number, or no value of a register.
+    // What is returned is a number, or else not a value of a register.
     return `{"done":${isDone},"value":${isDone && typeof value !== "number" ? "null" : text(value)},"my":${text(my)}}`;
   };
   return {

@@ -7,7 +7,7 @@
 
 enum { BATCH = 16, BYTES = 7 };
 
-/* An item has up to 7 bytes of the file, and in its highest byte how many these are. */
+/* An item has up to 7 bytes of the file, and their number in its highest byte. */
 static uint64_t pack(const unsigned char *bytes, size_t count) {
     uint64_t item = count;
     for (size_t i = 0; i < BYTES; i++) item = item << 8 | (i < count ? bytes[i] : 0);

@@ -12,7 +12,7 @@ namespace {
 
 constexpr std::size_t batch = 16, bytes_each = 7;
 
-// An item has up to 7 bytes of the file, and in its highest byte how many these are.
+// An item has up to 7 bytes of the file, and their number in its highest byte.
 std::uint64_t pack(const char *bytes, std::size_t count) {
     std::uint64_t item = count;
     for (std::size_t i = 0; i < bytes_each; i++) item = item << 8 | (i < count ? static_cast<unsigned char>(bytes[i]) : 0u);

@@ -7,7 +7,7 @@ use std::{env, process, thread};
 const BATCH: usize = 16;
 const BYTES: usize = 7;
 
-// An item has up to 7 bytes of the file, and in its highest byte how many these are.
+// An item has up to 7 bytes of the file, and their number in its highest byte.
 fn pack(bytes: &[u8]) -> u64 {
     let mut whole = [0; 8];
     whole[0] = bytes.len() as u8;

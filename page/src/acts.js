@@ -53,7 +53,7 @@ function stepsOf(page) {
 function playsOf(page) {
   const {state, examples, views} = page, isCutShort = () => page.now.shown < page.whole.letters;
 
-  // Edits fields of the script that is played; Back brings an example back, or letters that are lost.
+  // Edits fields of the script that is played; Back restores an example, or letters that are lost.
   function play(fields, isLost = false) {
     if (!fields) return;
     const {lesson, course, isHinted} = state, isNew = state.example !== "" || isLost;

@@ -9,7 +9,7 @@ import { readScript } from "./text/script.js";
 
 const MOST_TIME = 5000; // milliseconds that are spent on a small recording
 
-let opening, given = "", found = null; // the module; the text; what is found of it, once it was asked for
+let opening, given = "", found = null; // the module; the text; what is found about it, once it was asked for
 
 const recording = module => found ??= recordingFound(module, given);
 

@@ -105,8 +105,8 @@ def test_rules(page, same, folder):
     same("a fault of the script", page.words(), "refused: width must be from 1 to 64")
 
 
-# Scripts played by the ring itself, and on request by the one that is nearly right: the number of calls and of items taken, what was found of the first plays, and how many
-# of the second reached this goal.
+# Scripts played by the ring itself, and on request by the one that is nearly right: the number of calls and of items taken, what was found
+# about the first plays, and how many of the second reached this goal.
 PLAYS = """
 const [{openModule}, {traceOf}, {callsOf}, {callsTold, recordingOf, tellingsOf}, {isReached}] =
   await Promise.all(["core/module", "core/words", "text/calls", "model/play_recording", "model/game"].map(name => import(new URL(`${name}.js`, location))));

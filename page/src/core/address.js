@@ -1,6 +1,6 @@
 // The link to what is shown, and what a link asks for: #example=NAME&shown=N&theme=dark&bits=all, with script=NAME for a script,
 // calls=NAME for recorded calls, register=NAME for a recorded register and lab=NAME for a construction. trace=TEXT, play=TEXT,
-// recording=TEXT, history=TEXT and construction=TEXT have a text that is no example's, kept=N one that is too long for a link.
+// recording=TEXT, history=TEXT and construction=TEXT have a text that is not an example's, kept=N one that is too long for a link.
 
 import { keep, keptAt } from "./kept_texts.js";
 import { MODES, WAVES } from "./state.js";

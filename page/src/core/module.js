@@ -207,8 +207,8 @@ export async function openModule(bytes) {
     return laid = {text, room, isAll: offered === all, length, counts: [offered, taken, most, last], places: [...places, at]};
   };
 
-  // What is found of recorded calls, of their first `past` characters: {refused, line}, or {words, cause, line, against, isCut, report},
-  // where `line` is that at fault, or 0, `cause` has the module's words for what contradicts it, if it is in turn, `against` is the line
+  // What is found about recorded calls, in their first `past` characters: {refused, line}, or {words, cause, line, against, isCut, report},
+  // where `line` is the one at fault, or 0, `cause` has the module's words for what contradicts it, if it is in turn, `against` is the line
   // that contradicts it, or 0, and it `isCut` if the first line says that later calls are missing.
   const calls = (text, past = text.length, room = MOST_OFFERED) => {
     const {isAll, length, counts: [offeredCount, takenCount, most, rest], places: [told, offered, taken, numbers, restAt, said, at]} =
@@ -250,7 +250,7 @@ export async function openModule(bytes) {
     return getNumbers(count, 1)[0];
   };
 
-  // What is found of a recorded register (register_words.js): with a slot for each of its writes, and one more.
+  // What is found about a recorded register (register_words.js): with a slot for each of its writes, and one more.
   const register = text => {
     const bytes = new TextEncoder().encode(text), slots = (text.match(/^W write/gm)?.length ?? 0) + 1;
     const [told, window, places, at] = lay([REGISTER_NUMBERS * 8, slots * 8, slots * 8, bytes.length]);

@@ -45,10 +45,10 @@ function missAt(numbers, at, name) {
 // A class that is missed on the line of one of these has no line of its own.
 const SAME_AS = {safe: [], regular: ["safe"], "atomic by reader": ["regular", "atomic"], atomic: ["regular"]};
 
-// What is found of a recorded register: {refused, line}, or {words, class, line, isCut, misses, report}. `class` is the strongest one, or
-// null if it has none or an event is out of turn, on this `line`; else the line is 0. `misses` has the classes that are missed and that the
-// program prints, from the weakest on: {class, line, reader, value, since, reads, words}, with the line that ends the read at fault, since
-// which line the register held another value, or 0, and the earlier reads that speak against it, {reader, line, value, written}.
+// What is found about a recorded register: {refused, line}, or {words, class, line, isCut, misses, report}. `class` is the strongest one,
+// or null if it has none or an event is out of turn, on this `line`; else the line is 0. `misses` has the classes that are missed and that
+// the program prints, from the weakest on: {class, line, reader, value, since, reads, words}, with the line that ends the read at fault,
+// since which line the register held another value, or 0, and the earlier reads that speak against it, {reader, line, value, written}.
 export function registerFinding(numbers) {
   const [outcome, number, line, best, cut, writes, reads, overlapped, bySeveral, couldInvert] = numbers;
   if (outcome === 2n) return {refused: REFUSALS[Number(number)](line), line: Number(line)};

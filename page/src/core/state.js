@@ -12,7 +12,7 @@ export const newState = () => ({
   file: "", // the name of the file from which it was opened
   lesson: "", // the name of the lesson beside it, which stays while its text is edited
   course: null, // the number of the step of the course
-  isFolded: false, // of a step of the course, or of a lesson of the lab: what is found of it is hidden until it is asked for
+  isFolded: false, // of a step of the course, or of a lesson of the lab: what is found about it is hidden until it is asked for
   goal: "", // of a play by hand
   missed: "", // of a register: the class that it misses whose history, or line, is shown; "" for the weakest
   bound: null, // of the lab: {writes, reads}, if they are not those that the text names

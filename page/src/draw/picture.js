@@ -76,7 +76,7 @@ const P_BAR = 44, C_BAR = 122, BAR = 28, RULER = 101; // within a row
 const ORDER = 34; // between the lanes, for the order of the operations
 
 // The picture of `events`, of which the one at place `fault` is at fault (null: none is), and the one at `broken` not of the program, in a
-// frame with room for the events `whole`. `found` has what is found of the calls, if that is a fault: its cause, its place and, if one
+// frame with room for the events `whole`. `found` has what is found about the calls, if that is a fault: its cause, its place and, if one
 // contradicts it, the place of that; the counts wrap at `roundAt`. `words` is its heading, of the mood "good", "bad" or none, with that of
 // the `ring`; `kind` and `why` are of the fault, `due` is what was due. `calls` are braced, with room for braces if it `hasCalls`; the
 // operations of the `order` are between the lanes. `waves` is "some", "all" or "none". The events have the numbers of their lines, or else

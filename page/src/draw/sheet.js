@@ -143,7 +143,7 @@ export function sheetOf({
     out.push(`<path class="cursor" d="M${at} ${y + first - 12}V${y + bottom + 12}"/>`);
   };
 
-  // The same of a place that contradicts one at fault.
+  // The same for a place that contradicts one at fault.
   const drawAgainst = place => drawMark(place, " against", first - 6, bottom + 6);
 
   // A flag over a place, or `isBelow` it, with a line through the row; `kind` is its class.

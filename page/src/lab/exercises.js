@@ -160,7 +160,7 @@ export function readHandIn(code) {
     const {exercise, name, text: construction} = JSON.parse(new TextDecoder("utf-8", {fatal: true, ignoreBOM: true}).decode(bytes));
     if (FIELDS.exercise.has(exercise) && NAME.has(name) && FIELDS.text.has(construction)) return {exercise, name, text: construction};
   } catch {
-    // what has the right sum and is no JSON was made by hand
+    // what has the right sum and is not JSON was made by hand
   }
   throw wrong("is mistyped");
 }

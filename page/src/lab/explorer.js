@@ -162,7 +162,7 @@ export function explored(construction, bounds = {}, report = () => {}) {
   const found = CLASSES.map(() => null);
   let missed = 0; // the classes that have their history
 
-  // The events on the way to a state, and by one step more.
+  // The events on the way to a state, and by one more step.
   const historyTo = (id, last) => {
     const way = [];
     for (let at = id; parents.all[at] >= 0; at = parents.all[at]) way.unshift(taken.all[at]);
@@ -221,7 +221,7 @@ export function explored(construction, bounds = {}, report = () => {}) {
 // The recording of a history, as docs/FORMATS.md has it.
 export function recordingOf({first, values}, events) {
   const word = it =>
-    Number.isInteger(it) && it >= 0 ? it : values; // what is no number of the format becomes the least number that is no value
+    Number.isInteger(it) && it >= 0 ? it : values; // what is not a number of the format becomes the least number that is not a value
   const lines = events.filter(it => it.register === undefined).map(({side, does, value}) =>
     does === "got" ? `${side} got ${word(value)}` : does === "write" ? `${side} write ${value}` : `${side} ${does}`);
   return [`register ${first} ${values}`, ...lines, ""].join("\n");

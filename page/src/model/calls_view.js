@@ -29,7 +29,7 @@ export function callsView(module) {
     most: whole => whole.lines.count - 1,
     // It opens at the line at fault.
     first: whole => (whole.line || whole.lines.count) - 1,
-    // What is found of a beginning is what is found of the whole if the line at fault is in it, and else it is lawful (law
+    // What is found about a beginning is what is found about the whole if the line at fault is in it, and else it is lawful (law
     // `beginning_is_linearizable`); its report is asked for, of a long recording a little later.
     at(whole, shown) {
       const {text, lines} = whole, isFaulty = whole.line > 0 && whole.line <= shown + 1;

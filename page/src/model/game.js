@@ -1,5 +1,5 @@
 // Playing a script by hand: what each side does next, which rule is broken, and what is to be reached. The module says what a side does,
-// what a read may answer, and what is found of the calls.
+// what a read may answer, and what is found about the calls.
 
 // What a player may be after, by the words with which the audit of the calls says that it has come; and what is missing as long as it has
 // not.
@@ -35,10 +35,10 @@ export const RULES = {
 // The rule without which no goal is reached: a scan may then give a count between the old one and the new one, whose items are stored.
 export const HARMLESS = "clears-upwards";
 
-// Whether what is found of the calls reaches this goal.
+// Whether what is found about the calls reaches this goal.
 export const isReached = (goal, found) => Boolean(found?.cause && GOALS.find(it => it.name === goal)?.words.test(found.cause));
 
-// What is missing of a goal that is not reached, by what is found of the calls so far.
+// What is missing of a goal that is not reached, by what is found about the calls so far.
 export function missingOf(goal, found, calls, wrong) {
   if (wrong === "") return "the ring keeps all rules: leave one out";
   if (wrong === HARMLESS) return "no play without this rule reaches it: a scan may give a count between two others, whose items are stored";

@@ -55,7 +55,7 @@ export function plainMet(it) {
   return {isMet: it.isMet === true && it.lines.every(line => line.is), lines: it.lines.map(({is, words}) => ({is, words}))};
 }
 
-// Why the proved audit does not find the same of a history, or "".
+// Why the proved audit does not find the same for a history, or "".
 function differsIn({readers, registers}, {steps, events}, name, history, verdict) {
   if (!history || history.steps !== steps) return "it is no history";
   if (verdict.refused || verdict.line) return verdict.refused ?? verdict.words;

@@ -4,7 +4,7 @@
 const BEGINS = ["write", "read"], ENDS = {write: "wrote", read: "got"};
 
 // Makes {operations, accesses, steps, words, recording, lineSteps} of events; `words` has those of each step, and `lineSteps` the step of
-// each line of the recording. Null if the events are no history.
+// each line of the recording. Null if the events are not a history.
 export function historyOf({values, first}, events) {
   const operations = [], accesses = [], open = new Map(), under = new Map(), words = [], lines = [`register ${first} ${values}`],
     lineSteps = [-1, -1];
@@ -29,7 +29,7 @@ export function historyOf({values, first}, events) {
         Object.assign(operation, {end: step, answer: isValue ? value : "no value"});
         open.delete(side);
       }
-      // what is no value becomes the least number that is none
+      // what is not a value becomes the least number that is not one
       const said = does === "got" && (value === null || value < 0) ? values : value;
       lines.push([side, does, said].filter(it => it !== undefined).join(" "));
       lineSteps.push(step);

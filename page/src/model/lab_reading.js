@@ -1,5 +1,5 @@
-// What is found of a construction: at once if it was explored before, else by the lab's worker, meanwhile with what was found before it. A
-// text that came by a link waits until the reader asks for it.
+// What is found about a construction: at once if it was explored before, else by the lab's worker, meanwhile with what was found before it.
+// A text that came by a link waits until the reader asks for it.
 
 import { judgedFound, plainMet } from "./lab_found.js";
 

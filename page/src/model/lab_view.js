@@ -1,4 +1,4 @@
-// A construction of a register, by what the explorer found of it and the proved module says of each history: the strongest class that no
+// A construction of a register, by what the explorer found about it and the proved module says of each history: the strongest class that no
 // history missed, up to the bound, and of each class that is missed a shortest history.
 
 import { history } from "../draw/history.js";

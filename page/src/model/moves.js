@@ -1,11 +1,11 @@
-// Moves of a play by hand: the fields of the script after one letter more, after the letters that end a call, and after one letter less.
+// Moves of a play by hand: the fields of the script after one more letter, after the letters that end a call, and after one letter fewer.
 
 import { isAsked } from "./game.js";
 import { firstLetters } from "../text/script.js";
 
 const FARTHEST = 1000; // letters by which a call is ended at most
 
-// The fields of a script with one letter more after the first `shown`, and with an answer if one is asked for; null
+// The fields of a script with one more letter after the first `shown`, and with an answer if one is asked for; null
 // if the side does nothing.
 export function moved(script, shown, nexts, side, answer) {
   const next = nexts[side];

@@ -69,7 +69,7 @@ export function effectsOf(calls, holds, order) {
   return calls.length && order(it, holds) === it.marks.length ? it.effects.filter(({call}) => !call.isBefore) : [];
 }
 
-// The same of the calls of a run of a ring of this shape. A trace does not show what a put offered that stored nothing, nor how many items
+// The same for the calls of a run of a ring of this shape. A trace does not show what a put offered that stored nothing, nor how many items
 // a take asked for that has fewer; and a take under way may have taken what is next.
 export function effectsOfRun(calls, {capacity, take_batch}, order) {
   const itemsOf = call => call.reply ? call.items : call.begun ?? [], of = side => calls.filter(it => it.side === side).flatMap(itemsOf);

@@ -2,7 +2,7 @@
 
 import { linesOf, startsOf } from "../text/recorded_lines.js";
 
-// What is found of a whole recording, with its lines; `before` is the report of what comes before a fault.
+// What is found about a whole recording, with its lines; `before` is the report of what comes before a fault.
 export function recordingFound(module, text) {
   const it = module.calls(text);
   if (it.refused) return {...it, lines: startsOf(text)};

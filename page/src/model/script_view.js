@@ -11,7 +11,7 @@ import { firstLetters, readScript } from "../text/script.js";
 const countOf = ({report, count}) => report?.events ?? count;
 const flickersOf = ({events}) => events.filter(it => it.act === "got" && it.overlapped).length;
 
-// What is found of the calls of a play, by letters in place of lines: the words, the places of the event at fault and of the one that
+// What is found about the calls of a play, by letters in place of lines: the words, the places of the event at fault and of the one that
 // contradicts it, and what was found; nothing if there is no call.
 function callsFound(module, {calls, shape, numbers}, count) {
   if (!calls.length) return null;
@@ -100,7 +100,7 @@ export function scriptView(module) {
     drawing: drawingOf,
     place: (whole, shown) => `letter ${shown} / ${whole.letters}`,
     rows: ({report}) => report ? ROWS.map(([name, value, title]) => [name, value(report), title]) : [],
-    // What each side does with one letter more after the first `shown`: its event, and whether a write overlaps the read that it ends, so
+    // What each side does with one more letter after the first `shown`: its event, and whether a write overlaps the read that it ends, so
     // that the oracle answers it; null if the side is done.
     nexts({script}, shown) {
       const play = playOf(script), before = play(shown, false);

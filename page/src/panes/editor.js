@@ -18,7 +18,7 @@ export function editorPane(acts) {
   let long = null; // of a text that is too long: {lines, first, last, at}, of whose lines, if they are known, those from `first` on are
                    // seen, from the character `at` on
 
-  // Puts a text in. Of one that is too long its `lines` are those that were found of it; until they are, its beginning is shown.
+  // Puts a text in. Of one that is too long its `lines` are those that were found in it; until they are, its beginning is shown.
   const put = (text, lines) => {
     if (text === shownText && !(long && long.lines !== lines)) return;
     long = text.length > MOST_LINKED ? {lines, first: 0, last: 0, at: 0} : null;
@@ -29,7 +29,7 @@ export function editorPane(acts) {
     if (field.value !== seen) field.value = seen;
   };
 
-  // Of a text that is too long: those of its lines that are round this one. They stay while it is not at their edge.
+  // Of a text that is too long: those of its lines that are around this one. They stay while it is not at their edge.
   const showLines = line => {
     if (!long?.lines || long.first + EDGE <= line && line <= long.last - EDGE) return;
     const {lines: {starts, count}} = long, first = Math.max(1, Math.min(line - SEEN_LINES / 2, count - SEEN_LINES + 1));

@@ -20,7 +20,7 @@ export function aspectNow(isSmall, count) {
   return isSmall ? 0.9 : (clientHeight / count - 20) / (clientWidth - 20);
 }
 
-// Scrolls the picture, and nothing round it, to a part of it: into the middle of what is seen of its room between the verdicts and the
+// Scrolls the picture, and nothing around it, so that this part of it is in the middle of its visible area, between the verdicts and the
 // buttons.
 function center(part, isSmall) {
   if (!part) return;
@@ -30,7 +30,7 @@ function center(part, isSmall) {
   room().scrollBy({top: (it.top + it.bottom - top - bottom) / 2, left: it.left + it.width / 2 - box.left - box.width / 2});
 }
 
-// The bars are reached by the tabulator, which stops at one of them, and by the arrows up and down.
+// The bars are reached by the Tab key, which stops at one of them, and by the up and down arrow keys.
 function reach(bar, isFocused, role) {
   const all = bars(), one = bar ?? all.at(-1);
   for (const it of all) {

@@ -1,4 +1,4 @@
-// What is found of the text: the verdicts, why, what the step is; and the title of the window.
+// What is found about the text: the verdicts, why, what the step is; and the title of the window.
 
 import { $ } from "../core/dom.js";
 

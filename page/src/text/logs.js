@@ -19,7 +19,7 @@ function ednOf(line) {
   return Object.fromEntries(Array.from({length: words.length >> 1}, (_, i) => [words[2 * i], words[2 * i + 1]]));
 }
 
-// The operation of a line: {process, type, f, value}, or null if it is no line of a log. It may have a tag before it, and be in a list.
+// The operation of a line: {process, type, f, value}, or null if it is not a line of a log. It may have a tag before it, and be in a list.
 function operationIn(line) {
   line = line.replace(/^\s*#[\w.]+(?=\{)/, "").replace(/\}\s*[\]),]+\s*$/, "}");
   let it;

@@ -120,7 +120,7 @@ export function placeOf(mode, text, {refused, line}) {
   return {from: it.from, to: it.to, cause: ""};
 }
 
-// The line that a place is in, cut to what is round it: {line, column, before, at, after}.
+// The line that a place is in, cut to what is around it: {line, column, before, at, after}.
 export function excerpt(text, {from, to}) {
   const begin = text.lastIndexOf("\n", from - 1) + 1, end = text.indexOf("\n", from), last = end < 0 ? text.length : end;
   const cut = (it, side) => it.length <= 40 ? it : side ? `${it.slice(0, 40)} ..` : `.. ${it.slice(-40)}`;

@@ -20,9 +20,9 @@ const FIELDS = {
 };
 const MAY_LACK = {batch: 1, take_batch: 1, wrong: ""};
 
-// A number with a sign, a fraction or an exponent is no whole number. (Engines that do not give the reviver the
+// A number with a sign, a fraction or an exponent is not a whole number. (Engines that do not give the reviver the
 // number's text, Firefox before 135, take 1.0 for 1.)
-// One that is too large for any number, as 1e309, is no JSON to the reader of the command.
+// One that is too large for any number, such as 1e309, is not JSON to the reader of the command.
 function numbered(_, it, read) {
   if (it === Infinity || it === -Infinity) throw new SyntaxError("a number is out of range");
   return typeof it === "number" && /\D/.test(read?.source ?? "") ? NaN : it;
@@ -32,7 +32,7 @@ function numbered(_, it, read) {
 export function readScript(text) {
   let script;
   try {
-    JSON.parse(text); // (a text that is no JSON is found out in a tenth of the time)
+    JSON.parse(text); // (a text that is not JSON is found out in a tenth of the time)
     script = JSON.parse(text, numbered);
   } catch (error) {
     return {refused: error instanceof RangeError ? "script is nested deeper than any script" : "script is not JSON"};
@@ -56,7 +56,7 @@ export function readScript(text) {
 const withLines = (given, script) =>
   `{\n${Object.keys(given).map(name => `  ${JSON.stringify(name)}: ${JSON.stringify(script[name])}`).join(",\n")}\n}`;
 
-// The text of a script, a field to a line; a text that is no object stays as it is.
+// The text of a script, a field to a line; a text that is not an object stays as it is.
 export function laidOut(text) {
   const {script, refused} = readScript(text);
   return refused ? text : withLines(JSON.parse(text), script);
