@@ -1,4 +1,4 @@
--- A side's own events in a history, and the places of these.
+-- A side's own events in a history, and their places.
 use Rattle.std.proofs.Common.{◌≡◌, ◌⊎◌, inl, inr, ℕ, zero, suc, ◌+◌, ◌<◌, ◌≤◌, Bool, true, false, cond, Some, List, [], ◌∷◌, ◌++◌, length, take, drop, refl, ap, sym, ◌∙◌, arith, append-nil}
 use Rattle.std.specs.Prelude.{slice_get, if◌then◌else◌}
 use Rattle.std.proofs.lemmas.List.Elements.{filter-append}
@@ -20,11 +20,11 @@ subhistory_changes s h e =
     filter-append (is_by s) h (e ∷ [])
     ∙ elim (is_by s e) as (λ t. subhistory s h ++ cond t (e ∷ []) [] ≡ (if t then subhistory s h ++ e ∷ [] else subhistory s h)) [ true ↦ refl | false ↦ append-nil (subhistory s h) ]
 
--- the own events of two histories, one after the other
+-- a side's own events in two histories, one after the other
 pub subhistory-append : (s : Side) (h more : List Event) → subhistory s (h ++ more) ≡ subhistory s h ++ subhistory s more
 subhistory-append s h more = filter-append (is_by s) h more
 
--- the own events after a first event, and the clock
+-- a side's own events after a first event, and its clock
 pub own-yes : (s : Side) (e : Event) (h : List Event) → is_by s e ≡ true → subhistory s (e ∷ h) ≡ e ∷ subhistory s h
 own-yes s e h by = rw by refl
 

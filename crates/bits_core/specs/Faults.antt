@@ -5,7 +5,7 @@ use Rattle.bits_core.specs.declared.faults.Kind.TheVariants.{WrongSide, OutOfTur
 use Rattle.bits_core.specs.declared.faults.ShapeFault.{ShapeFault}
 use Rattle.bits_core.specs.declared.faults.ShapeFault.TheVariants.{Capacity, Modulus, Width, Batch, TakeBatch, ModulusOfBatches}
 
--- number and text of why numbers make no shape
+-- number and text of the reason why numbers make no shape
 abbrev pub shape_fault_told : ShapeFault → ℕ × List ℕ
 shape_fault_told Capacity = (1, codes "capacity must be from 1 to 64")
 shape_fault_told Modulus = (2, codes "modulus must be from capacity + batch + 1 to 256")

@@ -62,7 +62,7 @@ place_of s [] i = 0
 place_of s (e ∷ h) zero = (if is_by s e then 0 else suc (place_of s h 0))
 place_of s (e ∷ h) (suc i) = (if is_by s e then suc (place_of s h i) else suc (place_of s h (suc i)))
 
--- the own event number i is at the place, after i others
+-- the side's own event number i is at the place, after i others
 pub record IsPlaceOf (s : Side) (h : List Event) (i place : ℕ) : Type 0 where
   pub at_place : slice_get h place ≡ slice_get (subhistory s h) i
   pub before : clock s h place ≡ i

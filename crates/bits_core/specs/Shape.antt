@@ -85,7 +85,7 @@ IsRefused capacity modulus width Batch = ⊥
 IsRefused capacity modulus width TakeBatch = ⊥
 IsRefused capacity modulus width ModulusOfBatches = ⊥
 
--- the same of four numbers, the batch before the modulus
+-- the same for four numbers, the batch before the modulus
 abbrev pub IsRefusedBatch : ℕ → ℕ → ℕ → ℕ → ShapeFault → Type 0
 IsRefusedBatch capacity modulus width batch Capacity = ¬ IsCapacity capacity
 IsRefusedBatch capacity modulus width batch Batch = IsCapacity capacity × ¬ IsBatchSize capacity batch
@@ -99,7 +99,7 @@ IsRefusedBatch capacity modulus width batch ModulusOfBatches = ⊥
 abbrev pub AreBatchSizes : ℕ → ℕ → ℕ → Type 0
 AreBatchSizes capacity batch take_batch = IsCapacity capacity × IsBatchSize capacity batch × IsBatchSize capacity take_batch
 
--- the same of five numbers, the batches before the modulus; if the take batch is over 1 the fault of the modulus is `ModulusOfBatches`
+-- the same for five numbers, the batches before the modulus; if the take batch is over 1 the fault of the modulus is `ModulusOfBatches`
 abbrev pub IsRefusedBatches : ℕ → ℕ → ℕ → ℕ → ℕ → ShapeFault → Type 0
 IsRefusedBatches capacity modulus width batch take_batch Capacity = ¬ IsCapacity capacity
 IsRefusedBatches capacity modulus width batch take_batch Batch = IsCapacity capacity × ¬ IsBatchSize capacity batch

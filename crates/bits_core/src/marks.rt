@@ -15,7 +15,7 @@ use crate::events::{Access, Act, Bit, Event, Side};
 /// The bits of the largest shape: 256 of each count, the close bit, and 64 cells of 64 digits.
 const BIT_COUNT: usize = 4_609;
 
-/// What is kept of a side: the access that it has open, and whether a write has overlapped it.
+/// What is kept about a side: the access that it has open, and whether a write has overlapped it.
 #[derive(Clone, Copy)]
 pub(crate) struct SideMark {
     opened: Option<Access>,

@@ -61,7 +61,7 @@ fn ends_write(bit: Bit, event: Event) -> bool
     }
 }
 
-// The place at which a write of the bit ended last.
+// The place at which a write of the bit last ended.
 fn last_written(events: &[Event], bit: Bit) -> Option<usize>
     ensures { MatchOption result (list_any (ends_write bit) events.now ≡ false) (IsLastWritten bit events.now) }
 {

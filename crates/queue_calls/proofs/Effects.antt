@@ -28,7 +28,7 @@ described_as capacity inside put take shut s p c ep ec d =
     let d1 = subst (λ z. D (point s.queue z s.consumer)) ep d in
     subst (λ z. D (point s.queue p z)) ec d1
 
--- what the consumer found of an open queue is unchanged
+-- what the consumer found about an open queue is unchanged
 pub fits_while_open : (take : TakeTurn) (c : Consumer) (q q' : Queue) → q.closed ≡ false → FitsTake take c q → FitsTake take c q'
 fits_while_open Rests Resting q q' o f = tt
 fits_while_open Rests (Taking lacked took left) q q' o f = absurd f

@@ -88,7 +88,7 @@ pub linear_of :
     Remembers offered last w capacity events → IsLinearizable capacity events
 linear_of offered last w capacity events r = linear capacity events (kept_of offered w) r.proper r.counted
 
--- an event in turn changes what is kept of the sides
+-- an event in turn changes what is kept about the sides
 pub in_turn :
     {S O T N B : Type 0} (offered : O → List Offered) (last : T → List Taken) (w : Witness S O T N B) (capacity : Capacity) (events : List Event) (event : Event) →
     Remembers offered last w capacity events → CallsAreInTurn (events ++ event ∷ []) → (t : Sides) × MovesSides (sides_of w.auditor.put w.auditor.take) event t

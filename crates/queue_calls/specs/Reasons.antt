@@ -234,7 +234,7 @@ take_short_cause capacity past =
     if has_ended (before_take past) && (n_of past == k_of past) then Some (ShortAfterClose (ended_line past)) else
     not_taken_cause capacity 0 past
 
--- for a take that returned Closed, if these entries are to come
+-- for a take that returned Closed, if these entries are still to come
 abbrev pub closed_cause : List Offered → Option Cause
 closed_cause [] = None
 closed_cause (next ∷ rest) = Some (ClosedWhileInside next)

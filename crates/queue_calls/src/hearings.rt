@@ -34,7 +34,7 @@ pub enum Begun {
     Close,
 }
 
-/// A history of calls, with what is found of it so far: a recording that comes line by line, not as one text.
+/// A history of calls, with what is found about it so far: a recording that comes line by line, not as one text.
 ///
 /// It keeps the items inside, and as many of the items taken last as requested at its start, in lists of an allocator or supplied by the
 /// caller.

@@ -97,7 +97,7 @@ pub extern "C" fn ring_audit_begin(audit: &mut Audit<'_>, numbers: &[u64]) -> bo
     true
 }
 
-/// Hears lines after those already heard, for as long as they are lawful. It returns how many these are, and in `found` the finding on the
+/// Hears lines after those already heard, for as long as they are lawful. It returns how many it heard, and in `found` the finding on the
 /// next one, with the text of its cause. A line at fault is not kept: other lines may be heard instead.
 #[unsafe(no_mangle)]
 pub extern "C" fn ring_audit_hear(

@@ -6,7 +6,7 @@ use queue_calls::{
     AuditorState, Begun, CallsReport, Capacity, HearingState, Offered, PutTurn, TakeTurn, Taken,
 };
 
-/// How many items the queue may hold, and the calls under way. What it does not use is 0.
+/// How many items the queue may hold, and the calls under way. A field that is not in use is 0.
 #[repr(C)]
 #[derive(Clone, Copy, PartialEq, Eq, Debug)]
 pub struct Calls {

@@ -184,7 +184,7 @@ pub fn take_event(row: &[u64], head: usize, take: TakeStand, event: Event<'_>) -
     }
 }
 
-// The consumer's state after its take has taken one more item, that at the head.
+// The consumer's state after its take has taken one more item, the one at the head.
 pub fn take_one(row: &[u64], head: usize, take: TakeStand) -> Option<TakeStand>
     requires began { began_at take ≤ head }
     requires within { head < length row.now }

@@ -28,7 +28,7 @@ pub told_same : (t : Bool) (P Q : Type 0) → (P → Q) → (Q → P) → IsTold
 told_same true P Q there back told = there told
 told_same false P Q there back told = λ q. told (back q)
 
--- what is kept of a reader, if its read is unchanged
+-- what is kept about a reader, if its read is unchanged
 moved : (j : ℕ) (h g : List RegisterEvent) (o : Option OpenRead) → has_read_open j g ≡ has_read_open j h → before_read j g ≡ before_read j h → KeepsRead j h o → KeepsRead j g o
 moved j h g None same all keeps = same ∙ keeps
 moved j h g (Some r) same all keeps = (same ∙ keeps.0, keeps.1 ∙ ap finished (sym all), keeps.2, keeps.3)
@@ -256,7 +256,7 @@ module _ (r : Register) (h : List RegisterEvent) (kept : List ℕ) (base begun :
         | inr apart ↦ k.needed j z (ap (λ (s : ReaderState). s.reading) (sym (moves.others j apart.1)) ∙ at)
       ]
 
-  -- what is kept of the reads under way determines the oldest write that one can be of
+  -- what is kept about the reads under way determines the oldest write that one can be of
   pub oldest_of : (ended number : ℕ) → ended ≡ finished h → IsOldestKept ended readers number → KeepsHistory r h kept base begun writing readers floor safe regular each all → IsOldest h number
   oldest_of ended number is oldest k = record {
     ended = (let p = oldest.within in omega (arith, p, is));

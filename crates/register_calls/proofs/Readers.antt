@@ -1,4 +1,4 @@
--- Lists of readers: what is kept of each, when one is set or added; and the reads under way.
+-- Lists of readers: what is kept about each, when one is set or added; and the reads under way.
 use Rattle.std.proofs.Common.{◌≡◌, ◌<◌, ℕ, zero, suc, Some, List, [], ◌∷◌, ◌++◌, length, refl, ap, arith, get_or-set_other, get_or-set_same}
 use Rattle.std.proofs.Math.ListN.{set}
 use Rattle.std.specs.Prelude.{option_map}

@@ -46,7 +46,7 @@ pub record EndsRead (found : FoundWrites) (xs ys : List ReaderState) (i floor to
   pub own_raised : IsRaised (reader_at xs i).own found.of_own own
   pub raised : IsRaised floor found.of_all top
 
--- what is kept of the read that a reader has under way: how many writes had ended when it began
+-- what is kept about the read that a reader has under way: how many writes had ended when it began
 abbrev pub KeepsRead : (reader : ℕ) → List RegisterEvent → Option OpenRead → Type 0
 KeepsRead i h None = has_read_open i h ≡ false
 KeepsRead i h (Some r) = (has_read_open i h ≡ true) × (r.before ≡ finished (before_read i h)) × (r.before ≤ r.low) × (r.before ≤ r.own_low)

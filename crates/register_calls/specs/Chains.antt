@@ -28,8 +28,8 @@ fresh_chain = record { reads = None ∷ None ∷ None ∷ None ∷ None ∷ None
 abbrev pub chain_at : List Chain → (reader : ℕ) → Chain
 chain_at chains i = slice_index_or chains i fresh_chain
 
--- whether a read that ends depends on the reads that bound it: not if the writes that had ended when it began are reason enough, as the
--- first write of its value that it may be of by these, the optional number, does not come before its low
+-- whether a read that ends depends on the reads that bound it. It does not if the writes that had ended when it began are reason enough:
+-- the first write of its value that it may be of by these alone, the optional number, does not come before its low
 abbrev pub leans : Option ℕ → (low : ℕ) → Bool
 leans None low = false
 leans (Some n) low = nat_lt n low

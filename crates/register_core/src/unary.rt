@@ -13,7 +13,7 @@ use std::marker::Model;
 /// Writes values to a side's own count: it sets the value's bit if that is clear, and then clears
 /// the set bits below it, from the highest down. It remembers the bits.
 ///
-/// For example, from 1 to 2 it sets s2 and clears s1. In use: the own count of `ring_core::Producer`.
+/// For example, from 1 to 2 it sets s2 and clears s1. In use: the count that a `ring_core::Producer` writes.
 #[derive(Debug, Drop)]
 pub struct UnaryWriter {
     side: Side,

@@ -16,7 +16,7 @@ use Rattle.ring_core.specs.RunLaws.{ClosedStays}
 use Rattle.ring_core.proofs.Readings.ItemsRead.{items-are_read}
 use Rattle.ring_core.proofs.Readings.TakenRead.{taken-are_read}
 
--- the own events of a prefix are a prefix of those of the whole
+-- a side's own events in a prefix are a prefix of those in the whole
 own_begins : (s : Side) (h h' : List Event) (program : List Event) → IsPrefix h h' → IsPrefix (subhistory s h') program → IsPrefix (subhistory s h) program
 own_begins s h h' program (later, e) (rest, f) = (
   subhistory s later ++ rest,

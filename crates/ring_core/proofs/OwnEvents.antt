@@ -1,4 +1,4 @@
--- The own events of a side before a place of a history, and the writes of its count among them.
+-- A side's own events before a place of a history, and the writes of its count among them.
 use Rattle.std.proofs.Common.{◌≡◌, inl, inr, ℕ, zero, suc, ◌-◌, ◌≤◌, true, false, Some, None, List, [], ◌∷◌, ◌++◌, length, take, drop, slice_get, refl, sym, ap, ◌∙◌, take-append-drop, arith}
 use Rattle.std.specs.List.{cons_option}
 use Rattle.std.proofs.Math.Seq.{take-append_seam, take-length}
@@ -26,11 +26,11 @@ use Rattle.bits_core.proofs.LawLemmas.{subhistory_has_place}
 
 -- ---- clocks and places
 
--- the own events before a place, and those from there on
+-- a side's own events before a place, and those from there on
 own_parts : (s : Side) (h : List Event) (place : ℕ) → subhistory s h ≡ subhistory s (take place h) ++ subhistory s (drop place h)
 own_parts s h place = ap (subhistory s) (sym (take-append-drop place h)) ∙ filter-append (is_by s) (take place h) (drop place h)
 
--- the own events before a place are the first own events, as many as the clock says there
+-- a side's own events before a place are its first ones, as many as its clock says there
 own_take : (s : Side) (h : List Event) (place : ℕ) → subhistory s (take place h) ≡ take (clock s h place) (subhistory s h)
 own_take s h place =
     sym (ap (take (length (subhistory s (take place h)))) (own_parts s h place) ∙ take-append_seam (subhistory s (take place h)) (subhistory s (drop place h)))
@@ -110,7 +110,7 @@ pub count_begun_before :
 count_begun_before shape s h lawful place =
     own_count s (take place h) (doers_take h place (lawful_doers shape h lawful)) ∙ ap (count_begun s) (own_take s h place)
 
--- ---- the own events except the last
+-- ---- a side's own events except the last
 
 some_own : (s : Side) (h : List Event) → has_event s h ≡ true → 1 ≤ length (subhistory s h)
 some_own s [] f = absurd (let g : true ≡ false = sym f in cc)

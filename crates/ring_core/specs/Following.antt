@@ -7,7 +7,7 @@ use Rattle.bits_core.specs.Made.{Made, events_of, subhistory, IsPrefix}
 use Rattle.ring_core.specs.Puts.{Puts, put_program, ArePuts, FollowsPuts}
 use Rattle.ring_core.specs.Takes.{Takes, take_program, AreTakes, FollowsTakes}
 
--- If the own events of a side are a prefix of the events of accesses, and these are a prefix of the accesses of calls,
+-- If a side's own events are a prefix of the events of accesses, and these are a prefix of the accesses of calls,
 -- the side follows these calls.
 abbrev pub PutsAreFollowed : Type 0
 PutsAreFollowed =

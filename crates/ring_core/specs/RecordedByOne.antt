@@ -1,4 +1,4 @@
--- What one own event of a side records of its calls, by the calls that are over before it and with it.
+-- What one of a side's own events records of its calls, by the calls that are over before it and with it.
 use Rattle.std.specs.Prelude.{◌≡◌, ◌⊎◌, ℕ, suc, ◌<◌, true, List, [], ◌∷◌, ◌++◌, length}
 use Rattle.queue_calls.specs.Calls as calls
 use Rattle.queue_calls.specs.Calls.{PutBegin, CloseBegin, CloseEnd, TakeBegin, TakeClosed}

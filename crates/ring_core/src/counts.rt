@@ -59,7 +59,7 @@ pub fn past_in(n: u64, more: u64, modulus: u64) -> u64
 }
 
 /// How many items a take of at most `wanted` takes if the producer's count `c` shows some to a consumer that has taken
-/// `k`: those that it shows, or as many as are asked for. Both counts are below the modulus.
+/// `k`: those that it shows, but at most `wanted`. Both counts are below the modulus.
 ///
 /// In use: the takes of a counter ring.
 #[inline(always)]

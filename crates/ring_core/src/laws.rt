@@ -55,7 +55,7 @@ pub fn calls_over_are_read()
     ensures takes { TakesOverAreRead }
 {}
 
-/// What one own event of a side says about its calls, by the calls that are over before it and with it: it starts a call if
+/// What one of a side's own events says about its calls, by the calls that are over before it and with it: it starts a call if
 /// those over before it have all events before it, ends one if one more is over with it, and says nothing otherwise.
 pub fn events_tell_by_one()
     ensures puts { PutsTellByOne }

@@ -38,7 +38,7 @@ rest_at Rescanning m calls made is at = absurd (true≢false is)
 rest_at Loading m calls made is at = absurd (true≢false is)
 rest_at Counting m calls made is at = absurd (true≢false is)
 
--- the state of a take after one more access, as the machine's states say it
+-- the state of a take after one more access, as the machine's states give it
 after_so :
     (shape : Shape) (wanted : ℕ) (a b c d : Bool) (calls more : Takes) → a ≡ c → b ≡ d → IsAfterTake shape wanted a b calls more → IsAfterTake shape wanted c d calls more
 after_so shape wanted a b c d calls more e f after = subst (λ (z : Bool × Bool). IsAfterTake shape wanted z.0 z.1 calls more) (λ i. (e i, f i)) after

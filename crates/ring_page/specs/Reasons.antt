@@ -13,8 +13,8 @@ abbrev pub behind : Option ℕ → ℕ
 behind None = 0
 behind (Some place) = suc place
 
--- for an answer that is not permitted: after how many events the last write of its bit had ended, since when the bit held what it
--- held; 0 if none had, and for any other reason
+-- for an answer that is not permitted: after how many events the last write of its bit had ended, that is, since when the bit held
+-- what it held; 0 if no write had ended, or for any other reason
 abbrev pub since_in : Option Reason → ℕ
 since_in None = 0
 since_in (Some NotInShape) = 0

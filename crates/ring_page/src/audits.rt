@@ -134,7 +134,7 @@ pub fn no_events() -> [Event; EVENT_ROOM]
     [blank; EVENT_ROOM]
 }
 
-/// Room for what is seen at them, with nothing seen.
+/// Room for what is seen at these events, with nothing seen yet.
 pub fn nothing_seen() -> [Seen; EVENT_ROOM]
     ensures size { length result ≡ EVENT_ROOM }
     ensures nothing { IsNothingSeen result }

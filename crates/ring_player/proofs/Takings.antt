@@ -81,7 +81,7 @@ at_rest_is shape wanted calls true made due e next = absurd (true_false e)
     true_false : true ≡ false → ⊥
     true_false e = absurd (cc)
 
--- the take under way asks for as many items as the world
+-- the take under way asks for as many items as the world does
 of_wanted :
     (shape : Shape) (wanted w : ℕ) (calls : Takes) (taking : Bool) (made : List Made) (due : Option Access) → (taking ≡ true → wanted ≡ w) → IsNextTake shape wanted calls taking made due →
     IsNextTake shape w calls taking made due

@@ -68,7 +68,7 @@ abbrev pub held_line : Bool → Option ℕ → ℕ → List ℕ
 held_line value since begun =
     codes "held:" ++ (digit_text value ++ (since_words since ++ (codes ", where the read began at" ++ (line_words begun ++ codes "\n"))))
 
--- the line of why the bits do not permit an event of the side
+-- the line that says why the bits do not permit an event of the side
 abbrev pub reason_line : Side → Reason → List ℕ
 reason_line side NotInShape = codes "outside: no bit of the shape\n"
 reason_line side (OnlyBy doer) = only_line doer

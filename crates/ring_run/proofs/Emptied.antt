@@ -98,7 +98,7 @@ behind s (e ∷ known) more (suc n) l =
     (λ by. omega (arith, rest, ap length (own_mine s e (take n (known ++ more)) by), ap length (own_mine s e known by)))
     (λ by. omega (arith, rest, ap length (own_theirs s e (take n (known ++ more)) by), ap length (own_theirs s e known by)))
 
--- an own event of a side that is not among those of the known history comes after it
+-- one of a side's own events that is not among those of the known history comes after it
 later_than : (s : Side) (known more h : List Event) (start place : ℕ) → known ++ more ≡ h → clock s h (suc place) ≡ suc start → length (subhistory s known) ≤ start → length known ≤ place
 later_than s known more h start place is number_past long = go (dec_lt place (length known))
   where

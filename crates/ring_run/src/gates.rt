@@ -37,7 +37,7 @@ impl Gate for FreeGate {
 const TURN: u64 = 256;
 
 // Without this gate 10,000 items through one cell took 46 seconds on one core, by time slices; with it they take 0.3.
-/// A gate at which each side lets another thread run, at each 256th of its puts or takes. It is for a machine with
+/// A gate at which each side lets another thread run, on every 256th of its puts or takes. It is for a machine with
 /// fewer free processors than threads, where a side that finds the ring full, or empty, would otherwise call in vain
 /// until its time slice is used up. It is a hint to the scheduler: no progress of either side is guaranteed.
 ///

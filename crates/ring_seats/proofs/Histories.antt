@@ -87,7 +87,7 @@ module _ (shape : Shape) (x : Side) (c : Bit) (h : List Event) (lawful : IsLawfu
       (λ by. calm shape b h (event x c (ReadEnd v)) lawful (open_write-of x b h (Some (Read c)) by may.in_turn) refl)
       (λ by. shown-theirs shape b h (event x c (ReadEnd v)) lawful by)
 
-  -- a bit other than the one of the event
+  -- a bit other than the event's
   pub shown-apart : (a : Act) → MayFollow shape h (event x c a) → (b : Bit) → same_bit b c ≡ false → shown b (h ++ event x c a ∷ []) ≡ shown b h
   shown-apart ReadBegin may b apart = shown-read_begin may b
   shown-apart (ReadEnd v) may b apart = shown-read_end v may b

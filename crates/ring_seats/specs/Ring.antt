@@ -11,7 +11,7 @@ pub record Ring : Type 0 where
   pub shape : Shape
   pub id : TableId
 
--- an end: its ring, its side, its list, what it knows, and what the two loads found of each of its reads that has ended since it
+-- an end: its ring, its side, its list, what it knows, and what the two loads found for each of its reads that has ended since it
 -- was made or last met the other. A counter ring's end makes no such loads.
 pub record RingEnd : Type 0 where
   pub ring : Ring

@@ -36,7 +36,7 @@ pub struct View {
     pub known_by_taker: LinkedList<Event>,
     /// The first load of the read that is open.
     pub first: u64,
-    /// What the loads found of each read that has ended since the ends were made or last met.
+    /// What the loads found for each read that has ended since the ends were made or last met.
     pub loads: LinkedList<Loads>,
 }
 

@@ -4,7 +4,7 @@ use Rattle.trace_text.specs.declared.faults.TraceFault.{TraceFault}
 use Rattle.trace_text.specs.declared.faults.TraceFault.TheVariants.{BadShape, BadLine, TooLong, OutOfMemory}
 use Rattle.bits_core.specs.Faults.{shape_fault_words}
 
--- number and text of why bytes are not a trace
+-- number and text of the reason why bytes are not a trace
 abbrev pub trace_fault_told : TraceFault → ℕ × List ℕ
 trace_fault_told (BadShape fault) = (1, shape_fault_words fault)
 trace_fault_told (BadLine line) = (2, codes "trace line " ++ (decimal line ++ codes " is not a line of the format"))

@@ -15,7 +15,7 @@ use Rattle.queue_calls.proofs.Effects.{described_at}
 use Rattle.queue_calls.proofs.Keeping.{Accepts, accept}
 use Rattle.queue_calls.proofs.Sides.{free_idle, with_producer}
 
--- of a list in three parts, the front without the last
+-- the front of a list in three parts, without the last part
 front_of : (xs a b c : List ℕ) (n : ℕ) → xs ≡ a ++ (b ++ c) → n + length c ≡ length xs → take n xs ≡ a ++ (b ++ [])
 front_of xs a b c n e l =
     let whole : xs ≡ (a ++ b) ++ c = e ∙ sym (append_assoc a b c) in

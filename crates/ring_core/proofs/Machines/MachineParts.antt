@@ -90,7 +90,7 @@ counting shape row new count (none, value) below e =
     let some : unary_phrase (bit_in row.bits) (suc count % modulus_of shape) ≡ [] → ⊥ = next_due (bit_in row.bits) count (modulus_of shape) below (omega (arith, shape.has_cells, shape.room_to_count, shape.has_batch)) at_rest in
     rw e ((λ f. some (no_first (row_bit row.side) (unary_phrase (bit_in row.bits) (suc count % modulus_of shape)) f)), refl)
 
--- the same of a write that counts some items
+-- the same for a write that counts some items
 pub counting_on :
     (shape : Shape) (row new : UnaryState) (count : ℕ) (items : List ℕ) (m : ℕ) → IsCounted row count → count < modulus_of shape → m ≡ length items →
     1 ≤ length items → length items < modulus_of shape → new ≡ record row { value = (count + m) % modulus_of shape } →

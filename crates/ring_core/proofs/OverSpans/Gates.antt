@@ -184,7 +184,7 @@ module _ (modulus capacity batch more word : ℕ) (p c : ℕ → ℕ) (puts take
   abbrev pub Left : (t s n : ℕ) → Span → Type 0
   Left t s n x = Reads modulus p c takes (λ number. n ≤ number + capacity + more) (λ number. number ≤ n) t s x
 
-  -- the same of a scan of the producer
+  -- the same for a scan of the producer
   left : (t : ℕ) → ((u : ℕ) → u ≤ t → Within u) → (s n : ℕ) (x : Span) → IsSpanAt puts s n x → s + x.scan ≤ p t → Left t s n x
   left t within s n x st l =
       reads_between modulus p c hp hc batch more puts takes proper_puts proper_takes ring.puts_regular _ _ t s n x st l

@@ -105,7 +105,7 @@ scan_there shape h s looks behind follows start n x st first last e is_first is_
 
 -- ---- the two sides
 
--- the own events of a producer that follows its calls, by its looks
+-- a producer's own events, if it follows its calls, by its looks
 pub put_events :
     (shape : Shape) (h : List Event) (calls : Puts) → FollowsPuts shape h calls →
     IsPrefix (subhistory P h) (events_of P (look_accesses P shape first_count (put_looks calls.puts) (close_phrase calls.closes)))

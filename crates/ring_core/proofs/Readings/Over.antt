@@ -104,7 +104,7 @@ done_begins {X} {phrase} {phrases} {after} {state} go side es s xs left other p 
     let size : 2 * length (first ++ []) ≤ length es = omega (arith, f.within, calls_total go s done, ap length (append-nil first)) in
     begin_each side es (first ++ []) rest (phrases s xs ++ left) other size program p q
 
--- so they are the same, if calls that others begin with are the first of them
+-- so they are the same, if calls whose events begin those of the other list are the first calls of that list
 over_read :
     {S X : Type 0} → {phrase : S → X → List Made} → {phrases : S → List X → List Made} → {after : S → X → S} → {state : S → List X → S} →
     GoByCalls phrase phrases after state → (side : Side) (es : List Event) (s : S) (xs ys : List X) (left right : List Made) →

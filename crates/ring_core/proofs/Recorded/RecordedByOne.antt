@@ -1,4 +1,4 @@
--- What one own event of a side records of its calls.
+-- What one of a side's own events records of its calls.
 use Rattle.std.proofs.Common.{◌≡◌, inl, inr, ℕ, suc, ◌+◌, ◌-◌, ◌*◌, ◌<◌, ◌≤◌, Bool, true, false, List, [], ◌∷◌, ◌++◌, length, refl, sym, ap, subst, ◌∙◌, arith, length-append}
 use Rattle.queue_calls.specs.Calls.{Event, PutBegin, CloseBegin, CloseEnd, TakeBegin, TakeClosed}
 use Rattle.bits_core.specs.declared.events.Side.TheVariants.{P, C}

@@ -30,7 +30,7 @@ static CASES: [Near<'static>; 9] = [
     // Item 1 is stored, and the take that began before returns Closed.
     near!(NoSecondScan, ONE, ("[1]", 2, true, "C2P10C2", "");
         TakeBegins(1), PutBegins(0), PutStored(1), CloseBegins, CloseEnds, TakeClosed; &[]),
-    // The count write is open: it is seen new, and then old, which looks like one round more, and item 1 is taken twice.
+    // The count write is open: it is seen new, and then old, which looks like one more round, and item 1 is taken twice.
     near!(SmallModulus, [1, 3, 2, 1, 1], ("[1,2,3]", 3, false, "P9C20", "01");
         PutBegins(0), TakeBegins(1), TakeItems(1), TakeBegins(1), TakeItems(1); &[1, 1]),
     // The fifth put has cleared s0 and not yet set s1, so a scan finds s3, which was set a round ago: Empty, with the fourth item inside.

@@ -50,7 +50,7 @@ impl Puts {
         }
     }
 
-    // At most this many events: fewer if the call is over before.
+    // At most this many events: fewer if the call ends sooner.
     fn run<S: Store<Event>, O: Oracle>(
         &mut self,
         rt: &impl Abort,

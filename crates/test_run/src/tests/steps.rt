@@ -126,7 +126,7 @@ impl<'a> Producing<'a> {
     }
 }
 
-/// Takes until it has this many items, or a take returned Closed.
+/// Takes until it has this many items, or until a take returns Closed.
 #[derive(Drop)]
 pub(crate) struct Consuming<'a> {
     taker: Taker<'a, Tape<'a>>,

@@ -34,7 +34,7 @@ returns-in-TakeClosed-clause-kept g c capacity events r number =
     heard r (ap told c.in-TakeClosed.is) number (λ count why f. absurd cc) e.decides.0 e.decides.1 e.entries r.taken r.taken_last r.ended
     (c.or-self-in-TakeClosed.ensures ∙ first_line _ _ _ _ _ r.told (line_is r number)) r.put_at r.stored_at
 
--- an end of a put or of a take, which says why or not
+-- an end of a put or of a take, with a reason or without one
 stored_so : (event : CallEvent (Bor (List ℕ)) (Bor (List ℕ))) (count other : ℕ) → count ≡ other → (event ≡ said.PutStored other) ⊎ (event ≡ said.PutSome other) → (why : Bool) × (told event ≡ PutStored count why)
 stored_so event count other same (inl is) = (true, ap told is ∙ ap (λ n. PutStored n true) (sym same))
 stored_so event count other same (inr is) = (false, ap told is ∙ ap (λ n. PutStored n false) (sym same))
