@@ -5,10 +5,10 @@
 //   ring_twin usual B M W G H N     head and tail with acquire and release, each cached by the other side; B a power of
 //                                   two, M unused
 //
-// Each does what `run` does: it moves the list of the items i mod 2^W, i from 0 to N-1, through B cells into another list, in puts of G
-// items at most and takes of H at most; the producer closes after the last, and the consumer takes until it finds the ring closed. Each side yields its processor at
-// each 256th call, and pauses when it has to wait, as with the gate of `run`. The words of the first two are laid out as those of the rings of
-// `run`. What was taken is compared with what was put, and the output is that of `run --report`.
+// Each does what `run` does: it moves the list of the items i mod 2^W, i from 0 to N-1, through B cells into another list, in puts of at
+// most G items and takes of at most H; the producer closes after the last put, and the consumer takes until it finds the ring closed. Each
+// side yields its processor on every 256th call, and pauses when it has to wait, as with the gate of `run`. The words of the first two are
+// laid out as those of the rings of `run`. What was taken is compared with what was put, and the output is that of `run --report`.
 use std::hint::spin_loop;
 use std::process::exit;
 use std::sync::atomic::AtomicU64;

@@ -21,7 +21,7 @@ for_machine() {
 }
 for_machine "$(uname -m)"
 
-# takes_machine NAME: the same of a machine that a command was given; whether there is one with this name.
+# takes_machine NAME: the same for a machine that a command was given; whether there is one with this name.
 takes_machine() {
     case $1 in
     x86_64 | aarch64) for_machine "$1" ;;
@@ -87,8 +87,8 @@ runs_here() {
     return 1
 }
 
-# The same of the libraries for C, each as NAME.a and NAME.so.1, with a file beside them that says of what it was built. Of each of them: its
-# crate, its name and that file.
+# The same for the libraries for C, each as NAME.a and NAME.so.1, with a file beside them that says of what it was built. Of each of
+# them: its crate, its name and that file.
 for_c="queue_calls_c:libring_audit:LIBRARY ring_c:libcounter_ring:RING"
 
 # library_sum CRATE: the sum of the sources that the library of the crate is built from, as they stand.

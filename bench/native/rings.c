@@ -2,8 +2,9 @@
  *
  *   rings RING CAPACITY MODULUS BATCH TAKE_BATCH ITEMS    RING is proved (one item per call), several (batches), seq_cst, cached or boost
  *
- * Two threads pass the items 1, 2, ..; a side that finds the ring full or empty pauses as `lamport_ring run` does, and yields at each 256th
- * call. It prints the nanoseconds that all items took; status 1 for a wrong item. An ordinary ring ignores MODULUS, and passes items one by one. */
+ * Two threads pass the items 1, 2, ..; a side that finds the ring full or empty pauses as `lamport_ring run` does, and yields on every
+ * 256th call. It prints the nanoseconds that all items took; status 1 for a wrong item. An ordinary ring ignores MODULUS, and passes items
+ * one by one. */
 #define _GNU_SOURCE
 #include <pthread.h>
 #include <sched.h>

@@ -1,4 +1,4 @@
-/* ck.c: Concurrency Kit's ck_ring. Debian: libck-dev. A ring of 8 slots holds 7: named 8, it reports full with room. */
+/* ck.c: Concurrency Kit's ck_ring. Debian: libck-dev. A ring of 8 slots holds 7: recorded as `queue 8`, it reports full with room. */
 #include <ck_ring.h>
 #include "relay.h"
 

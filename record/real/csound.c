@@ -1,4 +1,4 @@
-/* csound.c: Csound's circular buffer. Debian: libcsound64-dev. One of 8 elements holds 7: named 8, it reports full with room. */
+/* csound.c: Csound's circular buffer. Debian: libcsound64-dev. One of 8 holds 7: recorded as `queue 8`, it reports full with room. */
 #include <csound/csound.h>
 #include "relay.h"
 

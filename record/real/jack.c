@@ -1,6 +1,7 @@
-/* jack.c: JACK's ring buffer of bytes. Debian: libjack-jackd2-dev. One of 64 bytes has room for 63, and so for 7 items of 8: named 8, it reports
- * full with room. A batch that wraps becomes visible in two steps, the items before the wrap first. With the first of its two vectors a call stores or
- * takes only up to the wrap, without implying that there is no more room, or nothing more inside: recorded like the others, it would imply that. */
+/* jack.c: JACK's ring buffer of bytes. Debian: libjack-jackd2-dev. One of 64 bytes has room for 63, and so for 7 items of 8: recorded as
+ * `queue 8`, it reports full with room. A batch that wraps becomes visible in two steps, the items before the wrap first. With the first of
+ * its two vectors a call stores or takes only up to the wrap, without implying that there is no more room, or nothing more inside: recorded
+ * like the others, it would imply that. */
 #include <jack/ringbuffer.h>
 #include "relay.h"
 

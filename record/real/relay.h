@@ -74,7 +74,7 @@ static inline void *relay_consumer(void *unused) {
     for (;;) {
         uint64_t items[RELAY_BATCH];
         int all_or_none = relay_q->ends == RELAY_ALL_OR_NONE, is_done = (int)RING_CALLS_STD(atomic_load)(&relay_done);
-        /* (a take of all or nothing that may be recorded as closed has to ask for one) */
+        /* (an all-or-nothing take that may be recorded as closed has to ask for one) */
         size_t n = relay_q->take_all && !(is_done && all_or_none) ? 1 + relay_random(&g) % RELAY_BATCH : 1;
         long m;
         all_or_none = all_or_none && n > 1;
@@ -85,7 +85,7 @@ static inline void *relay_consumer(void *unused) {
             m = relay_look(items, n);
             if (m == 0) { ring_calls_told(&relay_rec); return unused; }
         }
-        /* (a take of all or nothing must not be recorded as short if the queue is closed meanwhile and nothing is inside) */
+        /* (an all-or-nothing take must not be recorded as short if the queue is closed meanwhile and nothing is inside) */
         if (m < 0 || (is_done && all_or_none)) ring_calls_take_nothing(&relay_rec);
         else if (m == 0 && all_or_none) ring_calls_take_short(&relay_rec);
         else if (m > 0 && relay_q->ends == RELAY_SOME) ring_calls_some_items(&relay_rec, items, (size_t)m);

@@ -16,7 +16,7 @@ static _Atomic(uint64_t *) place;
 static volatile uint64_t apart;
 static bool has_bug;
 
-/* What a side that spins does between two looks. */
+/* What a side that spins does between two checks. */
 static void pause_a_little(void) {
 #if defined __x86_64__
     __builtin_ia32_pause();

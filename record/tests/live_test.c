@@ -5,7 +5,7 @@
  *         QUEUE   ring, two indices as in Boost's spsc_queue; blocking, under a mutex: its calls wait if it is full or empty
  *         ITEMS   this many are put, and then the queue is closed
  *         BUG     early, an index is visible before its item; lost, item ITEMS/2 is lost; closed, reported with items inside
- *     live_test feed FILE..                       prints what is found of recordings, whose events one thread records live
+ *     live_test feed FILE..                       prints what is found about recordings, whose events one thread records live
  *
  * LIVE_TEST_PIN in the environment has each side run on a processor of its own. */
 #ifndef _GNU_SOURCE

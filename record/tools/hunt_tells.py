@@ -73,7 +73,7 @@ def place_of(path, offset):
     """A call in words: its function, and file and line if the program was built with -g; empty if it cannot be found."""
     if not shutil.which("addr2line"):
         return f"{path} +{offset:#x}"
-    # (the address is that after the call)
+    # (the address is the one after the call)
     done = subprocess.run(["addr2line", "-f", "-C", "-e", path, hex(offset - 1)], capture_output=True, text=True, check=False)
     function, place = (done.stdout.split("\n") + ["", ""])[:2]
     return "" if function in ("", "??") else function if place.startswith("??") else f"{function} ({place.rsplit('/', 1)[-1].split(' ')[0]})"

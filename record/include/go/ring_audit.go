@@ -106,11 +106,11 @@ const (
 	ringBadLine, ringNoRoom, ringNoMemory, ringOtherLibrary = 3, 4, 7, 8
 )
 
-// RingFault is what is found of calls that are not lawful, or that cannot be judged.
+// RingFault is what is found about calls that are not lawful, or that cannot be judged.
 type RingFault struct {
 	Words         string // of the first line that is not lawful
 	Line, Against uint64 // that line, and the one that contradicts it; 0 if there is none
-	Lines         string // those round it and the one that contradicts it, as they are in the recording
+	Lines         string // those around it and the one that contradicts it, as they are in the recording
 }
 
 func (f *RingFault) Error() string { return strings.TrimRight(f.Words+"\n"+f.Lines, "\n") }

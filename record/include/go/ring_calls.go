@@ -100,7 +100,7 @@ func (r *RingCalls) Some(stored uint64) {
 	}
 }
 
-// PutShort: a put of all or nothing; of two items or more none was stored, there was not room for all.
+// PutShort: an all-or-nothing put; of two or more items none was stored, as there was not room for all.
 func (r *RingCalls) PutShort() { r.event(&r.p, 6) }
 
 // PutNothing: none was stored, with no reason given.
@@ -132,7 +132,7 @@ func (r *RingCalls) SomeItems(items ...uint64) {
 	}
 }
 
-// TakeShort: a take of all or nothing; of two items or more there were not enough.
+// TakeShort: an all-or-nothing take; of two or more items there were not enough.
 func (r *RingCalls) TakeShort()   { r.event(&r.c, 12) }
 func (r *RingCalls) TakeNothing() { r.event(&r.c, 13) }
 

@@ -8,8 +8,8 @@ or by hand:
     writer:    rec.write(v);   my_write(v);     rec.wrote()        or  with rec.writing(v): my_write(v)
     reader 1:  rec.read(1);    v = my_read();   rec.got(1, v)      or  with rec.reading(1) as got: got(my_read())
 
-A write of the value that the register holds is a write: record it. A read that finds no value is recorded with a number that is no value:
-4 if the first line is "register 0 4".
+A write of the value that the register holds is a write: record it. A read that finds no value is recorded with a number that is not a
+value: 4 if the first line is "register 0 4".
 
 Why there are no false alarms: each start takes the next ticket of one counter before the operation, each end after it, so an interval is only
 ever widened, and with wider intervals each class permits what it did and more. next() of a count is one step of C under the interpreter's lock, and that

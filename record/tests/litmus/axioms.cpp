@@ -71,7 +71,7 @@ bool is_irreflexive(const relation& r) {
     return true;
 }
 
-// The orders that an execution has of itself.
+// The orders that an execution itself determines.
 struct execution {
     relation program, from, modification, before, communication;    // before: a load comes before a write that is newer than the one it reads
     std::vector<int> at;                                            // the place of a write in its order of modification

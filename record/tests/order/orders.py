@@ -1,7 +1,7 @@
 """The requirements on a run whose calls are ordered only by happens-before, computed from the definitions in words by a search of orders.
 
 A case has a first line, as `queue 2`, and two rows of calls, the producer's and the consumer's. The operations are those of docs/MODEL.md:
-a put of three items is three operations, one after the other, and what a call says of why it passed no more is one more operation,
+a put of three items is three operations, one after the other, and what a call says about why it passed no more is one more operation,
 before them. An order of all operations is one in which each side's are in the order of its row, all those of a call come before all those of a
 call of the other side whose begin its end happens before, and each is legal at the queue that those before it left. A call under way at
 the end may have stored or taken any number of its first items; a close under way may have taken effect.

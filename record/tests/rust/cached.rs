@@ -1,5 +1,5 @@
-//! A ring as rtrb's: positions below twice the capacity, each end keeps a copy of the other's, items of any type, here boxes. `--cfg bug` loads
-//! the tail relaxed when the consumer's copy is used up.
+//! A ring like rtrb's: positions below twice the capacity, each end keeps a copy of the other's, items of any type, here boxes. `--cfg bug`
+//! loads the tail relaxed when the consumer's copy is used up.
 use explore::explore;
 use std::cell::{Cell, UnsafeCell};
 use std::mem::MaybeUninit;

@@ -69,7 +69,7 @@ func tryEdges() {
 	}
 }
 
-// Makes a recording anew. A cut one is made in logs with no room for more, by one call more.
+// Makes a recording again. A cut one is made in logs with no room for more, by one more call.
 func remade(text string) (string, *RingCalls) {
 	lines := strings.Split(strings.TrimSuffix(text, "\n"), "\n")
 	head := strings.TrimPrefix(lines[0], "cut ")

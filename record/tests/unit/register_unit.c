@@ -94,7 +94,7 @@ static void try_rounds(void) {
     ring_register_free(&rec);
 }
 
-/* What is found of a history by hand, of each class; and that a line is reported, with those around it. */
+/* What is found about a history by hand, of each class; and that a line is reported, with those around it. */
 static void try_found(void) {
     static const char *const heads[] = { "register 0", "register 0 4", "register 18446744073709551614 18446744073709551615", "", "register", "register ",
         "register 4 4", "register 0 4 4", "register 00", "register 0 ", "register  0", "register x", "register 18446744073709551616", "cut register 0", "registers 0" };
@@ -144,7 +144,7 @@ static void try_found(void) {
     ring_register_free(&rec);
 }
 
-/* Replays a recording on a recorder, and prints what is found of it. */
+/* Replays a recording on a recorder, and prints what is found about it. */
 static void judge_file(const char *name) {
     static const int by_audit[] = { RING_SAFE, RING_REGULAR, RING_ATOMIC_BY_READER, RING_ATOMIC };
     static const char *const classes[] = { "safe", "regular", "atomic by reader", "atomic" };

@@ -76,7 +76,7 @@ fn consume(c: &mut TakeLog, ring: &Ring) {
     }
 }
 
-// Two threads call a new ring; what is found of their calls.
+// Two threads call a new ring; what is found about their calls.
 fn round(p: &mut PutLog, c: &mut TakeLog, bug: bool) -> Result<Report, Fault> {
     let (ring, here) = (Ring { bug, ..Ring::default() }, AtomicUsize::new(0));
     let meet = || {

@@ -69,7 +69,7 @@ func consume(rec *RingCalls, q *ring) {
 	}
 }
 
-// Two goroutines call a new ring; what is found of their calls.
+// Two goroutines call a new ring; what is found about their calls.
 func round(rec *RingCalls, bug bool) error {
 	q, here, ended := &ring{bug: bug}, int32(0), make(chan bool)
 	meet := func() {
