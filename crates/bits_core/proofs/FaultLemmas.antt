@@ -124,7 +124,7 @@ not_MayFollow shape past e OutOfTurn fault follows = fault.1 follows.in_turn
 not_MayFollow shape past e NotPermitted fault follows = fault.2 follows.permitted
 not_MayFollow shape past e NotProgram fault follows = fault
 
--- a reason that is none only of an event that may follow says why the one at fault may not
+-- if a reason is absent only for an event that may follow, it says why the one at fault may not
 pub HasReason-at : (shape : Shape) (h : List Event) (place : ℕ) (d : Event) (kind : Kind) (why : Option Reason) → place < length h → IsFaultAfter shape (take place h) (get_or h place d) kind →
     (why ≡ None → MayFollow shape (take place h) (get_or h place d)) →
     IfSome why (λ reason. (¬ MayFollow shape (take place h) (get_or h place d)) × IsReasonBehind shape (take place h) (get_or h place d) reason) →

@@ -44,7 +44,7 @@ pub record IsLastEnded (h : List Event) (b : Bit) (place : ℕ) (v : Bool) : Typ
   pub ended : stop < place
   pub last : (w : Bool) (start' stop' : ℕ) → IsWrite h b w start' stop' → stop' < place → start' ≤ start
 
--- what a bit holds before a place: the value of the last write that ended before it, or if there is none, the first value
+-- what a bit holds before a place: the value of the last write that ended before it, or the first value if none did
 abbrev pub IsHeld : List Event → Bit → ℕ → Bool → Type 0
 IsHeld h b place v = IsLastEnded h b place v ⊎ (((w : Bool) (start stop : ℕ) → IsWrite h b w start stop → ¬ (stop < place)) × (v ≡ first_value b))
 
