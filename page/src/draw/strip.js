@@ -20,12 +20,14 @@ const madeSvg = (name, attributes = {}) => {
 export function columnsOf(lines, first, last, most, count) {
   const low = new Float64Array(count), high = new Float64Array(count), wide = (last - first + 1) / count;
   for (let i = 0; i < count; i++) {
-    const from = Math.floor(first + i * wide), past = Math.max(from + 1, Math.floor(first + (i + 1) * wide));
-    low[i] = Infinity;
-    for (let line = from; line < past && line <= last; line++) {
-      low[i] = Math.min(low[i], lines.low[line]);
-      high[i] = Math.max(high[i], Math.min(lines.high[line], most));
+    const from = Math.floor(first + i * wide), past = Math.min(last + 1, Math.max(from + 1, Math.floor(first + (i + 1) * wide)));
+    let least = Infinity, largest = 0;
+    for (let line = from; line < past; line++) {
+      if (lines.low[line] < least) least = lines.low[line];
+      if (lines.high[line] > largest) largest = lines.high[line];
     }
+    low[i] = least;
+    high[i] = Math.min(largest, most);
   }
   return {low, high};
 }

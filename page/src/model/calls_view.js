@@ -3,12 +3,11 @@
 
 import { MOST_CALLED } from "../text/calls.js";
 import { effectsOf } from "./orders.js";
-import { recordingFound } from "./recording.js";
+import { MOST_REPORTED, recordingFound } from "./recording.js";
 import { bars } from "../draw/bars.js";
 import { CUT, callsFor, capacityIn, lineWords, reportRows, startBefore } from "../text/recorded_lines.js";
 
 const ROUND = 250; // lines before and after the cursor of which an order is sought
-const MOST_ASKED = 20000; // lines of a recording of which a report is asked for at each step
 
 export function callsView(module) {
   // The places at which the operations of recorded calls take effect, around a line in a long recording, and from which place on; nothing
@@ -36,7 +35,7 @@ export function callsView(module) {
       const it = isFaulty ? whole : {...whole, words: "lawful", cause: "", line: 0, against: 0};
       const why = it.against ? `contradicted by ${lineWords(text, lines, it.against)}` : "",
         isAll = !whole.line && shown === lines.count - 1;
-      const report = isFaulty ? whole.before : isAll ? whole.report : lines.count <= MOST_ASKED ? reportAt(whole, shown + 1) : null;
+      const report = isFaulty ? whole.before : isAll ? whole.report : lines.count <= MOST_REPORTED ? reportAt(whole, shown + 1) : null;
       return {
         ...it, words: `calls: ${it.words}`, ring: it.isCut ? {words: CUT, mood: "dim"} : null, why, mood: it.line ? "bad" : "good",
         step: shown ? lineWords(text, lines, shown + 1) : "", report, ...lines.count <= MOST_CALLED ? {} : orderRound(whole, shown + 1),

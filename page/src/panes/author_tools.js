@@ -5,6 +5,7 @@ import { showContents } from "./contents.js";
 import { finderOf } from "./finder.js";
 import { $, node } from "../core/dom.js";
 import { saveAs } from "../core/saving.js";
+import { laterTurn } from "../core/turns.js";
 import { stripIn } from "../draw/strip.js";
 import { rowsAtLine } from "../model/items_in_recording.js";
 import { reportRows } from "../text/recorded_lines.js";
@@ -79,7 +80,7 @@ export function authorPane(acts, asker) {
       if (!isShown) return;
       const {lines} = whole, until = Math.min(line, whole.line ? whole.line - 1 : lines.count);
       const show = () => strip.show({text, lines, line, fault: whole.line, against: whole.against});
-      if (lines.count > MANY_LINES && inStrip !== lines) setTimeout(() => inStrip === lines && show()); // a turn of its own
+      if (lines.count > MANY_LINES && inStrip !== lines) laterTurn().then(() => inStrip === lines && show());
       else show();
       inStrip = lines;
       $("shrink").hidden = !whole.line;

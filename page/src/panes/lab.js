@@ -31,7 +31,7 @@ export function labPane(acts) {
 
   return {
     render(state, {whole, it, misses, isRefused, step}) {
-      const isLab = state.mode === "lab", {writes, reads} = boundOf(state);
+      const isLab = state.mode === "lab";
       document.body.classList.toggle("stale", isLab && Boolean(whole.exploring));
       showMisses(isRefused ? [] : misses);
       $("bound").textContent = isLab && !isRefused ? it.bound : "";
@@ -42,6 +42,7 @@ export function labPane(acts) {
       if (!isLab) return;
       $("run").hidden = !whole.waits;
       $("predict").hidden = !state.isFolded || step !== null;
+      const {writes, reads} = boundOf(state);
       for (const [field, value] of [[$("writes"), writes], [$("reads"), reads]])
         if (document.activeElement !== field) field.value = value;
       for (const field of fields) field.parentElement.hidden = state.exercise !== null;

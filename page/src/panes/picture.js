@@ -63,12 +63,12 @@ export function picturePane(acts, comparison) {
     // With the picture alone its letters are large, if all of it fits so.
     const large = state.isLarge ? drawnBy({widest: Math.max(NARROWEST, innerWidth / LARGE)}) : null,
       drawn = large && large.aspect <= aspect ? large : drawnBy({});
+    document.body.classList.toggle("long", !state.isLarge && drawn.aspect > aspect * LONG); // (first: it decides how wide the picture is)
     put(frame, drawn.text, {...drawn.attributes, role: "group"});
     frame.firstElementChild.style.setProperty("--breadth", drawn.width);
     frame.firstElementChild.style.maxHeight = state.isLarge ? `${room().clientHeight - 8}px` : "";
     keepNames(frame.firstElementChild, $("names"));
     keepLegend(frame.firstElementChild, $("legend"));
-    document.body.classList.toggle("long", !state.isLarge && drawn.aspect > aspect * LONG);
     reach(frame.querySelector(`[data-line="${focused}"]`), focused !== null, role());
   }
 

@@ -3,6 +3,7 @@
 import { KIND_WORDS, LOOKED_AT, kindOf } from "./kinds.js";
 import { logRecording } from "./logs.js";
 import { laidOut, withFields } from "./script.js";
+import { laterTurn } from "../core/turns.js";
 import { MISSES } from "../core/words.js";
 
 const MOST_BYTES = 4000000, MOST_RECORDED = 64000000; // of a file that is opened; of one of recorded calls
@@ -41,6 +42,7 @@ export async function readFile(file) {
     };
   }
   const text = decoder.decode(await file.arrayBuffer());
+  await laterTurn(); // (50 MB took a while)
   if (encoding === "utf-8") return readText(file.name, text);
   const {mode, text: its} = readText(file.name, text);
   return {
