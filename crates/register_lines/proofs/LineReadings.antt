@@ -1,11 +1,11 @@
 -- The parts of a line: what is read is there, and what is there is read.
-use Rattle.std.proofs.Common.{◌≡◌, ◌⊎◌, ℕ, ◌<◌, ◌^◌, Bool, true, false, Option, Some, None, List, [], ◌++◌, length, refl, ap, sym, ◌∙◌, append_assoc, inl, inr}
+use Rattle.std.proofs.Common.{◌≡◌, ℕ, ◌<◌, ◌^◌, Bool, true, false, Option, Some, None, List, [], ◌++◌, length, refl, ap, sym, ◌∙◌, append_assoc, inl, inr}
 use Rattle.std.specs.Prelude.{◌==◌, codes, decimal, option_map, option_and_then}
 use Rattle.std.specs.Bool.{then_some}
 use Rattle.std.proofs.lemmas.Bool.{eqb-true}
 use Rattle.std.proofs.lemmas.List.{append-nil, nil_from_length}
 use Rattle.std.proofs.lemmas.Option.{none-some, option_and_then_some, same_Some}
-use Rattle.line_parts.specs.Parts.{after, then_or_else, number_at}
+use Rattle.line_parts.specs.Parts.{after, number_at}
 use Rattle.line_parts.proofs.TextReading.{after-text, then_or_else-some}
 use Rattle.line_parts.proofs.NumberReading.{number_at-text, number_at-again}
 use Rattle.register_lines.specs.LineReading.{at_end, last_number, register_numbers_after, register_numbers}

@@ -1,5 +1,5 @@
 -- Whether a history falls short of a class, and whether the bytes that record it do.
-use Rattle.std.proofs.Common.{◌≡◌, ◌≢◌, Bool, true, false, ℕ, Option, Some, None, List, [], ◌∷◌, ◌++◌, not, reverse, refl, sym, subst, inr}
+use Rattle.std.proofs.Common.{◌≡◌, ◌≢◌, true, false, ℕ, Option, Some, None, List, [], ◌∷◌, not, refl, inr}
 use Rattle.std.specs.List.{filter_map}
 use Rattle.register_calls.specs.declared.auditors.ReaderState.{ReaderState}
 use Rattle.register_calls.specs.declared.events.Class.{Class}

@@ -1,4 +1,4 @@
-use Rattle.std.proofs.Common.{◌∙◌, List, ℕ, length, ap, sym, inl}
+use Rattle.std.proofs.Common.{◌∙◌, length, ap, sym, inl}
 use Rattle.std.proofs.lemmas.List.{nil_from_length}
 use Rattle.register_recordings.specs.Recordings.{register_text}
 use Rattle.register_recordings.proofs.Shortfalls.{bytes_fall_short}
