@@ -55,14 +55,14 @@ pub(crate) fn put_open<'a>(
         PutKept stepper.old stepper.new count.new cell.new calls items.now result }
 {
     let shape = stepper.shape();
-    let seen = stepper.scan(); // (how far the takes are)
+    let seen = stepper.scan(); // (how far the takes have come)
     let most = fitting(&shape, *count, seen, items.len());
     if most == 0 {
         return 0;
     }
     stepper.write_items(*cell, &items[..most]);
     *count = past_in(*count, most as u64, shape.modulus());
-    stepper.write_count(*count); // (behind the cells)
+    stepper.write_count(*count); // (after the cells)
     *cell = past_in(*cell, most as u64, shape.capacity());
     most
 }
@@ -161,7 +161,7 @@ fn fetch_all<'a>(
     let shape = stepper.shape();
     stepper.read_items(*cell, into);
     *count = past_in(*count, into.len() as u64, shape.modulus());
-    stepper.write_count(*count); // (behind the loads)
+    stepper.write_count(*count); // (after the loads)
     *cell = past_in(*cell, into.len() as u64, shape.capacity());
 }
 

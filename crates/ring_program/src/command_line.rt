@@ -24,53 +24,53 @@ const AUDIT_USAGE: &str = "lamport_ring audit [--bits] [--why] < TRACE
        lamport_ring audit --register [--at-least CLASS] [--report] [--stop] < REGISTER";
 
 const AUDIT_HELP: &str = "\
-A trace has a line `shape CAPACITY MODULUS WIDTH`, with the batch behind these
-where it is over 1, or the batch and the take batch where that is over 1, and
-then a line for each event of the history:
+A trace begins with a line `shape CAPACITY MODULUS WIDTH`, to which the batch is
+added if it is over 1, and the batch and the take batch if the latter is over 1.
+Then it has a line for each event of the history:
 \n  P write s1 1    side P begins to write 1 to bit s1
   P wrote s1      its write ends
   C read s1       side C begins to read bit s1
-  C got s1 0      its read ends and answers 0
+  C got s1 0      its read ends and returns 0
 \nBits are s0, s1, .. and r0, r1, .., x, and cJ.I for digit I of cell J.
-\nThe answer is `lawful` where each read's answer is one that safe bits may give
-and both sides follow the ring's programs, with the items put, the items taken
-and whether the consumer was told that the ring is closed. Else it is the first
-line at fault and of what kind the fault is. With --bits the programs are left
-out, and the items too; with --bits --long the trace is read in pieces, and may
-have any length. With --why a fault has further lines:
-\n  due: P write c0.0 1           an event of this side that is of its program; or
-  due: nothing                  there is none, as it has made its last call
+\nThe answer is `lawful` if each read returned what a safe bit may return and both
+sides follow the programs of the ring; then it has the items put, the items
+taken and whether a take returned Closed. Otherwise it is the first line at
+fault and the kind of the fault. With --bits the audit checks the bits alone,
+and reports no items; with --bits --long it reads the trace in pieces, so that
+the trace may have any length. With --why a fault has further lines:
+\n  due: P write c0.0 1           what this side's program does next; or
+  due: nothing                  that it has made its last call
   held: 0 since line 5, where the read began at line 6
                                 what the bit held, which no write overlapped
   open since line 5: P write s1 1
                                 the access that this side has not ended
   open: nothing                 or that it has none to end
-  only by: P                    the side that may do this to the bit
-\nWith --calls the input is a recording of the calls of any queue of one producer
-and one consumer: a line `queue CAPACITY`, and then a line where each call
-begins and one where it ends, in the order in which they happened:
+  only by: P                    the only side that may do this to the bit
+\nWith --calls the input is a recording of the calls of any queue with one
+producer and one consumer: a line `queue CAPACITY`, and then a line for the
+start of each call and one for its end, in the order in which they happened:
 \n  P put 5         side P begins to put item 5, or several: P put 5 6 7
   P stored        its put ends, stored; or P full, or P closed
   C take          side C begins to take an item, or up to Q: C take Q
   C item 5        its take ends with item 5; or C empty, or C closed
   P close         side P begins to close; P closed ends it
-\nThe answer is `lawful` where the history is linearizable, with what it reached;
-else the first line with which it is not, and what speaks against it. The input
-may have any length. With --stop a fault is told as soon as its line is read,
-and nothing is read behind it. docs/FORMATS.md has the whole format.
+\nThe answer is `lawful` if the history is linearizable, with how far it came;
+otherwise it is the first line with which it is not, and the evidence. The input
+may have any length. With --stop a fault is reported as soon as its line is
+read, and nothing is read after it. docs/FORMATS.md has the whole format.
 \nWith --register the input is a recording of the reads and writes of any
-register with one writer W and readers R1 to R64: a line `register FIRST`, what
-it holds at first, or `register FIRST VALUES` if its values are 0 to VALUES - 1,
-and then a line where each operation begins and one where it ends:
+register with one writer W and readers R1 to R64: a line `register FIRST` with
+its initial value, or `register FIRST VALUES` if its values are 0 to VALUES - 1,
+and then a line for the start of each operation and one for its end:
 \n  W write 5       the writer begins to write 5; W wrote ends it
   R1 read         reader R1 begins to read
   R1 got 5        its read ends, and returned 5
-\nThe answer is the strongest class that the history has: `atomic`, `atomic by
-reader`, `regular`, `safe` or `not safe`; and for each class that it lacks the
-first line with which it lacks it, and what speaks against it. --at-least says
-which class it is to have: safe, regular, atomic-by-reader, or atomic, if it is
-left out. With --report more lines say how much the recording could have shown.
-With --stop nothing is read after the first line with which it lacks the class.
+\nThe answer is the strongest class that the history meets: `atomic`, `atomic by
+reader`, `regular`, `safe` or `not safe`; and for each class that it misses the
+first line with which it misses it, and the evidence. --at-least gives the class
+that is required: safe, regular, atomic-by-reader or atomic (the default). With
+--report further lines say how much the recording could have shown. With --stop
+nothing is read after the first line with which the required class is missed.
 \nExamples:
   lamport_ring audit < examples/plain_path.trace
   lamport_ring audit --bits < examples/new_old_inversion.trace
@@ -78,11 +78,11 @@ With --stop nothing is read after the first line with which it lacks the class.
   lamport_ring audit --calls < examples/calls/plain.calls
   lamport_ring audit --register --at-least regular < examples/registers/unary.reg
 \nExit status:
-  0  the history is lawful, or has the class
-  1  refused: the input is not of the format, or could not be read, or the
+  0  the history is lawful, or meets the class
+  1  refused: the input is not in the format or could not be read, or the
      output failed
   2  the command line is wrong
-  3  the audit found a fault, or the history lacks the class";
+  3  the audit found a fault, or the history misses the class";
 
 const PLAY_USAGE: &str = "lamport_ring play [--trace|--calls] < SCRIPT
        lamport_ring play --wrong NAME --trace|--calls < SCRIPT";
@@ -91,22 +91,22 @@ const PLAY_HELP: &str = "\
 A script is a JSON object:
 \n  capacity, modulus, width  the shape of the ring, whole numbers
   items     the items to put, in order
-  takes     how many items the consumer wants
+  takes     how many items the consumer asks for
   close     true or false: whether the producer closes after the last item
-  schedule  whose event comes next: letters P and C with counts, as P8C10
-  oracle    what overlapped reads answer in turn, as 01
-  batch     the most items that one put may store; 1 where it is left out
-  take_batch  the most items that one take may take; 1 where it is left out
+  schedule  whose event comes next: letters P and C with counts, such as P8C10
+  oracle    what overlapped reads return, in turn, such as 01
+  batch     the most items that one put may store; by default 1
+  take_batch  the most items that one take may take; by default 1
 \n  {\"capacity\":1, \"modulus\":3, \"width\":1, \"items\":[1], \"takes\":1,
    \"close\":false, \"schedule\":\"P8C10\", \"oracle\":\"\"}
-\nThe answer says how many events there were, the items put and taken, whether
-the consumer was told that the ring is closed, how many puts found the ring
-full, how many takes found it empty, and how many reads a write overlapped.
-\nWith --wrong the script is played by a ring that is nearly right, and breaks
-one rule. Its bits are lawful, and of its items nothing is promised:
+\nThe answer says how many events there were, which items were put and taken,
+whether a take returned Closed, how many puts found the ring full, how many
+takes found it empty, and how many reads were overlapped by a write.
+\nWith --wrong the script is played by a ring that is nearly right: it breaks one
+rule. Its bits are lawful; nothing is promised about its items:
 \n  count-before-cell  a put writes its count before the item's cell
-  no-second-scan     a take that reads the close bit as 1 scans no second time
-  small-modulus      the counts go round one too soon
+  no-second-scan     a take that reads the close bit as 1 does not scan again
+  small-modulus      the counts wrap around one too soon
   clears-first       a count write clears the bits below before it sets its own
   clears-upwards     a count write clears the bits below from the lowest up
 \nExamples:
@@ -117,7 +117,8 @@ one rule. Its bits are lawful, and of its items nothing is promised:
     < examples/wrong/no_second_scan.json
 \nExit status:
   0  the script was played
-  1  refused: the input is no script, or could not be read, or the output failed
+  1  refused: the input is not a script or could not be read, or the output
+     failed
   2  the command line is wrong";
 
 const PROGRAM_HELP: &str = "\
@@ -129,9 +130,9 @@ Examples:
   lamport_ring run --capacity 1 --modulus 3 --width 6 --count 64 \\
     --limit 1000000000
 \nExit status:
-  0  done: a play, a lawful history, a whole relay, or help or the version that
-     was asked for
-  1  refused, for the cause that standard error gives
+  0  done: a script was played, a history is lawful, a run is complete, or the
+     help or the version was printed
+  1  refused, for the reason on standard error
   2  the command line is wrong
   3  the audit found a fault";
 

@@ -20,43 +20,42 @@ lamport_ring run --capacity B --modulus M --width W --count N --limit L
 
 const RUN_HELP: &str = "\
 Two threads share a ring with no lock. One puts N items, the numbers 0, 1, ..
-modulo 2^W, each again while the ring is full, and closes behind the last; the
-other takes until it is told that the ring is closed. The answer says how many
-items were put and taken, and whether the taker was told that the ring is
-closed. The flickering ring has a word for each bit, which shows that it is
-being written; the counter ring has a word for each counter and each cell, and
-is faster. What they promise is the same.
-\nThe numbers are whole, in decimal digits with no minus sign:
+modulo 2^W, trying again while the ring is full, and closes after the last; the
+other takes until a take returns Closed. The answer says how many items were put
+and taken, and whether a take returned Closed. The flickering ring has a word
+for each bit, which shows when the bit is being written; the counter ring has a
+word for each counter and each cell, and is faster. Both promise the same.
+\nThe numbers are whole numbers in decimal digits:
   B  how many cells the ring has, from 1 to 64
-  M  what its counts run modulo, from B + G + 1 and B + H + 1 to 256
+  M  the modulus of its counts, at least B + G + 1 and B + H + 1, at most 256
   W  how many binary digits an item has, from 1 to 64
   N  how many items to put, from 0 to 1000000
   L  the most calls of put, and of take, from 0 to 2^64 - 1
-  T  the most calls of take, from 0 to 2^64 - 1; L where it is left out
-  G  how many items a put has at most, from 1 to B; 1 where it is left out
-  H  how many items a take has at most, from 1 to B; 1 where it is left out
-\nA limit counts every call of put or take, also one that finds the ring full or
-empty, and a take that brings items by how many these are; the close is not
-counted. A side that has made so many makes no more, and ends the other, once
-that finds the ring full, or empty, in vain.
-Where the taker was not told then that the ring is closed, the text is printed
-all the same, standard error says `refused: limit reached`, and the status is 1.
+  T  the most calls of take, from 0 to 2^64 - 1; by default L
+  G  how many items a put has at most, from 1 to B; by default 1
+  H  how many items a take has at most, from 1 to B; by default 1
+\nEvery call of put or take counts towards its limit, also one that finds the ring
+full or empty; a take that returns several items counts once for each. The close
+does not count. A side that has reached its limit makes no more calls, and the
+other side stops as soon as it finds the ring full, or empty, after that. If no
+take has returned Closed by then, the text is printed all the same, standard
+error says `refused: limit reached`, and the status is 1.
 \nWith --report four lines follow: `calls`, how many puts were made; `full`, how
 many of them found the ring full; `empty`, how many takes found it empty; and
-`items a second`, how many were taken, by the clock from just before the relay
-to just behind it, or `unknown` where the clock told no time.
+`items a second`, the items taken per second from just before the run to just
+after it, or `unknown` if the clock gave no time.
 \nWith --record the text is a recording of the calls of both sides, which
 `lamport_ring audit --calls` judges. It ends before the first line for which a
-side has no more room, which is behind some 2 million lines of either side.
+side has no room left, which is after some 2 million lines of either side.
 \nExamples:
   lamport_ring run --ring counter --capacity 8 --modulus 10 --width 16 \\
     --count 1000 --limit 1000000000
   lamport_ring run --capacity 1 --modulus 3 --width 6 --count 64 \\
     --limit 1000000000
 \nExit status:
-  0  the taker was told that the ring is closed: all items were put and taken
-  1  refused: a limit was reached before, the numbers are no ring's, there is
-     no second thread, or the output failed
+  0  a take returned Closed: all items were put and taken
+  1  refused: a limit was reached before that, no ring has these numbers, there
+     is no second thread, or the output failed
   2  the command line is wrong";
 
 /// The ring that a run uses.
